@@ -11,7 +11,7 @@ use Rattle.usb_control.specs.Descriptors.{IsDevice, ReadsConfig}
 use Rattle.hid_requests.specs.declared.request.Request.{Request}
 use Rattle.hid_requests.specs.declared.request.Request.TheVariants as requests
 use Rattle.hid_requests.specs.Fault.{is_memory}
-use Rattle.hid_layout.specs.Laying.{Lays}
+use Rattle.hid_layout.specs.Parsing.{ParsesTo}
 use Rattle.hid_host.specs.declared.fault.StackFault.{StackFault}
 use Rattle.hid_host.specs.declared.fault.StackFault.TheVariants.{BadDescriptor, Memory}
 use Rattle.hid_host.specs.declared.fault.DescriptorFault.TheVariants.{Info, ReportLength, Layout}
@@ -20,11 +20,11 @@ use Rattle.hid_host.specs.declared.phase.HostPhase.TheVariants.{Described, Parse
 use Rattle.hid_host.specs.Phase.{cleared_phase}
 use Rattle.hid_host.specs.Ready.{known_at_start}
 
--- What a layout's fault is told as: want of memory is the host's, and each other cause the descriptor's.
+-- How a host reports a layout's fault: running out of memory is the host's, and each other cause the descriptor's.
 abbrev pub layout_refusal : LayoutFault → StackFault
 layout_refusal fault = if is_memory fault.cause then Memory else BadDescriptor (Layout fault)
 
--- why a host can't be given a layout: the descriptor is refused, or it isn't too long and memory was wanting
+-- why a host can't be given a layout: the descriptor is refused, or it isn't too long and memory ran out
 abbrev pub IsNoLayout : List ℕ → StackFault → Type 0
 IsNoLayout bytes (BadDescriptor (Layout fault)) = Refuses bytes fault.cause fault.at
 IsNoLayout bytes Memory = length bytes ≤ MAX_DESCRIPTOR
@@ -45,7 +45,7 @@ ConfigRead bytes (Err fault) = ⊥
 
 -- A report descriptor is laid out, where it is as long as the configuration says.
 abbrev pub ReportRead : ConfigInfo → List ℕ → Result Contents StackFault → Type 0
-ReportRead info bytes (Ok layout) = (length bytes ≡ info.report_length) × Lays bytes layout
+ReportRead info bytes (Ok layout) = (length bytes ≡ info.report_length) × ParsesTo bytes layout
 ReportRead info bytes (Err (BadDescriptor ReportLength)) = length bytes ≢ info.report_length
 ReportRead info bytes (Err fault) = (length bytes ≡ info.report_length) × IsNoLayout bytes fault
 
@@ -54,12 +54,12 @@ abbrev pub Configured : ℕ → ConfigInfo → Contents → Result HostPhase Sta
 Configured addr info layout (Ok next) = next ≡ Ready (known_at_start addr info.endpoint layout)
 Configured addr info layout (Err fault) = fault ≡ Memory
 
--- what was read leads to a phase
+-- the phase after a request whose answer was read, or why it is refused
 abbrev pub leads_to : {A : Type 0} → (A → HostPhase) → Result A StackFault → Result HostPhase StackFault
 leads_to next (Ok read) = Ok (next read)
 leads_to next (Err fault) = Err fault
 
--- The phase behind a request that is done, or why its answer is refused: nothing is kept of a device descriptor, what a
+-- The phase after a request that is done, or why its answer is refused: nothing is kept of a device descriptor, what a
 -- configuration says and the layout are kept, a device that is configured is polled, and one whose endpoint was cleared
 -- is expected to begin with DATA0. Example: B4 as report descriptor is L3 at 0
 abbrev pub Makes : ℕ → Request → HostPhase → List ℕ → Result HostPhase StackFault → Type 0
@@ -74,7 +74,7 @@ Makes addr requests.Configure (Parsed info layout) bytes made = Configured addr 
 Makes addr requests.Clear phase bytes made = made ≡ Ok (cleared_phase phase)
 Makes addr request phase bytes made = made ≡ Ok phase
 
--- what is refused leaves the phase
+-- the phase after a request that is done: one whose answer is refused leaves it
 abbrev pub phase_made : HostPhase → Result HostPhase StackFault → HostPhase
 phase_made phase (Ok next) = next
 phase_made phase (Err fault) = phase

@@ -21,7 +21,7 @@ use Rattle.usb_control.specs.Transaction.{Transacts}
 use Rattle.hid_requests.specs.declared.request.Asking.{Asking}
 use Rattle.hid_requests.specs.declared.request.Request.{Request}
 use Rattle.hid_requests.specs.declared.request.Request.TheVariants as requests
-use Rattle.hid_requests.specs.Asking.{sends_of, setup_for}
+use Rattle.hid_requests.specs.RequestSetup.{sends_of, setup_for}
 use Rattle.hid_host.specs.declared.fault.StackFault.{StackFault}
 use Rattle.hid_host.specs.declared.fault.StackFault.TheVariants.{NotReady, Control}
 use Rattle.hid_host.specs.declared.host.Transfer.{Transfer}
@@ -30,7 +30,7 @@ use Rattle.hid_host.specs.declared.phase.HostPhase.TheVariants.{Cold, Ready}
 use Rattle.hid_host.specs.declared.phase.HostState.{HostState}
 use Rattle.hid_host.specs.Conclusions.{Makes, phase_made}
 use Rattle.hid_host.specs.Phase.{asking_at, may_begin, state_of}
-use Rattle.hid_host.specs.Ready.{Known, known_at_start, known_behind}
+use Rattle.hid_host.specs.Ready.{Known, known_after, known_at_start}
 
 -- The host of one device: the device's address, how far the host has come with it, the transfer that it began last, and
 -- whether a Clear is pending: it was begun, and none has been done since.
@@ -60,8 +60,8 @@ abbrev pub polls_with : HostEnd → Result Packet StackFault
 polls_with host = polls_at host.phase host.clearing
 
 -- a ready host after it took what came
-abbrev pub ready_after : HostEnd → Known → Took → HostEnd
-ready_after host known taken = record host { phase = Ready (known_behind known taken) }
+abbrev pub host_after_reply : HostEnd → Known → Took → HostEnd
+host_after_reply host known taken = record host { phase = Ready (known_after known taken) }
 
 -- a transfer at this stage, where it runs
 abbrev pub running_at : Transfer → HostStage → Option Transfer
@@ -103,32 +103,32 @@ clearing_with request clearing = is_clear request || clearing
 
 -- whether a Clear is pending after a try: until one is done. One that failed leaves it so, for its status may have taken
 -- effect (8.5.3.3).
-abbrev pub clearing_behind : HostStage → Request → Bool → Bool
-clearing_behind Done request clearing = not (is_clear request) && clearing
-clearing_behind stage request clearing = clearing
+abbrev pub clearing_after : HostStage → Request → Bool → Bool
+clearing_after Done request clearing = not (is_clear request) && clearing
+clearing_after stage request clearing = clearing
 
 -- the host with a transfer of a request that begins
-abbrev pub begun : HostEnd → Request → HostEnd
-begun host request = record host {
+abbrev pub host_after_begin : HostEnd → Request → HostEnd
+host_after_begin host request = record host {
   transfer = Some (transfer_of host.addr (asking_at host.phase) request);
   clearing = clearing_with request host.clearing;
 }
 
 -- the bytes that a read got
-abbrev pub bytes_got : HostTransferState → List ℕ
-bytes_got ends = if reads ends.setup then ends.bytes else []
+abbrev pub read_bytes_of : HostTransferState → List ℕ
+read_bytes_of ends = if reads ends.setup then ends.bytes else []
 
--- what is told where a request is done, by what is made of its answer
-abbrev pub told_made : Result HostPhase StackFault → Result Progress StackFault
-told_made (Ok next) = Ok progresses.Done
-told_made (Err fault) = Err fault
+-- what is reported where a request is done, by what is made of its answer
+abbrev pub conclusion_result : Result HostPhase StackFault → Result Progress StackFault
+conclusion_result (Ok next) = Ok progresses.Done
+conclusion_result (Err fault) = Err fault
 
 -- What is concluded where a try leaves a transfer at this stage: on its answer where it is done, else nothing.
 abbrev pub ConcludesAt :
     HostStage → ℕ → Request → HostPhase → List ℕ → Result Progress StackFault → HostPhase → Type 0
 ConcludesAt Done addr request phase bytes result next =
     (made : Result HostPhase StackFault) × Makes addr request phase bytes made
-    × (result ≡ told_made made) × (next ≡ phase_made phase made)
+    × (result ≡ conclusion_result made) × (next ≡ phase_made phase made)
 ConcludesAt stage addr request phase bytes result next = (result ≡ Ok (progress_of stage)) × (next ≡ phase)
 
 -- A try of the transfer that runs: what goes over the bus, what each end makes of it, and what the host concludes.
@@ -140,11 +140,12 @@ pub record TriesOnce {R : Type 0} (prepare_gives : PrepareGives R) (apply_gives 
   pub packets : Crosses prepare_gives apply_gives answer_of (arrives_under fate) transfer.ends old ends new
   pub transacts : Transacts prepare_gives apply_gives answer_of fate transfer.ends old ends new
   pub same : ends.setup ≡ transfer.ends.setup
-  pub concludes : ConcludesAt ends.stage host.addr transfer.request host.phase (bytes_got ends) result next
+  pub concludes : ConcludesAt ends.stage host.addr transfer.request host.phase
+      (read_bytes_of ends) result next
   pub after : host_then ≡ record host {
     phase = next;
     transfer = Some (record transfer { ends = ends });
-    clearing = clearing_behind ends.stage transfer.request host.clearing;
+    clearing = clearing_after ends.stage transfer.request host.clearing;
   }
 
 -- One control step: one try of the transfer that runs, whose answer is concluded on if it is done. If no transfer runs
@@ -161,16 +162,16 @@ ControlSteps prepare_gives apply_gives answer_of fate host old result after new 
 -- what is shown of the transfer that was begun last
 abbrev pub ShowsLast : Option Transfer → Result Outcome StackFault → Type 0
 ShowsLast None result = result ≡ Err (Control NoTransfer)
-ShowsLast (Some transfer) (Ok outcome) = Shows outcome transfer.ends.stage (bytes_got transfer.ends)
+ShowsLast (Some transfer) (Ok outcome) = Shows outcome transfer.ends.stage (read_bytes_of transfer.ends)
 ShowsLast (Some transfer) (Err fault) = ⊥
 
 -- a request may end a round that is open: a halt, and the end of one
-abbrev pub cuts_round : Request → Bool
-cuts_round requests.Halt = true
-cuts_round requests.Clear = true
-cuts_round _ = false
+abbrev pub request_aborts_round : Request → Bool
+request_aborts_round requests.Halt = true
+request_aborts_round requests.Clear = true
+request_aborts_round _ = false
 
--- whether the transfer that runs may cut a round: it is a Halt or a Clear
-abbrev pub may_cut : Option Transfer → Bool
-may_cut None = false
-may_cut (Some transfer) = cuts_round transfer.request
+-- whether the transfer that runs may abort a round: it is a Halt or a Clear
+abbrev pub may_abort_round : Option Transfer → Bool
+may_abort_round None = false
+may_abort_round (Some transfer) = request_aborts_round transfer.request

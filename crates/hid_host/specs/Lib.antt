@@ -3,4 +3,4 @@ pub mod Ready
 pub mod Phase
 pub mod Conclusions
 pub mod Host
-pub mod Resetting
+pub mod ResetEvents

@@ -30,8 +30,8 @@ abbrev pub has_endpoint : HostState → Bool
 has_endpoint states.Ready = true
 has_endpoint _ = false
 
--- Whether a request may begin in a state: a configuration is read from cold, a report descriptor behind it, a device is
--- configured behind that, and a protocol is set before; what else concerns its reports is asked once they are known, and
+-- Whether a request may begin in a state: a configuration is read from cold, a report descriptor after it, a device is
+-- configured after that, and a protocol is set before; what else concerns its reports is asked once they are known, and
 -- what concerns the endpoint of reports once it is polled; device, status and configuration number at any time.
 abbrev pub may_begin : Request → HostState → Bool
 may_begin Device state = true
@@ -54,20 +54,20 @@ may_begin Halt state = has_endpoint state
 may_begin Clear state = has_endpoint state
 may_begin EndpointStatus state = has_endpoint state
 
--- whether a host may poll: it is ready, and no Clear is pending, since none is in flight while the toggle begins anew
+-- whether a host may poll: it is ready, and no Clear is pending, since none is in flight while the toggle starts again
 abbrev pub may_poll : HostState → Bool → Bool
 may_poll states.Ready clearing = not clearing
 may_poll _ clearing = false
 
--- What a request is asked with: the length of the report descriptor and the endpoint of reports, where the
--- configuration told them; a host that polls has the endpoint alone.
+-- What a request is asked with: the length of the report descriptor and the endpoint of reports, if the configuration
+-- was read; a host that polls has the endpoint alone.
 abbrev pub asking_at : HostPhase → Asking
 asking_at Cold = record { report_length = 0; endpoint = 0 }
 asking_at (Described info) = record { report_length = info.report_length; endpoint = info.endpoint }
 asking_at (Parsed info layout) = record { report_length = info.report_length; endpoint = info.endpoint }
 asking_at (Ready known) = record { report_length = 0; endpoint = known.pipe.endp }
 
--- the phase after a Clear that is done: the pipe begins anew
+-- the phase after a Clear that is done: the pipe starts again
 abbrev pub cleared_phase : HostPhase → HostPhase
 cleared_phase (Ready known) = Ready (known_cleared known)
 cleared_phase phase = phase
@@ -82,7 +82,7 @@ abbrev pub IfReady : HostPhase → (Known → Type 0) → Type 0
 IfReady (Ready known) holds = holds known
 IfReady _ holds = Unit {0}
 
--- the endpoint that a configuration told has a number
+-- the endpoint that a configuration names has a number
 abbrev pub HasEndpoint : HostPhase → Type 0
 HasEndpoint (Described info) = info.endpoint ≤ MAX_ENDPOINT
 HasEndpoint (Parsed info layout) = info.endpoint ≤ MAX_ENDPOINT

@@ -1,15 +1,16 @@
 -- What a ready host keeps, and what it makes of the answers to its polls (USB 2.0, 5.7.3, 8.5.4, 8.6 and 9.4.5; HID
 -- 1.11, 5.6).
-use Rattle.std.specs.Prelude.{◌≡◌, ℕ, ◌%◌, ◌<◌, Bool, false, ◌||◌, nat_le, nat_lt, if◌then◌else◌, List, [], ◌++◌, length, Result, Ok, Err}
+use Rattle.std.specs.Prelude.{ℕ, Bool, false, if◌then◌else◌, List, [], Result, Ok, Err}
 use Rattle.hid_layout.specs.Layout.{Contents}
 use Rattle.hid_layout.specs.Controls.{items_of}
-use Rattle.hid_snapshots.specs.declared.cell.Cell.{Cell}
+use Rattle.hid_snapshots.specs.declared.control_state.ControlState.{ControlState}
 use Rattle.hid_snapshots.specs.declared.event.Event.{Event}
 use Rattle.hid_snapshots.specs.declared.fault.ReportFault.{ReportFault}
-use Rattle.hid_descriptor.specs.declared.limits.TheConstants.{MAX_REPORT_BYTES}
-use Rattle.hid_snapshots.specs.Cells.{blank}
-use Rattle.hid_usages.specs.Reading.{bytes_awaited, report_named}
-use Rattle.hid_usages.specs.Taking.{read_view, read_events}
+use Rattle.hid_snapshots.specs.ControlStates.{blank}
+use Rattle.hid_usages.specs.Reading.{report_named}
+use Rattle.hid_usages.specs.Receiving.{Receiving}
+pub use Rattle.hid_usages.specs.Receiving.{is_whole, view_after_report, events_of_report}
+use Rattle.hid_usages.specs.Receiving as receiving
 use Rattle.usb_transact.specs.declared.host.Took.{Took}
 use Rattle.usb_transact.specs.declared.host.Took.TheVariants.{Fresh, Again, Nak, Stall, Silent}
 use Rattle.usb_transact.specs.Host.{HostPipeState, host_at_start}
@@ -22,13 +23,12 @@ use Rattle.hid_host.specs.declared.fault.StackFault.TheVariants.{Report}
 pub record Known : Type 0 where
   pub layout : Contents
   pub pipe : HostPipeState
-  pub view : List Cell
+  pub view : List ControlState
   pub collected : List ℕ
 
--- full packets, and fewer bytes than the longest report has
-pub record ArePackets (bytes : List ℕ) : Type 0 where
-  pub full : length bytes % 64 ≡ 0
-  pub few : length bytes < MAX_REPORT_BYTES
+-- what a ready host has received of its device's reports
+abbrev pub receiving_of : Known → Receiving
+receiving_of known = record { layout = known.layout; view = known.view; collected = known.collected }
 
 -- a host that was freshly given a layout and polls this endpoint: it expects DATA0, its view is the initial one, and
 -- nothing came yet
@@ -45,18 +45,13 @@ known_at_start addr endpoint layout = record {
 abbrev pub known_cleared : Known → Known
 known_cleared known = record known { pipe = record known.pipe { expects = false }; collected = [] }
 
--- A report ends with its last byte, or with a packet that isn't full (5.7.3), of which so many bytes came.
-abbrev pub is_whole : Contents → List ℕ → ℕ → Bool
-is_whole layout bytes last = nat_lt last 64 || nat_le (bytes_awaited layout bytes) (length bytes)
-
 -- what came of a report, with the data of one more packet
 abbrev pub bytes_with : Known → List ℕ → List ℕ
-bytes_with known payload = known.collected ++ payload
+bytes_with known payload = receiving.bytes_with (receiving_of known) payload
 
--- whether a report ends with this packet: it has its last byte, or 256 bytes if its first byte names none, or the packet
--- has under 64 bytes. Example: of 100 bytes the second packet, of 36, ends it
+-- whether a report ends with this packet
 abbrev pub ends_with : Known → List ℕ → Bool
-ends_with known payload = is_whole known.layout (bytes_with known payload) (length payload)
+ends_with known payload = receiving.ends_with (receiving_of known) payload
 
 -- a report that ended is read, or it is refused
 abbrev pub read_or_fault : Result ℕ ReportFault → Result (Unit {0}) ReportFault
@@ -68,62 +63,50 @@ abbrev pub data_read : Known → List ℕ → Result (Unit {0}) ReportFault
 data_read known payload =
     if ends_with known payload then read_or_fault (report_named known.layout (bytes_with known payload)) else Ok tt
 
--- What the host tells of what it took: data that are no Input report are refused.
-abbrev pub told_read : Took → Result (Unit {0}) ReportFault → Result Took StackFault
-told_read taken (Ok done) = Ok taken
-told_read taken (Err fault) = Err (Report fault)
+-- What the host reports of what it took: data that are no Input report are refused.
+abbrev pub read_outcome : Took → Result (Unit {0}) ReportFault → Result Took StackFault
+read_outcome taken (Ok done) = Ok taken
+read_outcome taken (Err fault) = Err (Report fault)
 
--- What the host tells of what it took: a report that ended is read, or refused; all else is told as it is.
-abbrev pub told_of : Known → Took → Result Took StackFault
-told_of known (Fresh payload) = told_read (Fresh payload) (data_read known payload.items)
-told_of known Again = Ok Again
-told_of known Nak = Ok Nak
-told_of known Stall = Ok Stall
-told_of known Silent = Ok Silent
+-- What the host reports of what it took: a report that ended is read, or refused; all else is reported as it is.
+abbrev pub outcome_of : Known → Took → Result Took StackFault
+outcome_of known (Fresh payload) = read_outcome (Fresh payload) (data_read known payload.items)
+outcome_of known Again = Ok Again
+outcome_of known Nak = Ok Nak
+outcome_of known Stall = Ok Stall
+outcome_of known Silent = Ok Silent
 
--- The view after a report that ended: it is read. One that is refused leaves it.
-abbrev pub view_read : Contents → List ℕ → List Cell → List Cell
-view_read layout bytes view =
-    elim (report_named layout bytes) [ Ok r ↦ read_view layout r bytes view | Err fault ↦ view ]
-
--- data before the last of their report leave it
-abbrev pub view_with : Known → List ℕ → List Cell
-view_with known payload =
-    if ends_with known payload then view_read known.layout (bytes_with known payload) known.view else known.view
+-- data before the last of their report leave the view
+abbrev pub view_with : Known → List ℕ → List ControlState
+view_with known payload = receiving.view_with (receiving_of known) payload
 
 -- the host's view after what came: fresh data alone change it
-abbrev pub view_behind : Known → Took → List Cell
-view_behind known (Fresh payload) = view_with known payload.items
-view_behind known _ = known.view
+abbrev pub view_after : Known → Took → List ControlState
+view_after known (Fresh payload) = view_with known payload.items
+view_after known _ = known.view
 
--- The events of a report that ended: one that is refused gives none.
-abbrev pub events_read : Contents → List ℕ → List Cell → List Event
-events_read layout bytes view =
-    elim (report_named layout bytes) [ Ok r ↦ read_events layout r bytes view | Err fault ↦ [] ]
-
--- data before the last of their report give none
+-- data before the last of their report give no events
 abbrev pub events_with : Known → List ℕ → List Event
-events_with known payload =
-    if ends_with known payload then events_read known.layout (bytes_with known payload) known.view else []
+events_with known payload = receiving.events_with (receiving_of known) payload
 
 -- the events of what came: fresh data alone give any
-abbrev pub events_behind : Known → Took → List Event
-events_behind known (Fresh payload) = events_with known payload.items
-events_behind known _ = []
+abbrev pub events_after : Known → Took → List Event
+events_after known (Fresh payload) = events_with known payload.items
+events_after known _ = []
 
--- what came of a report is kept until it ends
-abbrev pub collected_with : Known → List ℕ → List ℕ
-collected_with known payload = if ends_with known payload then [] else bytes_with known payload
+-- what is kept of a report after one more packet: all that came, until it ends
+abbrev pub collected_bytes_with : Known → List ℕ → List ℕ
+collected_bytes_with known payload = receiving.collected_with (receiving_of known) payload
 
 -- what is kept of a report after what came: fresh data alone change it
-abbrev pub collected_behind : Known → Took → List ℕ
-collected_behind known (Fresh payload) = collected_with known payload.items
-collected_behind known _ = known.collected
+abbrev pub collected_bytes_after : Known → Took → List ℕ
+collected_bytes_after known (Fresh payload) = collected_bytes_with known payload.items
+collected_bytes_after known _ = known.collected
 
 -- The host after it took what came: fresh data change its toggle, also those that are refused.
-abbrev pub known_behind : Known → Took → Known
-known_behind known taken = record known {
+abbrev pub known_after : Known → Took → Known
+known_after known taken = record known {
   pipe = host_after taken known.pipe;
-  view = view_behind known taken;
-  collected = collected_behind known taken;
+  view = view_after known taken;
+  collected = collected_bytes_after known taken;
 }

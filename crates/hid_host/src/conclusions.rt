@@ -2,7 +2,7 @@
 ghost use Rattle.std.specs.Prelude.{◌≡◌, ◌≤◌, ℕ, List, [], Ok, Err, IfOk, IfErr, OnOk, OnErr};
 ghost use Rattle.hid_descriptor.specs.Faults.{Explains};
 ghost use Rattle.usb_packet.specs.declared.packet.TheConstants.{MAX_ENDPOINT};
-ghost use Rattle.hid_layout.specs.Laying.{Lays};
+ghost use Rattle.hid_layout.specs.Parsing.{ParsesTo};
 ghost use Rattle.hid_requests.specs.declared.request.Request.TheVariants.{Config, Configure, Report};
 ghost use Rattle.hid_host.specs.Conclusions.{ConfigRead, DeviceRead, IsNoLayout, Makes, ReportRead, layout_refusal};
 ghost use Rattle.hid_host.specs.Phase.{HasEndpoint};
@@ -12,13 +12,13 @@ use crate::phase::HostPhase;
 use crate::ready::ReadyHost;
 use hid_layout::{Cause, Layout, LayoutFault};
 use hid_requests::Request;
-use hid_usages::View;
+use hid_usages::{Receiver, View};
 use std::alloc::Global;
 use std::mem;
 use usb_control::{ConfigInfo, DeviceInfo};
 use usb_packet::MAX_ADDRESS;
 
-/// What a want of a layout is told as.
+/// The fault of a host that has no layout.
 fn no_layout(fault: LayoutFault) -> StackFault
     ensures told { result ≡ layout_refusal fault }
     ensures explained { (bytes : List ℕ) → Explains bytes fault.cause fault.at → IsNoLayout bytes result }
@@ -31,7 +31,7 @@ fn no_layout(fault: LayoutFault) -> StackFault
 
 /// The layout of a report descriptor.
 pub(crate) fn layout_of(alloc: Global, descriptor: &[u8]) -> Result<Layout, StackFault>
-    ensures lays { IfOk result (λ layout. Lays descriptor.now layout) }
+    ensures lays { IfOk result (λ layout. ParsesTo descriptor.now layout) }
     ensures refused { IfErr result (λ fault. IsNoLayout descriptor.now fault) }
 {
     match Layout::parse(alloc, descriptor) {
@@ -70,7 +70,7 @@ fn read_report(alloc: Global, info: &ConfigInfo, bytes: &[u8]) -> Result<Layout,
 
 /// What a configuration says is kept.
 #[inline(never)]
-fn described(bytes: &[u8], phase: &mut HostPhase) -> Result<(), StackFault>
+fn conclude_config(bytes: &[u8], phase: &mut HostPhase) -> Result<(), StackFault>
     requires endpoint { HasEndpoint phase.old }
     ensures makes { (addr : ℕ) → OnOk result (Makes addr Config phase.old bytes.now (Ok phase.new)) }
     ensures refused { (addr : ℕ) → IfErr result (λ fault. Makes addr Config phase.old bytes.now (Err fault)) }
@@ -83,7 +83,7 @@ fn described(bytes: &[u8], phase: &mut HostPhase) -> Result<(), StackFault>
 
 /// The layout of a report descriptor is kept, with what the configuration said.
 #[inline(never)]
-fn parsed(alloc: Global, bytes: &[u8], phase: &mut HostPhase) -> Result<(), StackFault>
+fn conclude_report(alloc: Global, bytes: &[u8], phase: &mut HostPhase) -> Result<(), StackFault>
     requires endpoint { HasEndpoint phase.old }
     ensures makes { (addr : ℕ) → OnOk result (Makes addr Report phase.old bytes.now (Ok phase.new)) }
     ensures refused { (addr : ℕ) → IfErr result (λ fault. Makes addr Report phase.old bytes.now (Err fault)) }
@@ -99,7 +99,7 @@ fn parsed(alloc: Global, bytes: &[u8], phase: &mut HostPhase) -> Result<(), Stac
 
 /// A host whose device was configured becomes ready. It keeps its layout where no memory is found.
 #[inline(never)]
-fn configured(alloc: Global, addr: u8, phase: &mut HostPhase) -> Result<(), StackFault>
+fn conclude_configure(alloc: Global, addr: u8, phase: &mut HostPhase) -> Result<(), StackFault>
     requires addr { addr ≤ MAX_ADDRESS }
     requires endpoint { HasEndpoint phase.old }
     ensures makes { OnOk result (Makes addr Configure phase.old [] (Ok phase.new)) }
@@ -113,7 +113,8 @@ fn configured(alloc: Global, addr: u8, phase: &mut HostPhase) -> Result<(), Stac
     let view = View::initial(alloc, layout)?;
     match mem::replace(phase, HostPhase::Cold) {
         HostPhase::Parsed(_, layout) => {
-            phase.go_on(HostPhase::Ready(ReadyHost::new(addr, endpoint, layout, view)));
+            let receiver = Receiver::new(layout, view);
+            phase.go_on(HostPhase::Ready(ReadyHost::new(addr, endpoint, receiver)));
         }
         _ => unreachable!(),
     }
@@ -138,9 +139,9 @@ pub(crate) fn conclude(
 {
     match request {
         Request::Device => read_device(bytes),
-        Request::Config => described(bytes, phase),
-        Request::Report => parsed(alloc, bytes, phase),
-        Request::Configure => configured(alloc, addr, phase),
+        Request::Config => conclude_config(bytes, phase),
+        Request::Report => conclude_report(alloc, bytes, phase),
+        Request::Configure => conclude_configure(alloc, addr, phase),
         Request::Clear => {
             if let HostPhase::Ready(host) = phase {
                 host.restart();

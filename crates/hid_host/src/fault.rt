@@ -44,8 +44,8 @@ impl fmt::Display for DescriptorFault {
 pub enum StackFault {
     /// S1: no device of this number is attached.
     NoDevice,
-    /// S2: the host hasn't come so far with its device: it can't poll, or ask for this, yet or any more (USB 2.0,
-    /// 9.1.1.5).
+    /// S2: the host isn't in the state for this: a poll needs a ready host without a pending clear, a request the state of
+    /// its row (USB 2.0, 9.1.1.5).
     NotReady,
     /// S3: the device has no such control, or it can't change so.
     Refused(ChangeFault),
@@ -57,7 +57,7 @@ pub enum StackFault {
     Report(ReportFault),
     /// S7: there are as many devices as the bus has room for.
     TooManyDevices,
-    /// S8: memory was wanting.
+    /// S8: memory ran out.
     Memory,
 }
 

@@ -3,17 +3,17 @@ ghost use Rattle.std.specs.Prelude.{◌≡◌, ◌⊎◌, false, ◌≤◌, ◌<
 ghost use Rattle.std.specs.Option.{option_copied, option_map};
 ghost use Rattle.hid_layout.specs.Controls.{items_of, max_events};
 ghost use Rattle.hid_layout.specs.Layout.{Contents};
-ghost use Rattle.hid_snapshots.specs.Cells.{FitsShown};
+ghost use Rattle.hid_snapshots.specs.ControlStates.{FitsShown};
 ghost use Rattle.hid_snapshots.specs.Parts.{IsInput};
-ghost use Rattle.usb_packet.specs.Lent.{owned, IsShort};
+ghost use Rattle.usb_packet.specs.PacketRef.{to_owned, IsShort};
 ghost use Rattle.usb_packet.specs.Spelling.{Fits};
-ghost use Rattle.usb_transact.specs.Taken.{taken};
-ghost use Rattle.hid_layout.specs.Laying.{Lays};
+ghost use Rattle.usb_transact.specs.Taken.{reply_outcome};
+ghost use Rattle.hid_layout.specs.Parsing.{ParsesTo};
 ghost use Rattle.hid_host.specs.Conclusions.{IsNoLayout};
-ghost use Rattle.hid_host.specs.Host.{ConcludesAt, bytes_got, clearing_behind, cold_host, is_clear, may_cut, polls_with, ready_after, ready_host};
+ghost use Rattle.hid_host.specs.Host.{ConcludesAt, clearing_after, cold_host, host_after_reply, is_clear, may_abort_round, polls_with, read_bytes_of, ready_host};
 ghost use Rattle.hid_host.specs.Phase.{HasEndpoint, IsReady, IfReady, may_poll, state_of};
-ghost use Rattle.hid_host.specs.Ready.{told_of, events_behind};
-ghost use Rattle.hid_host.specs.Resetting.{SuitsRound, awaited_at, cut_told, drops_told, reset_told};
+ghost use Rattle.hid_host.specs.Ready.{outcome_of, events_after};
+ghost use Rattle.hid_host.specs.ResetEvents.{SuitsRound, awaited_at, drops_told, host_abort_events, host_reset_events};
 
 use crate::conclusions::{conclude, layout_of};
 use crate::fault::StackFault;
@@ -21,11 +21,11 @@ use crate::phase::{HostPhase, HostState};
 use crate::ready::ReadyHost;
 use hid_requests::{REPORT_ENDPOINT, Request};
 use hid_snapshots::{Event, Shown};
-use hid_usages::View;
+use hid_usages::{Receiver, View};
 use std::alloc::Global;
 use std::marker::Model;
 use usb_control::{ControlFault, DevControl, HostTransfer, Outcome, Progress, Requests};
-use usb_packet::{LentPacket, MAX_ADDRESS, Packet};
+use usb_packet::{MAX_ADDRESS, Packet, PacketRef};
 use usb_transact::{Fate, HostPipe, Took};
 
 /// A transfer of a host, and the request that it plays.
@@ -90,7 +90,7 @@ impl HostDevice {
     pub fn ready(alloc: Global, addr: u8, descriptor: &[u8]) -> Result<HostDevice, StackFault>
         requires above { 0 < addr }
         requires addr { addr ≤ MAX_ADDRESS }
-        ensures ready { IfOk result (λ host. (layout : Contents) × Lays descriptor.now layout
+        ensures ready { IfOk result (λ host. (layout : Contents) × ParsesTo descriptor.now layout
             × (host ≡ ready_host addr layout)) }
         ensures is_ready { IfOk result (λ host. IsReady host.phase) }
         ensures refused { IfErr result (λ fault. IsNoLayout descriptor.now fault) }
@@ -100,7 +100,7 @@ impl HostDevice {
             drop(layout);
             return Err(StackFault::Memory);
         };
-        let host = ReadyHost::new(addr, REPORT_ENDPOINT, layout, view);
+        let host = ReadyHost::new(addr, REPORT_ENDPOINT, Receiver::new(layout, view));
         Ok(HostDevice {
             alloc,
             addr,
@@ -139,7 +139,7 @@ impl HostDevice {
     ///
     /// # Errors
     /// [`StackFault::NotReady`] where the host hasn't configured its device, and from the begin of a `Clear` until one is
-    /// done: it may take effect at any try, and a poll behind that would meet another toggle than the host expects.
+    /// done: it may take effect at any try, and a poll after that would meet another toggle than the host expects.
     pub fn token(&self) -> Result<Packet, StackFault>
         ensures token { result ≡ polls_with self.now }
         ensures fits { IfOk result Fits }
@@ -172,35 +172,35 @@ impl HostDevice {
         requires ready { IsReady self.old.phase }
         requires room { IfReady self.old.phase (λ host. vec_len out.old
             + max_events (items_of host.layout) ≤ vec_capacity out.old) }
-        // What is told, what the host keeps, and the events.
+        // What is reported, what the host keeps, and the events.
         ensures told { IfReady self.old.phase (λ host. result
-            ≡ told_of host (taken host.pipe.expects (option_copied packet.entry))) }
+            ≡ outcome_of host (reply_outcome host.pipe.expects (option_copied packet.entry))) }
         ensures after { IfReady self.old.phase (λ host. self.new
-            ≡ ready_after self.old host
-            (taken host.pipe.expects (option_copied packet.entry))) }
+            ≡ host_after_reply self.old host
+            (reply_outcome host.pipe.expects (option_copied packet.entry))) }
         ensures events { IfReady self.old.phase (λ host. out.new.items
             ≡ out.old.items
-            ++ events_behind host (taken host.pipe.expects (option_copied packet.entry))) }
+            ++ events_after host (reply_outcome host.pipe.expects (option_copied packet.entry))) }
 
         ensures few { IfReady self.old.phase (λ host. length out.new.items
             ≤ length out.old.items + max_events (items_of host.layout)) }
         ensures room { vec_capacity out.new ≡ vec_capacity out.old }
         ensures is_ready { IsReady self.new.phase }
     {
-        let lent = match packet {
-            Some(packet) => Some(packet.lent()),
+        let packet_ref = match packet {
+            Some(packet) => Some(packet.as_ref()),
             None => None,
         };
-        self.reply_lent(lent, out)
+        self.reply_ref(packet_ref, out)
     }
 
     /// Takes a packet whose payload, of at most 64 bytes, stands elsewhere: as [`HostDevice::reply`] does.
     ///
     /// # Errors
     /// As of [`HostDevice::reply`].
-    pub fn reply_lent(
+    pub fn reply_ref(
         &mut self,
-        packet: Option<LentPacket>,
+        packet: Option<PacketRef>,
         out: &mut Vec<Event>,
     ) -> Result<Took, StackFault>
         requires short { IfSome packet IsShort }
@@ -208,13 +208,15 @@ impl HostDevice {
         requires room { IfReady self.old.phase (λ host. vec_len out.old
             + max_events (items_of host.layout) ≤ vec_capacity out.old) }
         ensures told { IfReady self.old.phase (λ host. result
-            ≡ told_of host (taken host.pipe.expects (option_map owned packet.entry))) }
+            ≡ outcome_of host
+            (reply_outcome host.pipe.expects (option_map to_owned packet.entry))) }
         ensures after { IfReady self.old.phase (λ host. self.new
-            ≡ ready_after self.old host
-            (taken host.pipe.expects (option_map owned packet.entry))) }
+            ≡ host_after_reply self.old host
+            (reply_outcome host.pipe.expects (option_map to_owned packet.entry))) }
         ensures events { IfReady self.old.phase (λ host. out.new.items
             ≡ out.old.items
-            ++ events_behind host (taken host.pipe.expects (option_map owned packet.entry))) }
+            ++ events_after host
+            (reply_outcome host.pipe.expects (option_map to_owned packet.entry))) }
         ensures few { IfReady self.old.phase (λ host. length out.new.items
             ≤ length out.old.items + max_events (items_of host.layout)) }
         ensures room { vec_capacity out.new ≡ vec_capacity out.old }
@@ -226,11 +228,9 @@ impl HostDevice {
         host.reply(packet, out)
     }
 
-    /// The bus was reset: the host forgets its device and its transfer, and is cold. A ready host tells what changes until its
-    /// view is the initial one again. It is given the round that is open at its device before, with whether its data go out
-    /// as DATA1, which piece of it goes out, and the parts that were fixed last there: motion of a round whose data it hasn't
-    /// got, all of them, is told as dropped. There is reserved room for `max_events` more where it is ready; no memory is
-    /// taken.
+    /// The bus was reset: the host forgets its device and its transfer, and is cold. A ready host appends the changes back to
+    /// the initial view, and as dropped the motion of the open round that it hasn't received whole. `round`, `piece` and
+    /// `fixed` are the device's, from before its reset. Room for `max_events` more is reserved; no memory is taken.
     pub fn reset(
         &mut self,
         round: Option<(usize, bool)>,
@@ -243,13 +243,13 @@ impl HostDevice {
             + max_events (items_of host.layout) ≤ vec_capacity out.old) }
         ensures host { self.new ≡ cold_host self.old.addr }
         ensures events { out.new.items
-            ≡ out.old.items ++ reset_told self.old.phase round piece fixed.now }
+            ≡ out.old.items ++ host_reset_events self.old.phase round piece fixed.now }
         ensures few { IfReady self.old.phase (λ host. length out.new.items
             ≤ length out.old.items + max_events (items_of host.layout)) }
         ensures room { vec_capacity out.new ≡ vec_capacity out.old }
     {
         if let HostPhase::Ready(host) = &self.phase {
-            host.tell_back(round, piece, fixed, out); // any other has told nothing
+            host.release_all(round, piece, fixed, out); // any other has reported nothing
         }
         self.forget();
     }
@@ -263,11 +263,10 @@ impl HostDevice {
         self.clearing = false;
     }
 
-    /// A halt of the endpoint, or its end, cut the round that was open at the device: its motion is told as dropped where the
-    /// host hasn't got all of its data, and nothing else. It is given that round, with whether its data went out as DATA1,
-    /// which piece of it went out, and the parts that were fixed last, and stands as it did before the cut; one that isn't
-    /// ready tells nothing. There is reserved room for `max_events` more where it is ready; no memory is taken.
-    pub fn tell_cut(
+    /// Appends what a halt, or its end, drops: the motion of the round that was open, unless all of its data arrived. It is
+    /// given that round with whether its data go out as DATA1, the current piece, and the parts fixed last, all from before.
+    /// A host that isn't ready appends nothing. Room for `max_events` more is reserved; no memory is taken.
+    pub fn drop_aborted_motion(
         &self,
         round: Option<(usize, bool)>,
         piece: Option<usize>,
@@ -278,32 +277,36 @@ impl HostDevice {
         requires room { IfReady self.now.phase (λ host. vec_len out.old
             + max_events (items_of host.layout) ≤ vec_capacity out.old) }
         ensures events { out.new.items
-            ≡ out.old.items ++ cut_told self.now.phase round piece fixed.now }
+            ≡ out.old.items ++ host_abort_events self.now.phase round piece fixed.now }
         ensures few { IfReady self.now.phase (λ host. length out.new.items
             ≤ length out.old.items + max_events (items_of host.layout)) }
         ensures room { vec_capacity out.new ≡ vec_capacity out.old }
     {
         if let HostPhase::Ready(host) = &self.phase {
-            host.tell_cut(round, piece, fixed, out);
+            host.drop_aborted_motion(round, piece, fixed, out);
         }
     }
 
-    /// The report of the round that is open at the device, where the host is ready and hasn't got all of its data. It is given
-    /// that round, with whether its data go out as DATA1, and which piece of it goes out.
-    pub fn awaited(&self, round: Option<(usize, bool)>, piece: Option<usize>) -> Option<usize>
+    /// The report of the round that is open at the device, where the host is ready and hasn't received all of its data. It is
+    /// given that round with whether its data go out as DATA1, and the current piece.
+    pub fn awaited_report(
+        &self,
+        round: Option<(usize, bool)>,
+        piece: Option<usize>,
+    ) -> Option<usize>
         requires input { IfReady self.now.phase
             (λ host. IfSome round (λ it. IsInput host.layout it.0)) }
         ensures awaited { result ≡ awaited_at self.now.phase round piece }
     {
         match &self.phase {
-            HostPhase::Ready(host) => host.awaited(round, piece),
+            HostPhase::Ready(host) => host.awaited_report(round, piece),
             HostPhase::Cold | HostPhase::Described(_) | HostPhase::Parsed(..) => None,
         }
     }
 
-    /// A round of this report was cut that the host had [awaited](HostDevice::awaited): its motion is told as dropped. The host is
-    /// given the parts that were fixed last; one that isn't ready tells nothing. There is reserved room for `max_events` more
-    /// where it is ready; no memory is taken.
+    /// Appends the motion of this [awaited](HostDevice::awaited_report) report as dropped: its round was aborted. The host is
+    /// given the parts fixed last; one that isn't ready appends nothing. Room for `max_events` more is reserved; no memory is
+    /// taken.
     pub fn tell_drops(&self, report: usize, fixed: &Shown, out: &mut Vec<Event>)
         requires input { IfReady self.now.phase (λ host. IsInput host.layout report) }
         requires fits { IfReady self.now.phase (λ host. FitsShown (items_of host.layout) fixed.now) }
@@ -344,9 +347,9 @@ impl HostDevice {
 
 impl HostDevice {
     ghost use Rattle.std.specs.Prelude.{Ok, Err, Some, None, OnOk, OnErr, is_some};
-    ghost use Rattle.hid_requests.specs.Asking.{FitsRequest};
+    ghost use Rattle.hid_requests.specs.RequestSetup.{FitsRequest};
     ghost use Rattle.hid_host.specs.declared.fault.StackFault.{StackFault as Refusal};
-    ghost use Rattle.hid_host.specs.Host.{ControlSteps, ShowsLast, begin_refusal, begun, running, transfer_of};
+    ghost use Rattle.hid_host.specs.Host.{ControlSteps, ShowsLast, begin_refusal, host_after_begin, running, transfer_of};
     ghost use Rattle.hid_host.specs.Phase.{asking_at};
 
     /// Whether a transfer runs.
@@ -359,9 +362,9 @@ impl HostDevice {
         }
     }
 
-    /// Whether a try of the transfer that runs may cut the round that is open at the device: it is one of `Halt` or `Clear`.
-    pub fn may_cut(&self) -> bool
-        ensures { result ≡ may_cut (running self.now.transfer) }
+    /// Whether a try of the transfer that runs may abort the round that is open at the device: it is one of `Halt` or `Clear`.
+    pub fn may_abort_round(&self) -> bool
+        ensures { result ≡ may_abort_round (running self.now.transfer) }
     {
         match &self.transfer {
             Some(transfer) => {
@@ -397,7 +400,7 @@ impl HostDevice {
     /// where the request needs another state, by the table of [`HostState`]; then [`StackFault::Memory`].
     pub fn begin(&mut self, request: &Request) -> Result<(), StackFault>
         ensures begun { OnOk result ((begin_refusal self.old request.now ≡ None)
-            × (self.new ≡ begun self.old request.now)) }
+            × (self.new ≡ host_after_begin self.old request.now)) }
         ensures refused { (e : Refusal) → begin_refusal self.old request.now ≡ Some e → result ≡ Err e }
         ensures only { IfErr result (λ e. (begin_refusal self.old request.now ≡ Some e)
             ⊎ ((begin_refusal self.old request.now ≡ None) × (e ≡ Refusal.Memory))) }
@@ -437,7 +440,7 @@ impl HostDevice {
         match &mut self.transfer {
             Some(transfer) => {
                 transfer.ends.step(control, fate);
-                concluded(
+                conclude_try(
                     self.alloc,
                     self.addr,
                     transfer,
@@ -463,8 +466,8 @@ impl HostDevice {
     }
 }
 
-/// What is told behind a try of a transfer. Where it is done, the host goes on by its answer.
-fn concluded(
+/// What is reported after a try of a transfer. Where it is done, the host goes on by its answer.
+fn conclude_try(
     alloc: Global,
     addr: u8,
     transfer: &Transfer,
@@ -474,8 +477,9 @@ fn concluded(
     requires addr { addr ≤ MAX_ADDRESS }
     requires endpoint { HasEndpoint phase.old }
     ensures concludes { ConcludesAt transfer.now.ends.stage addr transfer.now.request
-        phase.old (bytes_got transfer.now.ends) result phase.new }
-    ensures clearing { clearing.new ≡ clearing_behind transfer.now.ends.stage transfer.now.request clearing.old }
+        phase.old (read_bytes_of transfer.now.ends) result phase.new }
+    ensures clearing { clearing.new
+        ≡ clearing_after transfer.now.ends.stage transfer.now.request clearing.old }
     ensures endpoint { HasEndpoint phase.new }
 {
     match transfer.ends.outcome() {

@@ -24,7 +24,7 @@
 //!   [`control_step`](HostDevice::control_step).
 //! - Polls: `told`, `after` and `events` on [`reply`](HostDevice::reply). Resets of the bus: `events` on
 //!   [`reset`](HostDevice::reset). A round that a halt or its end aborts: `events` on
-//!   [`tell_cut`](HostDevice::tell_cut) and [`tell_drops`](HostDevice::tell_drops).
+//!   [`drop_aborted_motion`](HostDevice::drop_aborted_motion) and [`tell_drops`](HostDevice::tell_drops).
 //! - Only `ready`, `begin`, and a `control_step` that ends `Report` or `Configure` take memory.
 //!
 //! With a virtual device the host is ready only while the device is configured, and has its layout: laws of `hid_stack`.

@@ -1,93 +1,58 @@
-//! What a ready host keeps: the layout of the reports with its view of the controls, the pipe that it polls, and what came of
-//! a report that isn't whole yet.
-ghost use Rattle.std.specs.Prelude.{◌≡◌, ◌≤◌, ◌<◌, ◌+◌, ◌++◌, false, not, length, unwrap_or, vec_len, vec_capacity, IfSome};
+//! What a ready host keeps: the pipe that it polls, and the receiver of what comes there.
+ghost use Rattle.std.specs.Prelude.{◌≡◌, ◌≤◌, ◌+◌, ◌++◌, [], not, length, unwrap_or, vec_len, vec_capacity, IfSome};
 ghost use Rattle.std.specs.Option.{option_map};
-ghost use Rattle.hid_descriptor.specs.declared.limits.TheConstants.{MAX_REPORT_BYTES};
 ghost use Rattle.hid_layout.specs.Controls.{items_of, max_events};
-ghost use Rattle.hid_layout.specs.Reports.{IsLayout};
-ghost use Rattle.hid_snapshots.specs.Cells.{FitsShown, FitsView, blank};
+ghost use Rattle.hid_snapshots.specs.ControlStates.{FitsShown, blank};
 ghost use Rattle.hid_snapshots.specs.Parts.{IsInput};
 ghost use Rattle.hid_snapshots.specs.Views.{drops_between};
-ghost use Rattle.hid_usages.specs.Reading.{report_named};
-ghost use Rattle.usb_packet.specs.Lent.{owned, IsShort};
+ghost use Rattle.usb_packet.specs.PacketRef.{to_owned, IsShort};
 ghost use Rattle.usb_packet.specs.Spelling.{Fits};
-ghost use Rattle.usb_transact.specs.Taken.{taken};
+ghost use Rattle.usb_transact.specs.Taken.{reply_outcome};
 ghost use Rattle.usb_transact.specs.Host.{token_to};
 ghost use Rattle.hid_snapshots.specs.Pieces.{is_last_piece};
-ghost use Rattle.hid_host.specs.Ready.{collected_with, data_read, events_behind, events_read, events_with, is_whole, known_at_start, known_behind, known_cleared, read_or_fault, told_of, view_read, view_with};
-ghost use Rattle.hid_host.specs.Resetting.{SuitsRound, awaited, known_cut, known_told_back};
+ghost use Rattle.hid_host.specs.Ready.{events_after, known_after, known_at_start, known_cleared, outcome_of};
+ghost use Rattle.hid_host.specs.ResetEvents.{SuitsRound, awaited_report, known_abort_events, known_release_events};
 
 use crate::fault::StackFault;
-use arrayvec::ArrayVec;
 use hid_fields::WordCodec;
-use hid_layout::Layout;
-use hid_snapshots::{Event, ReportFault, Shown, pieces_of};
-use hid_usages::{Reader, View, bytes_awaited, changes_and_drops};
+use hid_snapshots::{Event, Shown, pieces_of};
+use hid_usages::{Receiver, View, changes_and_drops};
 use std::marker::Model;
-use usb_packet::{LentPacket, MAX_ADDRESS, MAX_ENDPOINT, MAX_PAYLOAD, Packet};
+use usb_packet::{MAX_ADDRESS, MAX_ENDPOINT, Packet, PacketRef};
 use usb_transact::{HostPipe, Took};
 
 /// What a ready host keeps. A contract sees it as `layout`, `pipe`, `view` and `collected`.
 #[derive(Drop)]
 pub struct ReadyHost {
-    reader: Reader,
+    receiver: Receiver,
     pipe: HostPipe,
-    /// What came of a report that isn't whole yet: full packets.
-    collected: ArrayVec<u8, 256>,
 }
 
 impl Model for ReadyHost {
-    ghost use Rattle.hid_host.specs.Ready.{ArePackets, Known};
+    ghost use Rattle.hid_host.specs.Ready.{Known};
 
     ghost Value = { Known };
 
     ghost view = { λ h. record {
-      layout = h.reader.layout;
+      layout = h.receiver.layout;
       pipe = h.pipe;
-      view = h.reader.view;
-      collected = h.collected.items;
+      view = h.receiver.view;
+      collected = h.receiver.collected;
     } };
-
-    ghost invariant = { λ h. ArePackets h.collected.items };
-}
-
-/// Whether a report ends with these bytes, of which so many came last: it is as long as it should be, or the last packet isn't
-/// full (USB 2.0, 5.7.3).
-fn is_whole(layout: &Layout, bytes: &[u8], last: usize) -> bool
-    ensures whole { result ≡ is_whole layout.now bytes.now last }
-    ensures goes_on { result ≡ false → (MAX_PAYLOAD ≤ last) × (length bytes.now < MAX_REPORT_BYTES) }
-{
-    last < MAX_PAYLOAD || bytes_awaited(layout, bytes) <= bytes.len()
-}
-
-/// Reads a report that has ended. One that is refused leaves the view.
-fn read_report(reader: &mut Reader, bytes: &[u8], out: &mut Vec<Event>) -> Result<(), ReportFault>
-    requires room { vec_len out.old + max_events (items_of reader.old.layout) ≤ vec_capacity out.old }
-    ensures told { result ≡ read_or_fault (report_named reader.old.layout bytes.now) }
-    ensures layout { reader.new.layout ≡ reader.old.layout }
-    ensures view { reader.new.view ≡ view_read reader.old.layout bytes.now reader.old.view }
-    ensures events { out.new.items
-        ≡ out.old.items ++ events_read reader.old.layout bytes.now reader.old.view }
-    ensures few { length out.new.items
-        ≤ length out.old.items + max_events (items_of reader.old.layout) }
-    ensures room { vec_capacity out.new ≡ vec_capacity out.old }
-{
-    reader.take_report::<WordCodec>(bytes, out)
 }
 
 impl ReadyHost {
     /// A host that polls this endpoint from the initial view on.
-    pub(crate) fn new(addr: u8, endpoint: u8, layout: Layout, view: View) -> ReadyHost
+    pub(crate) fn new(addr: u8, endpoint: u8, receiver: Receiver) -> ReadyHost
         requires addr { addr ≤ MAX_ADDRESS }
         requires endpoint { endpoint ≤ MAX_ENDPOINT }
-        requires layout { IsLayout layout }
-        requires view { (view ≡ blank (items_of layout)) × FitsView (items_of layout) view }
-        ensures { result ≡ known_at_start addr endpoint layout }
+        requires view { receiver.view ≡ blank (items_of receiver.layout) }
+        requires none { receiver.collected ≡ [] }
+        ensures { result ≡ known_at_start addr endpoint receiver.layout }
     {
         ReadyHost {
-            reader: Reader::new(layout, view),
+            receiver,
             pipe: HostPipe::new(addr, endpoint),
-            collected: ArrayVec::new(),
         }
     }
 
@@ -114,14 +79,14 @@ impl ReadyHost {
         ensures { self.new ≡ known_cleared self.old }
     {
         self.pipe.restart();
-        self.collected.clear(); // its device sends that report no further
+        self.receiver.forget(); // its device sends that report no further
     }
 
     /// How many events a reply gives at most.
     pub(crate) fn max_events(&self) -> usize
         ensures { result ≡ max_events (items_of self.now.layout) }
     {
-        self.reader.layout().max_events()
+        self.receiver.layout().max_events()
     }
 
     /// The pipe that is polled.
@@ -135,65 +100,40 @@ impl ReadyHost {
     pub(crate) fn view(&self) -> &View
         ensures { result.now ≡ self.now.view }
     {
-        self.reader.view()
+        self.receiver.view()
     }
 
     /// Takes what came after a token, if something did. There is reserved room for `max_events` more.
     pub(crate) fn reply(
         &mut self,
-        packet: Option<LentPacket>,
+        packet: Option<PacketRef>,
         out: &mut Vec<Event>,
     ) -> Result<Took, StackFault>
         requires short { IfSome packet IsShort }
         requires room { vec_len out.old + max_events (items_of self.old.layout)
             ≤ vec_capacity out.old }
         ensures told { result
-            ≡ told_of self.old (taken self.old.pipe.expects (option_map owned packet.entry)) }
+            ≡ outcome_of self.old
+            (reply_outcome self.old.pipe.expects (option_map to_owned packet.entry)) }
         ensures after { self.new
-            ≡ known_behind self.old (taken self.old.pipe.expects (option_map owned packet.entry)) }
+            ≡ known_after self.old
+            (reply_outcome self.old.pipe.expects (option_map to_owned packet.entry)) }
         ensures events { out.new.items
             ≡ out.old.items
-            ++ events_behind self.old (taken self.old.pipe.expects (option_map owned packet.entry)) }
+            ++ events_after self.old
+            (reply_outcome self.old.pipe.expects (option_map to_owned packet.entry)) }
         ensures few { length out.new.items
             ≤ length out.old.items + max_events (items_of self.old.layout) }
         ensures room { vec_capacity out.new ≡ vec_capacity out.old }
     {
-        let took = self.pipe.take_lent(packet);
+        let took = self.pipe.take_ref(packet);
         if let Took::Fresh(payload) = &took {
-            match self.read(payload.as_slice(), out) {
-                Ok(()) => {}
+            match self.receiver.take::<WordCodec>(payload.as_slice(), out) {
+                Ok(_) => {}
                 Err(fault) => return Err(StackFault::Report(fault)),
             }
         }
         Ok(took)
-    }
-
-    /// Joins fresh data to what came of their report before, and reads the report where it ends with them. There is reserved
-    /// room for `max_events` more.
-    fn read(&mut self, payload: &[u8], out: &mut Vec<Event>) -> Result<(), ReportFault>
-        requires short { length payload.now ≤ MAX_PAYLOAD }
-        requires room { vec_len out.old + max_events (items_of self.old.layout)
-            ≤ vec_capacity out.old }
-        ensures told { result ≡ data_read self.old payload.now }
-        ensures after { self.new ≡ record self.old {
-          view = view_with self.old payload.now;
-          collected = collected_with self.old payload.now;
-        } }
-        ensures events { out.new.items ≡ out.old.items ++ events_with self.old payload.now }
-        ensures few { length out.new.items
-            ≤ length out.old.items + max_events (items_of self.old.layout) }
-        ensures room { vec_capacity out.new ≡ vec_capacity out.old }
-    {
-        if self.collected.is_empty() && is_whole(self.reader.layout(), payload, payload.len()) {
-            return read_report(&mut self.reader, payload, out);
-        }
-        self.collected.try_extend_from_slice(payload).unwrap();
-        if !is_whole(self.reader.layout(), &self.collected, payload.len()) {
-            return Ok(());
-        }
-        let told = read_report(&mut self.reader, &self.collected, out);
-        self.collected.clear();
-        told
     }
 
     /// Whether a piece of a report is followed by another.
@@ -201,18 +141,19 @@ impl ReadyHost {
         requires { IsInput self.now.layout report }
         ensures { result ≡ not (is_last_piece (items_of self.now.layout) report (unwrap_or piece 0)) }
     {
-        piece.unwrap_or(0) < pieces_of(self.reader.layout(), report) - 1
+        piece.unwrap_or(0) < pieces_of(self.receiver.layout(), report) - 1
     }
 
     /// The report of the round that is open at the device, where its data haven't all come: those of this piece go out under
-    /// the toggle that is expected, or others are behind them.
-    pub(crate) fn awaited(
+    /// the toggle that is expected, or others are after them.
+    pub(crate) fn awaited_report(
         &self,
         round: Option<(usize, bool)>,
         piece: Option<usize>,
     ) -> Option<usize>
         requires { IfSome round (λ it. IsInput self.now.layout it.0) }
-        ensures { result ≡ awaited (items_of self.now.layout) self.now.pipe.expects round piece }
+        ensures { result
+            ≡ awaited_report (items_of self.now.layout) self.now.pipe.expects round piece }
     {
         match round {
             Some((report, one)) => {
@@ -228,7 +169,7 @@ impl ReadyHost {
 
     /// Tells what changes until the view is the initial one again, and drops the motion of the round that is open at the
     /// device, where its data haven't all come. There is reserved room for `max_events` more.
-    pub(crate) fn tell_back(
+    pub(crate) fn release_all(
         &self,
         round: Option<(usize, bool)>,
         piece: Option<usize>,
@@ -239,13 +180,13 @@ impl ReadyHost {
         requires room { vec_len out.old + max_events (items_of self.now.layout)
             ≤ vec_capacity out.old }
         ensures events { out.new.items
-            ≡ out.old.items ++ known_told_back self.now round piece fixed.now }
+            ≡ out.old.items ++ known_release_events self.now round piece fixed.now }
         ensures few { length out.new.items
             ≤ length out.old.items + max_events (items_of self.now.layout) }
         ensures room { vec_capacity out.new ≡ vec_capacity out.old }
     {
-        let (layout, view) = (self.reader.layout(), self.reader.view());
-        match self.awaited(round, piece) {
+        let (layout, view) = (self.receiver.layout(), self.receiver.view());
+        match self.awaited_report(round, piece) {
             Some(report) => view.changes_back_and_drops(layout, report, fixed, out),
             None => view.changes_back(layout, out),
         }
@@ -253,7 +194,7 @@ impl ReadyHost {
 
     /// Drops the motion of the round that was open at the device, where its data haven't all come: a halt, or its end, cuts it.
     /// There is reserved room for `max_events` more.
-    pub(crate) fn tell_cut(
+    pub(crate) fn drop_aborted_motion(
         &self,
         round: Option<(usize, bool)>,
         piece: Option<usize>,
@@ -263,12 +204,13 @@ impl ReadyHost {
         requires suits { SuitsRound self.now.layout round fixed.now }
         requires room { vec_len out.old + max_events (items_of self.now.layout)
             ≤ vec_capacity out.old }
-        ensures events { out.new.items ≡ out.old.items ++ known_cut self.now round piece fixed.now }
+        ensures events { out.new.items ≡ out.old.items
+            ++ known_abort_events self.now round piece fixed.now }
         ensures few { length out.new.items
             ≤ length out.old.items + max_events (items_of self.now.layout) }
         ensures room { vec_capacity out.new ≡ vec_capacity out.old }
     {
-        if let Some(report) = self.awaited(round, piece) {
+        if let Some(report) = self.awaited_report(round, piece) {
             self.tell_drops(report, fixed, out);
         }
     }
@@ -285,7 +227,7 @@ impl ReadyHost {
             ≤ length out.old.items + max_events (items_of self.now.layout) }
         ensures room { vec_capacity out.new ≡ vec_capacity out.old }
     {
-        let view = self.reader.view();
-        changes_and_drops(self.reader.layout(), view, view, report, fixed, out);
+        let view = self.receiver.view();
+        changes_and_drops(self.receiver.layout(), view, view, report, fixed, out);
     }
 }

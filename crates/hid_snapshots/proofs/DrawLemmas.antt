@@ -3,7 +3,7 @@ use Rattle.std.proofs.Common.{◌≡◌, ℕ, zero, suc, ◌+◌, ◌<◌, ◌�
 use Rattle.std.specs.List.{slice_get}
 use Rattle.std.proofs.lemmas.List.{length-drop}
 use Rattle.hid_snapshots.specs.Words.{is_on, IsFirst}
-use Rattle.hid_snapshots.specs.Sending.{placed_from}
+use Rattle.hid_snapshots.specs.Sending.{pressed_places_from}
 use Rattle.hid_snapshots.proofs.ListLemmas.{drop_at}
 use Rattle.hid_snapshots.proofs.PlaceLemmas.{placed_next, placed_none}
 
@@ -14,7 +14,7 @@ front k = omega arith
 pub left_within : {A : Type 0} (xs : List A) (k n : ℕ) → n ≡ length (drop k xs) → 0 < n → k < length xs
 left_within xs k n is some = omega (arith, is, some, length-drop k xs)
 
--- and the place behind it is one that a program can count
+-- the place after one of at most 2,048 is one that a program can count
 pub next_fits : (k n : ℕ) → k < n → n ≤ 2048 → Fits w64 (k + 1)
 next_fits k n within few = omega arith
 
@@ -33,10 +33,11 @@ map_drawn f xs i x y there is = rw is (ap (map f) (drop_at xs i x there))
 
 -- a pressed key, before what is repeated
 pub key_drawn : (min least n : ℤ) (ps : List Bool) (from place : ℕ) (then : List ℤ) → IsFirst (is_on ps) from (length ps) place → least ≡ min → n ≡ min +ℤ pos place
-    → placed_from min from (drop from ps) ++ then ≡ n ∷ (placed_from least (place + 1) (drop (place + 1) ps) ++ then)
+    → pressed_places_from min from (drop from ps) ++ then ≡ n
+    ∷ (pressed_places_from least (place + 1) (drop (place + 1) ps) ++ then)
 key_drawn min least n ps from place then first same is = rw (same, is) (ap (λ (t : List ℤ). t ++ then) (placed_next min ps from place first))
 
 -- no pressed key is left
 pub keys_drawn : (min : ℤ) (ps : List Bool) (from : ℕ) (then : List ℤ) → ((i : ℕ) → from ≤ i → i < length ps → is_on ps i ≡ false)
-    → placed_from min from (drop from ps) ++ then ≡ then
+    → pressed_places_from min from (drop from ps) ++ then ≡ then
 keys_drawn min ps from then none = ap (λ (t : List ℤ). t ++ then) (placed_none min ps from none)

@@ -17,11 +17,11 @@ use Rattle.hid_descriptor.specs.declared.shape.Shape.{Shape}
 use Rattle.hid_layout.specs.Controls.{form_of}
 use Rattle.std.proofs.lemmas.Bool.Decides.{nat_tests}
 use Rattle.hid_snapshots.specs.Numbers.{numbers_in}
-use Rattle.hid_snapshots.specs.Encoding.{IsData, Shows, CanSend, IsEncoding, bare_report, part_numbers, sent_at, place}
+use Rattle.hid_snapshots.specs.Encoding.{IsData, Shows, CanSend, IsEncoding, bare_report, part_numbers, numbers_at, place}
 use Rattle.hid_snapshots.proofs.PlanLemmas.{Skips}
-use Rattle.hid_snapshots.specs.declared.cell.Cell.{Cell}
-use Rattle.hid_snapshots.specs.Sending.{sent, placed_from, pressed_count}
-use Rattle.hid_snapshots.proofs.PlaceLemmas.{placed_from-length}
+use Rattle.hid_snapshots.specs.declared.control_state.ControlState.{ControlState}
+use Rattle.hid_snapshots.specs.Sending.{element_numbers, pressed_places_from, switch_count}
+use Rattle.hid_snapshots.proofs.PlaceLemmas.{pressed_places_from-length}
 use Rattle.hid_snapshots.proofs.NumberLemmas.{numbers_in-agree}
 
 below_next : (i k : ℕ) → i < k + 1 → (i < k) ⊎ (i ≡ k)
@@ -106,19 +106,44 @@ pub encoded : (layout : Contents) (r k : ℕ) (numbers : ℕ → List ℤ) (byte
     → Shows layout r numbers k (bare_report layout r) bytes → IsEncoding layout r numbers bytes
 encoded layout r k numbers bytes e whole s = record { whole = whole; shows = rw (← e) s }
 
--- what is sent of a cell at a listed item, by the item and its usages
-pub sent_there : (layout : Contents) (i : ℕ) (item : MainItem) (es : List Entry) (cell : Cell) (shape : Shape) → slice_get layout.items i ≡ Some item → slice_get layout.entries i ≡ Some es → item.shape ≡ shape
-    → sent_at layout i cell ≡ sent item (usage_list es) (form_of item (usage_list es) shape) cell
-sent_there layout i item es cell shape it ranges is =
-    ap (λ (o : Option MainItem). elim o as (λ _. List ℤ) [ None ↦ [] | Some x ↦ elim (slice_get layout.entries i) as (λ _. List ℤ) [ None ↦ [] | Some l ↦ sent x (usage_list l) (form_of x (usage_list l) x.shape) cell ] ]) it
-    ∙ ap (λ (o : Option (List Entry)). elim o as (λ _. List ℤ) [ None ↦ [] | Some l ↦ sent item (usage_list l) (form_of item (usage_list l) item.shape) cell ]) ranges
-    ∙ ap (λ (s : Shape). sent item (usage_list es) (form_of item (usage_list es) s) cell) is
+-- what is sent of a control state at a listed item, by the item and its usages
+pub sent_there : (layout : Contents) (i : ℕ) (item : MainItem) (es : List Entry) (state : ControlState) (shape : Shape)
+    → slice_get layout.items i ≡ Some item → slice_get layout.entries i ≡ Some es → item.shape ≡ shape
+    → numbers_at layout i state ≡ element_numbers item (usage_list es) (form_of item (usage_list es) shape) state
+sent_there layout i item es state shape it ranges is =
+    ap (λ (o : Option MainItem). elim o as
+    (λ _. List ℤ) [
+      | None ↦ []
+      | Some x ↦
+          elim (slice_get layout.entries i) as
+          (λ _. List ℤ) [
+            | None ↦ []
+            | Some l ↦
+                element_numbers x (usage_list l) (form_of x (usage_list l) x.shape) state
+          ]
+    ]) it
+    ∙ ap (λ (o : Option (List Entry)). elim o as
+    (λ _. List ℤ) [
+      | None ↦ []
+      | Some l ↦
+          element_numbers item (usage_list l) (form_of item (usage_list l) item.shape) state
+    ]) ranges
+    ∙ ap (λ (s : Shape). element_numbers item (usage_list es) (form_of item (usage_list es) s) state) is
 
-pub cell_numbers : (layout : Contents) (parts : List Cell) (i : ℕ) (cell : Cell) → slice_get parts i ≡ Some cell → part_numbers layout parts i ≡ sent_at layout i cell
-cell_numbers layout parts i cell h = ap (λ (o : Option Cell). elim o as (λ _. List ℤ) [ None ↦ [] | Some x ↦ sent_at layout i x ]) h
+pub state_numbers : (layout : Contents) (parts : List ControlState) (i : ℕ) (state : ControlState)
+    → slice_get parts i ≡ Some state → part_numbers layout parts i ≡ numbers_at layout i state
+state_numbers layout parts i state h =
+    ap (λ (o : Option ControlState). elim o as (λ _. List ℤ) [ None ↦ [] | Some x ↦ numbers_at layout i x ]) h
 
 -- an array that can be sent has no more pressed keys than elements
-pub keys_few : (item : MainItem) (ps : List Bool) (rest : ℕ) (v : ℤ) → CanSend item (placed_from item.min 0 ps ++ replicate rest v) → pressed_count ps ≤ item.count
-keys_few item ps rest v can = omega (arith, can.one_each, placed_from-length item.min 0 ps, length-append (placed_from item.min 0 ps) (replicate rest v))
+pub keys_few : (item : MainItem) (ps : List Bool) (rest : ℕ) (v : ℤ)
+    → CanSend item (pressed_places_from item.min 0 ps ++ replicate rest v) → switch_count ps ≤ item.count
+keys_few item ps rest v can =
+    omega (
+      arith,
+      can.one_each,
+      pressed_places_from-length item.min 0 ps,
+      length-append (pressed_places_from item.min 0 ps) (replicate rest v),
+    )
 
 pub ruleset keys_sent = (keys_few)

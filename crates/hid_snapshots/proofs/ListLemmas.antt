@@ -3,7 +3,7 @@ use Rattle.std.proofs.Common.{◌≡◌, ℕ, zero, suc, ◌+◌, List, [], ◌�
 use Rattle.std.specs.List.{slice_get, zip}
 use Rattle.std.proofs.lemmas.List.Sums.{sum_by-append}
 use Rattle.std.proofs.lemmas.Int.{to_z-of_z}
-use Rattle.hid_snapshots.specs.Cells.{pressed_count}
+use Rattle.hid_snapshots.specs.ControlStates.{switch_count}
 
 front : (j : ℕ) → suc j + 1 ≡ suc (j + 1)
 front j = omega arith
@@ -42,6 +42,6 @@ zip_at (a ∷ xs) [] j x y h k = absurd (cc)
 zip_at (a ∷ xs) (b ∷ ys) zero x y h k = cc
 zip_at (a ∷ xs) (b ∷ ys) (suc j) x y h k = zip_at xs ys j x y h k
 
-pub cons_count : (p : Bool) (ps : List Bool) → pressed_count (p ∷ ps) ≡ cond p 1 0 + pressed_count ps
+pub cons_count : (p : Bool) (ps : List Bool) → switch_count (p ∷ ps) ≡ cond p 1 0 + switch_count ps
 cons_count true ps = omega (arith, sum_by-append (λ (q : Bool). cond q 1 0) (true ∷ []) ps)
 cons_count false ps = omega (arith, sum_by-append (λ (q : Bool). cond q 1 0) (false ∷ []) ps)

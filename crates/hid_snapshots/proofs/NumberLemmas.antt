@@ -85,7 +85,7 @@ numbers_in-agree xs ys at w signed (suc n) same =
     let e : w * suc n ≡ w * n + w = omega arith in
     rw (numbers_in-agree xs ys at w signed n (λ m a b. same m a (omega arith)), pattern_of-agree xs ys (at + w * n) w (λ m a b. same m (omega arith) (omega arith))) refl
 
--- one more number is written behind those that stand
+-- one more number is written after those that stand
 pub written : (xs ys : List ℕ) (at w : ℕ) (signed : Bool) (n : ℕ) (numbers : List ℤ) (v d : ℤ) → n < length numbers → get_or numbers n d ≡ v
     → ((m : ℕ) → IsOutside (at + w * n) w m → bit_of ys m ≡ bit_of xs m)
     → number_at ys (at + w * n) w signed ≡ v

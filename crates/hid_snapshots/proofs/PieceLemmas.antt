@@ -97,7 +97,7 @@ more_to_come bytes piece more =
     let taken : length (take (64 * (piece + 1)) bytes) ≡ 64 * (piece + 1) = length-take-le (64 * (piece + 1)) bytes (omega (arith, few)) in
     omega (arith, few, taken)
 
--- behind the last byte there is none
+-- after the last byte there is none
 pub drop_min : (bytes : List ℕ) (n m : ℕ) → length bytes ≤ m → drop (min n m) bytes ≡ drop n bytes
 drop_min bytes n m fits = either (nat_le n m) refl
   where
@@ -110,7 +110,7 @@ drop_min bytes n m fits = either (nat_le n m) refl
         let past : length bytes ≤ n = omega (arith, fits, above) in
         ap (λ (k : ℕ). drop k bytes) (min-eq_right above) ∙ drop_all m bytes fits ∙ sym (drop_all n bytes past)
 
--- nor is one taken
+-- no byte after the last one is taken
 take_min : (bytes : List ℕ) (n m : ℕ) → length bytes ≤ n → take (min n m) bytes ≡ take m bytes
 take_min bytes n m fits = either (nat_le n m) refl
   where

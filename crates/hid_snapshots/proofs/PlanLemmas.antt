@@ -11,7 +11,7 @@ use Rattle.hid_layout.specs.Index.{places_from, plan_of}
 use Rattle.hid_snapshots.specs.Parts.{IsInput}
 use Rattle.hid_snapshots.proofs.ListLemmas.{drop_at}
 
--- What holds once the items before a place are gone over goes on holding behind an item of another report.
+-- What holds once the items before a place are gone over goes on holding after an item of another report.
 abbrev pub Skips : Contents → ℕ → (ℕ → Type 0) → Type 0
 Skips layout r P = (i : ℕ) (item : MainItem) → slice_get layout.items i ≡ Some item → (item.report == r) ≡ false → P i → P (i + 1)
 
@@ -33,7 +33,7 @@ pub record IsNext (layout : Contents) (r p : ℕ) (rest : List ℕ) (P : ℕ →
 pub along_start : (layout : Contents) (r : ℕ) (P : ℕ → Type 0) → P 0 → IsAlong layout r 0 P
 along_start layout r P start = record { place = 0; within = omega arith; rest = refl; holds = start }
 
--- what stands at a place, and behind it
+-- what stands at a place, and after it
 head_of_drop : {A : Type 0} (xs : List A) (i : ℕ) (x : A) (ys : List A) → drop i xs ≡ x ∷ ys → slice_get xs i ≡ Some x
 head_of_drop [] zero x ys h = absurd (cc)
 head_of_drop [] (suc i) x ys h = absurd (cc)

@@ -9,12 +9,12 @@ use Rattle.hid_descriptor.specs.Fields.{is_padding}
 use Rattle.hid_layout.specs.Layout.{Contents}
 use Rattle.hid_layout.specs.Reports.{IsLayout, HasElements, report_bytes}
 use Rattle.hid_layout.specs.Controls.{Form, NoControls, Item, items_of, item_of, form_of, head_of, is_input, input_item, no_item}
-use Rattle.hid_snapshots.specs.declared.cell.Cell.{Cell}
-use Rattle.hid_snapshots.specs.declared.cell.Cell.TheVariants.{Vacant, Pressed, Holding, Moved, RolledOver}
-use Rattle.hid_snapshots.specs.Cells.{HasRoom, InPart, Suits}
+use Rattle.hid_snapshots.specs.declared.control_state.ControlState.{ControlState}
+use Rattle.hid_snapshots.specs.declared.control_state.ControlState.TheVariants.{Absent, Switches, Values, Motions, RollOver}
+use Rattle.hid_snapshots.specs.ControlStates.{HasRoom, InPart, Suits}
 use Rattle.hid_snapshots.specs.Parts.{IsInput}
-use Rattle.hid_snapshots.specs.Sending.{sent}
-use Rattle.hid_snapshots.specs.Encoding.{IsData, CanSendAll, HasFewPlaces, sent_at, place, AreBytes, IsEncoding, is_data_in, part_numbers}
+use Rattle.hid_snapshots.specs.Sending.{element_numbers}
+use Rattle.hid_snapshots.specs.Encoding.{IsData, CanSendAll, HasFewPlaces, numbers_at, place, AreBytes, IsEncoding, is_data_in, part_numbers}
 use Rattle.std.specs.Int.{bit_at}
 use Rattle.std.proofs.lemmas.Grind.{same_number_lists}
 use Rattle.std.proofs.Math.Nat.{mul-le-mul_left}
@@ -25,20 +25,36 @@ use Rattle.hid_fields.proofs.FieldLemmas.{pattern_of-lt, pattern_of-same}
 use Rattle.hid_fields.proofs.ValueLemmas.{pattern_for-only}
 use Rattle.hid_fields.proofs.WordLemmas.{bit_at-pattern_of, pattern_of-byte}
 use Rattle.hid_snapshots.specs.Numbers.{number_at, numbers_in}
-use Rattle.hid_snapshots.specs.Encoded.{bit_among, bit_sent, packed, packed_bytes, part_bytes}
+use Rattle.hid_snapshots.specs.Encoded.{bit_among, bit_sent, packed_bytes, packed_number, part_bytes}
 use Rattle.std.specs.Prelude.{nat_le, nat_lt, if◌then◌else◌}
 use Rattle.std.proofs.lemmas.Bool.Decides.{nat_tests}
 use Rattle.hid_snapshots.proofs.NumberLemmas.{numbers_in-at}
-use Rattle.hid_snapshots.proofs.EncodingLemmas.{cell_numbers, data_if, no_data_if}
+use Rattle.hid_snapshots.proofs.EncodingLemmas.{state_numbers, data_if, no_data_if}
 use Rattle.hid_snapshots.proofs.ItemLemmas.{items_from-at, items_of-length, got}
 use Rattle.hid_snapshots.proofs.SendLemmas.{can_send, few_places}
 
 -- the numbers of a listed item
-pub sent_at-is : (layout : Contents) (i : ℕ) (m : MainItem) (es : List Entry) (cell : Cell) → slice_get layout.items i ≡ Some m → slice_get layout.entries i ≡ Some es
-    → sent_at layout i cell ≡ sent m (usage_list es) (form_of m (usage_list es) m.shape) cell
-sent_at-is layout i m es cell h k =
-    ap (λ (o : Option MainItem). elim o as (λ _. List ℤ) [ None ↦ [] | Some item ↦ elim (slice_get layout.entries i) as (λ _. List ℤ) [ None ↦ [] | Some fs ↦ sent item (usage_list fs) (form_of item (usage_list fs) item.shape) cell ] ]) h
-    ∙ ap (λ (o : Option (List Entry)). elim o as (λ _. List ℤ) [ None ↦ [] | Some fs ↦ sent m (usage_list fs) (form_of m (usage_list fs) m.shape) cell ]) k
+pub numbers_at-is : (layout : Contents) (i : ℕ) (m : MainItem) (es : List Entry) (state : ControlState)
+    → slice_get layout.items i ≡ Some m → slice_get layout.entries i ≡ Some es
+    → numbers_at layout i state ≡ element_numbers m (usage_list es) (form_of m (usage_list es) m.shape) state
+numbers_at-is layout i m es state h k =
+    ap (λ (o : Option MainItem). elim o as
+    (λ _. List ℤ) [
+      | None ↦ []
+      | Some item ↦
+          elim (slice_get layout.entries i) as
+          (λ _. List ℤ) [
+            | None ↦ []
+            | Some fs ↦
+                element_numbers item (usage_list fs) (form_of item (usage_list fs) item.shape) state
+          ]
+    ]) h
+    ∙ ap (λ (o : Option (List Entry)). elim o as
+    (λ _. List ℤ) [
+      | None ↦ []
+      | Some fs ↦
+          element_numbers m (usage_list fs) (form_of m (usage_list fs) m.shape) state
+    ]) k
 
 -- an item of an Input report has the controls of its form
 pub form_in_input : (layout : Contents) (r : ℕ) (m : MainItem) (es : List Entry) → IsInput layout r → m.report ≡ r → (item_of layout m es).form ≡ form_of m (usage_list es) m.shape
@@ -46,41 +62,43 @@ form_in_input layout r m es input at_r =
     let in_it : is_input layout.reports m.report ≡ true = ap (is_input layout.reports) at_r ∙ input in
     rw in_it refl
 
-item_room : (layout : Contents) (m : MainItem) (es : List Entry) (cell : Cell) → (is_padding m.shape ≡ false → HasElements m) → (is_padding m.shape ≡ false → 0 < length (usage_list es))
-    → HasRoom (head_of (item_of layout m es).form) cell → HasFewPlaces cell
-item_room layout m es cell has some room = by_input (is_input layout.reports m.report) room
+item_room : (layout : Contents) (m : MainItem) (es : List Entry) (state : ControlState)
+    → (is_padding m.shape ≡ false → HasElements m) → (is_padding m.shape ≡ false → 0 < length (usage_list es))
+    → HasRoom (head_of (item_of layout m es).form) state → HasFewPlaces state
+item_room layout m es state has some room = by_input (is_input layout.reports m.report) room
   where
-    vacant : (cell : Cell) → HasRoom (head_of NoControls) cell → HasFewPlaces cell
-    vacant Vacant h = tt
-    vacant (Pressed ps) h = absurd h
-    vacant (Holding ps) h = absurd h
-    vacant (Moved ps) h = absurd h
-    vacant (RolledOver ps) h = absurd h
+    vacant : (state : ControlState) → HasRoom (head_of NoControls) state → HasFewPlaces state
+    vacant Absent h = tt
+    vacant (Switches ps) h = absurd h
+    vacant (Values ps) h = absurd h
+    vacant (Motions ps) h = absurd h
+    vacant (RollOver ps) h = absurd h
 
-    by_input : (b : Bool) → HasRoom (head_of (let a : Item = input_item m.report (report_bytes layout m.report) (form_of m (usage_list es) m.shape) in let z : Item = no_item in cond b a z).form) cell → HasFewPlaces cell
-    by_input true h = few_places m (usage_list es) m.shape cell has some h
-    by_input false h = vacant cell h
+    by_input : (b : Bool) → HasRoom (head_of (let a : Item = input_item m.report (report_bytes layout m.report) (form_of m (usage_list es) m.shape) in let z : Item = no_item in cond b a z).form) state → HasFewPlaces state
+    by_input true h = few_places m (usage_list es) m.shape state has some h
+    by_input false h = vacant state h
 
 -- The parts of an Input report can be sent.
-pub can_send_all : (layout : Contents) (r : ℕ) (parts : List Cell) → IsLayout layout → IsInput layout r → Suits InPart (items_of layout) parts → CanSendAll layout r parts
+pub can_send_all : (layout : Contents) (r : ℕ) (parts : List ControlState) → IsLayout layout → IsInput layout r
+    → Suits InPart (items_of layout) parts → CanSendAll layout r parts
 can_send_all layout r parts laid input fits = record {
   all_there = fits.one_each ∙ items_of-length layout laid;
   each_item = λ i m d.
       let es = got layout.entries i (omega (arith, laid.entries_there, slice_get_within layout.items i m d.listed)) in
-      let cell = got parts i (omega (arith, fits.one_each, items_of-length layout laid, slice_get_within layout.items i m d.listed)) in
+      let state = got parts i (omega (arith, fits.one_each, items_of-length layout laid, slice_get_within layout.items i m d.listed)) in
       let item = items_from-at layout layout.items layout.entries i m es.0 d.listed es.1 in
-      let room = fits.room i (item_of layout m es.0) cell.0 item cell.1 in
-      let ok = fits.suits i (item_of layout m es.0) cell.0 item cell.1 in
+      let room = fits.room i (item_of layout m es.0) state.0 item state.1 in
+      let ok = fits.suits i (item_of layout m es.0) state.0 item state.1 in
       let form = form_in_input layout r m es.0 input d.in_report in
-      rw (cell_numbers layout parts i cell.0 cell.1, sent_at-is layout i m es.0 cell.0 d.listed es.1)
-      (can_send m (usage_list es.0) m.shape cell.0 d.no_padding (laid.elements i m d.listed d.no_padding) (laid.some_usage i m es.0 d.listed es.1 d.no_padding)
-      (subst (λ (f : Form). HasRoom (head_of f) cell.0) form room) (subst (λ (f : Form). InPart f cell.0) form ok));
-  few_places = λ i cell h.
-      let within : i < length layout.items = omega (arith, fits.one_each, items_of-length layout laid, slice_get_within parts i cell h) in
+      rw (state_numbers layout parts i state.0 state.1, numbers_at-is layout i m es.0 state.0 d.listed es.1)
+      (can_send m (usage_list es.0) m.shape state.0 d.no_padding (laid.elements i m d.listed d.no_padding) (laid.some_usage i m es.0 d.listed es.1 d.no_padding)
+      (subst (λ (f : Form). HasRoom (head_of f) state.0) form room) (subst (λ (f : Form). InPart f state.0) form ok));
+  few_places = λ i state h.
+      let within : i < length layout.items = omega (arith, fits.one_each, items_of-length layout laid, slice_get_within parts i state h) in
       let m = got layout.items i within in
       let es = got layout.entries i (omega (arith, laid.entries_there)) in
       let item = items_from-at layout layout.items layout.entries i m.0 es.0 m.1 es.1 in
-      item_room layout m.0 es.0 cell (laid.elements i m.0 m.1) (laid.some_usage i m.0 es.0 m.1 es.1) (fits.room i (item_of layout m.0 es.0) cell item h);
+      item_room layout m.0 es.0 state (laid.elements i m.0 m.1) (laid.some_usage i m.0 es.0 m.1 es.1) (fits.room i (item_of layout m.0 es.0) state item h);
 }
 
 -- two lists of bytes with the same numbers have the same bits there
@@ -199,7 +217,7 @@ byte_then_zeros id n before one bytes none some is small = rw (is, some, none) a
     at zero d h = small
     at (suc k) d h = all_zeros n k d (omega arith)
 
--- and so are zeros alone
+-- zeros alone are bytes
 pub zeros_alone : (n : ℕ) (before bytes : List ℕ) → before ≡ [] → bytes ≡ before ++ replicate n 0 → AreBytes bytes
 zeros_alone n before bytes none is = rw (is, none) (all_zeros n)
 
@@ -281,21 +299,27 @@ sent_bits layout r numbers bytes n laid is i (item ∷ items) whole from out =
     by_data true e rest = by_bits (data_if layout r i item there e) rest
     by_data false e rest = rest (next (no_item_more layout r i n (no_data_if layout r i item there e) out))
 
-packed_is : (bytes : List ℕ) (bits : ℕ → ℕ) (at w : ℕ) → ((n : ℕ) → bit_of bytes n ≡ bits n) → pattern_of bytes at w ≡ packed bits at w
+packed_is : (bytes : List ℕ) (bits : ℕ → ℕ) (at w : ℕ) → ((n : ℕ) → bit_of bytes n ≡ bits n)
+    → pattern_of bytes at w ≡ packed_number bits at w
 packed_is bytes bits at zero same = refl
 packed_is bytes bits at (suc k) same = rw (packed_is bytes bits at k same, same (at + k)) refl
 
-bytes_are : (bytes : List ℕ) (bits : ℕ → ℕ) (i n : ℕ) → length bytes ≡ n → ((j : ℕ) → j < n → get_or bytes j 0 ≡ packed bits (8 * (i + j)) 8) → bytes ≡ packed_bytes bits i n
+bytes_are : (bytes : List ℕ) (bits : ℕ → ℕ) (i n : ℕ) → length bytes ≡ n
+    → ((j : ℕ) → j < n → get_or bytes j 0 ≡ packed_number bits (8 * (i + j)) 8) → bytes ≡ packed_bytes bits i n
 bytes_are [] bits i zero len same = refl
 bytes_are [] bits i (suc n) len same = absurd (omega arith)
 bytes_are (b ∷ bytes) bits i zero len same = absurd (omega arith)
 bytes_are (b ∷ bytes) bits i (suc n) len same =
-    let head : b ≡ packed bits (8 * i) 8 = same 0 (omega arith) ∙ ap (λ (k : ℕ). packed bits k 8) (omega arith) in
-    let tail : bytes ≡ packed_bytes bits (i + 1) n = bytes_are bytes bits (i + 1) n (omega arith) (λ j lt. same (suc j) (omega arith) ∙ ap (λ (k : ℕ). packed bits k 8) (omega arith)) in
-    ap (λ (x : ℕ). x ∷ bytes) head ∙ ap (λ (xs : List ℕ). packed bits (8 * i) 8 ∷ xs) tail
+    let head : b ≡ packed_number bits (8 * i) 8 =
+    same 0 (omega arith) ∙ ap (λ (k : ℕ). packed_number bits k 8) (omega arith) in
+    let tail : bytes ≡ packed_bytes bits (i + 1) n =
+    bytes_are bytes bits (i + 1) n (omega arith)
+    (λ j lt. same (suc j) (omega arith) ∙ ap (λ (k : ℕ). packed_number bits k 8) (omega arith)) in
+    ap (λ (x : ℕ). x ∷ bytes) head ∙ ap (λ (xs : List ℕ). packed_number bits (8 * i) 8 ∷ xs) tail
 
 -- The bytes that show a part are computed.
-pub bytes_are_of_part : (layout : Contents) (r : ℕ) (parts : List Cell) (bytes : List ℕ) → IsLayout layout → AreBytes bytes → IsEncoding layout r (part_numbers layout parts) bytes → bytes ≡ part_bytes layout r parts
+pub bytes_are_of_part : (layout : Contents) (r : ℕ) (parts : List ControlState) (bytes : List ℕ) → IsLayout layout
+    → AreBytes bytes → IsEncoding layout r (part_numbers layout parts) bytes → bytes ≡ part_bytes layout r parts
 unfolding AreOutside part_bytes
 bytes_are_of_part layout r parts bytes laid are is = bytes_are bytes sent_bit 0 (report_bytes layout r) is.whole byte
   where
@@ -305,7 +329,8 @@ bytes_are_of_part layout r parts bytes laid are is = bytes_are bytes sent_bit 0 
     bit : (n : ℕ) → bit_of bytes n ≡ sent_bit n
     bit n = sent_bits layout r (part_numbers layout parts) bytes n laid is 0 layout.items (omega arith) (λ j. ap (slice_get layout.items) (omega arith)) (λ i m lt d. absurd (omega arith))
 
-    byte : (j : ℕ) → j < report_bytes layout r → get_or bytes j 0 ≡ packed sent_bit (8 * (0 + j)) 8
+    byte : (j : ℕ) → j < report_bytes layout r → get_or bytes j 0 ≡ packed_number sent_bit (8 * (0 + j)) 8
     byte j lt =
         let e : 8 * j ≡ 8 * (0 + j) = omega arith in
-        sym (pattern_of-byte bytes j (are j 0 (omega (arith, is.whole)))) ∙ packed_is bytes sent_bit (8 * j) 8 bit ∙ ap (λ (k : ℕ). packed sent_bit k 8) e
+        sym (pattern_of-byte bytes j (are j 0 (omega (arith, is.whole)))) ∙ packed_is bytes sent_bit (8 * j) 8 bit
+        ∙ ap (λ (k : ℕ). packed_number sent_bit k 8) e

@@ -6,10 +6,10 @@ use Rattle.hid_layout.specs.declared.control.Controls.{Controls}
 use Rattle.hid_layout.specs.Controls.{Form, Item, form_at, head_of}
 use Rattle.hid_layout.specs.declared.control.Controls.TheVariants as head
 use Rattle.hid_layout.specs.declared.control.ControlKind.TheVariants.{Switch, Value, NullValue, Relative}
-use Rattle.hid_snapshots.specs.declared.cell.Cell.{Cell}
-use Rattle.hid_snapshots.specs.declared.cell.Cell.TheVariants.{Moved}
-use Rattle.hid_snapshots.specs.Cells.{blank_cell, pressed_count}
-use Rattle.hid_snapshots.specs.Parts.{clamp, shown_cell, blank_parts}
+use Rattle.hid_snapshots.specs.declared.control_state.ControlState.{ControlState}
+use Rattle.hid_snapshots.specs.declared.control_state.ControlState.TheVariants.{Motions}
+use Rattle.hid_snapshots.specs.ControlStates.{blank_state, switch_count}
+use Rattle.hid_snapshots.specs.Parts.{clamp, shown_state, blank_parts}
 use Rattle.hid_snapshots.proofs.BlankLemmas.{none_pressed}
 use Rattle.hid_snapshots.proofs.FillLemmas.{fill_next}
 use Rattle.hid_snapshots.proofs.ItemLemmas.{got, form_at-is}
@@ -35,26 +35,28 @@ pub fill_more : {A : Type 0} (start now : List A) (j : ℕ) (v : A) → now ≡ 
 fill_more start now j v so_far within =
     ap (λ xs. slice_set xs j v) so_far ∙ fill_next (replicate (length start) v) start j v (same_at (length start) j v within) within
 
-none_over : (elements n : ℕ) → (let p : List Bool = replicate n false in nat_lt elements (pressed_count p) ≡ false)
+none_over : (elements n : ℕ) → (let p : List Bool = replicate n false in nat_lt elements (switch_count p) ≡ false)
 none_over elements n = rw (none_pressed n) (grind (arith, nat_tests))
 
--- where nothing has moved a blank cell is shown as it is
-pub blank_shown : (controls : Controls) (cell : Cell) → cell ≡ blank_cell controls → ((ms : List ℤ) → cell ≡ Moved ms → ⊥) → cell ≡ shown_cell controls (blank_cell controls)
-blank_shown head.None cell is still = is
-blank_shown (head.Elements Switch least greatest n) cell is still = is
-blank_shown (head.Elements Value least greatest n) cell is still = is
-blank_shown (head.Elements NullValue least greatest n) cell is still = is
-blank_shown (head.Elements Relative least greatest n) cell is still = absurd (still (replicate n (pos 0)) is)
-blank_shown (head.Keys elements rolls n) cell is still = is ∙ rw (none_over elements n) refl
+-- where nothing has moved a blank control state is shown as it is
+pub blank_shown : (controls : Controls) (state : ControlState) → state ≡ blank_state controls
+    → ((ms : List ℤ) → state ≡ Motions ms → ⊥) → state ≡ shown_state controls (blank_state controls)
+blank_shown head.None state is still = is
+blank_shown (head.Elements Switch least greatest n) state is still = is
+blank_shown (head.Elements Value least greatest n) state is still = is
+blank_shown (head.Elements NullValue least greatest n) state is still = is
+blank_shown (head.Elements Relative least greatest n) state is still = absurd (still (replicate n (pos 0)) is)
+blank_shown (head.Keys elements rolls n) state is still = is ∙ rw (none_over elements n) refl
 
 pub ruleset shown_blank = (blank_shown)
 
--- one part more is made anew
-pub reset_next : (items : List Item) (start now : List Cell) (i : ℕ) (new : Cell) → length start ≡ length items → now ≡ take i (blank_parts items) ++ drop i start
-    → i < length items → new ≡ shown_cell (head_of (form_at items i)) (blank_cell (head_of (form_at items i)))
+-- one part more is made again
+pub reset_next : (items : List Item) (start now : List ControlState) (i : ℕ) (new : ControlState)
+    → length start ≡ length items → now ≡ take i (blank_parts items) ++ drop i start
+    → i < length items → new ≡ shown_state (head_of (form_at items i)) (blank_state (head_of (form_at items i)))
     → slice_set now i new ≡ take (i + 1) (blank_parts items) ++ drop (i + 1) start
 reset_next items start now i new long so_far within is =
     let item = got items i within in
-    let target : slice_get (blank_parts items) i ≡ Some (shown_cell (head_of item.0.form) (blank_cell (head_of item.0.form))) = map_at _ items i item.0 item.1 in
-    let made : new ≡ shown_cell (head_of item.0.form) (blank_cell (head_of item.0.form)) = is ∙ ap (λ (f : Form). shown_cell (head_of f) (blank_cell (head_of f))) (form_at-is items i item.0 item.1) in
+    let target : slice_get (blank_parts items) i ≡ Some (shown_state (head_of item.0.form) (blank_state (head_of item.0.form))) = map_at _ items i item.0 item.1 in
+    let made : new ≡ shown_state (head_of item.0.form) (blank_state (head_of item.0.form)) = is ∙ ap (λ (f : Form). shown_state (head_of f) (blank_state (head_of f))) (form_at-is items i item.0 item.1) in
     ap (λ xs. slice_set xs i new) so_far ∙ fill_next (blank_parts items) start i new (target ∙ ap Some (sym made)) (omega arith)

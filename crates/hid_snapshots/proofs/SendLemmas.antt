@@ -22,16 +22,16 @@ use Rattle.hid_descriptor.specs.Faults.{least_value, greatest_value}
 use Rattle.hid_descriptor.specs.Flags.{has_flag, RELATIVE, NULL_STATE}
 use Rattle.hid_descriptor.specs.Fields.{is_padding}
 use Rattle.hid_layout.specs.Reports.{HasElements}
-use Rattle.hid_layout.specs.Controls.{Elements, Keys, least_of, greatest_of, is_encodable, element_kind, has_outside, spread, keys_from, key_places, rollover_from, form_of, head_of, array_keys}
+use Rattle.hid_layout.specs.Controls.{Elements, Keys, least_of, greatest_of, is_encodable, element_kind, has_outside, spread_usages, keys_from, key_places, rollover_from, form_of, head_of, array_keys}
 use Rattle.hid_descriptor.specs.Usages.{is_rollover}
-use Rattle.hid_snapshots.specs.declared.cell.Cell.{Cell}
-use Rattle.hid_snapshots.specs.declared.cell.Cell.TheVariants.{Vacant, Pressed, Holding, Moved, RolledOver}
-use Rattle.hid_snapshots.specs.Cells.{is_in, pressed_count, are_values, are_motions, are_pressable, HasRoom, InPart}
+use Rattle.hid_snapshots.specs.declared.control_state.ControlState.{ControlState}
+use Rattle.hid_snapshots.specs.declared.control_state.ControlState.TheVariants.{Absent, Switches, Values, Motions, RollOver}
+use Rattle.hid_snapshots.specs.ControlStates.{is_in, switch_count, are_values, are_motions, are_pressable, HasRoom, InPart}
 use Rattle.hid_layout.specs.Sent.{first_passing}
-use Rattle.hid_snapshots.specs.Sending.{number_of, least_pattern, null_number, empty_number, rollover_number, or_zero, names_nothing, switch_number, placed_from, sent}
+use Rattle.hid_snapshots.specs.Sending.{number_of, least_pattern, null_number, empty_number, rollover_number, or_zero, names_nothing, switch_number, pressed_places_from, element_numbers}
 use Rattle.hid_snapshots.specs.Encoding.{CanSend, HasFewPlaces}
 use Rattle.hid_snapshots.proofs.CodeLemmas.{true_test, both_true}
-use Rattle.hid_snapshots.proofs.PlaceLemmas.{placed_from-length}
+use Rattle.hid_snapshots.proofs.PlaceLemmas.{pressed_places_from-length}
 
 -- each number can be carried
 FitEach : MainItem → List ℤ → Type 0
@@ -154,7 +154,8 @@ switches_fit m (true ∷ ps) has is = (one_fits m has is, switches_fit m ps has 
 switches_fit m (false ∷ ps) has is = (zero_fits m.size (is_negative m.min) has.some_bits, switches_fit m ps has is)
 
 -- pressed keys can be sent
-keys_fit : (m : MainItem) (i : ℕ) (us : List Usage) (ps : List Bool) → HasElements m → are_pressable (keys_from m i us) ps → FitEach m (placed_from m.min i ps)
+keys_fit : (m : MainItem) (i : ℕ) (us : List Usage) (ps : List Bool) → HasElements m
+    → are_pressable (keys_from m i us) ps → FitEach m (pressed_places_from m.min i ps)
 unfolding FitEach keys_from
 keys_fit m i [] [] has ok = tt
 keys_fit m i [] (p ∷ ps) has ok = absurd ok
@@ -182,12 +183,12 @@ rollover_fits m us has = by_code (rollover_from m 0 us) refl
     by_code None e = zero_fits m.size (is_negative m.min) has.some_bits
     by_code (Some n) e = encodable_fits m (m.min +ℤ pos n) has (rollover_found m 0 n us e)
 
-pub spread-length : (n : ℕ) (us : List Usage) → 0 < length us → length (spread n us) ≡ n
-unfolding spread
-spread-length zero us h = refl
-spread-length (suc n) [] h = absurd (omega arith)
-spread-length (suc n) (u ∷ []) h = ap suc (spread-length n (u ∷ []) h)
-spread-length (suc n) (u ∷ v ∷ us) h = ap suc (spread-length n (v ∷ us) (omega arith))
+pub spread_usages-length : (n : ℕ) (us : List Usage) → 0 < length us → length (spread_usages n us) ≡ n
+unfolding spread_usages
+spread_usages-length zero us h = refl
+spread_usages-length (suc n) [] h = absurd (omega arith)
+spread_usages-length (suc n) (u ∷ []) h = ap suc (spread_usages-length n (u ∷ []) h)
+spread_usages-length (suc n) (u ∷ v ∷ us) h = ap suc (spread_usages-length n (v ∷ us) (omega arith))
 
 pub keys_from-length : (m : MainItem) (i : ℕ) (us : List Usage) → length (keys_from m i us) ≡ length us
 unfolding keys_from
@@ -195,71 +196,94 @@ keys_from-length m i [] = refl
 keys_from-length m i (u ∷ us) = ap suc (keys_from-length m (i + 1) us)
 
 -- a variable item's part, by the kind of its elements
-elements_send : (m : MainItem) (us : List Usage) (kind : ControlKind) (cell : Cell) → HasElements m → 0 < length us → element_kind m ≡ kind
-    → HasRoom (head_of (Elements kind (least_of m) (greatest_of m) (spread m.count us))) cell → InPart (Elements kind (least_of m) (greatest_of m) (spread m.count us)) cell
-    → CanSend m (sent m us (Elements kind (least_of m) (greatest_of m) (spread m.count us)) cell)
-elements_send m us Switch (Pressed ps) has some is room ok = record { one_each = length-map ps switch_number ∙ room ∙ spread-length m.count us some; fit = fit_all m _ (switches_fit m ps has is) }
-elements_send m us Switch Vacant has some is room ok = absurd room
-elements_send m us Switch (Holding vs) has some is room ok = absurd room
-elements_send m us Switch (Moved vs) has some is room ok = absurd room
-elements_send m us Switch (RolledOver vs) has some is room ok = absurd room
-elements_send m us Value (Holding vs) has some is room ok = record { one_each = length-map vs _ ∙ room ∙ spread-length m.count us some; fit = fit_all m _ (values_fit m false vs has ok) }
-elements_send m us Value Vacant has some is room ok = absurd room
-elements_send m us Value (Pressed vs) has some is room ok = absurd room
-elements_send m us Value (Moved vs) has some is room ok = absurd room
-elements_send m us Value (RolledOver vs) has some is room ok = absurd room
-elements_send m us NullValue (Holding vs) has some is room ok = record { one_each = length-map vs _ ∙ room ∙ spread-length m.count us some; fit = fit_all m _ (values_fit m true vs has ok) }
-elements_send m us NullValue Vacant has some is room ok = absurd room
-elements_send m us NullValue (Pressed vs) has some is room ok = absurd room
-elements_send m us NullValue (Moved vs) has some is room ok = absurd room
-elements_send m us NullValue (RolledOver vs) has some is room ok = absurd room
-elements_send m us Relative (Moved ms) has some is room ok = record { one_each = room ∙ spread-length m.count us some; fit = fit_all m _ (motions_fit m ms has ok) }
-elements_send m us Relative Vacant has some is room ok = absurd room
-elements_send m us Relative (Pressed vs) has some is room ok = absurd room
-elements_send m us Relative (Holding vs) has some is room ok = absurd room
-elements_send m us Relative (RolledOver vs) has some is room ok = absurd room
-
-keys_send : (m : MainItem) (us : List Usage) (rolls : Bool) (cell : Cell) → HasElements m
-    → HasRoom (head_of (Keys m.count rolls (array_keys m us))) cell → InPart (Keys m.count rolls (array_keys m us)) cell
-    → CanSend m (sent m us (Keys m.count rolls (array_keys m us)) cell)
-keys_send m us rolls (Pressed ps) has room ok =
-    let rest = m.count - pressed_count ps in
-    let code = or_zero (empty_number m us) in
-    let placed = placed_from-length m.min 0 ps in
-    let same : length (replicate rest code) ≡ rest = length-replicate rest code in
-    let few : pressed_count ps ≤ m.count = ok.1 in
+elements_send : (m : MainItem) (us : List Usage) (kind : ControlKind) (state : ControlState) → HasElements m
+    → 0 < length us → element_kind m ≡ kind
+    → HasRoom (head_of (Elements kind (least_of m) (greatest_of m) (spread_usages m.count us))) state
+    → InPart (Elements kind (least_of m) (greatest_of m) (spread_usages m.count us)) state
+    → CanSend m (element_numbers m us (Elements kind (least_of m) (greatest_of m) (spread_usages m.count us)) state)
+elements_send m us Switch (Switches ps) has some is room ok =
     record {
-      one_each = length-append (placed_from m.min 0 ps) (replicate rest code) ∙ omega arith;
+      one_each = length-map ps switch_number ∙ room ∙ spread_usages-length m.count us some;
+      fit =
+          fit_all m _ (switches_fit m ps has is);
+    }
+elements_send m us Switch Absent has some is room ok = absurd room
+elements_send m us Switch (Values vs) has some is room ok = absurd room
+elements_send m us Switch (Motions vs) has some is room ok = absurd room
+elements_send m us Switch (RollOver vs) has some is room ok = absurd room
+elements_send m us Value (Values vs) has some is room ok =
+    record {
+      one_each = length-map vs _ ∙ room ∙ spread_usages-length m.count us some;
+      fit =
+          fit_all m _ (values_fit m false vs has ok);
+    }
+elements_send m us Value Absent has some is room ok = absurd room
+elements_send m us Value (Switches vs) has some is room ok = absurd room
+elements_send m us Value (Motions vs) has some is room ok = absurd room
+elements_send m us Value (RollOver vs) has some is room ok = absurd room
+elements_send m us NullValue (Values vs) has some is room ok =
+    record {
+      one_each = length-map vs _ ∙ room ∙ spread_usages-length m.count us some;
+      fit =
+          fit_all m _ (values_fit m true vs has ok);
+    }
+elements_send m us NullValue Absent has some is room ok = absurd room
+elements_send m us NullValue (Switches vs) has some is room ok = absurd room
+elements_send m us NullValue (Motions vs) has some is room ok = absurd room
+elements_send m us NullValue (RollOver vs) has some is room ok = absurd room
+elements_send m us Relative (Motions ms) has some is room ok =
+    record { one_each = room ∙ spread_usages-length m.count us some; fit = fit_all m _ (motions_fit m ms has ok) }
+elements_send m us Relative Absent has some is room ok = absurd room
+elements_send m us Relative (Switches vs) has some is room ok = absurd room
+elements_send m us Relative (Values vs) has some is room ok = absurd room
+elements_send m us Relative (RollOver vs) has some is room ok = absurd room
+
+keys_send : (m : MainItem) (us : List Usage) (rolls : Bool) (state : ControlState) → HasElements m
+    → HasRoom (head_of (Keys m.count rolls (array_keys m us))) state → InPart (Keys m.count rolls (array_keys m us)) state
+    → CanSend m (element_numbers m us (Keys m.count rolls (array_keys m us)) state)
+keys_send m us rolls (Switches ps) has room ok =
+    let rest = m.count - switch_count ps in
+    let code = or_zero (empty_number m us) in
+    let placed = pressed_places_from-length m.min 0 ps in
+    let same : length (replicate rest code) ≡ rest = length-replicate rest code in
+    let few : switch_count ps ≤ m.count = ok.1 in
+    record {
+      one_each = length-append (pressed_places_from m.min 0 ps) (replicate rest code) ∙ omega arith;
       fit = fit_all m _ (fit_both m _ _ (keys_fit m 0 (key_places us) ps has ok.0) (fit_same m rest code (code_fits m (names_nothing m us) has)));
     }
-keys_send m us rolls (RolledOver ps) has room ok =
+keys_send m us rolls (RollOver ps) has room ok =
     record { one_each = length-replicate m.count _; fit = fit_all m _ (fit_same m m.count _ (rollover_fits m us has)) }
-keys_send m us rolls Vacant has room ok = absurd room
-keys_send m us rolls (Holding vs) has room ok = absurd room
-keys_send m us rolls (Moved vs) has room ok = absurd room
+keys_send m us rolls Absent has room ok = absurd room
+keys_send m us rolls (Values vs) has room ok = absurd room
+keys_send m us rolls (Motions vs) has room ok = absurd room
 
 -- what a part shows of an item can be sent
-pub can_send : (m : MainItem) (us : List Usage) (shape : Shape) (cell : Cell) → is_padding shape ≡ false → HasElements m → 0 < length us → HasRoom (head_of (form_of m us shape)) cell → InPart (form_of m us shape) cell
-    → CanSend m (sent m us (form_of m us shape) cell)
-can_send m us Padding cell data_ has some room ok = absurd (cc)
-can_send m us Variable cell data_ has some room ok = elements_send m us (element_kind m) cell has some refl room ok
-can_send m us Array cell data_ has some room ok = keys_send m us _ cell has room ok
+pub can_send : (m : MainItem) (us : List Usage) (shape : Shape) (state : ControlState) → is_padding shape ≡ false
+    → HasElements m → 0 < length us → HasRoom (head_of (form_of m us shape)) state → InPart (form_of m us shape) state
+    → CanSend m (element_numbers m us (form_of m us shape) state)
+can_send m us Padding state data_ has some room ok = absurd (cc)
+can_send m us Variable state data_ has some room ok = elements_send m us (element_kind m) state has some refl room ok
+can_send m us Array state data_ has some room ok = keys_send m us _ state has room ok
 
 pub places_few : (m : MainItem) (us : List Usage) → length (array_keys m us) ≤ 65536
 places_few m us = omega (arith, keys_from-length m 0 (key_places us), length-take 65536 us)
 
--- no cell of an item has more places than an array may
-pub few_places : (m : MainItem) (us : List Usage) (shape : Shape) (cell : Cell) → (is_padding shape ≡ false → HasElements m) → (is_padding shape ≡ false → 0 < length us) → HasRoom (head_of (form_of m us shape)) cell → HasFewPlaces cell
-few_places m us shape Vacant has some room = tt
-few_places m us shape (Holding vs) has some room = tt
-few_places m us shape (Moved vs) has some room = tt
-few_places m us shape (RolledOver vs) has some room = tt
-few_places m us Padding (Pressed ps) has some room = absurd room
-few_places m us Variable (Pressed ps) has some room = by_kind (element_kind m) room
+-- no control state of an item has more places than an array may
+pub few_places : (m : MainItem) (us : List Usage) (shape : Shape) (state : ControlState)
+    → (is_padding shape ≡ false → HasElements m) → (is_padding shape ≡ false → 0 < length us)
+    → HasRoom (head_of (form_of m us shape)) state → HasFewPlaces state
+few_places m us shape Absent has some room = tt
+few_places m us shape (Values vs) has some room = tt
+few_places m us shape (Motions vs) has some room = tt
+few_places m us shape (RollOver vs) has some room = tt
+few_places m us Padding (Switches ps) has some room = absurd room
+few_places m us Variable (Switches ps) has some room = by_kind (element_kind m) room
   where
-    by_kind : (kind : ControlKind) → HasRoom (head_of (Elements kind (least_of m) (greatest_of m) (spread m.count us))) (Pressed ps) → length ps ≤ 65536
-    by_kind Switch h = omega (arith, h, spread-length m.count us (some refl), (has refl).few)
+    by_kind : (kind : ControlKind)
+        → HasRoom (head_of (Elements kind (least_of m) (greatest_of m) (spread_usages m.count us))) (Switches ps)
+        → length ps ≤ 65536
+    by_kind Switch h = omega (arith, h, spread_usages-length m.count us (some refl), (has refl).few)
     by_kind Value h = absurd h
     by_kind NullValue h = absurd h
     by_kind Relative h = absurd h
-few_places m us Array (Pressed ps) has some room = omega (arith, room, places_few m us)
+few_places m us Array (Switches ps) has some room = omega (arith, room, places_few m us)

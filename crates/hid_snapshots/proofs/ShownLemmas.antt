@@ -10,13 +10,13 @@ use Rattle.hid_layout.specs.Layout.{Contents}
 use Rattle.hid_layout.specs.Reports.{IsLayout}
 use Rattle.hid_layout.specs.declared.control.ControlKind.TheVariants.{Switch, Value, NullValue, Relative}
 use Rattle.hid_layout.specs.Controls.{Form, NoControls, Elements, Keys, Item, items_of, head_of}
-use Rattle.hid_snapshots.specs.declared.cell.Cell.{Cell}
-use Rattle.hid_snapshots.specs.declared.cell.Cell.TheVariants.{Vacant, Pressed, Holding, Moved, RolledOver}
-use Rattle.hid_snapshots.specs.Cells.{is_in, is_i32, pressed_count, are_motions, HasRoom, InSnapshot, InPart, Suits, blank_cell}
+use Rattle.hid_snapshots.specs.declared.control_state.ControlState.{ControlState}
+use Rattle.hid_snapshots.specs.declared.control_state.ControlState.TheVariants.{Absent, Switches, Values, Motions, RollOver}
+use Rattle.hid_snapshots.specs.ControlStates.{is_in, is_i32, switch_count, are_motions, HasRoom, InSnapshot, InPart, Suits, blank_state}
 use Rattle.std.proofs.lemmas.Option.{slice_get_within}
 use Rattle.hid_layout.specs.declared.control.Controls.{Controls}
 use Rattle.hid_layout.specs.declared.control.Controls.TheVariants as head
-use Rattle.hid_snapshots.specs.Parts.{item_at, HasRoomOf, AreMotions, blank_parts, has_zeros, clamp, is_of, by_item, shown_cell, shown_of, shown, differences, minus_motion, taken_of, taken, has_zero, without_motion, still_of, still}
+use Rattle.hid_snapshots.specs.Parts.{item_at, HasRoomOf, AreMotions, blank_parts, has_zeros, clamp, is_of, by_item, shown_state, shown_part_of, shown_parts, differences, minus_motion, without_motion_of, without_part_motion, has_zero, without_motion, still_of, still_parts}
 use Rattle.hid_snapshots.proofs.CodeLemmas.{test_true, true_test, both_true}
 use Rattle.hid_snapshots.proofs.FillLemmas.{length_map_zip}
 use Rattle.hid_snapshots.proofs.BlankLemmas.{IsSound, sound_items, suits_all, blank_room, blank_in_snapshot}
@@ -50,7 +50,7 @@ rest_i32 least greatest m zero_ fits =
     let outer = int_max_is least (int_min greatest m) in
     in_both (negsuc 0x7FFF_FFFF) (pos 0x7FFF_FFFF) (m -ℤ clamp least greatest m) (omega (arith, ints, inner, outer)) (omega (arith, ints, inner, outer))
 
--- and so has what an element carries of it
+-- what an element carries of a motion of 32 bits has 32 bits, where it can carry 0
 carried_i32 : (least greatest m : ℤ) → is_in least greatest (pos 0) ≡ true → is_i32 m ≡ true → is_i32 (clamp least greatest m) ≡ true
 carried_i32 least greatest m zero_ fits =
     let low : least ≤ℤ pos 0 = to_le least (pos 0) ((both_true _ _ zero_).0) in
@@ -74,228 +74,245 @@ pub rest_all : (least greatest : ℤ) (ms : List ℤ) → is_in least greatest (
 rest_all least greatest [] h ok = tt
 rest_all least greatest (m ∷ ms) h ok = (rest_i32 least greatest m h ok.0, rest_all least greatest ms h ok.1)
 
-part_room : (form : Form) (cell : Cell) → HasRoom (head_of form) cell → HasRoom (head_of form) (shown_cell (head_of form) cell)
-part_room NoControls Vacant room = room
-part_room NoControls (Pressed xs) room = absurd room
-part_room NoControls (Holding xs) room = absurd room
-part_room NoControls (Moved xs) room = absurd room
-part_room NoControls (RolledOver xs) room = absurd room
-part_room (Elements Switch least greatest us) Vacant room = absurd room
-part_room (Elements Switch least greatest us) (Pressed xs) room = room
-part_room (Elements Switch least greatest us) (Holding xs) room = absurd room
-part_room (Elements Switch least greatest us) (Moved xs) room = absurd room
-part_room (Elements Switch least greatest us) (RolledOver xs) room = absurd room
-part_room (Elements Value least greatest us) Vacant room = absurd room
-part_room (Elements Value least greatest us) (Pressed xs) room = absurd room
-part_room (Elements Value least greatest us) (Holding xs) room = room
-part_room (Elements Value least greatest us) (Moved xs) room = absurd room
-part_room (Elements Value least greatest us) (RolledOver xs) room = absurd room
-part_room (Elements NullValue least greatest us) Vacant room = absurd room
-part_room (Elements NullValue least greatest us) (Pressed xs) room = absurd room
-part_room (Elements NullValue least greatest us) (Holding xs) room = room
-part_room (Elements NullValue least greatest us) (Moved xs) room = absurd room
-part_room (Elements NullValue least greatest us) (RolledOver xs) room = absurd room
-part_room (Elements Relative least greatest us) Vacant room = absurd room
-part_room (Elements Relative least greatest us) (Pressed xs) room = absurd room
-part_room (Elements Relative least greatest us) (Holding xs) room = absurd room
-part_room (Elements Relative least greatest us) (Moved xs) room = length-map xs (clamp least greatest) ∙ room
-part_room (Elements Relative least greatest us) (RolledOver xs) room = absurd room
-part_room (Keys elements rolls keys) Vacant room = absurd room
-part_room (Keys elements rolls keys) (Pressed xs) room = by_count (nat_lt elements (pressed_count xs))
+part_room : (form : Form) (state : ControlState) → HasRoom (head_of form) state
+    → HasRoom (head_of form) (shown_state (head_of form) state)
+part_room NoControls Absent room = room
+part_room NoControls (Switches xs) room = absurd room
+part_room NoControls (Values xs) room = absurd room
+part_room NoControls (Motions xs) room = absurd room
+part_room NoControls (RollOver xs) room = absurd room
+part_room (Elements Switch least greatest us) Absent room = absurd room
+part_room (Elements Switch least greatest us) (Switches xs) room = room
+part_room (Elements Switch least greatest us) (Values xs) room = absurd room
+part_room (Elements Switch least greatest us) (Motions xs) room = absurd room
+part_room (Elements Switch least greatest us) (RollOver xs) room = absurd room
+part_room (Elements Value least greatest us) Absent room = absurd room
+part_room (Elements Value least greatest us) (Switches xs) room = absurd room
+part_room (Elements Value least greatest us) (Values xs) room = room
+part_room (Elements Value least greatest us) (Motions xs) room = absurd room
+part_room (Elements Value least greatest us) (RollOver xs) room = absurd room
+part_room (Elements NullValue least greatest us) Absent room = absurd room
+part_room (Elements NullValue least greatest us) (Switches xs) room = absurd room
+part_room (Elements NullValue least greatest us) (Values xs) room = room
+part_room (Elements NullValue least greatest us) (Motions xs) room = absurd room
+part_room (Elements NullValue least greatest us) (RollOver xs) room = absurd room
+part_room (Elements Relative least greatest us) Absent room = absurd room
+part_room (Elements Relative least greatest us) (Switches xs) room = absurd room
+part_room (Elements Relative least greatest us) (Values xs) room = absurd room
+part_room (Elements Relative least greatest us) (Motions xs) room = length-map xs (clamp least greatest) ∙ room
+part_room (Elements Relative least greatest us) (RollOver xs) room = absurd room
+part_room (Keys elements rolls keys) Absent room = absurd room
+part_room (Keys elements rolls keys) (Switches xs) room = by_count (nat_lt elements (switch_count xs))
   where
-    by_count : (b : Bool) → HasRoom (head_of (Keys elements rolls keys)) (cond b (RolledOver xs) (Pressed xs))
+    by_count : (b : Bool) → HasRoom (head_of (Keys elements rolls keys)) (cond b (RollOver xs) (Switches xs))
     by_count true = room
     by_count false = room
-part_room (Keys elements rolls keys) (Holding xs) room = absurd room
-part_room (Keys elements rolls keys) (Moved xs) room = absurd room
-part_room (Keys elements rolls keys) (RolledOver xs) room = room
+part_room (Keys elements rolls keys) (Values xs) room = absurd room
+part_room (Keys elements rolls keys) (Motions xs) room = absurd room
+part_room (Keys elements rolls keys) (RollOver xs) room = room
 
-part_stands : (form : Form) (cell : Cell) → IsSound form → InSnapshot form cell → InPart form (shown_cell (head_of form) cell)
-part_stands NoControls Vacant some ok = tt
-part_stands NoControls (Pressed xs) some ok = tt
-part_stands NoControls (Holding xs) some ok = tt
-part_stands NoControls (Moved xs) some ok = tt
-part_stands NoControls (RolledOver xs) some ok = tt
-part_stands (Elements kind least greatest us) Vacant some ok = tt
-part_stands (Elements kind least greatest us) (Pressed xs) some ok = tt
-part_stands (Elements kind least greatest us) (Holding xs) some ok = ok
-part_stands (Elements kind least greatest us) (Moved xs) some ok = clamped_in least greatest xs some
-part_stands (Elements kind least greatest us) (RolledOver xs) some ok = tt
-part_stands (Keys elements rolls keys) Vacant some ok = tt
-part_stands (Keys elements rolls keys) (Pressed xs) some ok = by_count (nat_lt elements (pressed_count xs)) refl
+part_stands : (form : Form) (state : ControlState) → IsSound form → InSnapshot form state
+    → InPart form (shown_state (head_of form) state)
+part_stands NoControls Absent some ok = tt
+part_stands NoControls (Switches xs) some ok = tt
+part_stands NoControls (Values xs) some ok = tt
+part_stands NoControls (Motions xs) some ok = tt
+part_stands NoControls (RollOver xs) some ok = tt
+part_stands (Elements kind least greatest us) Absent some ok = tt
+part_stands (Elements kind least greatest us) (Switches xs) some ok = tt
+part_stands (Elements kind least greatest us) (Values xs) some ok = ok
+part_stands (Elements kind least greatest us) (Motions xs) some ok = clamped_in least greatest xs some
+part_stands (Elements kind least greatest us) (RollOver xs) some ok = tt
+part_stands (Keys elements rolls keys) Absent some ok = tt
+part_stands (Keys elements rolls keys) (Switches xs) some ok = by_count (nat_lt elements (switch_count xs)) refl
   where
-    by_rolls : (b : Bool) → rolls ≡ b → nat_lt elements (pressed_count xs) ≡ true → rolls ≡ true
+    by_rolls : (b : Bool) → rolls ≡ b → nat_lt elements (switch_count xs) ≡ true → rolls ≡ true
     by_rolls true e more = e
-    by_rolls false e more = let few : pressed_count xs ≤ elements = ok.1 e in absurd (grind (arith, nat_tests))
+    by_rolls false e more = let few : switch_count xs ≤ elements = ok.1 e in absurd (grind (arith, nat_tests))
 
-    by_count : (b : Bool) → nat_lt elements (pressed_count xs) ≡ b → InPart (Keys elements rolls keys) (cond b (RolledOver xs) (Pressed xs))
+    by_count : (b : Bool) → nat_lt elements (switch_count xs) ≡ b
+        → InPart (Keys elements rolls keys) (cond b (RollOver xs) (Switches xs))
     by_count true more = by_rolls rolls refl more
     by_count false few = (ok.0, grind (arith, nat_tests))
-part_stands (Keys elements rolls keys) (Holding xs) some ok = tt
-part_stands (Keys elements rolls keys) (Moved xs) some ok = tt
-part_stands (Keys elements rolls keys) (RolledOver xs) some ok = absurd ok
+part_stands (Keys elements rolls keys) (Values xs) some ok = tt
+part_stands (Keys elements rolls keys) (Motions xs) some ok = tt
+part_stands (Keys elements rolls keys) (RollOver xs) some ok = absurd ok
 
--- cells that are put together item by item suit the items, where each does
-pub suits_by : (stands : Form → Cell → Type 0) (f : Item → Cell → Cell → Cell) (items : List Item) (xs bs : List Cell) → length xs ≡ length items → length bs ≡ length items
-    → ((i : ℕ) (item : Item) (a b : Cell) → slice_get items i ≡ Some item → slice_get xs i ≡ Some a → slice_get bs i ≡ Some b → HasRoom (head_of item.form) (f item a b) × stands item.form (f item a b))
+-- control states that are put together item by item suit the items, where each does
+pub suits_by : (stands : Form → ControlState → Type 0) (f : Item → ControlState → ControlState → ControlState)
+    (items : List Item) (xs bs : List ControlState) → length xs ≡ length items → length bs ≡ length items
+    → ((i : ℕ) (item : Item) (a b : ControlState) → slice_get items i ≡ Some item → slice_get xs i ≡ Some a
+    → slice_get bs i ≡ Some b → HasRoom (head_of item.form) (f item a b) × stands item.form (f item a b))
     → Suits stands items (by_item f items xs bs)
 suits_by stands f items xs bs lx lb each = record {
   one_each = by_item_length f items xs bs lx lb;
-  room = λ i item cell h g. let p = at i item h in subst (λ c. HasRoom (head_of item.form) c) (made i item cell h g) ((each i item p.cell p.part h p.cell_there p.part_there).0);
-  suits = λ i item cell h g. let p = at i item h in subst (λ c. stands item.form c) (made i item cell h g) ((each i item p.cell p.part h p.cell_there p.part_there).1);
+  room = λ i item state h g. let p = at i item h in subst (λ c. HasRoom (head_of item.form) c) (made i item state h g) ((each i item p.state p.part h p.state_there p.part_there).0);
+  suits = λ i item state h g. let p = at i item h in subst (λ c. stands item.form c) (made i item state h g) ((each i item p.state p.part h p.state_there p.part_there).1);
 }
   where
     at : (i : ℕ) (item : Item) → slice_get items i ≡ Some item → Places items xs bs i
     at i item h = places items xs bs i (slice_get_within items i item h) lx lb
 
-    made : (i : ℕ) (item : Item) (cell : Cell) (h : slice_get items i ≡ Some item) → slice_get (by_item f items xs bs) i ≡ Some cell → f item (at i item h).cell (at i item h).part ≡ cell
-    made i item cell h g =
+    made : (i : ℕ) (item : Item) (state : ControlState) (h : slice_get items i ≡ Some item)
+        → slice_get (by_item f items xs bs) i ≡ Some state → f item (at i item h).state (at i item h).part ≡ state
+    made i item state h g =
         let p = at i item h in
-        let e = by_item_at f items xs bs i item p.cell p.part h p.cell_there p.part_there in
+        let e = by_item_at f items xs bs i item p.state p.part h p.state_there p.part_there in
         cc
 
 -- What is shown of a snapshot suits the items.
-pub shown_fits : (layout : Contents) (r : ℕ) (cells parts : List Cell) → IsLayout layout → Suits InSnapshot (items_of layout) cells → Suits InPart (items_of layout) parts
-    → Suits InPart (items_of layout) (shown (items_of layout) r cells parts)
-shown_fits layout r cells parts laid fits fits' =
-    suits_by InPart (shown_of r) (items_of layout) cells parts fits.one_each fits'.one_each
+pub shown_fits : (layout : Contents) (r : ℕ) (states parts : List ControlState) → IsLayout layout
+    → Suits InSnapshot (items_of layout) states → Suits InPart (items_of layout) parts
+    → Suits InPart (items_of layout) (shown_parts (items_of layout) r states parts)
+shown_fits layout r states parts laid fits fits' =
+    suits_by InPart (shown_part_of r) (items_of layout) states parts fits.one_each fits'.one_each
     (λ i item a b h g k. by_report (is_of r item) item a b
     (part_room item.form a (fits.room i item a h g), part_stands item.form a (sound_items layout laid i item h) (fits.suits i item a h g)) (fits'.room i item b h k, fits'.suits i item b h k))
   where
-    by_report : (b : Bool) (item : Item) (cell part : Cell) → HasRoom (head_of item.form) (shown_cell (head_of item.form) cell) × InPart item.form (shown_cell (head_of item.form) cell)
-        → HasRoom (head_of item.form) part × InPart item.form part → HasRoom (head_of item.form) (cond b (shown_cell (head_of item.form) cell) part) × InPart item.form (cond b (shown_cell (head_of item.form) cell) part)
-    by_report true item cell part new old = new
-    by_report false item cell part new old = old
+    by_report : (b : Bool) (item : Item) (state part : ControlState)
+        → HasRoom (head_of item.form) (shown_state (head_of item.form) state)
+        × InPart item.form (shown_state (head_of item.form) state)
+        → HasRoom (head_of item.form) part × InPart item.form part → HasRoom (head_of item.form) (cond b (shown_state (head_of item.form) state) part) × InPart item.form (cond b (shown_state (head_of item.form) state) part)
+    by_report true item state part new old = new
+    by_report false item state part new old = old
 
 pub blank_parts_fit : (layout : Contents) → IsLayout layout → Suits InPart (items_of layout) (blank_parts (items_of layout))
 blank_parts_fit layout laid =
-    suits_all InPart (λ item. shown_cell (head_of item.form) (blank_cell (head_of item.form))) (items_of layout)
+    suits_all InPart (λ item. shown_state (head_of item.form) (blank_state (head_of item.form))) (items_of layout)
     (λ i item h. (part_room item.form _ (blank_room item.form), part_stands item.form _ (sound_items layout laid i item h) (blank_in_snapshot item.form (sound_items layout laid i item h))))
 
-pub motions_kept : (form : Form) (cell : Cell) → HasRoom (head_of form) cell → InSnapshot form cell → AreMotions cell
-motions_kept NoControls Vacant room ok = tt
-motions_kept NoControls (Pressed xs) room ok = tt
-motions_kept NoControls (Holding xs) room ok = tt
-motions_kept NoControls (Moved xs) room ok = absurd room
-motions_kept NoControls (RolledOver xs) room ok = tt
-motions_kept (Elements Switch least greatest us) Vacant room ok = tt
-motions_kept (Elements Switch least greatest us) (Pressed xs) room ok = tt
-motions_kept (Elements Switch least greatest us) (Holding xs) room ok = tt
-motions_kept (Elements Switch least greatest us) (Moved xs) room ok = ok
-motions_kept (Elements Switch least greatest us) (RolledOver xs) room ok = tt
-motions_kept (Elements Value least greatest us) Vacant room ok = tt
-motions_kept (Elements Value least greatest us) (Pressed xs) room ok = tt
-motions_kept (Elements Value least greatest us) (Holding xs) room ok = tt
-motions_kept (Elements Value least greatest us) (Moved xs) room ok = ok
-motions_kept (Elements Value least greatest us) (RolledOver xs) room ok = tt
-motions_kept (Elements NullValue least greatest us) Vacant room ok = tt
-motions_kept (Elements NullValue least greatest us) (Pressed xs) room ok = tt
-motions_kept (Elements NullValue least greatest us) (Holding xs) room ok = tt
-motions_kept (Elements NullValue least greatest us) (Moved xs) room ok = ok
-motions_kept (Elements NullValue least greatest us) (RolledOver xs) room ok = tt
-motions_kept (Elements Relative least greatest us) Vacant room ok = tt
-motions_kept (Elements Relative least greatest us) (Pressed xs) room ok = tt
-motions_kept (Elements Relative least greatest us) (Holding xs) room ok = tt
-motions_kept (Elements Relative least greatest us) (Moved xs) room ok = ok
-motions_kept (Elements Relative least greatest us) (RolledOver xs) room ok = tt
-motions_kept (Keys elements rolls keys) Vacant room ok = tt
-motions_kept (Keys elements rolls keys) (Pressed xs) room ok = tt
-motions_kept (Keys elements rolls keys) (Holding xs) room ok = tt
-motions_kept (Keys elements rolls keys) (Moved xs) room ok = absurd room
-motions_kept (Keys elements rolls keys) (RolledOver xs) room ok = tt
+pub motions_kept : (form : Form) (state : ControlState) → HasRoom (head_of form) state → InSnapshot form state
+    → AreMotions state
+motions_kept NoControls Absent room ok = tt
+motions_kept NoControls (Switches xs) room ok = tt
+motions_kept NoControls (Values xs) room ok = tt
+motions_kept NoControls (Motions xs) room ok = absurd room
+motions_kept NoControls (RollOver xs) room ok = tt
+motions_kept (Elements Switch least greatest us) Absent room ok = tt
+motions_kept (Elements Switch least greatest us) (Switches xs) room ok = tt
+motions_kept (Elements Switch least greatest us) (Values xs) room ok = tt
+motions_kept (Elements Switch least greatest us) (Motions xs) room ok = ok
+motions_kept (Elements Switch least greatest us) (RollOver xs) room ok = tt
+motions_kept (Elements Value least greatest us) Absent room ok = tt
+motions_kept (Elements Value least greatest us) (Switches xs) room ok = tt
+motions_kept (Elements Value least greatest us) (Values xs) room ok = tt
+motions_kept (Elements Value least greatest us) (Motions xs) room ok = ok
+motions_kept (Elements Value least greatest us) (RollOver xs) room ok = tt
+motions_kept (Elements NullValue least greatest us) Absent room ok = tt
+motions_kept (Elements NullValue least greatest us) (Switches xs) room ok = tt
+motions_kept (Elements NullValue least greatest us) (Values xs) room ok = tt
+motions_kept (Elements NullValue least greatest us) (Motions xs) room ok = ok
+motions_kept (Elements NullValue least greatest us) (RollOver xs) room ok = tt
+motions_kept (Elements Relative least greatest us) Absent room ok = tt
+motions_kept (Elements Relative least greatest us) (Switches xs) room ok = tt
+motions_kept (Elements Relative least greatest us) (Values xs) room ok = tt
+motions_kept (Elements Relative least greatest us) (Motions xs) room ok = ok
+motions_kept (Elements Relative least greatest us) (RollOver xs) room ok = tt
+motions_kept (Keys elements rolls keys) Absent room ok = tt
+motions_kept (Keys elements rolls keys) (Switches xs) room ok = tt
+motions_kept (Keys elements rolls keys) (Values xs) room ok = tt
+motions_kept (Keys elements rolls keys) (Motions xs) room ok = absurd room
+motions_kept (Keys elements rolls keys) (RollOver xs) room ok = tt
 
-pub motions_shown : (form : Form) (cell : Cell) → has_zero (head_of form) ≡ true → HasRoom (head_of form) cell → InSnapshot form cell → AreMotions (shown_cell (head_of form) cell)
-motions_shown NoControls Vacant zero_ room ok = tt
-motions_shown NoControls (Pressed xs) zero_ room ok = tt
-motions_shown NoControls (Holding xs) zero_ room ok = tt
-motions_shown NoControls (Moved xs) zero_ room ok = absurd room
-motions_shown NoControls (RolledOver xs) zero_ room ok = tt
-motions_shown (Elements Switch least greatest us) Vacant zero_ room ok = tt
-motions_shown (Elements Switch least greatest us) (Pressed xs) zero_ room ok = tt
-motions_shown (Elements Switch least greatest us) (Holding xs) zero_ room ok = tt
-motions_shown (Elements Switch least greatest us) (Moved xs) zero_ room ok = absurd room
-motions_shown (Elements Switch least greatest us) (RolledOver xs) zero_ room ok = tt
-motions_shown (Elements Value least greatest us) Vacant zero_ room ok = tt
-motions_shown (Elements Value least greatest us) (Pressed xs) zero_ room ok = tt
-motions_shown (Elements Value least greatest us) (Holding xs) zero_ room ok = tt
-motions_shown (Elements Value least greatest us) (Moved xs) zero_ room ok = absurd room
-motions_shown (Elements Value least greatest us) (RolledOver xs) zero_ room ok = tt
-motions_shown (Elements NullValue least greatest us) Vacant zero_ room ok = tt
-motions_shown (Elements NullValue least greatest us) (Pressed xs) zero_ room ok = tt
-motions_shown (Elements NullValue least greatest us) (Holding xs) zero_ room ok = tt
-motions_shown (Elements NullValue least greatest us) (Moved xs) zero_ room ok = absurd room
-motions_shown (Elements NullValue least greatest us) (RolledOver xs) zero_ room ok = tt
-motions_shown (Elements Relative least greatest us) Vacant zero_ room ok = tt
-motions_shown (Elements Relative least greatest us) (Pressed xs) zero_ room ok = tt
-motions_shown (Elements Relative least greatest us) (Holding xs) zero_ room ok = tt
-motions_shown (Elements Relative least greatest us) (Moved xs) zero_ room ok = carried_all least greatest xs zero_ ok
-motions_shown (Elements Relative least greatest us) (RolledOver xs) zero_ room ok = tt
-motions_shown (Keys elements rolls keys) Vacant zero_ room ok = tt
-motions_shown (Keys elements rolls keys) (Pressed xs) zero_ room ok = by_count (nat_lt elements (pressed_count xs))
+pub motions_shown : (form : Form) (state : ControlState) → has_zero (head_of form) ≡ true → HasRoom (head_of form) state
+    → InSnapshot form state → AreMotions (shown_state (head_of form) state)
+motions_shown NoControls Absent zero_ room ok = tt
+motions_shown NoControls (Switches xs) zero_ room ok = tt
+motions_shown NoControls (Values xs) zero_ room ok = tt
+motions_shown NoControls (Motions xs) zero_ room ok = absurd room
+motions_shown NoControls (RollOver xs) zero_ room ok = tt
+motions_shown (Elements Switch least greatest us) Absent zero_ room ok = tt
+motions_shown (Elements Switch least greatest us) (Switches xs) zero_ room ok = tt
+motions_shown (Elements Switch least greatest us) (Values xs) zero_ room ok = tt
+motions_shown (Elements Switch least greatest us) (Motions xs) zero_ room ok = absurd room
+motions_shown (Elements Switch least greatest us) (RollOver xs) zero_ room ok = tt
+motions_shown (Elements Value least greatest us) Absent zero_ room ok = tt
+motions_shown (Elements Value least greatest us) (Switches xs) zero_ room ok = tt
+motions_shown (Elements Value least greatest us) (Values xs) zero_ room ok = tt
+motions_shown (Elements Value least greatest us) (Motions xs) zero_ room ok = absurd room
+motions_shown (Elements Value least greatest us) (RollOver xs) zero_ room ok = tt
+motions_shown (Elements NullValue least greatest us) Absent zero_ room ok = tt
+motions_shown (Elements NullValue least greatest us) (Switches xs) zero_ room ok = tt
+motions_shown (Elements NullValue least greatest us) (Values xs) zero_ room ok = tt
+motions_shown (Elements NullValue least greatest us) (Motions xs) zero_ room ok = absurd room
+motions_shown (Elements NullValue least greatest us) (RollOver xs) zero_ room ok = tt
+motions_shown (Elements Relative least greatest us) Absent zero_ room ok = tt
+motions_shown (Elements Relative least greatest us) (Switches xs) zero_ room ok = tt
+motions_shown (Elements Relative least greatest us) (Values xs) zero_ room ok = tt
+motions_shown (Elements Relative least greatest us) (Motions xs) zero_ room ok =
+    carried_all least greatest xs zero_ ok
+motions_shown (Elements Relative least greatest us) (RollOver xs) zero_ room ok = tt
+motions_shown (Keys elements rolls keys) Absent zero_ room ok = tt
+motions_shown (Keys elements rolls keys) (Switches xs) zero_ room ok = by_count (nat_lt elements (switch_count xs))
   where
-    by_count : (b : Bool) → AreMotions (cond b (RolledOver xs) (Pressed xs))
+    by_count : (b : Bool) → AreMotions (cond b (RollOver xs) (Switches xs))
     by_count true = tt
     by_count false = tt
-motions_shown (Keys elements rolls keys) (Holding xs) zero_ room ok = tt
-motions_shown (Keys elements rolls keys) (Moved xs) zero_ room ok = absurd room
-motions_shown (Keys elements rolls keys) (RolledOver xs) zero_ room ok = tt
+motions_shown (Keys elements rolls keys) (Values xs) zero_ room ok = tt
+motions_shown (Keys elements rolls keys) (Motions xs) zero_ room ok = absurd room
+motions_shown (Keys elements rolls keys) (RollOver xs) zero_ room ok = tt
 
-rest_room : (controls : Controls) (cell part : Cell) → HasRoom controls cell → HasRoomOf cell part → HasRoom controls (minus_motion cell part)
-rest_room controls Vacant part room like = room
-rest_room controls (Pressed xs) part room like = room
-rest_room controls (Holding xs) part room like = room
-rest_room controls (RolledOver xs) part room like = room
-rest_room controls (Moved xs) Vacant room like = room
-rest_room controls (Moved xs) (Pressed bs) room like = room
-rest_room controls (Moved xs) (Holding bs) room like = room
-rest_room controls (Moved xs) (RolledOver bs) room like = room
-rest_room head.None (Moved xs) (Moved bs) room like = absurd room
-rest_room (head.Elements Switch least greatest n) (Moved xs) (Moved bs) room like = absurd room
-rest_room (head.Elements Value least greatest n) (Moved xs) (Moved bs) room like = absurd room
-rest_room (head.Elements NullValue least greatest n) (Moved xs) (Moved bs) room like = absurd room
-rest_room (head.Elements Relative least greatest n) (Moved xs) (Moved bs) room like = length_map_zip (λ (p : ℤ × ℤ). p.0 -ℤ p.1) xs bs like ∙ room
-rest_room (head.Keys elements rolls n) (Moved xs) (Moved bs) room like = absurd room
+rest_room : (controls : Controls) (state part : ControlState) → HasRoom controls state → HasRoomOf state part
+    → HasRoom controls (minus_motion state part)
+rest_room controls Absent part room like = room
+rest_room controls (Switches xs) part room like = room
+rest_room controls (Values xs) part room like = room
+rest_room controls (RollOver xs) part room like = room
+rest_room controls (Motions xs) Absent room like = room
+rest_room controls (Motions xs) (Switches bs) room like = room
+rest_room controls (Motions xs) (Values bs) room like = room
+rest_room controls (Motions xs) (RollOver bs) room like = room
+rest_room head.None (Motions xs) (Motions bs) room like = absurd room
+rest_room (head.Elements Switch least greatest n) (Motions xs) (Motions bs) room like = absurd room
+rest_room (head.Elements Value least greatest n) (Motions xs) (Motions bs) room like = absurd room
+rest_room (head.Elements NullValue least greatest n) (Motions xs) (Motions bs) room like = absurd room
+rest_room (head.Elements Relative least greatest n) (Motions xs) (Motions bs) room like =
+    length_map_zip (λ (p : ℤ × ℤ). p.0 -ℤ p.1) xs bs like ∙ room
+rest_room (head.Keys elements rolls n) (Motions xs) (Motions bs) room like = absurd room
 
-rest_stands : (form : Form) (cell : Cell) → has_zero (head_of form) ≡ true → HasRoom (head_of form) cell → InSnapshot form cell → InSnapshot form (minus_motion cell (shown_cell (head_of form) cell))
-rest_stands NoControls Vacant zero_ room ok = ok
-rest_stands NoControls (Pressed xs) zero_ room ok = ok
-rest_stands NoControls (Holding xs) zero_ room ok = ok
-rest_stands NoControls (Moved xs) zero_ room ok = absurd room
-rest_stands NoControls (RolledOver xs) zero_ room ok = ok
-rest_stands (Elements Switch least greatest us) Vacant zero_ room ok = ok
-rest_stands (Elements Switch least greatest us) (Pressed xs) zero_ room ok = ok
-rest_stands (Elements Switch least greatest us) (Holding xs) zero_ room ok = ok
-rest_stands (Elements Switch least greatest us) (Moved xs) zero_ room ok = absurd room
-rest_stands (Elements Switch least greatest us) (RolledOver xs) zero_ room ok = ok
-rest_stands (Elements Value least greatest us) Vacant zero_ room ok = ok
-rest_stands (Elements Value least greatest us) (Pressed xs) zero_ room ok = ok
-rest_stands (Elements Value least greatest us) (Holding xs) zero_ room ok = ok
-rest_stands (Elements Value least greatest us) (Moved xs) zero_ room ok = absurd room
-rest_stands (Elements Value least greatest us) (RolledOver xs) zero_ room ok = ok
-rest_stands (Elements NullValue least greatest us) Vacant zero_ room ok = ok
-rest_stands (Elements NullValue least greatest us) (Pressed xs) zero_ room ok = ok
-rest_stands (Elements NullValue least greatest us) (Holding xs) zero_ room ok = ok
-rest_stands (Elements NullValue least greatest us) (Moved xs) zero_ room ok = absurd room
-rest_stands (Elements NullValue least greatest us) (RolledOver xs) zero_ room ok = ok
-rest_stands (Elements Relative least greatest us) Vacant zero_ room ok = ok
-rest_stands (Elements Relative least greatest us) (Pressed xs) zero_ room ok = ok
-rest_stands (Elements Relative least greatest us) (Holding xs) zero_ room ok = ok
-rest_stands (Elements Relative least greatest us) (Moved xs) zero_ room ok = rest_all least greatest xs zero_ ok
-rest_stands (Elements Relative least greatest us) (RolledOver xs) zero_ room ok = ok
-rest_stands (Keys elements rolls keys) Vacant zero_ room ok = ok
-rest_stands (Keys elements rolls keys) (Pressed xs) zero_ room ok = ok
-rest_stands (Keys elements rolls keys) (Holding xs) zero_ room ok = ok
-rest_stands (Keys elements rolls keys) (Moved xs) zero_ room ok = absurd room
-rest_stands (Keys elements rolls keys) (RolledOver xs) zero_ room ok = ok
+rest_stands : (form : Form) (state : ControlState) → has_zero (head_of form) ≡ true → HasRoom (head_of form) state
+    → InSnapshot form state → InSnapshot form (minus_motion state (shown_state (head_of form) state))
+rest_stands NoControls Absent zero_ room ok = ok
+rest_stands NoControls (Switches xs) zero_ room ok = ok
+rest_stands NoControls (Values xs) zero_ room ok = ok
+rest_stands NoControls (Motions xs) zero_ room ok = absurd room
+rest_stands NoControls (RollOver xs) zero_ room ok = ok
+rest_stands (Elements Switch least greatest us) Absent zero_ room ok = ok
+rest_stands (Elements Switch least greatest us) (Switches xs) zero_ room ok = ok
+rest_stands (Elements Switch least greatest us) (Values xs) zero_ room ok = ok
+rest_stands (Elements Switch least greatest us) (Motions xs) zero_ room ok = absurd room
+rest_stands (Elements Switch least greatest us) (RollOver xs) zero_ room ok = ok
+rest_stands (Elements Value least greatest us) Absent zero_ room ok = ok
+rest_stands (Elements Value least greatest us) (Switches xs) zero_ room ok = ok
+rest_stands (Elements Value least greatest us) (Values xs) zero_ room ok = ok
+rest_stands (Elements Value least greatest us) (Motions xs) zero_ room ok = absurd room
+rest_stands (Elements Value least greatest us) (RollOver xs) zero_ room ok = ok
+rest_stands (Elements NullValue least greatest us) Absent zero_ room ok = ok
+rest_stands (Elements NullValue least greatest us) (Switches xs) zero_ room ok = ok
+rest_stands (Elements NullValue least greatest us) (Values xs) zero_ room ok = ok
+rest_stands (Elements NullValue least greatest us) (Motions xs) zero_ room ok = absurd room
+rest_stands (Elements NullValue least greatest us) (RollOver xs) zero_ room ok = ok
+rest_stands (Elements Relative least greatest us) Absent zero_ room ok = ok
+rest_stands (Elements Relative least greatest us) (Switches xs) zero_ room ok = ok
+rest_stands (Elements Relative least greatest us) (Values xs) zero_ room ok = ok
+rest_stands (Elements Relative least greatest us) (Motions xs) zero_ room ok = rest_all least greatest xs zero_ ok
+rest_stands (Elements Relative least greatest us) (RollOver xs) zero_ room ok = ok
+rest_stands (Keys elements rolls keys) Absent zero_ room ok = ok
+rest_stands (Keys elements rolls keys) (Switches xs) zero_ room ok = ok
+rest_stands (Keys elements rolls keys) (Values xs) zero_ room ok = ok
+rest_stands (Keys elements rolls keys) (Motions xs) zero_ room ok = absurd room
+rest_stands (Keys elements rolls keys) (RollOver xs) zero_ room ok = ok
 
--- a part that is shown is what is shown of its cell
-pub part_is_shown : (items : List Item) (r : ℕ) (cells parts : List Cell) (i : ℕ) (item : Item) (cell part : Cell) → parts ≡ shown items r cells parts → slice_get items i ≡ Some item → slice_get cells i ≡ Some cell → slice_get parts i ≡ Some part
-    → is_of r item ≡ true → part ≡ shown_cell (head_of item.form) cell
-part_is_shown items r cells parts i item cell part same h g k of_it =
-    let e = by_item_at (shown_of r) items cells parts i item cell part h g k in
-    let f : slice_get parts i ≡ Some (shown_of r item cell part) = ap (λ xs. slice_get xs i) same ∙ e in
-    let p : part ≡ shown_of r item cell part = cc in
-    p ∙ ap (λ (b : Bool). cond b (shown_cell (head_of item.form) cell) part) of_it
+-- a part that is shown is what is shown of its control state
+pub part_is_shown : (items : List Item) (r : ℕ) (states parts : List ControlState) (i : ℕ) (item : Item)
+    (state part : ControlState) → parts ≡ shown_parts items r states parts → slice_get items i ≡ Some item
+    → slice_get states i ≡ Some state → slice_get parts i ≡ Some part
+    → is_of r item ≡ true → part ≡ shown_state (head_of item.form) state
+part_is_shown items r states parts i item state part same h g k of_it =
+    let e = by_item_at (shown_part_of r) items states parts i item state part h g k in
+    let f : slice_get parts i ≡ Some (shown_part_of r item state part) = ap (λ xs. slice_get xs i) same ∙ e in
+    let p : part ≡ shown_part_of r item state part = cc in
+    p ∙ ap (λ (b : Bool). cond b (shown_state (head_of item.form) state) part) of_it
 
 zero_at : (items : List Item) (i : ℕ) (item : Item) → has_zeros items ≡ true → slice_get items i ≡ Some item → has_zero (head_of item.form) ≡ true
 zero_at [] i item h k = absurd (cc)
@@ -307,76 +324,89 @@ still_all : (least greatest : ℤ) (n : ℕ) → is_in least greatest (pos 0) �
 still_all least greatest zero h = tt
 still_all least greatest (suc n) h = (h, still_all least greatest n h)
 
-still_stands : (form : Form) (part : Cell) → has_zero (head_of form) ≡ true → HasRoom (head_of form) part → InPart form part → HasRoom (head_of form) (without_motion part) × InPart form (without_motion part)
-still_stands form Vacant zero_ room ok = (room, ok)
-still_stands form (Pressed xs) zero_ room ok = (room, ok)
-still_stands form (Holding xs) zero_ room ok = (room, ok)
-still_stands form (RolledOver xs) zero_ room ok = (room, ok)
-still_stands NoControls (Moved xs) zero_ room ok = absurd room
-still_stands (Elements Switch least greatest us) (Moved xs) zero_ room ok = absurd room
-still_stands (Elements Value least greatest us) (Moved xs) zero_ room ok = absurd room
-still_stands (Elements NullValue least greatest us) (Moved xs) zero_ room ok = absurd room
-still_stands (Elements Relative least greatest us) (Moved xs) zero_ room ok = (length-replicate (length xs) (pos 0) ∙ room, still_all least greatest (length xs) zero_)
-still_stands (Keys elements rolls keys) (Moved xs) zero_ room ok = absurd room
+still_stands : (form : Form) (part : ControlState) → has_zero (head_of form) ≡ true → HasRoom (head_of form) part
+    → InPart form part → HasRoom (head_of form) (without_motion part) × InPart form (without_motion part)
+still_stands form Absent zero_ room ok = (room, ok)
+still_stands form (Switches xs) zero_ room ok = (room, ok)
+still_stands form (Values xs) zero_ room ok = (room, ok)
+still_stands form (RollOver xs) zero_ room ok = (room, ok)
+still_stands NoControls (Motions xs) zero_ room ok = absurd room
+still_stands (Elements Switch least greatest us) (Motions xs) zero_ room ok = absurd room
+still_stands (Elements Value least greatest us) (Motions xs) zero_ room ok = absurd room
+still_stands (Elements NullValue least greatest us) (Motions xs) zero_ room ok = absurd room
+still_stands (Elements Relative least greatest us) (Motions xs) zero_ room ok =
+    (length-replicate (length xs) (pos 0) ∙ room, still_all least greatest (length xs) zero_)
+still_stands (Keys elements rolls keys) (Motions xs) zero_ room ok = absurd room
 
 -- The still part of a snapshot suits the items.
-pub still_fits : (layout : Contents) (r : ℕ) (cells parts : List Cell) → IsLayout layout → has_zeros (items_of layout) ≡ true → Suits InSnapshot (items_of layout) cells → Suits InPart (items_of layout) parts
-    → Suits InPart (items_of layout) (still (items_of layout) r cells parts)
-still_fits layout r cells parts laid zeros fits fits' =
-    suits_by InPart (still_of r) (items_of layout) cells parts fits.one_each fits'.one_each
+pub still_fits : (layout : Contents) (r : ℕ) (states parts : List ControlState) → IsLayout layout
+    → has_zeros (items_of layout) ≡ true → Suits InSnapshot (items_of layout) states
+    → Suits InPart (items_of layout) parts
+    → Suits InPart (items_of layout) (still_parts (items_of layout) r states parts)
+still_fits layout r states parts laid zeros fits fits' =
+    suits_by InPart (still_of r) (items_of layout) states parts fits.one_each fits'.one_each
     (λ i item a b h g k. by_report (is_of r item) item a b
-    (still_stands item.form (shown_cell (head_of item.form) a) (zero_at (items_of layout) i item zeros h) (part_room item.form a (fits.room i item a h g)) (part_stands item.form a (sound_items layout laid i item h) (fits.suits i item a h g)))
+    (still_stands item.form (shown_state (head_of item.form) a) (zero_at (items_of layout) i item zeros h) (part_room item.form a (fits.room i item a h g)) (part_stands item.form a (sound_items layout laid i item h) (fits.suits i item a h g)))
     (fits'.room i item b h k, fits'.suits i item b h k))
   where
-    by_report : (b : Bool) (item : Item) (cell part : Cell) → HasRoom (head_of item.form) (without_motion (shown_cell (head_of item.form) cell)) × InPart item.form (without_motion (shown_cell (head_of item.form) cell))
+    by_report : (b : Bool) (item : Item) (state part : ControlState)
+        → HasRoom (head_of item.form) (without_motion (shown_state (head_of item.form) state))
+        × InPart item.form (without_motion (shown_state (head_of item.form) state))
         → HasRoom (head_of item.form) part × InPart item.form part
-        → HasRoom (head_of item.form) (cond b (without_motion (shown_cell (head_of item.form) cell)) part) × InPart item.form (cond b (without_motion (shown_cell (head_of item.form) cell)) part)
-    by_report true item cell part new old = new
-    by_report false item cell part new old = old
+        → HasRoom (head_of item.form) (cond b (without_motion (shown_state (head_of item.form) state)) part) × InPart item.form (cond b (without_motion (shown_state (head_of item.form) state)) part)
+    by_report true item state part new old = new
+    by_report false item state part new old = old
 
 -- What is left of a snapshot's motion suits the items.
-pub taken_fits : (items : List Item) (r : ℕ) (cells parts : List Cell) → has_zeros items ≡ true → parts ≡ shown items r cells parts → Suits InSnapshot items cells → Suits InPart items parts
-    → Suits InSnapshot items (taken items r cells parts)
-taken_fits items r cells parts zeros same fits fits' =
-    suits_by InSnapshot (taken_of r) items cells parts fits.one_each fits'.one_each
+pub taken_fits : (items : List Item) (r : ℕ) (states parts : List ControlState) → has_zeros items ≡ true
+    → parts ≡ shown_parts items r states parts → Suits InSnapshot items states → Suits InPart items parts
+    → Suits InSnapshot items (without_part_motion items r states parts)
+taken_fits items r states parts zeros same fits fits' =
+    suits_by InSnapshot (without_motion_of r) items states parts fits.one_each fits'.one_each
     (λ i item a b h g k. by_report (is_of r item) i item refl a b h g k (fits.room i item a h g) (fits.suits i item a h g) (fits'.room i item b h k))
   where
-    by_report : (b : Bool) (i : ℕ) (item : Item) → is_of r item ≡ b → (cell part : Cell) → slice_get items i ≡ Some item → slice_get cells i ≡ Some cell → slice_get parts i ≡ Some part
-        → HasRoom (head_of item.form) cell → InSnapshot item.form cell → HasRoom (head_of item.form) part
-        → HasRoom (head_of item.form) (cond b (minus_motion cell part) cell) × InSnapshot item.form (cond b (minus_motion cell part) cell)
-    by_report true i item of_it cell part h g k room ok room' = (
-      rest_room (head_of item.form) cell part room (room_of item.form cell part room ok room'),
-      rw (part_is_shown items r cells parts i item cell part same h g k of_it) (rest_stands item.form cell (zero_at items i item zeros h) room ok),
+    by_report : (b : Bool) (i : ℕ) (item : Item) → is_of r item ≡ b → (state part : ControlState)
+        → slice_get items i ≡ Some item → slice_get states i ≡ Some state → slice_get parts i ≡ Some part
+        → HasRoom (head_of item.form) state → InSnapshot item.form state → HasRoom (head_of item.form) part
+        → HasRoom (head_of item.form) (cond b (minus_motion state part) state) × InSnapshot item.form (cond b (minus_motion state part) state)
+    by_report true i item of_it state part h g k room ok room' = (
+      rest_room (head_of item.form) state part room (room_of item.form state part room ok room'),
+      rw (part_is_shown items r states parts i item state part same h g k of_it) (rest_stands item.form state (zero_at items i item zeros h) room ok),
     )
-    by_report false i item of_it cell part h g k room ok room' = (room, ok)
+    by_report false i item of_it state part h g k room ok room' = (room, ok)
 
--- the item, cell and part of a place whose motion is taken next
-pub record TakesNext (items : List Item) (r : ℕ) (cells parts : List Cell) (i : ℕ) (cell part : Cell) : Type 0 where
-  pub room : HasRoomOf cell part
-  pub amounts : AreMotions cell
+-- the item, control state and part of a place whose motion is taken next
+pub record TakesNext (items : List Item) (r : ℕ) (states parts : List ControlState) (i : ℕ)
+    (state part : ControlState) : Type 0 where
+  pub room : HasRoomOf state part
+  pub amounts : AreMotions state
   pub others : is_of r (item_at items i) ≡ true → AreMotions part
 
-pub takes_next : (items : List Item) (r : ℕ) (cells parts : List Cell) (i : ℕ) (cell part : Cell) → has_zeros items ≡ true → parts ≡ shown items r cells parts → Suits InSnapshot items cells → Suits InPart items parts
-    → i < length items → slice_get cells i ≡ Some cell → slice_get parts i ≡ Some part → TakesNext items r cells parts i cell part
-takes_next items r cells parts i cell part zeros same fits fits' within g k =
+pub takes_next : (items : List Item) (r : ℕ) (states parts : List ControlState) (i : ℕ) (state part : ControlState)
+    → has_zeros items ≡ true → parts ≡ shown_parts items r states parts → Suits InSnapshot items states
+    → Suits InPart items parts
+    → i < length items → slice_get states i ≡ Some state → slice_get parts i ≡ Some part → TakesNext items r states parts i state part
+takes_next items r states parts i state part zeros same fits fits' within g k =
     let item = got items i within in
-    let room = fits.room i item.0 cell item.1 g in
-    let ok = fits.suits i item.0 cell item.1 g in
+    let room = fits.room i item.0 state item.1 g in
+    let ok = fits.suits i item.0 state item.1 g in
     record {
-      room = room_of item.0.form cell part room ok (fits'.room i item.0 part item.1 k);
-      amounts = motions_kept item.0.form cell room ok;
+      room = room_of item.0.form state part room ok (fits'.room i item.0 part item.1 k);
+      amounts = motions_kept item.0.form state room ok;
       others = λ of_it. let here : is_of r item.0 ≡ true = ap (is_of r) (sym (item_at-is items i item.0 item.1)) ∙ of_it in
-          subst AreMotions (sym (part_is_shown items r cells parts i item.0 cell part same item.1 g k here)) (motions_shown item.0.form cell (zero_at items i item.0 zeros item.1) room ok);
+          subst AreMotions (sym (part_is_shown items r states parts i item.0 state part same item.1 g k here)) (motions_shown item.0.form state (zero_at items i item.0 zeros item.1) room ok);
     }
 
 -- what is shown is shown again as it is
-pub shown_again : (items : List Item) (r : ℕ) (cells parts : List Cell) → shown items r cells (shown items r cells parts) ≡ shown items r cells parts
-shown_again [] r cells parts = refl
+pub shown_again : (items : List Item) (r : ℕ) (states parts : List ControlState)
+    → shown_parts items r states (shown_parts items r states parts) ≡ shown_parts items r states parts
+shown_again [] r states parts = refl
 shown_again (item ∷ items) r [] parts = refl
-shown_again (item ∷ items) r (c ∷ cells) [] = refl
-shown_again (item ∷ items) r (c ∷ cells) (p ∷ parts) =
-    ap (λ t. shown_of r item c (shown_of r item c p) ∷ t) (shown_again items r cells parts) ∙ ap (λ t. t ∷ shown items r cells parts) (twice (is_of r item))
+shown_again (item ∷ items) r (c ∷ states) [] = refl
+shown_again (item ∷ items) r (c ∷ states) (p ∷ parts) =
+    ap (λ t. shown_part_of r item c (shown_part_of r item c p) ∷ t) (shown_again items r states parts)
+    ∙ ap (λ t. t ∷ shown_parts items r states parts) (twice (is_of r item))
   where
-    twice : (b : Bool) → cond b (shown_cell (head_of item.form) c) (cond b (shown_cell (head_of item.form) c) p) ≡ cond b (shown_cell (head_of item.form) c) p
+    twice : (b : Bool) → cond b (shown_state (head_of item.form) c) (cond b (shown_state (head_of item.form) c) p) ≡ cond b (shown_state (head_of item.form) c) p
     twice true = refl
     twice false = refl

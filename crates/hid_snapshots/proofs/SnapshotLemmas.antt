@@ -14,13 +14,13 @@ use Rattle.hid_layout.specs.declared.control.Controls.TheVariants as head
 use Rattle.hid_layout.specs.declared.control.ControlKind.{ControlKind}
 use Rattle.hid_layout.specs.declared.control.ControlKind.TheVariants.{Switch, Value, NullValue, Relative}
 use Rattle.hid_layout.specs.Controls.{Form, NoControls, Elements, Keys, Key, Item, control_of, control_in, form_at, head_of}
-use Rattle.hid_snapshots.specs.declared.cell.Cell.{Cell}
-use Rattle.hid_snapshots.specs.declared.cell.Cell.TheVariants.{Vacant, Pressed, Holding, Moved, RolledOver}
+use Rattle.hid_snapshots.specs.declared.control_state.ControlState.{ControlState}
+use Rattle.hid_snapshots.specs.declared.control_state.ControlState.TheVariants.{Absent, Switches, Values, Motions, RollOver}
 use Rattle.hid_snapshots.specs.declared.change.Change.{Change}
 use Rattle.hid_snapshots.specs.declared.change.Change.TheVariants.{Press, Release, Set, Null, Move}
 use Rattle.hid_snapshots.specs.declared.change.ChangeFault.{ChangeFault}
-use Rattle.hid_snapshots.specs.Cells.{is_in, has_null, is_i32, pressed_count, HasRoom, is_value, are_values, are_motions, are_pressable, InSnapshot, Suits}
-use Rattle.hid_snapshots.specs.Snapshots.{OrFault, unless, is_pressed, motion_in, with_pressed, with_value, with_motion, is_full, can_hold, has_direction, changed_cell, target, changed, changed_at, with_cell, cell_at, Changes, ChangesCell, HasIndex}
+use Rattle.hid_snapshots.specs.ControlStates.{is_in, has_null, is_i32, switch_count, HasRoom, is_value, are_values, are_motions, are_pressable, InSnapshot, Suits}
+use Rattle.hid_snapshots.specs.Snapshots.{OrFault, unless, is_pressed, motion_in, with_pressed, with_value, with_motion, is_full, can_hold, has_direction, changed_state, target, snapshot_after, change_at, with_state, state_at, Changes, ChangesState, HasIndex}
 use Rattle.hid_snapshots.proofs.CodeLemmas.{both_true}
 use Rattle.hid_snapshots.proofs.ListLemmas.{cons_count}
 use Rattle.hid_snapshots.proofs.FillLemmas.{set_length}
@@ -28,28 +28,33 @@ use Rattle.hid_layout.specs.declared.control.ControlId.{ControlId}
 use Rattle.hid_snapshots.specs.declared.change.ChangeFault.TheVariants as ChangeFault_
 use Rattle.hid_snapshots.proofs.ItemLemmas.{mapped_some, set_same, set_here, set_there, IsControl, control_found, form_at-is}
 
--- a cell with room for an item's controls has a place for each of them
-pub room_index : (form : Form) (cell : Cell) (j : ℕ) (control : Control) → HasRoom (head_of form) cell → control_in form j ≡ Some control → HasIndex cell j
-room_index form Vacant j control room h = tt
-room_index form (RolledOver ps) j control room h = tt
-room_index NoControls (Pressed ps) j control room h = absurd room
-room_index NoControls (Holding ps) j control room h = absurd room
-room_index NoControls (Moved ps) j control room h = absurd room
-room_index (Elements Switch least greatest us) (Pressed ps) j control room h = let e = mapped_some _ (slice_get us j) control h in omega (arith, room, slice_get_within us j e.0 e.1)
-room_index (Elements Value least greatest us) (Pressed ps) j control room h = absurd room
-room_index (Elements NullValue least greatest us) (Pressed ps) j control room h = absurd room
-room_index (Elements Relative least greatest us) (Pressed ps) j control room h = absurd room
-room_index (Elements Switch least greatest us) (Holding ps) j control room h = absurd room
-room_index (Elements Value least greatest us) (Holding ps) j control room h = let e = mapped_some _ (slice_get us j) control h in omega (arith, room, slice_get_within us j e.0 e.1)
-room_index (Elements NullValue least greatest us) (Holding ps) j control room h = let e = mapped_some _ (slice_get us j) control h in omega (arith, room, slice_get_within us j e.0 e.1)
-room_index (Elements Relative least greatest us) (Holding ps) j control room h = absurd room
-room_index (Elements Switch least greatest us) (Moved ps) j control room h = absurd room
-room_index (Elements Value least greatest us) (Moved ps) j control room h = absurd room
-room_index (Elements NullValue least greatest us) (Moved ps) j control room h = absurd room
-room_index (Elements Relative least greatest us) (Moved ps) j control room h = let e = mapped_some _ (slice_get us j) control h in omega (arith, room, slice_get_within us j e.0 e.1)
-room_index (Keys elements rolls keys) (Holding ps) j control room h = absurd room
-room_index (Keys elements rolls keys) (Moved ps) j control room h = absurd room
-room_index (Keys elements rolls keys) (Pressed ps) j control room h = by_key (slice_get keys j) refl h
+-- a control state with room for an item's controls has a place for each of them
+pub room_index : (form : Form) (state : ControlState) (j : ℕ) (control : Control) → HasRoom (head_of form) state
+    → control_in form j ≡ Some control → HasIndex state j
+room_index form Absent j control room h = tt
+room_index form (RollOver ps) j control room h = tt
+room_index NoControls (Switches ps) j control room h = absurd room
+room_index NoControls (Values ps) j control room h = absurd room
+room_index NoControls (Motions ps) j control room h = absurd room
+room_index (Elements Switch least greatest us) (Switches ps) j control room h = let e =
+    mapped_some _ (slice_get us j) control h in omega (arith, room, slice_get_within us j e.0 e.1)
+room_index (Elements Value least greatest us) (Switches ps) j control room h = absurd room
+room_index (Elements NullValue least greatest us) (Switches ps) j control room h = absurd room
+room_index (Elements Relative least greatest us) (Switches ps) j control room h = absurd room
+room_index (Elements Switch least greatest us) (Values ps) j control room h = absurd room
+room_index (Elements Value least greatest us) (Values ps) j control room h = let e =
+    mapped_some _ (slice_get us j) control h in omega (arith, room, slice_get_within us j e.0 e.1)
+room_index (Elements NullValue least greatest us) (Values ps) j control room h = let e =
+    mapped_some _ (slice_get us j) control h in omega (arith, room, slice_get_within us j e.0 e.1)
+room_index (Elements Relative least greatest us) (Values ps) j control room h = absurd room
+room_index (Elements Switch least greatest us) (Motions ps) j control room h = absurd room
+room_index (Elements Value least greatest us) (Motions ps) j control room h = absurd room
+room_index (Elements NullValue least greatest us) (Motions ps) j control room h = absurd room
+room_index (Elements Relative least greatest us) (Motions ps) j control room h = let e =
+    mapped_some _ (slice_get us j) control h in omega (arith, room, slice_get_within us j e.0 e.1)
+room_index (Keys elements rolls keys) (Values ps) j control room h = absurd room
+room_index (Keys elements rolls keys) (Motions ps) j control room h = absurd room
+room_index (Keys elements rolls keys) (Switches ps) j control room h = by_key (slice_get keys j) refl h
   where
     by_key : (o : Option Key) → slice_get keys j ≡ o
         → elim o as (λ _. Option Control) [ None ↦ None | Some key ↦ cond key.is_switch (Some (record { kind = Switch; usage = key.usage })) None ] ≡ Some control
@@ -65,55 +70,59 @@ unless_ok false fault rest new h = (refl, h)
 ok_same : {A : Type 0} (x y : A) (a b : OrFault A) → a ≡ Ok x → b ≡ Ok y → a ≡ b → x ≡ y
 ok_same x y a b h k e = cc
 
-done : (x y : Cell) → (let a : OrFault Cell = Ok x in let b : OrFault Cell = Ok y in a ≡ b) → x ≡ y
+done : (x y : ControlState) → (let a : OrFault ControlState = Ok x in let b : OrFault ControlState = Ok y in a ≡ b)
+    → x ≡ y
 done x y e = ok_same x y _ _ refl refl e
 
--- the room of a cell stays
-with_pressed_room : (controls : Controls) (cell : Cell) (j : ℕ) (p : Bool) → HasRoom controls cell → HasRoom controls (with_pressed cell j p)
-with_pressed_room controls Vacant j p room = room
-with_pressed_room controls (Holding vs) j p room = room
-with_pressed_room controls (Moved vs) j p room = room
-with_pressed_room controls (RolledOver vs) j p room = room
-with_pressed_room head.None (Pressed ps) j p room = absurd room
-with_pressed_room (head.Elements Switch least greatest n) (Pressed ps) j p room = set_length ps j p ∙ room
-with_pressed_room (head.Elements Value least greatest n) (Pressed ps) j p room = absurd room
-with_pressed_room (head.Elements NullValue least greatest n) (Pressed ps) j p room = absurd room
-with_pressed_room (head.Elements Relative least greatest n) (Pressed ps) j p room = absurd room
-with_pressed_room (head.Keys elements rolls n) (Pressed ps) j p room = set_length ps j p ∙ room
+-- the room of a control state stays
+with_pressed_room : (controls : Controls) (state : ControlState) (j : ℕ) (p : Bool) → HasRoom controls state
+    → HasRoom controls (with_pressed state j p)
+with_pressed_room controls Absent j p room = room
+with_pressed_room controls (Values vs) j p room = room
+with_pressed_room controls (Motions vs) j p room = room
+with_pressed_room controls (RollOver vs) j p room = room
+with_pressed_room head.None (Switches ps) j p room = absurd room
+with_pressed_room (head.Elements Switch least greatest n) (Switches ps) j p room = set_length ps j p ∙ room
+with_pressed_room (head.Elements Value least greatest n) (Switches ps) j p room = absurd room
+with_pressed_room (head.Elements NullValue least greatest n) (Switches ps) j p room = absurd room
+with_pressed_room (head.Elements Relative least greatest n) (Switches ps) j p room = absurd room
+with_pressed_room (head.Keys elements rolls n) (Switches ps) j p room = set_length ps j p ∙ room
 
-with_value_room : (controls : Controls) (cell : Cell) (j : ℕ) (v : Option ℤ) → HasRoom controls cell → HasRoom controls (with_value cell j v)
-with_value_room controls Vacant j p room = room
-with_value_room controls (Pressed vs) j p room = room
-with_value_room controls (Moved vs) j p room = room
-with_value_room controls (RolledOver vs) j p room = room
-with_value_room head.None (Holding ps) j p room = absurd room
-with_value_room (head.Elements Switch least greatest n) (Holding ps) j p room = absurd room
-with_value_room (head.Elements Value least greatest n) (Holding ps) j p room = set_length ps j p ∙ room
-with_value_room (head.Elements NullValue least greatest n) (Holding ps) j p room = set_length ps j p ∙ room
-with_value_room (head.Elements Relative least greatest n) (Holding ps) j p room = absurd room
-with_value_room (head.Keys elements rolls n) (Holding ps) j p room = absurd room
+with_value_room : (controls : Controls) (state : ControlState) (j : ℕ) (v : Option ℤ) → HasRoom controls state
+    → HasRoom controls (with_value state j v)
+with_value_room controls Absent j p room = room
+with_value_room controls (Switches vs) j p room = room
+with_value_room controls (Motions vs) j p room = room
+with_value_room controls (RollOver vs) j p room = room
+with_value_room head.None (Values ps) j p room = absurd room
+with_value_room (head.Elements Switch least greatest n) (Values ps) j p room = absurd room
+with_value_room (head.Elements Value least greatest n) (Values ps) j p room = set_length ps j p ∙ room
+with_value_room (head.Elements NullValue least greatest n) (Values ps) j p room = set_length ps j p ∙ room
+with_value_room (head.Elements Relative least greatest n) (Values ps) j p room = absurd room
+with_value_room (head.Keys elements rolls n) (Values ps) j p room = absurd room
 
-with_motion_room : (controls : Controls) (cell : Cell) (j : ℕ) (m : ℤ) → HasRoom controls cell → HasRoom controls (with_motion cell j m)
-with_motion_room controls Vacant j p room = room
-with_motion_room controls (Pressed vs) j p room = room
-with_motion_room controls (Holding vs) j p room = room
-with_motion_room controls (RolledOver vs) j p room = room
-with_motion_room head.None (Moved ps) j p room = absurd room
-with_motion_room (head.Elements Switch least greatest n) (Moved ps) j p room = absurd room
-with_motion_room (head.Elements Value least greatest n) (Moved ps) j p room = absurd room
-with_motion_room (head.Elements NullValue least greatest n) (Moved ps) j p room = absurd room
-with_motion_room (head.Elements Relative least greatest n) (Moved ps) j p room = set_length ps j p ∙ room
-with_motion_room (head.Keys elements rolls n) (Moved ps) j p room = absurd room
+with_motion_room : (controls : Controls) (state : ControlState) (j : ℕ) (m : ℤ) → HasRoom controls state
+    → HasRoom controls (with_motion state j m)
+with_motion_room controls Absent j p room = room
+with_motion_room controls (Switches vs) j p room = room
+with_motion_room controls (Values vs) j p room = room
+with_motion_room controls (RollOver vs) j p room = room
+with_motion_room head.None (Motions ps) j p room = absurd room
+with_motion_room (head.Elements Switch least greatest n) (Motions ps) j p room = absurd room
+with_motion_room (head.Elements Value least greatest n) (Motions ps) j p room = absurd room
+with_motion_room (head.Elements NullValue least greatest n) (Motions ps) j p room = absurd room
+with_motion_room (head.Elements Relative least greatest n) (Motions ps) j p room = set_length ps j p ∙ room
+with_motion_room (head.Keys elements rolls n) (Motions ps) j p room = absurd room
 
 -- one pressed key more, or one less
-count_more : (ps : List Bool) (j : ℕ) → pressed_count (slice_set ps j true) ≤ pressed_count ps + 1
+count_more : (ps : List Bool) (j : ℕ) → switch_count (slice_set ps j true) ≤ switch_count ps + 1
 count_more [] j = omega arith
 count_more (true ∷ ps) zero = omega arith
 count_more (false ∷ ps) zero = omega (arith, cons_count true ps, cons_count false ps)
 count_more (true ∷ ps) (suc j) = omega (arith, count_more ps j, cons_count true ps, cons_count true (slice_set ps j true))
 count_more (false ∷ ps) (suc j) = omega (arith, count_more ps j, cons_count false ps, cons_count false (slice_set ps j true))
 
-count_less : (ps : List Bool) (j : ℕ) → pressed_count (slice_set ps j false) ≤ pressed_count ps
+count_less : (ps : List Bool) (j : ℕ) → switch_count (slice_set ps j false) ≤ switch_count ps
 count_less [] j = omega arith
 count_less (true ∷ ps) zero = omega (arith, cons_count true ps, cons_count false ps)
 count_less (false ∷ ps) zero = omega arith
@@ -148,13 +157,13 @@ key_switch elements rolls keys j control h key e = by_switch key.is_switch refl
     by_switch true e = e
     by_switch false e = let none : None ≡ Some control = sym (ap (λ (b : Bool). cond b (Some (record { kind = Switch; usage = key.usage })) None) e) ∙ named in absurd (cc)
 
--- What a change leaves in a cell suits its controls.
-pub record Leaves (form : Form) (cell : Cell) : Type 0 where
-  pub room : HasRoom (head_of form) cell
-  pub stands : InSnapshot form cell
+-- What a change leaves in a control state suits its controls.
+pub record Leaves (form : Form) (state : ControlState) : Type 0 where
+  pub room : HasRoom (head_of form) state
+  pub stands : InSnapshot form state
 
-leaves_along : (form : Form) (a b : Cell) → a ≡ b → Leaves form a → Leaves form b
-leaves_along form a b e h = let P : Cell → Type 0 = λ cell. Leaves form cell in subst P e h
+leaves_along : (form : Form) (a b : ControlState) → a ≡ b → Leaves form a → Leaves form b
+leaves_along form a b e h = let P : ControlState → Type 0 = λ state. Leaves form state in subst P e h
 
 both_false : (a b : Bool) → (a && b) ≡ false → a ≡ true → b ≡ false
 both_false true b h e = h
@@ -168,57 +177,75 @@ not_false : (b : Bool) → b ≡ false → not b ≡ true
 not_false true h = absurd (cc)
 not_false false h = refl
 
-pressed_stays : (form : Form) (ps : List Bool) (j : ℕ) (control : Control) → control_in form j ≡ Some control → InSnapshot form (Pressed ps)
-    → (not (is_pressed (Pressed ps) j) && is_full (head_of form) (Pressed ps)) ≡ false → InSnapshot form (Pressed (slice_set ps j true))
+pressed_stays : (form : Form) (ps : List Bool) (j : ℕ) (control : Control) → control_in form j ≡ Some control
+    → InSnapshot form (Switches ps)
+    → (not (is_pressed (Switches ps) j) && is_full (head_of form) (Switches ps)) ≡ false
+    → InSnapshot form (Switches (slice_set ps j true))
 pressed_stays NoControls ps j control h ok free = tt
 pressed_stays (Elements kind least greatest us) ps j control h ok free = tt
 pressed_stays (Keys elements rolls keys) ps j control h ok free =
     (set_pressable keys ps j true (λ key e _. key_switch elements rolls keys j control h key e) ok.0, by_pressed (slice_get ps j) refl)
   where
-    by_pressed : (o : Option Bool) → slice_get ps j ≡ o → rolls ≡ false → pressed_count (slice_set ps j true) ≤ elements
+    by_pressed : (o : Option Bool) → slice_get ps j ≡ o → rolls ≡ false
+        → switch_count (slice_set ps j true) ≤ elements
     by_pressed (Some true) e none = rw (set_same ps j true e) (ok.1 none)
     by_pressed (Some false) e none =
-        let open_ : is_pressed (Pressed ps) j ≡ false = ap (λ (o : Option Bool). unwrap_or o false) e in
-        let full : is_full (head.Keys elements rolls (length keys)) (Pressed ps) ≡ false = both_false _ _ free (not_false _ open_) in
+        let open_ : is_pressed (Switches ps) j ≡ false = ap (λ (o : Option Bool). unwrap_or o false) e in
+        let full : is_full (head.Keys elements rolls (length keys)) (Switches ps) ≡ false =
+        both_false _ _ free (not_false _ open_) in
         below (both_false _ _ full (not_false rolls none))
       where
-        below : nat_le elements (pressed_count ps) ≡ false → pressed_count (slice_set ps j true) ≤ elements
+        below : nat_le elements (switch_count ps) ≡ false → switch_count (slice_set ps j true) ≤ elements
         below less = let more = count_more ps j in grind (arith, nat_tests)
     by_pressed None e none =
-        let open_ : is_pressed (Pressed ps) j ≡ false = ap (λ (o : Option Bool). unwrap_or o false) e in
-        let full : is_full (head.Keys elements rolls (length keys)) (Pressed ps) ≡ false = both_false _ _ free (not_false _ open_) in
+        let open_ : is_pressed (Switches ps) j ≡ false = ap (λ (o : Option Bool). unwrap_or o false) e in
+        let full : is_full (head.Keys elements rolls (length keys)) (Switches ps) ≡ false =
+        both_false _ _ free (not_false _ open_) in
         below (both_false _ _ full (not_false rolls none))
       where
-        below : nat_le elements (pressed_count ps) ≡ false → pressed_count (slice_set ps j true) ≤ elements
+        below : nat_le elements (switch_count ps) ≡ false → switch_count (slice_set ps j true) ≤ elements
         below less = let more = count_more ps j in grind (arith, nat_tests)
 
-released_stays : (form : Form) (ps : List Bool) (j : ℕ) → InSnapshot form (Pressed ps) → InSnapshot form (Pressed (slice_set ps j false))
+released_stays : (form : Form) (ps : List Bool) (j : ℕ) → InSnapshot form (Switches ps)
+    → InSnapshot form (Switches (slice_set ps j false))
 released_stays NoControls ps j ok = tt
 released_stays (Elements kind least greatest us) ps j ok = tt
 released_stays (Keys elements rolls keys) ps j ok =
     (set_pressable keys ps j false (λ key e on. absurd (cc)) ok.0, λ none. omega (arith, ok.1 none, count_less ps j))
 
-press_leaves : (form : Form) (cell new : Cell) (c : ControlId) (control : Control) → control_in form c.index ≡ Some control → Leaves form cell
-    → changed_cell Switch (head_of form) cell (Press c) ≡ Ok new → Leaves form new
-press_leaves form cell new c control h was e = by_cell cell was (unless_ok _ _ _ _ e)
+press_leaves : (form : Form) (state new : ControlState) (c : ControlId) (control : Control)
+    → control_in form c.index ≡ Some control → Leaves form state
+    → changed_state Switch (head_of form) state (Press c) ≡ Ok new → Leaves form new
+press_leaves form state new c control h was e = by_state state was (unless_ok _ _ _ _ e)
   where
-    by_cell : (cell : Cell) → Leaves form cell
-        → (not (is_pressed cell c.index) && is_full (head_of form) cell ≡ false) × (let a : OrFault Cell = Ok (with_pressed cell c.index true) in a ≡ Ok new) → Leaves form new
-    by_cell (Pressed ps) was k =
+    by_state : (state : ControlState) → Leaves form state
+        → (not (is_pressed state c.index) && is_full (head_of form) state ≡ false)
+        × (let a : OrFault ControlState = Ok (with_pressed state c.index true) in a ≡ Ok new) → Leaves form new
+    by_state (Switches ps) was k =
         leaves_along form _ new (done _ new k.1)
-        (record { room = with_pressed_room (head_of form) (Pressed ps) c.index true was.room; stands = pressed_stays form ps c.index control h was.stands k.0 })
-    by_cell Vacant was k = leaves_along form _ new (done _ new k.1) was
-    by_cell (Holding vs) was k = leaves_along form _ new (done _ new k.1) was
-    by_cell (Moved vs) was k = leaves_along form _ new (done _ new k.1) was
-    by_cell (RolledOver vs) was k = leaves_along form _ new (done _ new k.1) was
+        (record {
+          room = with_pressed_room (head_of form) (Switches ps) c.index true was.room;
+          stands =
+              pressed_stays form ps c.index control h was.stands k.0;
+        })
+    by_state Absent was k = leaves_along form _ new (done _ new k.1) was
+    by_state (Values vs) was k = leaves_along form _ new (done _ new k.1) was
+    by_state (Motions vs) was k = leaves_along form _ new (done _ new k.1) was
+    by_state (RollOver vs) was k = leaves_along form _ new (done _ new k.1) was
 
-release_leaves : (form : Form) (cell new : Cell) (j : ℕ) → Leaves form cell → with_pressed cell j false ≡ new → Leaves form new
-release_leaves form (Pressed ps) new j was e =
-    leaves_along form _ new e (record { room = with_pressed_room (head_of form) (Pressed ps) j false was.room; stands = released_stays form ps j was.stands })
-release_leaves form Vacant new j was e = leaves_along form _ new e was
-release_leaves form (Holding vs) new j was e = leaves_along form _ new e was
-release_leaves form (Moved vs) new j was e = leaves_along form _ new e was
-release_leaves form (RolledOver vs) new j was e = leaves_along form _ new e was
+release_leaves : (form : Form) (state new : ControlState) (j : ℕ) → Leaves form state → with_pressed state j false ≡ new
+    → Leaves form new
+release_leaves form (Switches ps) new j was e =
+    leaves_along form _ new e
+    (record {
+      room = with_pressed_room (head_of form) (Switches ps) j false was.room;
+      stands =
+          released_stays form ps j was.stands;
+    })
+release_leaves form Absent new j was e = leaves_along form _ new e was
+release_leaves form (Values vs) new j was e = leaves_along form _ new e was
+release_leaves form (Motions vs) new j was e = leaves_along form _ new e was
+release_leaves form (RollOver vs) new j was e = leaves_along form _ new e was
 
 -- a value that the controls can hold
 Held : Form → Option ℤ → Type 0
@@ -226,19 +253,26 @@ Held (Elements kind least greatest us) v = is_value (has_null kind) least greate
 Held NoControls v = Unit {0}
 Held (Keys elements rolls keys) v = Unit {0}
 
-valued_stays : (form : Form) (vs : List (Option ℤ)) (j : ℕ) (v : Option ℤ) → Held form v → InSnapshot form (Holding vs) → InSnapshot form (Holding (slice_set vs j v))
+valued_stays : (form : Form) (vs : List (Option ℤ)) (j : ℕ) (v : Option ℤ) → Held form v → InSnapshot form (Values vs)
+    → InSnapshot form (Values (slice_set vs j v))
 unfolding Held
 valued_stays NoControls vs j v held ok = tt
 valued_stays (Keys elements rolls keys) vs j v held ok = tt
 valued_stays (Elements kind least greatest us) vs j v held ok = set_values (has_null kind) least greatest vs j v held ok
 
-value_leaves : (form : Form) (cell new : Cell) (j : ℕ) (v : Option ℤ) → Held form v → Leaves form cell → with_value cell j v ≡ new → Leaves form new
-value_leaves form (Holding vs) new j v held was e =
-    leaves_along form _ new e (record { room = with_value_room (head_of form) (Holding vs) j v was.room; stands = valued_stays form vs j v held was.stands })
-value_leaves form Vacant new j v held was e = leaves_along form _ new e was
-value_leaves form (Pressed vs) new j v held was e = leaves_along form _ new e was
-value_leaves form (Moved vs) new j v held was e = leaves_along form _ new e was
-value_leaves form (RolledOver vs) new j v held was e = leaves_along form _ new e was
+value_leaves : (form : Form) (state new : ControlState) (j : ℕ) (v : Option ℤ) → Held form v → Leaves form state
+    → with_value state j v ≡ new → Leaves form new
+value_leaves form (Values vs) new j v held was e =
+    leaves_along form _ new e
+    (record {
+      room = with_value_room (head_of form) (Values vs) j v was.room;
+      stands =
+          valued_stays form vs j v held was.stands;
+    })
+value_leaves form Absent new j v held was e = leaves_along form _ new e was
+value_leaves form (Switches vs) new j v held was e = leaves_along form _ new e was
+value_leaves form (Motions vs) new j v held was e = leaves_along form _ new e was
+value_leaves form (RollOver vs) new j v held was e = leaves_along form _ new e was
 
 set_held : (form : Form) (v : ℤ) → not (can_hold (head_of form) v) ≡ false → Held form (Some v)
 unfolding Held
@@ -259,143 +293,156 @@ null_held (Elements kind least greatest us) j u h = by_usage (slice_get us j) h
         let same : kind ≡ NullValue = ap (λ (o : Option Control). elim o as (λ _. ControlKind) [ None ↦ NullValue | Some c ↦ c.kind ]) e in
         rw same refl
 
-motion_leaves : (form : Form) (cell new : Cell) (j : ℕ) (m : ℤ) → is_i32 m ≡ true → Leaves form cell → with_motion cell j m ≡ new → Leaves form new
-motion_leaves form (Moved ms) new j m fits was e =
-    leaves_along form _ new e (record { room = with_motion_room (head_of form) (Moved ms) j m was.room; stands = moved_stays form was.stands })
+motion_leaves : (form : Form) (state new : ControlState) (j : ℕ) (m : ℤ) → is_i32 m ≡ true → Leaves form state
+    → with_motion state j m ≡ new → Leaves form new
+motion_leaves form (Motions ms) new j m fits was e =
+    leaves_along form _ new e
+    (record {
+      room = with_motion_room (head_of form) (Motions ms) j m was.room;
+      stands =
+          moved_stays form was.stands;
+    })
   where
-    moved_stays : (form : Form) → InSnapshot form (Moved ms) → InSnapshot form (Moved (slice_set ms j m))
+    moved_stays : (form : Form) → InSnapshot form (Motions ms) → InSnapshot form (Motions (slice_set ms j m))
     moved_stays NoControls ok = tt
     moved_stays (Keys elements rolls keys) ok = tt
     moved_stays (Elements kind least greatest us) ok = set_motions (negsuc 0x7FFF_FFFF) (pos 0x7FFF_FFFF) ms j m fits ok
-motion_leaves form Vacant new j m fits was e = leaves_along form _ new e was
-motion_leaves form (Pressed vs) new j m fits was e = leaves_along form _ new e was
-motion_leaves form (Holding vs) new j m fits was e = leaves_along form _ new e was
-motion_leaves form (RolledOver vs) new j m fits was e = leaves_along form _ new e was
+motion_leaves form Absent new j m fits was e = leaves_along form _ new e was
+motion_leaves form (Switches vs) new j m fits was e = leaves_along form _ new e was
+motion_leaves form (Values vs) new j m fits was e = leaves_along form _ new e was
+motion_leaves form (RollOver vs) new j m fits was e = leaves_along form _ new e was
 
-wrong : (new : Cell) → (let a : OrFault Cell = Err ChangeFault_.WrongKind in a ≡ Ok new) → ⊥
+wrong : (new : ControlState) → (let a : OrFault ControlState = Err ChangeFault_.WrongKind in a ≡ Ok new) → ⊥
 wrong new e = cc
 
--- a change that is accepted leaves a cell that suits the controls
-pub change_leaves : (form : Form) (cell new : Cell) (change : Change) (kind : ControlKind) (u : Usage) → control_in form (target change).index ≡ Some (record { kind = kind; usage = u })
-    → Leaves form cell → changed_cell kind (head_of form) cell change ≡ Ok new → Leaves form new
-change_leaves form cell new (Press c) Switch u h was e = press_leaves form cell new c _ h was e
-change_leaves form cell new (Press c) Value u h was e = absurd (wrong new e)
-change_leaves form cell new (Press c) NullValue u h was e = absurd (wrong new e)
-change_leaves form cell new (Press c) Relative u h was e = absurd (wrong new e)
-change_leaves form cell new (Release c) Switch u h was e = release_leaves form cell new c.index was (done _ new e)
-change_leaves form cell new (Release c) Value u h was e = absurd (wrong new e)
-change_leaves form cell new (Release c) NullValue u h was e = absurd (wrong new e)
-change_leaves form cell new (Release c) Relative u h was e = absurd (wrong new e)
-change_leaves form cell new (Set c v) Switch u h was e = absurd (wrong new e)
-change_leaves form cell new (Set c v) Value u h was e =
+-- a change that is accepted leaves a control state that suits the controls
+pub change_leaves : (form : Form) (state new : ControlState) (change : Change) (kind : ControlKind) (u : Usage)
+    → control_in form (target change).index ≡ Some (record { kind = kind; usage = u })
+    → Leaves form state → changed_state kind (head_of form) state change ≡ Ok new → Leaves form new
+change_leaves form state new (Press c) Switch u h was e = press_leaves form state new c _ h was e
+change_leaves form state new (Press c) Value u h was e = absurd (wrong new e)
+change_leaves form state new (Press c) NullValue u h was e = absurd (wrong new e)
+change_leaves form state new (Press c) Relative u h was e = absurd (wrong new e)
+change_leaves form state new (Release c) Switch u h was e = release_leaves form state new c.index was (done _ new e)
+change_leaves form state new (Release c) Value u h was e = absurd (wrong new e)
+change_leaves form state new (Release c) NullValue u h was e = absurd (wrong new e)
+change_leaves form state new (Release c) Relative u h was e = absurd (wrong new e)
+change_leaves form state new (Set c v) Switch u h was e = absurd (wrong new e)
+change_leaves form state new (Set c v) Value u h was e =
     let k = unless_ok _ _ _ _ e in
-    value_leaves form cell new c.index (Some v) (set_held form v k.0) was (done _ new k.1)
-change_leaves form cell new (Set c v) NullValue u h was e =
+    value_leaves form state new c.index (Some v) (set_held form v k.0) was (done _ new k.1)
+change_leaves form state new (Set c v) NullValue u h was e =
     let k = unless_ok _ _ _ _ e in
-    value_leaves form cell new c.index (Some v) (set_held form v k.0) was (done _ new k.1)
-change_leaves form cell new (Set c v) Relative u h was e = absurd (wrong new e)
-change_leaves form cell new (Null c) Switch u h was e = absurd (wrong new e)
-change_leaves form cell new (Null c) Value u h was e = absurd (cc)
-change_leaves form cell new (Null c) NullValue u h was e = value_leaves form cell new c.index None (null_held form c.index u h) was (done _ new e)
-change_leaves form cell new (Null c) Relative u h was e = absurd (wrong new e)
-change_leaves form cell new (Move c by) Switch u h was e = absurd (wrong new e)
-change_leaves form cell new (Move c by) Value u h was e = absurd (wrong new e)
-change_leaves form cell new (Move c by) NullValue u h was e = absurd (wrong new e)
-change_leaves form cell new (Move c by) Relative u h was e =
-    let total : ℤ = motion_in cell c.index +ℤ by in
-    let end_ : OrFault Cell = Ok (with_motion cell c.index total) in
+    value_leaves form state new c.index (Some v) (set_held form v k.0) was (done _ new k.1)
+change_leaves form state new (Set c v) Relative u h was e = absurd (wrong new e)
+change_leaves form state new (Null c) Switch u h was e = absurd (wrong new e)
+change_leaves form state new (Null c) Value u h was e = absurd (cc)
+change_leaves form state new (Null c) NullValue u h was e = value_leaves form state new c.index None (null_held form c.index u h) was (done _ new e)
+change_leaves form state new (Null c) Relative u h was e = absurd (wrong new e)
+change_leaves form state new (Move c by) Switch u h was e = absurd (wrong new e)
+change_leaves form state new (Move c by) Value u h was e = absurd (wrong new e)
+change_leaves form state new (Move c by) NullValue u h was e = absurd (wrong new e)
+change_leaves form state new (Move c by) Relative u h was e =
+    let total : ℤ = motion_in state c.index +ℤ by in
+    let end_ : OrFault ControlState = Ok (with_motion state c.index total) in
     let k = unless_ok (not (has_direction (head_of form) by)) ChangeFault_.NoDirection (unless (not (is_i32 total)) ChangeFault_.MotionFull end_) new e in
     let l = unless_ok (not (is_i32 total)) ChangeFault_.MotionFull end_ new k.1 in
-    motion_leaves form cell new c.index total (not_true _ l.0) was (done _ new l.1)
+    motion_leaves form state new c.index total (not_true _ l.0) was (done _ new l.1)
 
--- A change of one control's cell is a change of the snapshot.
-pub changes_cell : (items : List Item) (cells : List Cell) (change : Change) (control : Control) (controls : Controls) (cell new : Cell) (result : OrFault (Unit {0}))
-    → control_of items (target change) ≡ Some control → controls ≡ head_of (form_at items (target change).item) → slice_get cells (target change).item ≡ Some cell
-    → ChangesCell control.kind controls cell change result new → Changes items cells change result (slice_set cells (target change).item new)
-changes_cell items cells change control controls cell new (Ok tt_) named heads there h = named_is ∙ ap (with_cell cells (target change).item) (by_parts ∙ h)
+-- A change of one control's control state is a change of the snapshot.
+pub changes_state : (items : List Item) (states : List ControlState) (change : Change) (control : Control)
+    (controls : Controls) (state new : ControlState) (result : OrFault (Unit {0}))
+    → control_of items (target change) ≡ Some control → controls ≡ head_of (form_at items (target change).item) → slice_get states (target change).item ≡ Some state
+    → ChangesState control.kind controls state change result new → Changes items states change result (slice_set states (target change).item new)
+changes_state items states change control controls state new (Ok tt_) named heads there h = named_is ∙ ap (with_state states (target change).item) (by_parts ∙ h)
   where
-    named_is : changed items cells change ≡ changed_at items cells change (Some control)
-    named_is = ap (changed_at items cells change) named
+    named_is : snapshot_after items states change ≡ change_at items states change (Some control)
+    named_is = ap (change_at items states change) named
 
-    by_parts : changed_cell control.kind (head_of (form_at items (target change).item)) (cell_at cells (target change).item) change ≡ changed_cell control.kind controls cell change
+    by_parts : changed_state control.kind (head_of (form_at items (target change).item)) (state_at states (target change).item) change ≡ changed_state control.kind controls state change
     by_parts = rw (← heads, there) refl
-changes_cell items cells change control controls cell new (Err fault) named heads there h =
-    (named_is ∙ ap (with_cell cells (target change).item) (by_parts ∙ h.0), rw h.1 (set_same cells _ cell there))
+changes_state items states change control controls state new (Err fault) named heads there h =
+    (named_is ∙ ap (with_state states (target change).item) (by_parts ∙ h.0), rw h.1 (set_same states _ state there))
   where
-    named_is : changed items cells change ≡ changed_at items cells change (Some control)
-    named_is = ap (changed_at items cells change) named
+    named_is : snapshot_after items states change ≡ change_at items states change (Some control)
+    named_is = ap (change_at items states change) named
 
-    by_parts : changed_cell control.kind (head_of (form_at items (target change).item)) (cell_at cells (target change).item) change ≡ changed_cell control.kind controls cell change
+    by_parts : changed_state control.kind (head_of (form_at items (target change).item)) (state_at states (target change).item) change ≡ changed_state control.kind controls state change
     by_parts = rw (← heads, there) refl
 
 same_place : {A : Type 0} (xs : List A) (i : ℕ) (a b : A) → slice_get xs i ≡ Some a → slice_get xs i ≡ Some b → a ≡ b
 same_place xs i a b h k = cc
 
--- One cell is replaced by another that suits.
-pub suits_set : (stands : Form → Cell → Type 0) (items : List Item) (cells : List Cell) (i : ℕ) (item : Item) (new : Cell) → slice_get items i ≡ Some item
-    → HasRoom (head_of item.form) new → stands item.form new → Suits stands items cells → Suits stands items (slice_set cells i new)
-suits_set stands items cells i item new there room ok was = record {
-  one_each = set_length cells i new ∙ was.one_each;
-  room = λ k it cell h g. elim (cases_eq i k) [
+-- One control state is replaced by another that suits.
+pub suits_set : (stands : Form → ControlState → Type 0) (items : List Item) (states : List ControlState) (i : ℕ)
+    (item : Item) (new : ControlState) → slice_get items i ≡ Some item
+    → HasRoom (head_of item.form) new → stands item.form new → Suits stands items states → Suits stands items (slice_set states i new)
+suits_set stands items states i item new there room ok was = record {
+  one_each = set_length states i new ∙ was.one_each;
+  room = λ k it state h g. elim (cases_eq i k) [
     | inl same ↦ let e : it ≡ item = same_place items i it item (rw same h) there in
-        let f : cell ≡ new = same_place (slice_set cells i new) i cell new (let P : ℕ → Type 0 = λ n. slice_get (slice_set cells i new) n ≡ Some cell in subst P (sym same) g) (set_here cells i new (within k it h same)) in
+        let f : state ≡ new = same_place (slice_set states i new) i state new (let P : ℕ → Type 0 = λ n. slice_get (slice_set states i new) n ≡ Some state in subst P (sym same) g) (set_here states i new (within k it h same)) in
         rw (e, f) room
-    | inr ne ↦ was.room k it cell h (sym (set_there cells i k new ne) ∙ g)
+    | inr ne ↦ was.room k it state h (sym (set_there states i k new ne) ∙ g)
   ];
-  suits = λ k it cell h g. elim (cases_eq i k) [
+  suits = λ k it state h g. elim (cases_eq i k) [
     | inl same ↦ let e : it ≡ item = same_place items i it item (rw same h) there in
-        let f : cell ≡ new = same_place (slice_set cells i new) i cell new (let P : ℕ → Type 0 = λ n. slice_get (slice_set cells i new) n ≡ Some cell in subst P (sym same) g) (set_here cells i new (within k it h same)) in
+        let f : state ≡ new = same_place (slice_set states i new) i state new (let P : ℕ → Type 0 = λ n. slice_get (slice_set states i new) n ≡ Some state in subst P (sym same) g) (set_here states i new (within k it h same)) in
         rw (e, f) ok
-    | inr ne ↦ was.suits k it cell h (sym (set_there cells i k new ne) ∙ g)
+    | inr ne ↦ was.suits k it state h (sym (set_there states i k new ne) ∙ g)
   ];
 }
   where
-    within : (k : ℕ) (it : Item) → slice_get items k ≡ Some it → i ≡ k → i < length cells
+    within : (k : ℕ) (it : Item) → slice_get items k ≡ Some it → i ≡ k → i < length states
     within k it h same = omega (arith, was.one_each, slice_get_within items k it h)
 
--- A change of one control's cell leaves a snapshot that suits the items.
-pub changes_fit : (items : List Item) (cells : List Cell) (change : Change) (control : Control) (controls : Controls) (cell new : Cell) (result : OrFault (Unit {0}))
-    → IsControl items (target change) control → controls ≡ head_of (form_at items (target change).item) → slice_get cells (target change).item ≡ Some cell
-    → ChangesCell control.kind controls cell change result new → Suits InSnapshot items cells → Suits InSnapshot items (slice_set cells (target change).item new)
-changes_fit items cells change control controls cell new result found heads there h was =
-    suits_set InSnapshot items cells (target change).item found.item new found.there left.room left.stands was
+-- A change of one control's control state leaves a snapshot that suits the items.
+pub changes_fit : (items : List Item) (states : List ControlState) (change : Change) (control : Control)
+    (controls : Controls) (state new : ControlState) (result : OrFault (Unit {0}))
+    → IsControl items (target change) control → controls ≡ head_of (form_at items (target change).item) → slice_get states (target change).item ≡ Some state
+    → ChangesState control.kind controls state change result new → Suits InSnapshot items states → Suits InSnapshot items (slice_set states (target change).item new)
+changes_fit items states change control controls state new result found heads there h was =
+    suits_set InSnapshot items states (target change).item found.item new found.there left.room left.stands was
   where
-    here : Leaves found.item.form cell
-    here = record { room = was.room _ found.item cell found.there there; stands = was.suits _ found.item cell found.there there }
+    here : Leaves found.item.form state
+    here = record { room = was.room _ found.item state found.there there; stands = was.suits _ found.item state found.there there }
 
     is_head : controls ≡ head_of found.item.form
     is_head = heads ∙ ap head_of (form_at-is items (target change).item found.item found.there)
 
-    by_result : (result : OrFault (Unit {0})) → ChangesCell control.kind controls cell change result new → Leaves found.item.form new
-    by_result (Ok tt_) k = change_leaves found.item.form cell new change control.kind control.usage found.is here (rw is_head at k)
-    by_result (Err fault) k = leaves_along found.item.form cell new (sym k.1) here
+    by_result : (result : OrFault (Unit {0})) → ChangesState control.kind controls state change result new → Leaves found.item.form new
+    by_result (Ok tt_) k = change_leaves found.item.form state new change control.kind control.usage found.is here (rw is_head at k)
+    by_result (Err fault) k = leaves_along found.item.form state new (sym k.1) here
 
     left : Leaves found.item.form new
     left = by_result result h
 
--- the cell of a control that a layout has
-pub control_cell : (items : List Item) (cells now : List Cell) (c : ControlId) (control : Control) (cell : Cell) → control_of items c ≡ Some control → cells ≡ now
-    → Suits InSnapshot items now → cell ≡ get_or cells c.item cell → slice_get now c.item ≡ Some cell
-control_cell items cells now c control cell named view was value =
+-- the control state of a control that a layout has
+pub state_of_control : (items : List Item) (states now : List ControlState) (c : ControlId) (control : Control)
+    (state : ControlState) → control_of items c ≡ Some control → states ≡ now
+    → Suits InSnapshot items now → state ≡ get_or states c.item state → slice_get now c.item ≡ Some state
+state_of_control items states now c control state named view was value =
     let found = control_found items c control named in
-    slice_get_read now (length items) c.item cell (sym was.one_each) (slice_get_within items c.item found.item found.there) (value ∙ ap (λ xs. get_or xs c.item cell) view)
+    slice_get_read now (length items) c.item state (sym was.one_each) (slice_get_within items c.item found.item found.there) (value ∙ ap (λ xs. get_or xs c.item state) view)
 
--- A snapshot whose cell of the changed control is replaced is the snapshot after the change, and suits the items.
-pub change_done : (items : List Item) (cells now : List Cell) (id : ControlId) (change : Change) (control : Control) (controls : Controls) (cell new : Cell) (result : OrFault (Unit {0}))
-    → id ≡ target change → control_of items id ≡ Some control → controls ≡ head_of (form_at items id.item) → cells ≡ now → cell ≡ get_or cells id.item cell
-    → Suits InSnapshot items now → ChangesCell control.kind controls cell change result new
-    → Changes items now change result (slice_set cells id.item new) × Suits InSnapshot items (slice_set cells id.item new)
-change_done items cells now id change control controls cell new result is named heads view value was h =
-    let P : ControlId → Type 0 = λ c. control_of items c ≡ Some control → controls ≡ head_of (form_at items c.item) → slice_get now c.item ≡ Some cell
+-- A snapshot whose control state of the changed control is replaced is the snapshot after the change, and suits the items.
+pub change_done : (items : List Item) (states now : List ControlState) (id : ControlId) (change : Change)
+    (control : Control) (controls : Controls) (state new : ControlState) (result : OrFault (Unit {0}))
+    → id ≡ target change → control_of items id ≡ Some control → controls ≡ head_of (form_at items id.item) → states ≡ now → state ≡ get_or states id.item state
+    → Suits InSnapshot items now → ChangesState control.kind controls state change result new
+    → Changes items now change result (slice_set states id.item new) × Suits InSnapshot items (slice_set states id.item new)
+change_done items states now id change control controls state new result is named heads view value was h =
+    let P : ControlId → Type 0 = λ c. control_of items c ≡ Some control → controls ≡ head_of (form_at items c.item) → slice_get now c.item ≡ Some state
     → Changes items now change result (slice_set now c.item new) × Suits InSnapshot items (slice_set now c.item new) in
     rw view (subst P (sym is)
-    (λ n d t. (changes_cell items now change control controls cell new result n d t h, changes_fit items now change control controls cell new result (control_found items (target change) control n) d t h was))
-    named heads (control_cell items cells now id control cell named view was value))
+    (λ n d t. (changes_state items now change control controls state new result n d t h, changes_fit items now change control controls state new result (control_found items (target change) control n) d t h was))
+    named heads (state_of_control items states now id control state named view was value))
 
--- what a motion leaves of a cell, by the two tests of it
-pub moved_by : (controls : Controls) (cell : Cell) (c : ControlId) (by total : ℤ) (toward small : Bool) → has_direction controls by ≡ toward → motion_in cell c.index +ℤ by ≡ total → is_i32 total ≡ small
-    → changed_cell Relative controls cell (Change.Move c by) ≡ unless (not toward) ChangeFault_.NoDirection (unless (not small) ChangeFault_.MotionFull (Ok (with_motion cell c.index total)))
-moved_by controls cell c by total toward small direction sum fits = rw (direction, sum, fits) refl
+-- what a motion leaves of a control state, by the two tests of it
+pub moved_by : (controls : Controls) (state : ControlState) (c : ControlId) (by total : ℤ) (toward small : Bool)
+    → has_direction controls by ≡ toward → motion_in state c.index +ℤ by ≡ total → is_i32 total ≡ small
+    → changed_state Relative controls state (Change.Move c by) ≡ unless (not toward) ChangeFault_.NoDirection (unless (not small) ChangeFault_.MotionFull (Ok (with_motion state c.index total)))
+moved_by controls state c by total toward small direction sum fits = rw (direction, sum, fits) refl
 
 -- a motion that takes more than 64 bits takes more than 32
 pub wide_motion : (total : ℤ) → (SFits w64 total → ⊥) → is_i32 total ≡ false

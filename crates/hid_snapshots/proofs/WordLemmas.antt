@@ -89,7 +89,7 @@ kept ws n ps e l small = (back, record { words = e ∙ ap words_of (sym back); p
     back : places_in ws n ≡ ps
     back = rw (e, l) (places_back (div_ceil (length ps) 64) ps (enough (length ps)))
 
--- a place is in the first word, or behind it
+-- a place is in the first word, or after it
 split_place : (i : ℕ) → (i < 64) ⊎ ((j : ℕ) × (i ≡ 64 + j))
 split_place i = elim (cases_lt i 64) [ inl low ↦ inl low | inr high ↦ inr (i - 64, (let e : i ≡ 64 + (i - 64) = omega arith in e)) ]
 
@@ -293,7 +293,7 @@ none_in_word s t from start k e same before none i a b =
           ap t (sym at) ∙ sym (same (i - 64 * k) (omega (arith, b, ge))) ∙ none (i - 64 * k) (omega (arith, e, a)) (omega (arith, b, ge))
     ]
 
--- and the first of its bits that passes is the first that does
+-- where none before a word passes, the first of its bits that passes is the first of all
 pub found_in_word : (s t : ℕ → Bool) (from start k n bit : ℕ) → start ≡ from - 64 * k → k < n → ((b : ℕ) → b < 64 → s b ≡ t (64 * k + b)) → ((i : ℕ) → from ≤ i → i < 64 * k → t i ≡ false)
     → IsFirst s start 64 bit → IsFirst t from (64 * n) (64 * k + bit)
 found_in_word s t from start k n bit e lt same before first =
@@ -340,7 +340,7 @@ same_tests true false f g = sym (f refl)
 same_tests false true f g = g refl
 same_tests false false f g = refl
 
--- the same words keep the same places
+-- equal words keep equal places
 pub same_words : (ws vs : List ℕ) (n m : ℕ) (ps qs : List Bool) (r : Bool) → AreWords ws n → places_in ws n ≡ ps → AreWords vs m → places_in vs m ≡ qs → n ≡ m → r ≡ pointwise nat_eq ws vs → r ≡ pointwise beq ps qs
 same_words ws vs n m ps qs r are e are' e' long is =
     let words = slice_eq-Decides Decides-eqb ws vs r is in
@@ -375,7 +375,7 @@ alone_few ws vs n ps i are e h =
 pub same_at : (ws : List ℕ) (k w old r : ℕ) → k < length ws → old ≡ get_or ws k old → ((b : ℕ) → b < 64 → b ≢ r → bit_at w b ≡ bit_at old b) → (b : ℕ) → b < 64 → b ≢ r → bit_at w b ≡ bit_at (get_or ws k 0) b
 same_at ws k w old r h is others b l ne = others b l ne ∙ ap (λ (v : ℕ). bit_at v b) (sym (get_or_from_slice_get ws k old 0 (slice_get-get_or ws k old h ∙ ap Some (sym is))))
 
--- a number is left behind what is found below an end
+-- a number is left after what is found below an end
 pub found_behind : (test : ℕ → Bool) (from n : ℕ) (ps : List Bool) (ws : List ℕ) (r : Option ℕ) → AreWords ws n → places_in ws n ≡ ps → FindsFirst test from (length ps) r → IfSome r (λ place. place + 1 < 2 ^ 64)
 found_behind test from n ps ws None are e found = tt
 found_behind test from n ps ws (Some p) are e found =
@@ -384,7 +384,7 @@ found_behind test from n ps ws (Some p) are e found =
     let high = found.high in
     omega arith
 
--- ---- the first places, behind which none is pressed
+-- ---- the first places, after which none is pressed
 
 no_places : {A : Type 0} (n : ℕ) → take {A = A} n [] ≡ []
 no_places zero = refl
@@ -412,7 +412,7 @@ word_off (suc j) (p ∷ ps) none =
     let off : p ≡ false = none 0 in
     rw (off, word_off j ps (λ i. none (suc i))) refl
 
--- a word isn't changed by what is cut off behind the pressed places
+-- a word isn't changed by what is cut off after the pressed places
 cut_word : (j n : ℕ) (ps : List Bool) → ((i : ℕ) → n ≤ i → is_on ps i ≡ false) → mask_l (take j (take n ps)) ≡ mask_l (take j ps)
 cut_word zero n ps none = refl
 cut_word (suc j) zero ps none = sym (word_off (suc j) ps (λ i. none i (omega arith)))
@@ -426,7 +426,7 @@ first_words (suc k) n zero ps few within none = absurd (omega arith)
 first_words (suc k) n (suc m) ps few within none =
     rw (cut_word 64 n ps none, drop_take 64 n ps, first_words k (n - 64) m (drop 64 ps) (omega arith) (omega arith) (λ i h. on_dropped 64 ps i ∙ none (64 + i) (omega arith))) refl
 
--- the first places of others, behind which none of these is pressed, are kept by their first words
+-- the first places of others, after which none of these is pressed, are kept by their first words
 pub first_kept : (ws vs us : List ℕ) (n m : ℕ) (ps qs : List Bool) → AreWords us n → places_in us n ≡ ps → AreWords vs m → places_in vs m ≡ qs → length ps ≤ length qs → ((i : ℕ) → length ps ≤ i → is_on qs i ≡ false) → ws ≡ take (length us) vs
     → (places_in ws n ≡ take (length ps) qs) × AreWords ws n
 first_kept ws vs us n m ps qs are e are' e' few none is =
@@ -445,7 +445,7 @@ unfolding words_in
 words_off zero ps none = refl
 words_off (suc m) ps none = rw (word_off 64 ps none, words_off m (drop 64 ps) (λ i. on_dropped 64 ps i ∙ none (64 + i))) refl
 
--- the words behind the pressed places are 0
+-- the words after the pressed places are 0
 zeros_behind : (k m : ℕ) (ps : List Bool) → ((i : ℕ) → 64 * k ≤ i → is_on ps i ≡ false) → drop k (words_in m ps) ≡ replicate (m - k) 0
 unfolding words_in
 zeros_behind zero m ps none =
@@ -458,7 +458,7 @@ zeros_behind (suc k) (suc m) ps none =
     let e : suc m - suc k ≡ m - k = omega arith in
     rw e (zeros_behind k m (drop 64 ps) (λ i h. on_dropped 64 ps i ∙ none (64 + i) (omega arith)))
 
--- none is pressed once the first words are 0, where none was pressed behind them
+-- none is pressed once the first words are 0, where none was pressed after them
 pub first_cleared : (ws vs : List ℕ) (n count : ℕ) (ps : List Bool) → AreWords ws n → places_in ws n ≡ ps → ((i : ℕ) → count ≤ i → is_on ps i ≡ false) → vs ≡ take (div_ceil count 64) (replicate (length ws) 0) ++ drop (div_ceil count 64) ws
     → (places_in vs n ≡ replicate n false) × AreWords vs n
 first_cleared ws vs n count ps are e none is =

@@ -7,11 +7,12 @@ use Rattle.hid_layout.specs.declared.main_item.MainItem.{MainItem}
 use Rattle.hid_descriptor.specs.Fields.{is_padding}
 use Rattle.hid_layout.specs.Layout.{Contents}
 use Rattle.hid_layout.specs.Reports.{first_bit, report_bytes, report_id}
-use Rattle.hid_descriptor.specs.Usages.{usage_list}
+use Rattle.hid_descriptor.specs.declared.shape.Shape.{Shape}
+use Rattle.hid_descriptor.specs.Usages.{Entry, usage_list}
 use Rattle.hid_layout.specs.Controls.{form_of}
-use Rattle.hid_snapshots.specs.declared.cell.Cell.{Cell}
-use Rattle.hid_snapshots.specs.declared.cell.Cell.TheVariants.{Vacant, Pressed, Holding, Moved, RolledOver}
-use Rattle.hid_snapshots.specs.Sending.{sent}
+use Rattle.hid_snapshots.specs.declared.control_state.ControlState.{ControlState}
+use Rattle.hid_snapshots.specs.declared.control_state.ControlState.TheVariants.{Absent, Switches, Values, Motions, RollOver}
+use Rattle.hid_snapshots.specs.Sending.{element_numbers}
 use Rattle.hid_snapshots.specs.Numbers.{numbers_in}
 
 -- the first bit of an item's elements, in the whole report
@@ -28,6 +29,10 @@ pub record IsData (layout : Contents) (r i : ℕ) (item : MainItem) : Type 0 whe
 abbrev pub is_data_in : ℕ → MainItem → Bool
 is_data_in r m = (m.report == r) && not (is_padding m.shape)
 
+-- the numbers of an item's elements in the bytes of its report
+abbrev pub item_numbers : Contents → List ℕ → MainItem → List ℤ
+item_numbers layout bytes item = numbers_in bytes (place layout item) item.size (is_negative item.min) item.count
+
 -- In these bytes the elements of the report's first items have these numbers, and every other bit is as before.
 pub record Shows (layout : Contents) (r : ℕ) (numbers : ℕ → List ℤ) (count : ℕ) (before bytes : List ℕ) : Type 0 where
   pub elements : (i : ℕ) (item : MainItem) → i < count → IsData layout r i item
@@ -36,7 +41,7 @@ pub record Shows (layout : Contents) (r : ℕ) (numbers : ℕ → List ℤ) (cou
       → IsOutside (place layout item) (item.size * item.count) n)
       → bit_of bytes n ≡ bit_of before n
 
--- a report of zeros, behind its ID where there are IDs
+-- a report of zeros, after its ID where there are IDs
 abbrev pub bare_report : Contents → ℕ → List ℕ
 bare_report layout r =
     if layout.numbered then report_id layout r ∷ replicate (report_bytes layout r - 1) 0
@@ -48,18 +53,35 @@ pub record IsEncoding (layout : Contents) (r : ℕ) (numbers : ℕ → List ℤ)
   pub whole : length bytes ≡ report_bytes layout r
   pub shows : Shows layout r numbers (length layout.items) (bare_report layout r) bytes
 
+-- each of these numbers is a byte
+abbrev pub AreBytes : List ℕ → Type 0
+AreBytes bytes = All (λ b. b < 256) bytes
+
+-- no other bytes are those of a report whose elements have these numbers
+abbrev pub IsOnlyEncoding : Contents → ℕ → (ℕ → List ℤ) → List ℕ → Type 0
+IsOnlyEncoding layout r numbers bytes =
+    (other : List ℕ) → AreBytes other → IsEncoding layout r numbers other → other ≡ bytes
+
+-- the numbers that a report shows of an item of this shape, by its ranges of usages, for what is kept of it
+abbrev pub numbers_of_shape : MainItem → List Entry → Shape → ControlState → List ℤ
+numbers_of_shape item entries shape state =
+    element_numbers item (usage_list entries) (form_of item (usage_list entries) shape) state
+
 -- the numbers that a report shows of an item for what is kept of it
-abbrev pub sent_at : Contents → ℕ → Cell → List ℤ
-sent_at layout i cell =
+abbrev pub numbers_at : Contents → ℕ → ControlState → List ℤ
+numbers_at layout i state =
     elim (slice_get layout.items i) [
       | None ↦ []
-      | Some item ↦ elim (slice_get layout.entries i)
-          [ None ↦ [] | Some es ↦ sent item (usage_list es) (form_of item (usage_list es) item.shape) cell ]
+      | Some item ↦ elim (slice_get layout.entries i) [
+        | None ↦ []
+        | Some es ↦
+            element_numbers item (usage_list es) (form_of item (usage_list es) item.shape) state
+      ]
     ]
 
 -- the numbers that a report shows of the item at a place for these parts
-abbrev pub part_numbers : Contents → List Cell → ℕ → List ℤ
-part_numbers layout parts i = elim (slice_get parts i) [ None ↦ [] | Some cell ↦ sent_at layout i cell ]
+abbrev pub part_numbers : Contents → List ControlState → ℕ → List ℤ
+part_numbers layout parts i = elim (slice_get parts i) [ None ↦ [] | Some state ↦ numbers_at layout i state ]
 
 -- what is kept of an item can be sent: one number for each element, which its field can carry
 pub record CanSend (item : MainItem) (numbers : List ℤ) : Type 0 where
@@ -67,19 +89,15 @@ pub record CanSend (item : MainItem) (numbers : List ℤ) : Type 0 where
   pub fit : All (λ v. FitsField v item.size (is_negative item.min)) numbers
 
 -- an array has no key beyond these places
-abbrev pub HasFewPlaces : Cell → Type 0
-HasFewPlaces (Pressed ps) = length ps ≤ MAX_KEYS
-HasFewPlaces Vacant = Unit {0}
-HasFewPlaces (Holding vs) = Unit {0}
-HasFewPlaces (Moved ms) = Unit {0}
-HasFewPlaces (RolledOver ps) = Unit {0}
+abbrev pub HasFewPlaces : ControlState → Type 0
+HasFewPlaces (Switches ps) = length ps ≤ MAX_KEYS
+HasFewPlaces Absent = Unit {0}
+HasFewPlaces (Values vs) = Unit {0}
+HasFewPlaces (Motions ms) = Unit {0}
+HasFewPlaces (RollOver ps) = Unit {0}
 
 -- the parts of a report can be sent
-pub record CanSendAll (layout : Contents) (r : ℕ) (parts : List Cell) : Type 0 where
+pub record CanSendAll (layout : Contents) (r : ℕ) (parts : List ControlState) : Type 0 where
   pub all_there : length parts ≡ length layout.items
   pub each_item : (i : ℕ) (item : MainItem) → IsData layout r i item → CanSend item (part_numbers layout parts i)
-  pub few_places : (i : ℕ) (cell : Cell) → slice_get parts i ≡ Some cell → HasFewPlaces cell
-
--- each of these numbers is a byte
-abbrev pub AreBytes : List ℕ → Type 0
-AreBytes bytes = All (λ b. b < 256) bytes
+  pub few_places : (i : ℕ) (state : ControlState) → slice_get parts i ≡ Some state → HasFewPlaces state

@@ -5,10 +5,10 @@ use Rattle.hid_layout.specs.Layout.{Contents}
 use Rattle.hid_layout.specs.Controls.{Form, NoControls, Elements, Keys, Key, Item, form_at, items_of}
 use Rattle.hid_layout.specs.declared.control.Controls.{Controls}
 use Rattle.hid_layout.specs.declared.control.Controls.TheVariants as head
-use Rattle.hid_snapshots.specs.declared.cell.Cell.{Cell}
-use Rattle.hid_snapshots.specs.declared.cell.Cell.TheVariants.{Vacant, Pressed, Holding, Moved, RolledOver}
+use Rattle.hid_snapshots.specs.declared.control_state.ControlState.{ControlState}
+use Rattle.hid_snapshots.specs.declared.control_state.ControlState.TheVariants.{Absent, Switches, Values, Motions, RollOver}
 use Rattle.hid_snapshots.specs.Words.{words_of, is_bit}
-use Rattle.hid_snapshots.specs.Snapshots.{cell_at}
+use Rattle.hid_snapshots.specs.Snapshots.{state_at}
 
 -- the places of an array's usage list
 abbrev pub keys_of : Form → List Key
@@ -30,17 +30,17 @@ has_keys (Keys elements rolls keys) = true
 abbrev pub has_keys_at : List Item → ℕ → Bool
 has_keys_at items i = has_keys (form_at items i)
 
--- the pressed places of a cell
-abbrev pub pressed_places : Cell → List Bool
-pressed_places (Pressed ps) = ps
-pressed_places Vacant = []
-pressed_places (Holding vs) = []
-pressed_places (Moved ms) = []
-pressed_places (RolledOver ps) = []
+-- the pressed places of a control state
+abbrev pub pressed_places : ControlState → List Bool
+pressed_places (Switches ps) = ps
+pressed_places Absent = []
+pressed_places (Values vs) = []
+pressed_places (Motions ms) = []
+pressed_places (RollOver ps) = []
 
 -- the words of what is pressed at a listed item
-abbrev pub key_words : List Cell → ℕ → List ℕ
-key_words cells i = words_of (pressed_places (cell_at cells i))
+abbrev pub key_words : List ControlState → ℕ → List ℕ
+key_words states i = words_of (pressed_places (state_at states i))
 
 -- Bit i mod 64 of word i div 64 is 1 exactly where key i is pressed, and there are as many words as the places need.
 pub record AreKeyWords (places : ℕ) (pressed : ℕ → Bool) (words : List ℕ) : Type 0 where

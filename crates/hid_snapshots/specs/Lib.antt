@@ -1,7 +1,7 @@
 pub mod Full
 pub mod Faults
 pub mod Words
-pub mod Cells
+pub mod ControlStates
 pub mod Snapshots
 pub mod Parts
 pub mod Pieces

@@ -12,11 +12,11 @@ use Rattle.hid_layout.specs.declared.control.Controls.TheVariants as head
 use Rattle.hid_layout.specs.declared.control.ControlKind.TheVariants.{Relative}
 use Rattle.hid_layout.specs.Layout.{Contents}
 use Rattle.hid_layout.specs.Controls.{Item, head_of, is_input, no_item}
-use Rattle.hid_snapshots.specs.declared.cell.Cell.{Cell}
-use Rattle.hid_snapshots.specs.declared.cell.Cell.TheVariants.{Vacant, Pressed, Holding, Moved, RolledOver}
+use Rattle.hid_snapshots.specs.declared.control_state.ControlState.{ControlState}
+use Rattle.hid_snapshots.specs.declared.control_state.ControlState.TheVariants.{Absent, Switches, Values, Motions, RollOver}
 use Rattle.hid_layout.specs.declared.control.ControlId.{ControlId}
-use Rattle.hid_snapshots.specs.Snapshots.{motion_in, cell_at}
-use Rattle.hid_snapshots.specs.Cells.{are_motions, is_in, blank_cell, pressed_count}
+use Rattle.hid_snapshots.specs.Snapshots.{motion_in, state_at}
+use Rattle.hid_snapshots.specs.ControlStates.{are_motions, is_in, blank_state, switch_count}
 
 -- whether an item stands in the Input report of this number
 abbrev pub is_of : ℕ → Item → Bool
@@ -26,12 +26,13 @@ is_of r item = elim item.report [ None ↦ false | Some n ↦ n == r ]
 abbrev pub IsInput : Contents → ℕ → Type 0
 IsInput layout r = is_input layout.reports r ≡ true
 
--- the item at a place; one without controls behind the last
+-- the item at a place; one without controls after the last
 abbrev pub item_at : List Item → ℕ → Item
 item_at items i = unwrap_or (slice_get items i) no_item
 
--- the items' cells of two lists, put together item by item
-abbrev pub by_item : {A : Type 0} → (Item → Cell → Cell → A) → List Item → List Cell → List Cell → List A
+-- the items' control states of two lists, put together item by item
+abbrev pub by_item : {A : Type 0} → (Item → ControlState → ControlState → A) → List Item → List ControlState
+    → List ControlState → List A
 by_item f [] xs bs = []
 by_item f (item ∷ items) [] bs = []
 by_item f (item ∷ items) (a ∷ xs) [] = []
@@ -41,62 +42,62 @@ by_item f (item ∷ items) (a ∷ xs) (b ∷ bs) = f item a b ∷ by_item f item
 abbrev pub clamp : ℤ → ℤ → ℤ → ℤ
 clamp least greatest m = int_max least (int_min greatest m)
 
--- A cell as its report shows it: motions clamped, and an array with more keys than elements rolled over.
-abbrev pub shown_cell : Controls → Cell → Cell
-shown_cell (head.Elements kind least greatest count) (Moved ms) = Moved (map (clamp least greatest) ms)
-shown_cell (head.Keys elements rolls_over count) (Pressed ps) =
-    if nat_lt elements (pressed_count ps) then RolledOver ps else Pressed ps
-shown_cell controls cell = cell
+-- A control state as its report shows it: motions clamped, and an array with more keys than elements rolled over.
+abbrev pub shown_state : Controls → ControlState → ControlState
+shown_state (head.Elements kind least greatest count) (Motions ms) = Motions (map (clamp least greatest) ms)
+shown_state (head.Keys elements rolls_over count) (Switches ps) =
+    if nat_lt elements (switch_count ps) then RollOver ps else Switches ps
+shown_state controls state = state
 
 -- The parts of all reports, with the part of report r set to what it shows of the snapshot.
-abbrev pub shown_of : ℕ → Item → Cell → Cell → Cell
-shown_of r item cell part = if is_of r item then shown_cell (head_of item.form) cell else part
+abbrev pub shown_part_of : ℕ → Item → ControlState → ControlState → ControlState
+shown_part_of r item state part = if is_of r item then shown_state (head_of item.form) state else part
 
 -- what a snapshot shows in the part of report r, and the parts of the others as they were: motions are clamped to what
 -- elements carry, and an array with more keys than elements is rolled over. Example: 200 to the right shows 127
-abbrev pub shown : List Item → ℕ → List Cell → List Cell → List Cell
-shown items r snapshot parts = by_item (shown_of r) items snapshot parts
+abbrev pub shown_parts : List Item → ℕ → List ControlState → List ControlState → List ControlState
+shown_parts items r snapshot parts = by_item (shown_part_of r) items snapshot parts
 
 -- a part without its motion: every motion is 0
-abbrev pub without_motion : Cell → Cell
-without_motion (Moved ms) = Moved (replicate (length ms) (pos 0))
+abbrev pub without_motion : ControlState → ControlState
+without_motion (Motions ms) = Motions (replicate (length ms) (pos 0))
 without_motion part = part
 
--- The still part of a cell: what its report shows of it, with every motion 0.
-abbrev pub still_of : ℕ → Item → Cell → Cell → Cell
-still_of r item cell part =
-    if is_of r item then without_motion (shown_cell (head_of item.form) cell) else part
+-- The still part of a control state: what its report shows of it, with every motion 0.
+abbrev pub still_of : ℕ → Item → ControlState → ControlState → ControlState
+still_of r item state part =
+    if is_of r item then without_motion (shown_state (head_of item.form) state) else part
 
 -- the still part of report r of a snapshot, with every motion 0, and the parts of the others as they were. Example:
 -- button 1 and 200 to the right is 01 00 00
-abbrev pub still : List Item → ℕ → List Cell → List Cell → List Cell
-still items r snapshot parts = by_item (still_of r) items snapshot parts
+abbrev pub still_parts : List Item → ℕ → List ControlState → List ControlState → List ControlState
+still_parts items r snapshot parts = by_item (still_of r) items snapshot parts
 
 -- the part of an item as it is shown, or the still one
-abbrev pub part_shown : Bool → ℕ → Item → Cell → Cell → Cell
+abbrev pub part_shown : Bool → ℕ → Item → ControlState → ControlState → ControlState
 part_shown true = still_of
-part_shown false = shown_of
+part_shown false = shown_part_of
 
 -- the parts of a blank snapshot
-abbrev pub blank_parts : List Item → List Cell
-blank_parts items = map (λ item. shown_cell (head_of item.form) (blank_cell (head_of item.form))) items
+abbrev pub blank_parts : List Item → List ControlState
+blank_parts items = map (λ item. shown_state (head_of item.form) (blank_state (head_of item.form))) items
 
 -- what is left of each motion of a list, less that of another list
 abbrev pub differences : List ℤ → List ℤ → List ℤ
 differences ms ns = map (λ p. p.0 -ℤ p.1) (zip ms ns)
 
--- a cell less the motion that a part carries
-abbrev pub minus_motion : Cell → Cell → Cell
-minus_motion (Moved ms) (Moved ns) = Moved (differences ms ns)
-minus_motion cell part = cell
+-- a control state less the motion that a part carries
+abbrev pub minus_motion : ControlState → ControlState → ControlState
+minus_motion (Motions ms) (Motions ns) = Motions (differences ms ns)
+minus_motion state part = state
 
 -- The snapshot without the motion that the part of report r carries.
-abbrev pub taken_of : ℕ → Item → Cell → Cell → Cell
-taken_of r item cell part = if is_of r item then minus_motion cell part else cell
+abbrev pub without_motion_of : ℕ → Item → ControlState → ControlState → ControlState
+without_motion_of r item state part = if is_of r item then minus_motion state part else state
 
 -- the snapshot once the motion of the part of report r is taken out. Example: 73 stay of 200
-abbrev pub taken : List Item → ℕ → List Cell → List Cell → List Cell
-taken items r snapshot parts = by_item (taken_of r) items snapshot parts
+abbrev pub without_part_motion : List Item → ℕ → List ControlState → List ControlState → List ControlState
+without_part_motion items r snapshot parts = by_item (without_motion_of r) items snapshot parts
 
 -- whether two lists have the same places pressed
 abbrev pub same_flags : List Bool → List Bool → Bool
@@ -108,45 +109,45 @@ same_values xs bs = pointwise (option_eq int_eq) xs bs
 
 -- two still parts are the same: motions aside, and of an array that rolled over nothing else is
 -- shown
-abbrev pub is_same_still : Cell → Cell → Bool
-is_same_still (Pressed xs) (Pressed bs) = same_flags xs bs
-is_same_still (Holding xs) (Holding bs) = same_values xs bs
-is_same_still (Moved xs) (Moved bs) = true
-is_same_still (RolledOver xs) (RolledOver bs) = true
-is_same_still Vacant Vacant = true
+abbrev pub is_same_still : ControlState → ControlState → Bool
+is_same_still (Switches xs) (Switches bs) = same_flags xs bs
+is_same_still (Values xs) (Values bs) = same_values xs bs
+is_same_still (Motions xs) (Motions bs) = true
+is_same_still (RollOver xs) (RollOver bs) = true
+is_same_still Absent Absent = true
 is_same_still a b = false
 
 -- something has moved
-abbrev pub has_motion : Cell → Bool
-has_motion (Moved ms) = list_any (λ m. not (int_eq m (pos 0))) ms
-has_motion cell = false
+abbrev pub has_motion : ControlState → Bool
+has_motion (Motions ms) = list_any (λ m. not (int_eq m (pos 0))) ms
+has_motion state = false
 
--- a part is still what its report shows of a cell, motion aside
-abbrev pub is_shown : Cell → Controls → Cell → Bool
-is_shown cell controls part = is_same_still (shown_cell controls cell) part
+-- a part is still what its report shows of a control state, motion aside
+abbrev pub is_shown : ControlState → Controls → ControlState → Bool
+is_shown state controls part = is_same_still (shown_state controls state) part
 
 -- The controls of report r call for it: its still part isn't the one that was fixed last, or something has moved.
-abbrev pub calls_for : ℕ → Item → Cell → Cell → Bool
-calls_for r item cell part = is_of r item && (has_motion cell || not (is_shown cell (head_of item.form) part))
+abbrev pub calls_for : ℕ → Item → ControlState → ControlState → Bool
+calls_for r item state part = is_of r item && (has_motion state || not (is_shown state (head_of item.form) part))
 
 -- Some control calls for report r: something has moved, or its still part isn't the one fixed last. Example: a key
 -- pressed and released calls for nothing
-abbrev pub is_changed : List Item → ℕ → List Cell → List Cell → Bool
+abbrev pub is_changed : List Item → ℕ → List ControlState → List ControlState → Bool
 is_changed items r snapshot parts = list_any (λ called. called) (by_item (calls_for r) items snapshot parts)
 
--- a cell can be copied into the room of another
-abbrev pub HasRoomOf : Cell → Cell → Type 0
-HasRoomOf (Pressed xs) (Pressed bs) = length bs ≡ length xs
-HasRoomOf (Pressed xs) (RolledOver bs) = length bs ≡ length xs
-HasRoomOf (Holding xs) (Holding bs) = length bs ≡ length xs
-HasRoomOf (Moved xs) (Moved bs) = length bs ≡ length xs
-HasRoomOf Vacant Vacant = Unit {0}
+-- a control state can be copied into the room of another
+abbrev pub HasRoomOf : ControlState → ControlState → Type 0
+HasRoomOf (Switches xs) (Switches bs) = length bs ≡ length xs
+HasRoomOf (Switches xs) (RollOver bs) = length bs ≡ length xs
+HasRoomOf (Values xs) (Values bs) = length bs ≡ length xs
+HasRoomOf (Motions xs) (Motions bs) = length bs ≡ length xs
+HasRoomOf Absent Absent = Unit {0}
 HasRoomOf _ _ = ⊥
 
 -- an array with more keys than elements
-abbrev pub rolled_cell : ℕ → Cell → Cell
-rolled_cell elements (Pressed ps) = if nat_lt elements (pressed_count ps) then RolledOver ps else Pressed ps
-rolled_cell elements cell = cell
+abbrev pub rolled_state : ℕ → ControlState → ControlState
+rolled_state elements (Switches ps) = if nat_lt elements (switch_count ps) then RollOver ps else Switches ps
+rolled_state elements state = state
 
 -- 0 can be sent as motion
 abbrev pub has_zero : Controls → Bool
@@ -158,10 +159,10 @@ abbrev pub has_zeros : List Item → Bool
 has_zeros items = list_all (λ item. has_zero (head_of item.form)) items
 
 -- motions of 32 bits
-abbrev pub AreMotions : Cell → Type 0
-AreMotions (Moved ms) = are_motions (negsuc 0x7FFF_FFFF) (pos 0x7FFF_FFFF) ms
-AreMotions cell = Unit {0}
+abbrev pub AreMotions : ControlState → Type 0
+AreMotions (Motions ms) = are_motions (negsuc 0x7FFF_FFFF) (pos 0x7FFF_FFFF) ms
+AreMotions state = Unit {0}
 
 -- the motion of a control in the parts; 0 where it has none
-abbrev pub motion_of : List Cell → ControlId → ℤ
-motion_of parts c = motion_in (cell_at parts c.item) c.index
+abbrev pub motion_of : List ControlState → ControlId → ℤ
+motion_of parts c = motion_in (state_at parts c.item) c.index

@@ -5,10 +5,10 @@ use Rattle.std.specs.Simd.Lanes.{mask_l}
 use Rattle.hid_layout.specs.declared.main_item.MainItem.{MainItem}
 use Rattle.hid_descriptor.specs.declared.usage.Usage.{Usage}
 use Rattle.hid_layout.specs.Controls.{Form, Elements, Keys}
-pub use Rattle.hid_snapshots.specs.Cells.{pressed_count}
+pub use Rattle.hid_snapshots.specs.ControlStates.{switch_count}
 pub use Rattle.hid_layout.specs.Sent.{number_of, first_passing, least_pattern, null_code, names_nothing, empty_code, null_number, empty_number, rollover_number}
-use Rattle.hid_snapshots.specs.declared.cell.Cell.{Cell}
-use Rattle.hid_snapshots.specs.declared.cell.Cell.TheVariants.{Pressed, Holding, Moved, RolledOver}
+use Rattle.hid_snapshots.specs.declared.control_state.ControlState.{ControlState}
+use Rattle.hid_snapshots.specs.declared.control_state.ControlState.TheVariants.{Switches, Values, Motions, RollOver}
 
 -- a number, or 0 where there is none
 abbrev pub or_zero : Option ℤ → ℤ
@@ -28,18 +28,21 @@ pub record IsPatternOf (numbers : List ℤ) (pattern : ℕ) : Type 0 where
   pub is : pattern ≡ mask_l places
 
 -- pressed keys by rising place
-abbrev pub placed_from : ℤ → ℕ → List Bool → List ℤ
-placed_from min i [] = []
-placed_from min i (true ∷ ps) = (min +ℤ pos i) ∷ placed_from min (i + 1) ps
-placed_from min i (false ∷ ps) = placed_from min (i + 1) ps
+abbrev pub pressed_places_from : ℤ → ℕ → List Bool → List ℤ
+pressed_places_from min i [] = []
+pressed_places_from min i (true ∷ ps) = (min +ℤ pos i) ∷ pressed_places_from min (i + 1) ps
+pressed_places_from min i (false ∷ ps) = pressed_places_from min (i + 1) ps
 
 -- The numbers of an item's elements: of an array the pressed keys and then the empty code, or the
 -- rollover code in each.
-abbrev pub sent : MainItem → List Usage → Form → Cell → List ℤ
-sent item us (Elements kind least greatest usages) (Pressed ps) = map switch_number ps
-sent item us (Elements kind least greatest usages) (Holding vs) = map (λ v. unwrap_or v (or_zero (null_number item))) vs
-sent item us (Elements kind least greatest usages) (Moved ms) = ms
-sent item us (Keys elements rolls keys) (Pressed ps) =
-    placed_from item.min 0 ps ++ replicate (elements - pressed_count ps) (or_zero (empty_number item us))
-sent item us (Keys elements rolls keys) (RolledOver ps) = replicate elements (or_zero (rollover_number item us))
-sent item us form cell = []
+abbrev pub element_numbers : MainItem → List Usage → Form → ControlState → List ℤ
+element_numbers item us (Elements kind least greatest usages) (Switches ps) = map switch_number ps
+element_numbers item us (Elements kind least greatest usages) (Values vs) =
+    map (λ v. unwrap_or v (or_zero (null_number item))) vs
+element_numbers item us (Elements kind least greatest usages) (Motions ms) = ms
+element_numbers item us (Keys elements rolls keys) (Switches ps) =
+    pressed_places_from item.min 0 ps
+    ++ replicate (elements - switch_count ps) (or_zero (empty_number item us))
+element_numbers item us (Keys elements rolls keys) (RollOver ps) =
+    replicate elements (or_zero (rollover_number item us))
+element_numbers item us form state = []

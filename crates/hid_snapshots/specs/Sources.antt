@@ -5,7 +5,7 @@ use Rattle.hid_snapshots.specs.declared.numbers.TheConstants.{MAX_NUMBERS}
 use Rattle.hid_snapshots.specs.declared.send.Repeated.{Repeated}
 use Rattle.hid_snapshots.specs.declared.send.Source.{Source}
 use Rattle.hid_snapshots.specs.declared.send.Source.TheVariants.{Switches, Values, Motions, Keys, Same}
-use Rattle.hid_snapshots.specs.Sending.{switch_number, placed_from}
+use Rattle.hid_snapshots.specs.Sending.{switch_number, pressed_places_from}
 
 -- one number, this many times
 abbrev pub repeats : Repeated → List ℤ
@@ -16,7 +16,7 @@ abbrev pub numbers_of : Source → List ℤ
 numbers_of (Switches flags index) = map switch_number (drop index flags.now)
 numbers_of (Values values index null) = map (λ v. unwrap_or v null) (drop index values.now)
 numbers_of (Motions motions index) = drop index motions.now
-numbers_of (Keys flags from min then) = placed_from min from (drop from flags.now) ++ repeats then
+numbers_of (Keys flags from min then) = pressed_places_from min from (drop from flags.now) ++ repeats then
 numbers_of (Same then) = repeats then
 
 -- an item has few elements, and an array few keys

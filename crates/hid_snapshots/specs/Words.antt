@@ -28,7 +28,7 @@ unfoldable pub places_in : List ℕ → ℕ → List Bool
 places_in [] n = []
 places_in (w ∷ ws) n = bits_in (min n 64) w ++ places_in ws (n - 64)
 
--- Words keep so many places, and nothing beyond them.
+-- Words keep n places, and nothing beyond them.
 pub record AreWords (ws : List ℕ) (n : ℕ) : Type 0 where
   pub words : ws ≡ words_of (places_in ws n)
   pub places : length (places_in ws n) ≡ n

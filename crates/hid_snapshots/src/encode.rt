@@ -2,21 +2,18 @@
 
 ghost use Rattle.std.specs.Prelude.{◌≡◌, ◌<◌, ◌≤◌, ℕ, List, ◌+◌, ◌*◌, ◌++◌, replicate, length, slice_get, Some, true, ◌&&◌};
 ghost use Rattle.arrayvec.specs.ArrayVec.{array_vec_len};
-ghost use Rattle.hid_fields.specs.Field.{bit_of, IsOutside};
-ghost use Rattle.hid_snapshots.specs.Numbers.{numbers_in};
-ghost use Rattle.hid_fields.specs.Value.{is_negative};
+ghost use Rattle.hid_snapshots.specs.Numbers.{KeepsOutside};
 ghost use Rattle.hid_layout.specs.Reports.{first_bit, HasElements, IsLayout, report_bytes, report_id};
 ghost use Rattle.hid_descriptor.specs.Usages.{usage_list};
-ghost use Rattle.hid_layout.specs.Controls.{form_of, items_of};
-ghost use Rattle.hid_snapshots.specs.Cells.{FitsShown};
+ghost use Rattle.hid_layout.specs.Controls.{items_of};
+ghost use Rattle.hid_snapshots.specs.ControlStates.{FitsShown};
 ghost use Rattle.hid_snapshots.specs.Parts.{IsInput, has_zeros};
 ghost use Rattle.hid_layout.specs.Sent.{AreCodes};
 ghost use Rattle.hid_snapshots.specs.Codes.{has_empty_codes};
-ghost use Rattle.hid_snapshots.specs.Sending.{sent};
-ghost use Rattle.hid_snapshots.specs.Encoding.{is_data_in, place, bare_report, sent_at, part_numbers, CanSend, CanSendAll, HasFewPlaces, AreBytes, IsEncoding, Shows};
+ghost use Rattle.hid_snapshots.specs.Encoding.{is_data_in, place, bare_report, numbers_at, item_numbers, numbers_of_shape, part_numbers, CanSend, CanSendAll, HasFewPlaces, AreBytes, IsEncoding, IsOnlyEncoding, Shows};
 ghost use Rattle.hid_snapshots.specs.Encoded.{part_bytes};
 
-use crate::cell::Cell;
+use crate::control_state::ControlState;
 use crate::items::{item_at, plan_of};
 use crate::numbers::put_all;
 use crate::send::Sending;
@@ -42,7 +39,7 @@ fn id_of(layout: &Layout, report: usize) -> u8
     layout.reports()[report].id
 }
 
-/// A report of zeros, behind its ID where there are IDs, in the place of other bytes.
+/// A report of zeros, after its ID where there are IDs, in the place of other bytes.
 pub fn bare_report(layout: &Layout, report: usize, bytes: &mut ArrayVec<u8, 256>)
     requires layout { IsLayout layout.now }
     requires report { report < length layout.now.reports }
@@ -71,7 +68,7 @@ fn is_data(item: &MainItem, report: usize) -> bool
     item.report == report && !padding
 }
 
-/// The first bit behind a report's ID, where reports are numbered (HID 1.11, 5.6).
+/// The first bit after a report's ID, where reports are numbered (HID 1.11, 5.6).
 pub fn first_bit(layout: &Layout) -> usize
     ensures value { result ≡ first_bit layout.now }
     ensures small { result ≤ 8 }
@@ -85,24 +82,23 @@ fn write_item<C: FieldCodec>(
     layout: &Layout,
     i: usize,
     item: &MainItem,
-    cell: &Cell,
+    state: &ControlState,
     bytes: &mut [u8],
 )
     requires listed { slice_get layout.now.items i ≡ Some item.now }
     requires elements { HasElements item.now }
     requires layout { IsLayout layout.now }
-    requires places { HasFewPlaces cell.now }
-    requires can { CanSend item.now (sent_at layout.now i cell.now) }
+    requires places { HasFewPlaces state.now }
+    requires can { CanSend item.now (numbers_at layout.now i state.now) }
     requires short { length bytes.old ≤ 4096 }
     requires room { place layout.now item.now + item.now.size * item.now.count
         ≤ 8 * length bytes.old }
-    ensures written { numbers_in bytes.new (place layout.now item.now) item.now.size
-        (is_negative item.now.min) item.now.count ≡ sent_at layout.now i cell.now }
-    ensures others { (n : ℕ)
-        → IsOutside (place layout.now item.now) (item.now.size * item.now.count) n
-        → bit_of bytes.new n ≡ bit_of bytes.old n }
+    ensures written { item_numbers layout.now bytes.new item.now
+        ≡ numbers_at layout.now i state.now }
+    ensures others { KeepsOutside (place layout.now item.now) (item.now.size * item.now.count)
+        bytes.old bytes.new }
 {
-    let numbers = send_item(layout, i, item, cell);
+    let numbers = send_item(layout, i, item, state);
     put_all::<C>(
         bytes,
         first_bit(layout) + item.offset,
@@ -112,11 +108,11 @@ fn write_item<C: FieldCodec>(
     );
 }
 
-fn cell_at(shown: &Shown, i: usize) -> &Cell
+fn state_at(shown: &Shown, i: usize) -> &ControlState
     requires { i < length shown.now }
     ensures { slice_get shown.now i ≡ Some result.now }
 {
-    &shown.cells[i]
+    &shown.states[i]
 }
 
 /// Writes the elements of an item, where it has some in the report.
@@ -138,7 +134,7 @@ fn show_item<C: FieldCodec>(
 {
     let item = item_at(layout, i);
     if is_data(item, report) {
-        write_item::<C>(layout, i, item, cell_at(shown, i), bytes);
+        write_item::<C>(layout, i, item, state_at(shown, i), bytes);
     }
 }
 
@@ -157,9 +153,8 @@ pub fn encode_report<C: FieldCodec>(
     requires zeros { has_zeros (items_of layout.now) ≡ true }
     // These bytes, and no others, show the part.
     ensures shows { IsEncoding layout.now report (part_numbers layout.now shown.now) result.items }
-    ensures only { (other : List ℕ) → AreBytes other
-        → IsEncoding layout.now report (part_numbers layout.now shown.now) other
-        → other ≡ result.items }
+    ensures only { IsOnlyEncoding layout.now report (part_numbers layout.now shown.now)
+        result.items }
     ensures bytes { result.items ≡ part_bytes layout.now report shown.now }
 {
     let mut bytes = ArrayVec::new();
@@ -182,10 +177,10 @@ pub fn write_report<C: FieldCodec>(
     requires zeros { has_zeros (items_of layout.now) ≡ true }
     // These bytes, and no others, show the part.
     ensures shows { IsEncoding layout.now report (part_numbers layout.now shown.now) bytes.new.items }
-    ensures only { (other : List ℕ) → AreBytes other
-        → IsEncoding layout.now report (part_numbers layout.now shown.now) other
-        → other ≡ bytes.new.items }
+    ensures only { IsOnlyEncoding layout.now report (part_numbers layout.now shown.now)
+        bytes.new.items }
     ensures bytes { bytes.new.items ≡ part_bytes layout.now report shown.now }
+    ensures small { AreBytes bytes.new.items }
 {
     let places = plan_of(layout, report);
     bare_report(layout, report, bytes);
@@ -195,36 +190,36 @@ pub fn write_report<C: FieldCodec>(
 }
 
 /// The numbers of an item's elements.
-fn send_item<'a>(layout: &Layout, i: usize, item: &MainItem, cell: &'a Cell) -> Sending<'a>
+fn send_item<'a>(layout: &Layout, i: usize, item: &MainItem, state: &'a ControlState) -> Sending<'a>
     requires listed { slice_get layout.now.items i ≡ Some item.now }
     requires layout { IsLayout layout.now }
     requires elements { HasElements item.now }
-    requires can { CanSend item.now (sent_at layout.now i cell.now) }
-    requires places { HasFewPlaces cell.now }
-    ensures { result ≡ sent_at layout.now i cell.now }
+    requires can { CanSend item.now (numbers_at layout.now i state.now) }
+    requires places { HasFewPlaces state.now }
+    ensures { result ≡ numbers_at layout.now i state.now }
 {
     let entries = layout.entries(i);
     match item.shape {
         Shape::Padding => Sending::none(),
-        Shape::Variable => send_elements(item, entries, cell),
-        Shape::Array => send_array(item, entries, &layout.codes(i), cell),
+        Shape::Variable => send_elements(item, entries, state),
+        Shape::Array => send_array(item, entries, &layout.codes(i), state),
     }
 }
 
-fn send_elements<'a>(item: &MainItem, entries: &[(Usage, Usage)], cell: &'a Cell) -> Sending<'a>
+fn send_elements<'a>(
+    item: &MainItem,
+    entries: &[(Usage, Usage)],
+    state: &'a ControlState,
+) -> Sending<'a>
     requires elements { HasElements item.now }
-    requires can { CanSend item.now
-        (sent item.now (usage_list entries.now)
-        (form_of item.now (usage_list entries.now) Shape.Variable) cell.now) }
-    ensures { result
-        ≡ sent item.now (usage_list entries.now)
-        (form_of item.now (usage_list entries.now) Shape.Variable) cell.now }
+    requires can { CanSend item.now (numbers_of_shape item.now entries.now Shape.Variable state.now) }
+    ensures { result ≡ numbers_of_shape item.now entries.now Shape.Variable state.now }
 {
-    match cell {
-        Cell::Pressed(flags) => Sending::switches(flags),
-        Cell::Holding(values) => Sending::values(values, null_number(item).unwrap_or(0)),
-        Cell::Moved(motions) => Sending::motions(motions),
-        Cell::Vacant | Cell::RolledOver(_) => Sending::none(),
+    match state {
+        ControlState::Switches(flags) => Sending::switches(flags),
+        ControlState::Values(values) => Sending::values(values, null_number(item).unwrap_or(0)),
+        ControlState::Motions(motions) => Sending::motions(motions),
+        ControlState::Absent | ControlState::RollOver(_) => Sending::none(),
     }
 }
 
@@ -233,25 +228,24 @@ fn send_array<'a>(
     item: &MainItem,
     entries: &[(Usage, Usage)],
     codes: &Codes,
-    cell: &'a Cell,
+    state: &'a ControlState,
 ) -> Sending<'a>
     requires codes { AreCodes item.now (usage_list entries.now) codes.now }
     requires elements { HasElements item.now }
     requires few_entries { length entries.now ≤ 64 }
-    requires can { CanSend item.now
-        (sent item.now (usage_list entries.now)
-        (form_of item.now (usage_list entries.now) Shape.Array) cell.now) }
-    requires places { HasFewPlaces cell.now }
-    ensures { result
-        ≡ sent item.now (usage_list entries.now)
-        (form_of item.now (usage_list entries.now) Shape.Array) cell.now }
+    requires can { CanSend item.now (numbers_of_shape item.now entries.now Shape.Array state.now) }
+    requires places { HasFewPlaces state.now }
+    ensures { result ≡ numbers_of_shape item.now entries.now Shape.Array state.now }
 {
-    match cell {
-        Cell::Pressed(flags) => {
+    match state {
+        ControlState::Switches(flags) => {
             let rest = item.count as usize - flags.count();
             Sending::keys(flags, item.min, rest, codes.empty.unwrap_or(0))
         }
-        Cell::RolledOver(_) => Sending::same(item.count as usize, codes.rollover.unwrap_or(0)),
+        ControlState::RollOver(_) => Sending::same(
+            item.count as usize,
+            codes.rollover.unwrap_or(0),
+        ),
         _ => Sending::none(),
     }
 }

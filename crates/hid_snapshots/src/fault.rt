@@ -1,4 +1,4 @@
-//! Why a report can't be read, and want of memory.
+//! Why a report can't be read, and out of memory.
 
 ghost use Rattle.std.specs.Prelude.{Some};
 ghost use Rattle.hid_snapshots.specs.Faults.{report_code, memory_code};
@@ -25,7 +25,7 @@ impl fmt::Display for ReportFault {
     }
 }
 
-/// Memory was wanting. It is printed as its code, U10.
+/// Memory ran out. It is printed as its code, U10.
 #[derive(Clone, Copy, Debug, PartialEq, Eq)]
 pub struct MemoryFault;
 

@@ -29,13 +29,13 @@ impl Model for Flags {
 }
 
 impl Flags {
-    ghost use Rattle.hid_snapshots.specs.Cells.{pressed_count};
+    ghost use Rattle.hid_snapshots.specs.ControlStates.{switch_count};
     ghost use Rattle.hid_snapshots.specs.Parts.{same_flags};
 
-    /// So many, of which none is pressed.
+    /// Flags for `count` places, none of them pressed.
     ///
     /// # Errors
-    /// Want of memory.
+    /// Out of memory.
     pub fn clear(alloc: Global, count: usize) -> Result<Self, AllocError>
         ensures { IfOk result (λ f. f ≡ replicate count false) }
     {
@@ -97,7 +97,7 @@ impl Flags {
 
     /// How many are pressed.
     pub fn count(&self) -> usize
-        ensures { result ≡ pressed_count self.now }
+        ensures { result ≡ switch_count self.now }
     {
         let mut count = 0;
         for word in &self.words {
@@ -106,7 +106,7 @@ impl Flags {
         count
     }
 
-    /// Makes these those of the other, which has as many places.
+    /// Copies the other's, which has the same length.
     pub(crate) fn copy_from(&mut self, other: &Flags)
         requires { length self.old ≡ length other.now }
         ensures { self.new ≡ other.now }
@@ -114,7 +114,7 @@ impl Flags {
         self.words.copy_from_slice(&other.words);
     }
 
-    /// Makes these the first ones of the other, of which none is pressed behind them.
+    /// Makes these the first ones of the other, of which none is pressed after them.
     pub fn copy_first(&mut self, other: &Flags)
         requires places { length self.old ≤ length other.now }
         requires none { (i : ℕ) → length self.old ≤ i → is_on other.now i ≡ false }
@@ -124,7 +124,7 @@ impl Flags {
         self.words.copy_from_slice(&other.words[..count]);
     }
 
-    /// Whether these are the first ones of the other, of which none is pressed behind them.
+    /// Whether these are the first ones of the other, of which none is pressed after them.
     pub fn is_first_of(&self, other: &Flags) -> bool
         requires places { length self.now ≤ length other.now }
         requires none { (i : ℕ) → length self.now ≤ i → is_on other.now i ≡ false }
@@ -134,7 +134,7 @@ impl Flags {
         self.words.as_slice() == &other.words[..count]
     }
 
-    /// Releases all of them, where none is pressed behind the first ones, so many: the words of these alone are written.
+    /// Releases all of them, where none is pressed after the first ones, n: the words of these alone are written.
     pub fn release_first(&mut self, count: usize)
         requires places { count ≤ length self.old }
         requires none { (i : ℕ) → count ≤ i → is_on self.old i ≡ false }
@@ -143,7 +143,7 @@ impl Flags {
         clear_words(&mut self.words, count.div_ceil(64));
     }
 
-    /// Whether the same are pressed, of as many places.
+    /// Whether both have the same values and length.
     pub(crate) fn is_same(&self, other: &Flags) -> bool
         ensures { result ≡ same_flags self.now other.now }
     {
@@ -157,7 +157,7 @@ impl Flags {
         &self.words
     }
 
-    /// The first pressed place from one on; a number is left behind it.
+    /// The first pressed place from one on; a number is left after it.
     pub fn next(&self, from: usize) -> Option<usize>
         ensures first { FindsFirst (is_on self.now) from (length self.now) result }
         ensures behind { IfSome result (λ place. place + 1 < 2 ^ 64) }
@@ -165,7 +165,7 @@ impl Flags {
         first_alone(&self.words, &[], from)
     }
 
-    /// The first place from one on that is pressed here and not in the other; a number is left behind it.
+    /// The first place from one on that is pressed here and not in the other; a number is left after it.
     pub fn next_alone(&self, other: &Flags, from: usize) -> Option<usize>
         ensures first { FindsFirst (is_alone self.now other.now) from (length self.now) result }
         ensures behind { IfSome result (λ place. place + 1 < 2 ^ 64) }

@@ -5,7 +5,10 @@ ghost use Rattle.hid_snapshots.specs.Full.{IsFull};
 
 use std::alloc::{AllocError, Global};
 
-/// An item so many times, without room for more.
+/// An item n times, without room for more.
+///
+/// # Errors
+/// Out of memory.
 pub fn full_of<T: Copy>(alloc: Global, item: T, count: usize) -> Result<Vec<T>, AllocError>
     ensures items { IfOk result (λ items. items.items ≡ replicate count item) }
     ensures full { IfOk result (λ items. IsFull items) }
@@ -18,6 +21,9 @@ pub fn full_of<T: Copy>(alloc: Global, item: T, count: usize) -> Result<Vec<T>, 
 }
 
 /// These items, without room for more.
+///
+/// # Errors
+/// Out of memory.
 pub fn full_from<T: Copy>(alloc: Global, from: &[T]) -> Result<Vec<T>, AllocError>
     ensures items { IfOk result (λ items. items.items ≡ from.now) }
     ensures full { IfOk result (λ items. IsFull items) }

@@ -47,7 +47,9 @@ pub fn plan_of(layout: &Layout, report: usize) -> &[usize]
     ensures all { length (items_of layout.now) ≡ length layout.now.items }
     ensures layout { IsLayout layout.now }
 {
+    // For the prover: what holds of every layout.
     let _ = item_count(layout);
+
     layout.plan(report)
 }
 

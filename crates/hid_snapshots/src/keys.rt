@@ -5,12 +5,12 @@ ghost use Rattle.hid_layout.specs.Controls.{items_of};
 ghost use Rattle.hid_snapshots.specs.Keys.{has_keys_at, is_array_head, key_words, pressed_places};
 ghost use Rattle.hid_snapshots.specs.Words.{words_of};
 
-use crate::cell::Cell;
+use crate::control_state::ControlState;
 use crate::items::item_count;
-use crate::parts::cell_at;
+use crate::parts::state_at;
 use hid_layout::{Controls, Layout};
 
-/// Whether a listed item is an Input array: the condition of the calls that read its keys.
+/// Whether a listed item is an Input array, which `key_words` of a snapshot and of a view requires.
 #[tactic(auto, using(crate::proofs::KeyWordLemmas::keys_found))]
 pub fn has_keys(layout: &Layout, item: usize) -> bool
     ensures { result ≡ has_keys_at (items_of layout.now) item }
@@ -34,22 +34,25 @@ fn is_array(controls: &Controls) -> bool
 /// The words of what is pressed at a listed item: bit i mod 64 of word i div 64 is 1 exactly where place i is pressed.
 /// There is none for an item without switches and keys.
 #[tactic(auto, using(crate::proofs::KeyWordLemmas::words_found))]
-pub fn key_words(cells: &[Cell], item: usize) -> &[u64]
-    ensures { result.now ≡ key_words cells.now item }
+pub fn key_words(states: &[ControlState], item: usize) -> &[u64]
+    ensures { result.now ≡ key_words states.now item }
 {
-    if item < cells.len() {
-        pressed_words(cell_at(cells, item))
+    if item < states.len() {
+        pressed_words(state_at(states, item))
     } else {
         &[]
     }
 }
 
 #[tactic(auto, using(crate::proofs::KeyWordLemmas::words_found))]
-fn pressed_words(cell: &Cell) -> &[u64]
-    ensures { result.now ≡ words_of (pressed_places cell.now) }
+fn pressed_words(state: &ControlState) -> &[u64]
+    ensures { result.now ≡ words_of (pressed_places state.now) }
 {
-    match cell {
-        Cell::Pressed(flags) => flags.words(),
-        Cell::Vacant | Cell::Holding(_) | Cell::Moved(_) | Cell::RolledOver(_) => &[],
+    match state {
+        ControlState::Switches(flags) => flags.words(),
+        ControlState::Absent
+        | ControlState::Values(_)
+        | ControlState::Motions(_)
+        | ControlState::RollOver(_) => &[],
     }
 }

@@ -10,12 +10,15 @@
 //!   Snapshot::still          as `shown`, with every motion 0
 //!   Snapshot::take_motion    takes out the motion that a part carries
 //!
-//!   Cell of an item          Vacant | Pressed | Holding | Moved | RolledOver
+//!   ControlState of an item  Absent | Switches | Values | Motions | RollOver
 //! ```
-//! A snapshot, the shown parts of a device and a host's view (`View` of `hid_usages`) each have one [`Cell`] for each listed
+//! A snapshot, the shown parts of a device and a host's view (`View` of `hid_usages`) each have one [`ControlState`] for each listed
 //! item of a layout, so a control's ID addresses its state.
 //!
-//! The rule to know: `FitsSnapshot`, `FitsShown` and `FitsView` say that a list of cells belongs to a layout. A call with a
+//! It also has what both sides and the bus name: [`Event`], why a report can't be read ([`ReportFault`]), and the definitions of
+//! views and their events; `hid_usages` has the code of these.
+//!
+//! The rule to know: `FitsSnapshot`, `FitsShown` and `FitsView` say that a list of control states belongs to a layout. A call with a
 //! layout requires the one with which its other values were made.
 //!
 //! The promise: the bytes of a part are the only ones that show it (`shows` and `only` on [`encode_report`]). Only calls with
@@ -23,9 +26,9 @@
 #![tactic(auto)]
 
 mod blank;
-mod cell;
 mod change;
 mod codes;
+mod control_state;
 mod encode;
 mod event;
 mod fault;
@@ -41,10 +44,10 @@ mod send;
 mod shown;
 mod snapshot;
 
-pub use blank::{blank_cells, first_value};
-pub use cell::{Cell, Motions, Values};
+pub use blank::{blank_states, first_value};
 pub use change::{Change, ChangeFault};
 pub use codes::has_empty_codes;
+pub use control_state::{ControlState, Motions, Values};
 pub use encode::{bare_report, encode_report, first_bit, write_report};
 pub use event::Event;
 pub use fault::{MemoryFault, ReportFault};
@@ -53,7 +56,7 @@ pub use full::{full_from, full_of};
 pub use items::{is_input, is_of, item_at, item_count, plan_of};
 pub use keys::{has_keys, key_words};
 pub use numbers::FieldRun;
-pub use parts::{cell_at, has_zeros};
+pub use parts::{has_zeros, state_at};
 pub use pieces::{piece_of, pieces_of};
 pub use shown::Shown;
 pub use snapshot::Snapshot;

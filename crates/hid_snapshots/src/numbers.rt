@@ -1,8 +1,8 @@
 //! The numbers that stand in a run of fields.
-ghost use Rattle.std.specs.Prelude.{◌≡◌, ◌<◌, ◌≤◌, ◌+◌, ◌*◌, ℕ, Bool, length, slice_get, Some, IfSome, All};
-ghost use Rattle.hid_fields.specs.Field.{bit_of, pattern_of, IsOutside};
+ghost use Rattle.std.specs.Prelude.{◌≡◌, ◌<◌, ◌≤◌, ◌+◌, ◌*◌, Bool, length, slice_get, Some, IfSome, All};
+ghost use Rattle.hid_fields.specs.Field.{pattern_of};
 ghost use Rattle.hid_fields.specs.Value.{FitsEitherSign, FitsField};
-ghost use Rattle.hid_snapshots.specs.Numbers.{IsRun, IsWordOf, byte_numbers, number_at, numbers_in};
+ghost use Rattle.hid_snapshots.specs.Numbers.{IsRun, IsWordOf, byte_numbers, number_at, numbers_in, KeepsOutside};
 
 use crate::send::Sending;
 use hid_fields::{FieldCodec, to_pattern, to_value};
@@ -11,7 +11,7 @@ use std::marker::Model;
 /// The most numbers of one item: each has a bit at least, and a report has 256 bytes at most.
 pub(crate) const MAX_NUMBERS: usize = 2048;
 
-/// The fields of an item's elements, one behind the other in the bytes of a report. A contract sees the numbers that
+/// The fields of an item's elements, one after the other in the bytes of a report. A contract sees the numbers that
 /// stand in them.
 #[derive(Drop)]
 pub struct FieldRun<'a> {
@@ -118,7 +118,7 @@ impl<'a> FieldRun<'a> {
     }
 
     /// Of fields of one bit without sign, the numbers from 64 times the index on, up to 64, as a word: the first one lowest,
-    /// and 0 behind the last. None of other fields.
+    /// and 0 after the last. None of other fields.
     #[inline(always)]
     pub fn word<C: FieldCodec>(&self, index: usize) -> Option<u64>
         requires { 64 * index < length self.now }
@@ -168,7 +168,7 @@ fn put_number<C: FieldCodec>(bytes: &mut [u8], at: usize, width: u32, number: i6
     requires fits { FitsEitherSign number width }
     ensures number { (signed : Bool) → FitsField number width signed
         → number_at bytes.new at width signed ≡ number }
-    ensures others { (n : ℕ) → IsOutside at width n → bit_of bytes.new n ≡ bit_of bytes.old n }
+    ensures others { KeepsOutside at width bytes.old bytes.new }
 {
     let pattern = to_pattern(number, width);
     C::put(bytes, at, width, pattern);
@@ -190,8 +190,7 @@ pub(crate) fn put_all<C: FieldCodec>(
     requires fits { All (λ v. FitsEitherSign v width) numbers }
     ensures numbers { (signed : Bool) → All (λ v. FitsField v width signed) numbers.entry
         → numbers_in bytes.new at width signed count ≡ numbers.entry }
-    ensures others { (n : ℕ) → IsOutside at (width * count) n
-        → bit_of bytes.new n ≡ bit_of bytes.old n }
+    ensures others { KeepsOutside at (width * count) bytes.old bytes.new }
 {
     if width == 1 {
         if let Some(pattern) = numbers.pattern() {

@@ -3,10 +3,10 @@
 ghost use Rattle.std.specs.Prelude.{◌≡◌, ◌<◌, IsTrue, true, length, slice_get, Some};
 ghost use Rattle.hid_layout.specs.Controls.{form_at, head_of, items_of};
 ghost use Rattle.hid_layout.specs.Reports.{IsLayout};
-ghost use Rattle.hid_snapshots.specs.Cells.{FitsSnapshot, FitsShown};
-ghost use Rattle.hid_snapshots.specs.Parts.{item_at, IsInput, is_of, shown_cell, rolled_cell, shown, by_item, minus_motion, taken, has_motion, is_changed, has_zero, has_zeros, HasRoomOf, AreMotions, still, without_motion, part_shown, taken_of, calls_for, is_shown};
+ghost use Rattle.hid_snapshots.specs.ControlStates.{FitsSnapshot, FitsShown};
+ghost use Rattle.hid_snapshots.specs.Parts.{item_at, IsInput, is_of, shown_state, rolled_state, shown_parts, by_item, minus_motion, without_part_motion, has_motion, is_changed, has_zero, has_zeros, HasRoomOf, AreMotions, still_parts, without_motion, part_shown, without_motion_of, calls_for, is_shown};
 
-use crate::cell::Cell;
+use crate::control_state::ControlState;
 use crate::flags::Flags;
 use crate::items::{is_of, item_at as main_item_at, item_count, plan_of};
 use crate::reset::reset_motions;
@@ -14,71 +14,77 @@ use hid_layout::{ControlKind, Controls, Layout, Shape};
 use std::mem;
 
 /// Puts pressed places in the room of an array that had rolled over.
-#[inline(never)] // it is rare, and moves the cell
-fn copy_to_rolled(from: &Flags, to: &mut Cell)
-    requires { HasRoomOf (Cell.Pressed from.now) to.old }
-    ensures { to.new ≡ Cell.Pressed from.now }
+#[inline(never)] // it is rare, and moves the control state
+fn copy_to_rolled(from: &Flags, to: &mut ControlState)
+    requires { HasRoomOf (ControlState.Switches from.now) to.old }
+    ensures { to.new ≡ ControlState.Switches from.now }
 {
-    *to = match mem::replace(to, Cell::Vacant) {
-        Cell::Pressed(mut flags) | Cell::RolledOver(mut flags) => {
+    *to = match mem::replace(to, ControlState::Absent) {
+        ControlState::Switches(mut flags) | ControlState::RollOver(mut flags) => {
             flags.copy_from(from);
-            Cell::Pressed(flags)
+            ControlState::Switches(flags)
         }
         other => other,
     };
 }
 
-fn copy_flags(from: &Flags, to: &mut Cell)
-    requires { HasRoomOf (Cell.Pressed from.now) to.old }
-    ensures { to.new ≡ Cell.Pressed from.now }
+fn copy_flags(from: &Flags, to: &mut ControlState)
+    requires { HasRoomOf (ControlState.Switches from.now) to.old }
+    ensures { to.new ≡ ControlState.Switches from.now }
 {
     match to {
-        Cell::Pressed(flags) => flags.copy_from(from),
-        Cell::Vacant | Cell::Holding(_) | Cell::Moved(_) | Cell::RolledOver(_) => {
+        ControlState::Switches(flags) => flags.copy_from(from),
+        ControlState::Absent
+        | ControlState::Values(_)
+        | ControlState::Motions(_)
+        | ControlState::RollOver(_) => {
             copy_to_rolled(from, to);
         }
     }
 }
 
-fn copy_cell(from: &Cell, to: &mut Cell)
+fn copy_state(from: &ControlState, to: &mut ControlState)
     requires { HasRoomOf from.now to.old }
     ensures { to.new ≡ from.now }
 {
     match from {
-        Cell::Pressed(flags) => copy_flags(flags, to),
-        Cell::Holding(values) => {
-            if let Cell::Holding(room) = to {
+        ControlState::Switches(flags) => copy_flags(flags, to),
+        ControlState::Values(values) => {
+            if let ControlState::Values(room) = to {
                 room.copy_from(values);
             }
         }
-        Cell::Moved(motions) => {
-            if let Cell::Moved(room) = to {
+        ControlState::Motions(motions) => {
+            if let ControlState::Motions(room) = to {
                 room.copy_from(motions);
             }
         }
-        Cell::Vacant | Cell::RolledOver(_) => {}
+        ControlState::Absent | ControlState::RollOver(_) => {}
     }
 }
 
 /// An array with more pressed keys than elements shows that it rolled over.
-fn roll_over(cell: &mut Cell, elements: usize)
-    ensures { cell.new ≡ rolled_cell elements cell.old }
+fn roll_over(state: &mut ControlState, elements: usize)
+    ensures { state.new ≡ rolled_state elements state.old }
 {
-    let rolls = match cell {
-        Cell::Pressed(flags) => elements < flags.count(),
-        Cell::Vacant | Cell::Holding(_) | Cell::Moved(_) | Cell::RolledOver(_) => false,
+    let rolls = match state {
+        ControlState::Switches(flags) => elements < flags.count(),
+        ControlState::Absent
+        | ControlState::Values(_)
+        | ControlState::Motions(_)
+        | ControlState::RollOver(_) => false,
     };
     if rolls {
-        *cell = match mem::replace(cell, Cell::Vacant) {
-            Cell::Pressed(flags) => Cell::RolledOver(flags),
+        *state = match mem::replace(state, ControlState::Absent) {
+            ControlState::Switches(flags) => ControlState::RollOver(flags),
             other => other,
         };
     }
 }
 
-/// Makes a cell what its report shows of it.
-pub(crate) fn show_cell(cell: &mut Cell, controls: &Controls)
-    ensures { cell.new ≡ shown_cell controls.now cell.old }
+/// Makes a control state what its report shows of it.
+pub(crate) fn show_state(state: &mut ControlState, controls: &Controls)
+    ensures { state.new ≡ shown_state controls.now state.old }
 {
     match controls {
         Controls::None => {}
@@ -87,64 +93,70 @@ pub(crate) fn show_cell(cell: &mut Cell, controls: &Controls)
             greatest,
             ..
         } => {
-            if let Cell::Moved(motions) = cell {
+            if let ControlState::Motions(motions) = state {
                 motions.clamp(least, greatest);
             }
         }
-        Controls::Keys { elements, .. } => roll_over(cell, *elements),
+        Controls::Keys { elements, .. } => roll_over(state, *elements),
     }
 }
 
 /// Takes the motion that a part carries out of what is kept.
-fn take_motion(cell: &mut Cell, part: &Cell)
-    requires room { HasRoomOf cell.old part.now }
-    requires amounts { AreMotions cell.old }
+fn take_motion(state: &mut ControlState, part: &ControlState)
+    requires room { HasRoomOf state.old part.now }
+    requires amounts { AreMotions state.old }
     requires others { AreMotions part.now }
-    ensures { cell.new ≡ minus_motion cell.old part.now }
+    ensures { state.new ≡ minus_motion state.old part.now }
 {
-    if let Cell::Moved(motions) = cell {
-        if let Cell::Moved(others) = part {
+    if let ControlState::Motions(motions) = state {
+        if let ControlState::Motions(others) = part {
             motions.subtract(others);
         }
     }
 }
 
-fn has_motion(cell: &Cell) -> bool
-    ensures { result ≡ has_motion cell.now }
+fn has_motion(state: &ControlState) -> bool
+    ensures { result ≡ has_motion state.now }
 {
-    match cell {
-        Cell::Moved(motions) => motions.any(),
-        Cell::Vacant | Cell::Pressed(_) | Cell::Holding(_) | Cell::RolledOver(_) => false,
+    match state {
+        ControlState::Motions(motions) => motions.any(),
+        ControlState::Absent
+        | ControlState::Switches(_)
+        | ControlState::Values(_)
+        | ControlState::RollOver(_) => false,
     }
 }
 
-/// Whether a part is still what its report shows of a cell, motion aside.
-fn is_shown(cell: &Cell, controls: &Controls, part: &Cell) -> bool
-    ensures { result ≡ is_shown cell.now controls.now part.now }
+/// Whether a part is still what its report shows of a control state, motion aside.
+fn is_shown(state: &ControlState, controls: &Controls, part: &ControlState) -> bool
+    ensures { result ≡ is_shown state.now controls.now part.now }
 {
-    match cell {
-        Cell::Pressed(flags) => is_shown_flags(flags, controls, part),
-        Cell::Holding(values) => match part {
-            Cell::Holding(others) => values.is_same(others),
-            Cell::Vacant | Cell::Pressed(_) | Cell::Moved(_) | Cell::RolledOver(_) => false,
+    match state {
+        ControlState::Switches(flags) => is_shown_flags(flags, controls, part),
+        ControlState::Values(values) => match part {
+            ControlState::Values(others) => values.is_same(others),
+            ControlState::Absent
+            | ControlState::Switches(_)
+            | ControlState::Motions(_)
+            | ControlState::RollOver(_) => false,
         },
-        Cell::Moved(_) => matches!(part, Cell::Moved(_)),
-        Cell::Vacant => matches!(part, Cell::Vacant),
-        Cell::RolledOver(_) => matches!(part, Cell::RolledOver(_)),
+        ControlState::Motions(_) => matches!(part, ControlState::Motions(_)),
+        ControlState::Absent => matches!(part, ControlState::Absent),
+        ControlState::RollOver(_) => matches!(part, ControlState::RollOver(_)),
     }
 }
 
-fn is_shown_flags(flags: &Flags, controls: &Controls, part: &Cell) -> bool
-    ensures { result ≡ is_shown (Cell.Pressed flags.now) controls.now part.now }
+fn is_shown_flags(flags: &Flags, controls: &Controls, part: &ControlState) -> bool
+    ensures { result ≡ is_shown (ControlState.Switches flags.now) controls.now part.now }
 {
     let rolls = match controls {
         Controls::Keys { elements, .. } => *elements < flags.count(),
         Controls::None | Controls::Elements { .. } => false,
     };
     match part {
-        Cell::Pressed(others) => !rolls && flags.is_same(others),
-        Cell::RolledOver(_) => rolls,
-        Cell::Vacant | Cell::Holding(_) | Cell::Moved(_) => false,
+        ControlState::Switches(others) => !rolls && flags.is_same(others),
+        ControlState::RollOver(_) => rolls,
+        ControlState::Absent | ControlState::Values(_) | ControlState::Motions(_) => false,
     }
 }
 
@@ -163,142 +175,189 @@ fn has_zero(controls: &Controls) -> bool
 }
 
 /// What is kept of the listed item at a place.
-pub fn cell_at(cells: &[Cell], i: usize) -> &Cell
-    requires { i < length cells.now }
-    ensures { slice_get cells.now i ≡ Some result.now }
+pub fn state_at(states: &[ControlState], i: usize) -> &ControlState
+    requires { i < length states.now }
+    ensures { slice_get states.now i ≡ Some result.now }
 {
-    &cells[i]
+    &states[i]
 }
 
 /// Makes every motion of a part 0.
-fn stop(part: &mut Cell)
+fn stop(part: &mut ControlState)
     ensures { part.new ≡ without_motion part.old }
 {
-    if let Cell::Moved(motions) = part {
+    if let ControlState::Motions(motions) = part {
         reset_motions(motions);
     }
 }
 
-/// The controls of an item, where what is shown of a cell depends on them: motions by their limits, and keys by their number.
-fn controls_for(layout: &Layout, i: usize, cell: &Cell) -> Controls
+/// The controls of an item, where what is shown of a control state depends on them: motions by their limits, and keys by their number.
+fn controls_for(layout: &Layout, i: usize, state: &ControlState) -> Controls
     requires { i < length layout.now.items }
-    ensures { shown_cell result cell.now
-        ≡ shown_cell (head_of (form_at (items_of layout.now) i)) cell.now }
+    ensures { shown_state result state.now
+        ≡ shown_state (head_of (form_at (items_of layout.now) i)) state.now }
 {
-    match cell {
-        Cell::Moved(_) => layout.controls(i),
-        Cell::Pressed(_) => match main_item_at(layout, i).shape {
+    match state {
+        ControlState::Motions(_) => layout.controls(i),
+        ControlState::Switches(_) => match main_item_at(layout, i).shape {
             Shape::Array => layout.controls(i),
             Shape::Variable | Shape::Padding => Controls::None,
         },
-        Cell::Vacant | Cell::Holding(_) | Cell::RolledOver(_) => Controls::None,
+        ControlState::Absent | ControlState::Values(_) | ControlState::RollOver(_) =>
+            Controls::None,
     }
 }
 
 /// Makes the part of an item what a report shows of it, or the still part of that, where the item stands in it.
-fn show_item(layout: &Layout, i: usize, report: usize, cell: &Cell, part: &mut Cell, still: bool)
+fn show_item(
+    layout: &Layout,
+    i: usize,
+    report: usize,
+    state: &ControlState,
+    part: &mut ControlState,
+    still: bool,
+)
     requires listed { i < length layout.now.items }
     requires input { IsInput layout.now report }
-    requires room { HasRoomOf cell.now part.old }
+    requires room { HasRoomOf state.now part.old }
     ensures { part.new ≡ part_shown still report (item_at (items_of layout.now) i)
-        cell.now part.old }
+        state.now part.old }
 {
     if is_of(layout, i, report) {
-        copy_cell(cell, part);
-        show_cell(part, &controls_for(layout, i, cell));
+        copy_state(state, part);
+        show_state(part, &controls_for(layout, i, state));
         if still {
             stop(part);
         }
     }
 }
 
-/// Makes the part of a report what it shows of these cells, or the still part of that.
-fn show_each(layout: &Layout, report: usize, cells: &[Cell], parts: &mut [Cell], still: bool)
+/// Makes the part of a report what it shows of these control states, or the still part of that.
+fn show_each(
+    layout: &Layout,
+    report: usize,
+    states: &[ControlState],
+    parts: &mut [ControlState],
+    still: bool,
+)
     requires input { IsInput layout.now report }
-    requires cells { FitsSnapshot (items_of layout.now) cells.now }
+    requires states { FitsSnapshot (items_of layout.now) states.now }
     requires parts { FitsShown (items_of layout.now) parts.old }
     ensures shown { parts.new
-        ≡ by_item (part_shown still report) (items_of layout.now) cells.now parts.old }
+        ≡ by_item (part_shown still report) (items_of layout.now) states.now parts.old }
     ensures layout { IsLayout layout.now }
 {
     for place in plan_of(layout, report) {
         let i = *place;
-        show_item(layout, i, report, cell_at(cells, i), &mut parts[i], still);
+        show_item(layout, i, report, state_at(states, i), &mut parts[i], still);
     }
 }
 
-/// Makes the part of a report what it shows of these cells.
-pub(crate) fn show_cells(layout: &Layout, report: usize, cells: &[Cell], parts: &mut [Cell])
+/// Makes the part of a report what it shows of these control states.
+pub(crate) fn show_states(
+    layout: &Layout,
+    report: usize,
+    states: &[ControlState],
+    parts: &mut [ControlState],
+)
     requires input { IsInput layout.now report }
-    requires cells { FitsSnapshot (items_of layout.now) cells.now }
+    requires states { FitsSnapshot (items_of layout.now) states.now }
     requires parts { FitsShown (items_of layout.now) parts.old }
-    ensures shown { parts.new ≡ shown (items_of layout.now) report cells.now parts.old }
+    ensures shown { parts.new ≡ shown_parts (items_of layout.now) report states.now parts.old }
     ensures layout { IsLayout layout.now }
 {
-    show_each(layout, report, cells, parts, false);
+    show_each(layout, report, states, parts, false);
 }
 
-/// Makes the part of a report its still part of these cells: what it shows of them, with every motion 0.
-pub(crate) fn show_still(layout: &Layout, report: usize, cells: &[Cell], parts: &mut [Cell])
+/// Makes the part of a report its still part of these control states: what it shows of them, with every motion 0.
+pub(crate) fn show_still(
+    layout: &Layout,
+    report: usize,
+    states: &[ControlState],
+    parts: &mut [ControlState],
+)
     requires input { IsInput layout.now report }
-    requires cells { FitsSnapshot (items_of layout.now) cells.now }
+    requires states { FitsSnapshot (items_of layout.now) states.now }
     requires parts { FitsShown (items_of layout.now) parts.old }
-    ensures still { parts.new ≡ still (items_of layout.now) report cells.now parts.old }
+    ensures still { parts.new ≡ still_parts (items_of layout.now) report states.now parts.old }
     ensures layout { IsLayout layout.now }
 {
-    show_each(layout, report, cells, parts, true);
+    show_each(layout, report, states, parts, true);
 }
 
-/// Takes the motion that the part of an item carries out of its cell, where the item stands in the report.
-fn take_item(layout: &Layout, i: usize, report: usize, cell: &mut Cell, part: &Cell)
+/// Takes the motion that the part of an item carries out of its control state, where the item stands in the report.
+fn take_item(
+    layout: &Layout,
+    i: usize,
+    report: usize,
+    state: &mut ControlState,
+    part: &ControlState,
+)
     requires listed { i < length layout.now.items }
     requires input { IsInput layout.now report }
-    requires room { HasRoomOf cell.old part.now }
-    requires amounts { AreMotions cell.old }
+    requires room { HasRoomOf state.old part.now }
+    requires amounts { AreMotions state.old }
     requires others { IsTrue (is_of report (item_at (items_of layout.now) i))
         → AreMotions part.now }
-    ensures { cell.new ≡ taken_of report (item_at (items_of layout.now) i) cell.old part.now }
+    ensures { state.new
+        ≡ without_motion_of report (item_at (items_of layout.now) i) state.old part.now }
 {
     if is_of(layout, i, report) {
-        take_motion(cell, part);
+        take_motion(state, part);
     }
 }
 
-/// Whether the cell of an item calls for the report.
-fn calls_for(layout: &Layout, i: usize, report: usize, cell: &Cell, part: &Cell) -> bool
+/// Whether the control state of an item calls for the report.
+fn calls_for(
+    layout: &Layout,
+    i: usize,
+    report: usize,
+    state: &ControlState,
+    part: &ControlState,
+) -> bool
     requires listed { i < length layout.now.items }
     requires input { IsInput layout.now report }
-    ensures { result ≡ calls_for report (item_at (items_of layout.now) i) cell.now part.now }
+    ensures { result ≡ calls_for report (item_at (items_of layout.now) i) state.now part.now }
 {
     is_of(layout, i, report)
-        && (has_motion(cell) || !is_shown(cell, &controls_for(layout, i, cell), part))
+        && (has_motion(state) || !is_shown(state, &controls_for(layout, i, state), part))
 }
 
-/// Takes the motion that the part of a report carries out of these cells.
-pub(crate) fn take_cells(layout: &Layout, report: usize, cells: &mut [Cell], parts: &[Cell])
+/// Takes the motion that the part of a report carries out of these control states.
+pub(crate) fn take_states(
+    layout: &Layout,
+    report: usize,
+    states: &mut [ControlState],
+    parts: &[ControlState],
+)
     requires input { IsInput layout.now report }
     requires zeros { has_zeros (items_of layout.now) ≡ true }
-    requires cells { FitsSnapshot (items_of layout.now) cells.old }
+    requires states { FitsSnapshot (items_of layout.now) states.old }
     requires parts { FitsShown (items_of layout.now) parts.now }
-    requires part { parts.now ≡ shown (items_of layout.now) report cells.old parts.now }
-    ensures { cells.new ≡ taken (items_of layout.now) report cells.old parts.now }
+    requires part { parts.now ≡ shown_parts (items_of layout.now) report states.old parts.now }
+    ensures { states.new ≡ without_part_motion (items_of layout.now) report states.old parts.now }
 {
     for place in plan_of(layout, report) {
         let i = *place;
-        take_item(layout, i, report, &mut cells[i], cell_at(parts, i));
+        take_item(layout, i, report, &mut states[i], state_at(parts, i));
     }
 }
 
-/// Whether some of these cells calls for the report.
-pub(crate) fn is_changed(layout: &Layout, report: usize, cells: &[Cell], parts: &[Cell]) -> bool
+/// Whether some of these control states calls for the report.
+pub(crate) fn is_changed(
+    layout: &Layout,
+    report: usize,
+    states: &[ControlState],
+    parts: &[ControlState],
+) -> bool
     requires input { IsInput layout.now report }
-    requires cells { length cells.now ≡ length (items_of layout.now) }
+    requires states { length states.now ≡ length (items_of layout.now) }
     requires parts { length parts.now ≡ length (items_of layout.now) }
-    ensures { result ≡ is_changed (items_of layout.now) report cells.now parts.now }
+    ensures { result ≡ is_changed (items_of layout.now) report states.now parts.now }
 {
     for place in plan_of(layout, report) {
         let i = *place;
-        if calls_for(layout, i, report, cell_at(cells, i), cell_at(parts, i)) {
+        if calls_for(layout, i, report, state_at(states, i), state_at(parts, i)) {
             return true;
         }
     }

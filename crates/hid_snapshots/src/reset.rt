@@ -3,13 +3,13 @@
 ghost use Rattle.std.specs.Prelude.{◌≡◌, ◌<◌, Bool, List, false, length, pos, replicate};
 ghost use Rattle.hid_layout.specs.Controls.{items_of, form_at, head_of};
 ghost use Rattle.hid_layout.specs.Reports.{IsLayout};
-ghost use Rattle.hid_snapshots.specs.Cells.{blank_cell, FitsShown, HasRoom};
-ghost use Rattle.hid_snapshots.specs.Parts.{blank_parts, shown_cell};
+ghost use Rattle.hid_snapshots.specs.ControlStates.{blank_state, FitsShown, HasRoom};
+ghost use Rattle.hid_snapshots.specs.Parts.{blank_parts, shown_state};
 
 use crate::blank::first_value;
-use crate::cell::{Cell, Motions, Values};
+use crate::control_state::{ControlState, Motions, Values};
 use crate::items::item_count;
-use crate::parts::show_cell;
+use crate::parts::show_state;
 use hid_layout::{Controls, Layout};
 use std::mem;
 
@@ -23,8 +23,8 @@ fn fill(values: &mut Values, value: Option<i64>)
 
 /// Makes what is kept of an item's values what it was at first.
 fn reset_values(values: &mut Values, controls: &Controls)
-    requires { HasRoom controls.now (Cell.Holding values.old) }
-    ensures { Cell.Holding values.new ≡ blank_cell controls.now }
+    requires { HasRoom controls.now (ControlState.Values values.old) }
+    ensures { ControlState.Values values.new ≡ blank_state controls.now }
 {
     match controls {
         Controls::Elements {
@@ -46,52 +46,55 @@ pub(crate) fn reset_motions(motions: &mut Motions)
 }
 
 /// None is pressed of an array that rolled over.
-fn release_all(cell: &mut Cell)
-    ensures { (ps : List Bool) → cell.old ≡ Cell.RolledOver ps
-        → cell.new ≡ Cell.Pressed (replicate (length ps) false) }
+fn release_all(state: &mut ControlState)
+    ensures { (ps : List Bool) → state.old ≡ ControlState.RollOver ps
+        → state.new ≡ ControlState.Switches (replicate (length ps) false) }
 {
-    *cell = match mem::replace(cell, Cell::Vacant) {
-        Cell::RolledOver(mut flags) => {
+    *state = match mem::replace(state, ControlState::Absent) {
+        ControlState::RollOver(mut flags) => {
             flags.release_all();
-            Cell::Pressed(flags)
+            ControlState::Switches(flags)
         }
         other => other,
     };
 }
 
 /// Makes what is kept of a listed item what it was at first. The controls are looked up where it has values.
-fn reset_cell(layout: &Layout, i: usize, cell: &mut Cell)
+fn reset_state(layout: &Layout, i: usize, state: &mut ControlState)
     requires listed { i < length layout.now.items }
-    requires room { HasRoom (head_of (form_at (items_of layout.now) i)) cell.old }
-    ensures { cell.new ≡ blank_cell (head_of (form_at (items_of layout.now) i)) }
+    requires room { HasRoom (head_of (form_at (items_of layout.now) i)) state.old }
+    ensures { state.new ≡ blank_state (head_of (form_at (items_of layout.now) i)) }
 {
-    match cell {
-        Cell::Vacant => {}
-        Cell::Pressed(flags) => flags.release_all(),
-        Cell::Holding(values) => reset_values(values, &layout.controls(i)),
-        Cell::Moved(motions) => reset_motions(motions),
-        Cell::RolledOver(_) => release_all(cell),
+    match state {
+        ControlState::Absent => {}
+        ControlState::Switches(flags) => flags.release_all(),
+        ControlState::Values(values) => reset_values(values, &layout.controls(i)),
+        ControlState::Motions(motions) => reset_motions(motions),
+        ControlState::RollOver(_) => release_all(state),
     }
 }
 
-/// Makes what is shown of a listed item what it was at first. Of the initial cells motion alone is shown otherwise, where it
+/// Makes what is shown of a listed item what it was at first. Of the initial control states motion alone is shown otherwise, where it
 /// can't be 0.
 #[tactic(auto, using(crate::proofs::ResetLemmas::shown_blank))]
-fn reset_part(layout: &Layout, i: usize, part: &mut Cell)
+fn reset_part(layout: &Layout, i: usize, part: &mut ControlState)
     requires listed { i < length layout.now.items }
     requires room { HasRoom (head_of (form_at (items_of layout.now) i)) part.old }
-    ensures { part.new ≡ shown_cell (head_of (form_at (items_of layout.now) i))
-        (blank_cell (head_of (form_at (items_of layout.now) i))) }
+    ensures { part.new ≡ shown_state (head_of (form_at (items_of layout.now) i))
+        (blank_state (head_of (form_at (items_of layout.now) i))) }
 {
-    reset_cell(layout, i, part);
+    reset_state(layout, i, part);
     match part {
-        Cell::Moved(_) => show_cell(part, &layout.controls(i)),
-        Cell::Vacant | Cell::Pressed(_) | Cell::Holding(_) | Cell::RolledOver(_) => {}
+        ControlState::Motions(_) => show_state(part, &layout.controls(i)),
+        ControlState::Absent
+        | ControlState::Switches(_)
+        | ControlState::Values(_)
+        | ControlState::RollOver(_) => {}
     }
 }
 
 /// Makes what is shown of each item's controls what it was at first. No memory is taken.
-pub(crate) fn reset_parts(layout: &Layout, parts: &mut [Cell])
+pub(crate) fn reset_parts(layout: &Layout, parts: &mut [ControlState])
     requires { FitsShown (items_of layout.now) parts.old }
     ensures blank { parts.new ≡ blank_parts (items_of layout.now) }
     ensures layout { IsLayout layout.now }

@@ -1,10 +1,10 @@
 //! The numbers by which a report shows what is kept of an item, drawn one after another.
 
 ghost use Rattle.std.specs.Prelude.{◌≡◌, ◌<◌, ◌≤◌, ◌++◌, ◌^◌, ◌≤ℤ◌, neg_ℤ, pos, List, [], ◌∷◌, map, length, replicate, unwrap_or, IfSome};
-ghost use Rattle.hid_snapshots.specs.Sending.{switch_number, placed_from, IsPatternOf};
+ghost use Rattle.hid_snapshots.specs.Sending.{switch_number, pressed_places_from, IsPatternOf};
 ghost use Rattle.hid_snapshots.specs.Sources.{repeats};
 
-use crate::cell::{Motions, Values};
+use crate::control_state::{Motions, Values};
 use crate::flags::Flags;
 use crate::numbers::MAX_NUMBERS;
 use hid_layout::MAX_KEYS;
@@ -19,12 +19,12 @@ enum Source<'a> {
     Values(&'a Values, usize, i64),
     /// The motions from an index on.
     Motions(&'a Motions, usize),
-    /// The pressed keys from a place on, as numbers from the minimum on, and what the elements behind them have.
+    /// The pressed keys from a place on, as numbers from the minimum on, and what the elements after them have.
     Keys(&'a Flags, usize, i64, Repeated),
     Same(Repeated),
 }
 
-/// A number, so many times.
+/// A number, n times.
 #[derive(Clone, Copy)]
 struct Repeated {
     count: usize,
@@ -57,7 +57,7 @@ impl<'a> Sending<'a> {
         Sending::same(0, 0)
     }
 
-    /// The same number, so many times.
+    /// One number, n times.
     pub(crate) fn same(count: usize, number: i64) -> Sending<'a>
         ensures { result ≡ replicate count number }
     {
@@ -95,12 +95,12 @@ impl<'a> Sending<'a> {
         }
     }
 
-    /// The pressed keys by rising place, as numbers from the minimum on, and behind them the same number so many times.
+    /// The pressed keys by rising place, as numbers from the minimum on, and after them the same number n times.
     pub(crate) fn keys(flags: &'a Flags, min: i64, rest: usize, empty: i64) -> Sending<'a>
         requires places { length flags.now ≤ MAX_KEYS }
         requires small { neg_ℤ (pos (2 ^ 32)) ≤ℤ min }
         requires not_large { min ≤ℤ pos (2 ^ 32) }
-        ensures { result ≡ placed_from min 0 flags.now ++ replicate rest empty }
+        ensures { result ≡ pressed_places_from min 0 flags.now ++ replicate rest empty }
     {
         let then = Repeated {
             count: rest,
@@ -111,7 +111,7 @@ impl<'a> Sending<'a> {
         }
     }
 
-    /// Of up to 32 switches, of which none has been drawn, the pattern of as many bits, the first one lowest.
+    /// The pattern of up to 32 switches, the first one lowest, if none has been drawn yet.
     pub(crate) fn pattern(&self) -> Option<u32>
         ensures { IfSome result (IsPatternOf self.now) }
     {

@@ -3,11 +3,11 @@
 ghost use Rattle.std.specs.Prelude.{◌≡◌, IfOk};
 ghost use Rattle.hid_layout.specs.Controls.{items_of};
 ghost use Rattle.hid_snapshots.specs.Full.{IsFull};
-ghost use Rattle.hid_snapshots.specs.Cells.{FitsShown};
+ghost use Rattle.hid_snapshots.specs.ControlStates.{FitsShown};
 ghost use Rattle.hid_snapshots.specs.Parts.{blank_parts, motion_of};
 
 use crate::blank::blank_parts;
-use crate::cell::Cell;
+use crate::control_state::ControlState;
 use crate::fault::MemoryFault;
 use crate::reset::reset_parts;
 use hid_layout::{ControlId, Layout};
@@ -18,32 +18,32 @@ use std::marker::Model;
 /// and of an array with more pressed keys than elements that it rolled over.
 #[derive(Drop)]
 pub struct Shown {
-    pub(crate) cells: Vec<Cell>,
-    // There is room for these cells alone.
-    ghost full: { IsFull cells },
+    pub(crate) states: Vec<ControlState>,
+    // There is room for these control states alone.
+    ghost full: { IsFull states },
 }
 
 impl Model for Shown {
     ghost use Rattle.std.specs.Prelude.{List};
-    ghost use Rattle.hid_snapshots.specs.declared.cell.Cell.{Cell};
+    ghost use Rattle.hid_snapshots.specs.declared.control_state.ControlState.{ControlState};
 
-    ghost Value = { List Cell };
+    ghost Value = { List ControlState };
 
-    ghost view = { λ s. s.cells.items };
+    ghost view = { λ s. s.states.items };
 }
 
 impl Shown {
     /// The parts of a blank snapshot.
     ///
     /// # Errors
-    /// [`MemoryFault`], U10, for want of memory.
+    /// [`MemoryFault`], U10, for lack of memory.
     #[tactic(auto, using(crate::proofs::ShownLemmas::blank_parts_fit))]
     pub fn blank(alloc: Global, layout: &Layout) -> Result<Self, MemoryFault>
         ensures blank { IfOk result (λ shown. shown ≡ blank_parts (items_of layout.now)) }
         ensures fits { IfOk result (λ shown. FitsShown (items_of layout.now) shown) }
     {
         match blank_parts(alloc, layout) {
-            Ok(cells) => Ok(Shown { cells }),
+            Ok(states) => Ok(Shown { states }),
             Err(_) => Err(MemoryFault),
         }
     }
@@ -54,15 +54,15 @@ impl Shown {
         ensures blank { self.new ≡ blank_parts (items_of layout.now) }
         ensures fits { FitsShown (items_of layout.now) self.new }
     {
-        reset_parts(layout, &mut self.cells);
+        reset_parts(layout, &mut self.states);
     }
 
     /// The motion of a relative control in its report's part; 0 for another kind.
     pub fn motion(&self, control: ControlId) -> i64
         ensures { result ≡ motion_of self.now control }
     {
-        match self.cells.get(control.item) {
-            Some(Cell::Moved(motions)) => motions.get_or_zero(control.index),
+        match self.states.get(control.item) {
+            Some(ControlState::Motions(motions)) => motions.get_or_zero(control.index),
             _ => 0,
         }
     }

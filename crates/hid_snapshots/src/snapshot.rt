@@ -3,85 +3,100 @@
 ghost use Rattle.std.specs.Prelude.{◌≡◌, true, length, IfOk};
 ghost use Rattle.hid_layout.specs.Controls.{items_of};
 ghost use Rattle.hid_snapshots.specs.Full.{IsFull};
-ghost use Rattle.hid_snapshots.specs.Cells.{is_i32, FitsSnapshot, FitsShown, blank};
-ghost use Rattle.hid_snapshots.specs.Parts.{IsInput, is_changed, shown, still, taken, has_zeros};
-ghost use Rattle.hid_snapshots.specs.Snapshots.{is_pressed, motion_in, with_pressed, with_value, with_motion, is_full, can_hold, has_direction, target, cell_at, Changes, ChangesCell, HasIndex};
+ghost use Rattle.hid_snapshots.specs.ControlStates.{is_i32, FitsSnapshot, FitsShown, blank};
+ghost use Rattle.hid_snapshots.specs.Parts.{IsInput, is_changed, shown_parts, still_parts, without_part_motion, has_zeros};
+ghost use Rattle.hid_snapshots.specs.Snapshots.{is_pressed, motion_in, with_pressed, with_value, with_motion, is_full, can_hold, has_direction, target, state_at, Changes, ChangesState, HasIndex};
 ghost use Rattle.hid_snapshots.specs.Keys.{keys_at, has_keys_at, key_words, AreKeyWords};
 
-use crate::blank::blank_cells;
-use crate::cell::Cell;
+use crate::blank::blank_states;
 use crate::change::{Change, ChangeFault};
+use crate::control_state::ControlState;
 use crate::fault::MemoryFault;
 use crate::keys::key_words;
-use crate::parts::{is_changed, show_cells, show_still, take_cells};
+use crate::parts::{is_changed, show_states, show_still, take_states};
 use crate::shown::Shown;
 use hid_layout::{ControlId, ControlKind, Controls, Layout};
 use std::alloc::Global;
 use std::marker::Model;
 
-fn is_pressed(cell: &Cell, index: usize) -> bool
-    requires { HasIndex cell.now index }
-    ensures { result ≡ is_pressed cell.now index }
+fn is_pressed(state: &ControlState, index: usize) -> bool
+    requires { HasIndex state.now index }
+    ensures { result ≡ is_pressed state.now index }
 {
-    match cell {
-        Cell::Pressed(flags) => flags.get(index),
-        Cell::Vacant | Cell::Holding(_) | Cell::Moved(_) | Cell::RolledOver(_) => false,
+    match state {
+        ControlState::Switches(flags) => flags.get(index),
+        ControlState::Absent
+        | ControlState::Values(_)
+        | ControlState::Motions(_)
+        | ControlState::RollOver(_) => false,
     }
 }
 
-fn set_pressed(cell: &mut Cell, index: usize, pressed: bool)
-    requires { HasIndex cell.old index }
-    ensures { cell.new ≡ with_pressed cell.old index pressed }
+fn set_pressed(state: &mut ControlState, index: usize, pressed: bool)
+    requires { HasIndex state.old index }
+    ensures { state.new ≡ with_pressed state.old index pressed }
 {
-    match cell {
-        Cell::Pressed(flags) => flags.set(index, pressed),
-        Cell::Vacant | Cell::Holding(_) | Cell::Moved(_) | Cell::RolledOver(_) => {}
+    match state {
+        ControlState::Switches(flags) => flags.set(index, pressed),
+        ControlState::Absent
+        | ControlState::Values(_)
+        | ControlState::Motions(_)
+        | ControlState::RollOver(_) => {}
     }
 }
 
-fn set_value(cell: &mut Cell, index: usize, value: Option<i64>)
-    requires { HasIndex cell.old index }
-    ensures { cell.new ≡ with_value cell.old index value }
+fn set_value(state: &mut ControlState, index: usize, value: Option<i64>)
+    requires { HasIndex state.old index }
+    ensures { state.new ≡ with_value state.old index value }
 {
-    match cell {
-        Cell::Holding(values) => values.set(index, value),
-        Cell::Vacant | Cell::Pressed(_) | Cell::Moved(_) | Cell::RolledOver(_) => {}
+    match state {
+        ControlState::Values(values) => values.set(index, value),
+        ControlState::Absent
+        | ControlState::Switches(_)
+        | ControlState::Motions(_)
+        | ControlState::RollOver(_) => {}
     }
 }
 
-fn motion(cell: &Cell, index: usize) -> i64
-    requires { HasIndex cell.now index }
-    ensures { result ≡ motion_in cell.now index }
+fn motion(state: &ControlState, index: usize) -> i64
+    requires { HasIndex state.now index }
+    ensures { result ≡ motion_in state.now index }
 {
-    match cell {
-        Cell::Moved(motions) => motions.get(index),
-        Cell::Vacant | Cell::Pressed(_) | Cell::Holding(_) | Cell::RolledOver(_) => 0,
+    match state {
+        ControlState::Motions(motions) => motions.get(index),
+        ControlState::Absent
+        | ControlState::Switches(_)
+        | ControlState::Values(_)
+        | ControlState::RollOver(_) => 0,
     }
 }
 
 #[tactic(auto, using(crate::proofs::ListLemmas::kept))]
-fn set_motion(cell: &mut Cell, index: usize, amount: i64)
-    requires { HasIndex cell.old index }
-    ensures { cell.new ≡ with_motion cell.old index amount }
+fn set_motion(state: &mut ControlState, index: usize, amount: i64)
+    requires { HasIndex state.old index }
+    ensures { state.new ≡ with_motion state.old index amount }
 {
-    match cell {
-        Cell::Moved(motions) => motions.set(index, amount),
-        Cell::Vacant | Cell::Pressed(_) | Cell::Holding(_) | Cell::RolledOver(_) => {}
+    match state {
+        ControlState::Motions(motions) => motions.set(index, amount),
+        ControlState::Absent
+        | ControlState::Switches(_)
+        | ControlState::Values(_)
+        | ControlState::RollOver(_) => {}
     }
 }
 
 /// Whether no further key can be pressed.
-fn is_full(controls: &Controls, cell: &Cell) -> bool
-    ensures { result ≡ is_full controls.now cell.now }
+fn is_full(controls: &Controls, state: &ControlState) -> bool
+    ensures { result ≡ is_full controls.now state.now }
 {
-    match (controls, cell) {
+    match (controls, state) {
         (
             Controls::Keys {
                 elements,
                 rolls_over,
                 ..
             },
-            Cell::Pressed(flags),
+            ControlState::Switches(flags),
         ) => { !*rolls_over && *elements <= flags.count() }
         (
             Controls::Keys {
@@ -121,54 +136,58 @@ fn has_direction(controls: &Controls, by: i64) -> bool
     }
 }
 
-fn press(cell: &mut Cell, controls: &Controls, control: ControlId) -> Result<(), ChangeFault>
-    requires { HasIndex cell.old control.index }
-    ensures { ChangesCell ControlKind.Switch controls.now cell.old
-        (Change.Press control) result cell.new }
+fn press(
+    state: &mut ControlState,
+    controls: &Controls,
+    control: ControlId,
+) -> Result<(), ChangeFault>
+    requires { HasIndex state.old control.index }
+    ensures { ChangesState ControlKind.Switch controls.now state.old
+        (Change.Press control) result state.new }
 {
-    if !is_pressed(cell, control.index) && is_full(controls, cell) {
+    if !is_pressed(state, control.index) && is_full(controls, state) {
         return Err(ChangeFault::ArrayFull);
     }
-    set_pressed(cell, control.index, true);
+    set_pressed(state, control.index, true);
     Ok(())
 }
 
 fn set(
-    cell: &mut Cell,
+    state: &mut ControlState,
     controls: &Controls,
     control: ControlId,
     value: i64,
 ) -> Result<(), ChangeFault>
-    requires { HasIndex cell.old control.index }
-    ensures value { ChangesCell ControlKind.Value controls.now cell.old
-        (Change.Set control value) result cell.new }
-    ensures null_value { ChangesCell ControlKind.NullValue controls.now cell.old
-        (Change.Set control value) result cell.new }
+    requires { HasIndex state.old control.index }
+    ensures value { ChangesState ControlKind.Value controls.now state.old
+        (Change.Set control value) result state.new }
+    ensures null_value { ChangesState ControlKind.NullValue controls.now state.old
+        (Change.Set control value) result state.new }
 {
     if !can_hold(controls, value) {
         return Err(ChangeFault::OutOfRange);
     }
-    set_value(cell, control.index, Some(value));
+    set_value(state, control.index, Some(value));
     Ok(())
 }
 
 fn shift(
-    cell: &mut Cell,
+    state: &mut ControlState,
     controls: &Controls,
     control: ControlId,
     by: i32,
 ) -> Result<(), ChangeFault>
-    requires { HasIndex cell.old control.index }
-    ensures { ChangesCell ControlKind.Relative controls.now cell.old
-        (Change.Move control by) result cell.new }
+    requires { HasIndex state.old control.index }
+    ensures { ChangesState ControlKind.Relative controls.now state.old
+        (Change.Move control by) result state.new }
 {
     if !has_direction(controls, by as i64) {
         return Err(ChangeFault::NoDirection);
     }
-    let total = motion(cell, control.index).checked_add(by as i64);
+    let total = motion(state, control.index).checked_add(by as i64);
     match total {
         Some(total) if is_i32(total) => {
-            set_motion(cell, control.index, total);
+            set_motion(state, control.index, total);
             Ok(())
         }
         _ => Err(ChangeFault::MotionFull),
@@ -182,25 +201,25 @@ fn is_i32(number: i64) -> bool
 }
 
 /// Changes one control, of the kind given.
-fn change_cell(
-    cell: &mut Cell,
+fn change_state(
+    state: &mut ControlState,
     kind: ControlKind,
     controls: &Controls,
     change: &Change,
 ) -> Result<(), ChangeFault>
-    requires { HasIndex cell.old (target change.now).index }
-    ensures { ChangesCell kind controls.now cell.old change.now result cell.new }
+    requires { HasIndex state.old (target change.now).index }
+    ensures { ChangesState kind controls.now state.old change.now result state.new }
 {
     match change {
         Change::Press(control) => match kind {
-            ControlKind::Switch => press(cell, controls, *control),
+            ControlKind::Switch => press(state, controls, *control),
             ControlKind::Value | ControlKind::NullValue | ControlKind::Relative => {
                 Err(ChangeFault::WrongKind)
             }
         },
         Change::Release(control) => match kind {
             ControlKind::Switch => {
-                set_pressed(cell, control.index, false);
+                set_pressed(state, control.index, false);
                 Ok(())
             }
             ControlKind::Value | ControlKind::NullValue | ControlKind::Relative => {
@@ -208,19 +227,19 @@ fn change_cell(
             }
         },
         Change::Set(control, value) => match kind {
-            ControlKind::Value | ControlKind::NullValue => set(cell, controls, *control, *value),
+            ControlKind::Value | ControlKind::NullValue => set(state, controls, *control, *value),
             ControlKind::Switch | ControlKind::Relative => Err(ChangeFault::WrongKind),
         },
         Change::Null(control) => match kind {
             ControlKind::Value => Err(ChangeFault::NoNull),
             ControlKind::NullValue => {
-                set_value(cell, control.index, None);
+                set_value(state, control.index, None);
                 Ok(())
             }
             ControlKind::Switch | ControlKind::Relative => Err(ChangeFault::WrongKind),
         },
         Change::Move(control, by) => match kind {
-            ControlKind::Relative => shift(cell, controls, *control, *by),
+            ControlKind::Relative => shift(state, controls, *control, *by),
             ControlKind::Switch | ControlKind::Value | ControlKind::NullValue => {
                 Err(ChangeFault::WrongKind)
             }
@@ -245,18 +264,18 @@ fn target(change: &Change) -> ControlId
 /// that isn't reported yet. Calls with a layout ask for the one with which the snapshot was made.
 #[derive(Drop)]
 pub struct Snapshot {
-    pub(crate) cells: Vec<Cell>,
-    // There is room for these cells alone.
-    ghost full: { IsFull cells },
+    pub(crate) states: Vec<ControlState>,
+    // There is room for these control states alone.
+    ghost full: { IsFull states },
 }
 
 impl Model for Snapshot {
     ghost use Rattle.std.specs.Prelude.{List};
-    ghost use Rattle.hid_snapshots.specs.declared.cell.Cell.{Cell};
+    ghost use Rattle.hid_snapshots.specs.declared.control_state.ControlState.{ControlState};
 
-    ghost Value = { List Cell };
+    ghost Value = { List ControlState };
 
-    ghost view = { λ s. s.cells.items };
+    ghost view = { λ s. s.states.items };
 }
 
 impl Snapshot {
@@ -264,14 +283,14 @@ impl Snapshot {
     /// value is null where it has null (HID 1.11, 5.10), else 0 where 0 can be sent, else the least value that can be sent.
     ///
     /// # Errors
-    /// [`MemoryFault`], U10, for want of memory.
+    /// [`MemoryFault`], U10, for lack of memory.
     #[tactic(auto, using(crate::proofs::BlankLemmas::blank_fits))]
     pub fn blank(alloc: Global, layout: &Layout) -> Result<Self, MemoryFault>
         ensures blank { IfOk result (λ snapshot. snapshot ≡ blank (items_of layout.now)) }
         ensures fits { IfOk result (λ snapshot. FitsSnapshot (items_of layout.now) snapshot) }
     {
-        match blank_cells(alloc, layout) {
-            Ok(cells) => Ok(Snapshot { cells }),
+        match blank_states(alloc, layout) {
+            Ok(states) => Ok(Snapshot { states }),
             Err(_) => Err(MemoryFault),
         }
     }
@@ -364,7 +383,7 @@ impl Snapshot {
         requires last { FitsShown (items_of layout.now) last.now }
         ensures { result ≡ is_changed (items_of layout.now) report self.now last.now }
     {
-        is_changed(layout, report, &self.cells, &last.cells)
+        is_changed(layout, report, &self.states, &last.states)
     }
 
     /// Sets the part of an Input report to what it shows of the snapshot; the parts of the others stay.
@@ -372,11 +391,11 @@ impl Snapshot {
         requires input { IsInput layout.now report }
         requires fits { FitsSnapshot (items_of layout.now) self.now }
         requires room { FitsShown (items_of layout.now) parts.old }
-        ensures shown { parts.new ≡ shown (items_of layout.now) report self.now parts.old }
-        ensures part { parts.new ≡ shown (items_of layout.now) report self.now parts.new }
+        ensures shown { parts.new ≡ shown_parts (items_of layout.now) report self.now parts.old }
+        ensures part { parts.new ≡ shown_parts (items_of layout.now) report self.now parts.new }
         ensures fits { FitsShown (items_of layout.now) parts.new }
     {
-        show_cells(layout, report, &self.cells, &mut parts.cells);
+        show_states(layout, report, &self.states, &mut parts.states);
     }
 
     /// Sets the part of an Input report to its still part: what it shows of the snapshot, with every motion 0. The
@@ -386,10 +405,10 @@ impl Snapshot {
         requires zeros { has_zeros (items_of layout.now) ≡ true }
         requires fits { FitsSnapshot (items_of layout.now) self.now }
         requires room { FitsShown (items_of layout.now) parts.old }
-        ensures still { parts.new ≡ still (items_of layout.now) report self.now parts.old }
+        ensures still { parts.new ≡ still_parts (items_of layout.now) report self.now parts.old }
         ensures fits { FitsShown (items_of layout.now) parts.new }
     {
-        show_still(layout, report, &self.cells, &mut parts.cells);
+        show_still(layout, report, &self.states, &mut parts.states);
     }
 
     /// Takes the motion that the part of an Input report carries out of the snapshot. The part is the one that the
@@ -399,11 +418,12 @@ impl Snapshot {
         requires zeros { has_zeros (items_of layout.now) ≡ true }
         requires fits { FitsSnapshot (items_of layout.now) self.old }
         requires part_fits { FitsShown (items_of layout.now) part.now }
-        requires part { part.now ≡ shown (items_of layout.now) report self.old part.now }
-        ensures taken { self.new ≡ taken (items_of layout.now) report self.old part.now }
+        requires part { part.now ≡ shown_parts (items_of layout.now) report self.old part.now }
+        ensures taken { self.new
+            ≡ without_part_motion (items_of layout.now) report self.old part.now }
         ensures fits { FitsSnapshot (items_of layout.now) self.new }
     {
-        take_cells(layout, report, &mut self.cells, &part.cells);
+        take_states(layout, report, &mut self.states, &part.states);
     }
 
     /// The pressed keys of an Input array, by place in its usage list: bit i mod 64 of word i div 64 is 1 exactly where
@@ -414,9 +434,9 @@ impl Snapshot {
         requires array { has_keys_at (items_of layout.now) item ≡ true }
         ensures words { result.now ≡ key_words self.now item }
         ensures keys { AreKeyWords (length (keys_at layout.now item))
-            (is_pressed (cell_at self.now item)) result.now }
+            (is_pressed (state_at self.now item)) result.now }
     {
-        key_words(&self.cells, item)
+        key_words(&self.states, item)
     }
 
     fn change(&mut self, layout: &Layout, change: &Change) -> Result<(), ChangeFault>
@@ -429,6 +449,6 @@ impl Snapshot {
             return Err(ChangeFault::NoSuchControl);
         };
         let controls = layout.controls(id.item);
-        change_cell(&mut self.cells[id.item], control.kind, &controls, change)
+        change_state(&mut self.states[id.item], control.kind, &controls, change)
     }
 }

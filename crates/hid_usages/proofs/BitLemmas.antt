@@ -22,13 +22,13 @@ use Rattle.hid_descriptor.specs.declared.usage.Usage.{Usage}
 use Rattle.hid_snapshots.specs.declared.event.Event.{Event}
 use Rattle.hid_snapshots.specs.declared.event.Event.TheVariants as event
 use Rattle.hid_snapshots.specs.Events.{at, switch_event, usages_of, usages_at, element_events, change_events}
-use Rattle.hid_usages.specs.Reading.{read_switch, read_cell, motion_cell, item_numbers}
+use Rattle.hid_usages.specs.Reading.{read_switch, read_state, motion_state, item_numbers}
 use Rattle.hid_usages.specs.Bits.{is_variable, are_bits, read_bits}
 use Rattle.hid_layout.specs.ControlKinds.{is_switch}
-use Rattle.hid_snapshots.specs.Views.{motions_told}
-use Rattle.hid_usages.specs.Taking.{list_at, IsFormOf, read_by_numbers, told_by_numbers}
+use Rattle.hid_snapshots.specs.Views.{form_motions}
+use Rattle.hid_usages.specs.Taking.{list_at, IsFormOf, state_by_numbers, number_events}
 use Rattle.hid_usages.proofs.TakeLemmas.{list_at-is}
-use Rattle.hid_snapshots.proofs.SendLemmas.{spread-length}
+use Rattle.hid_snapshots.proofs.SendLemmas.{spread_usages-length}
 use Rattle.hid_fields.specs.Value.{is_negative}
 use Rattle.hid_descriptor.specs.Flags.{has_flag, RELATIVE, NULL_STATE}
 use Rattle.hid_layout.specs.declared.main_item.MainItem.{MainItem}
@@ -40,10 +40,10 @@ use Rattle.hid_layout.specs.declared.control.Controls.TheVariants as head
 use Rattle.hid_layout.specs.Layout.{Contents}
 use Rattle.hid_descriptor.specs.Fields.{is_padding}
 use Rattle.hid_layout.specs.Reports.{IsLayout, first_bit}
-use Rattle.hid_layout.specs.Controls.{Form, Elements, form_of, form_at, items_of, head_of, element_kind, has_outside, least_of, greatest_of, spread}
-use Rattle.hid_snapshots.specs.declared.cell.Cell.{Cell}
-use Rattle.hid_snapshots.specs.declared.cell.Cell.TheVariants.{Vacant, Pressed, Holding, Moved, RolledOver}
-use Rattle.hid_snapshots.specs.Cells.{HasRoom}
+use Rattle.hid_layout.specs.Controls.{Form, Elements, form_of, form_at, items_of, head_of, element_kind, has_outside, least_of, greatest_of, spread_usages}
+use Rattle.hid_snapshots.specs.declared.control_state.ControlState.{ControlState}
+use Rattle.hid_snapshots.specs.declared.control_state.ControlState.TheVariants.{Absent, Switches, Values, Motions, RollOver}
+use Rattle.hid_snapshots.specs.ControlStates.{HasRoom}
 use Rattle.hid_snapshots.proofs.CodeLemmas.{both_true}
 use Rattle.hid_usages.proofs.EventLemmas.{TellsBy, length_zip, zip_parts}
 use Rattle.hid_usages.proofs.RoomLemmas.{off_past}
@@ -170,65 +170,85 @@ has_bits m h =
       from_zero = (Decides-int_eq m.min (pos 0)).0 ((both_true (int_eq m.min (pos 0)) (int_eq m.max (pos 1)) range.0).0);
     }
 
-cell_by_bits : (m : MainItem) (us : List Usage) (kind : ControlKind) (least greatest : ℤ) (uses : List Usage) (cell : Cell) (vs : List ℤ) (pattern : ℕ) → kind ≡ Switch → HasRoom (head_of (Elements kind least greatest uses)) cell
+state_by_bits : (m : MainItem) (us : List Usage) (kind : ControlKind) (least greatest : ℤ) (uses : List Usage)
+    (state : ControlState) (vs : List ℤ) (pattern : ℕ) → kind ≡ Switch
+    → HasRoom (head_of (Elements kind least greatest uses)) state
     → ((bs : List Bool) → length bs ≡ length uses → map (λ p. read_switch p.0 p.1) (zip bs vs) ≡ bits_in (length bs) pattern)
-    → read_bits pattern cell ≡ read_cell m us (Elements kind least greatest uses) cell vs
-cell_by_bits m us Switch least greatest uses (Pressed bs) vs pattern k room read = ap Pressed (sym (read bs room))
-cell_by_bits m us Switch least greatest uses Vacant vs pattern k room read = absurd room
-cell_by_bits m us Switch least greatest uses (Holding bs) vs pattern k room read = absurd room
-cell_by_bits m us Switch least greatest uses (Moved bs) vs pattern k room read = absurd room
-cell_by_bits m us Switch least greatest uses (RolledOver bs) vs pattern k room read = absurd room
-cell_by_bits m us Value least greatest uses cell vs pattern k room read = absurd (cc)
-cell_by_bits m us NullValue least greatest uses cell vs pattern k room read = absurd (cc)
-cell_by_bits m us Relative least greatest uses cell vs pattern k room read = absurd (cc)
+    → read_bits pattern state ≡ read_state m us (Elements kind least greatest uses) state vs
+state_by_bits m us Switch least greatest uses (Switches bs) vs pattern k room read = ap Switches (sym (read bs room))
+state_by_bits m us Switch least greatest uses Absent vs pattern k room read = absurd room
+state_by_bits m us Switch least greatest uses (Values bs) vs pattern k room read = absurd room
+state_by_bits m us Switch least greatest uses (Motions bs) vs pattern k room read = absurd room
+state_by_bits m us Switch least greatest uses (RollOver bs) vs pattern k room read = absurd room
+state_by_bits m us Value least greatest uses state vs pattern k room read = absurd (cc)
+state_by_bits m us NullValue least greatest uses state vs pattern k room read = absurd (cc)
+state_by_bits m us Relative least greatest uses state vs pattern k room read = absurd (cc)
 
-told_by_bits : (i : ℕ) (kind : ControlKind) (least greatest : ℤ) (uses : List Usage) (b a : Cell) (vs : List ℤ) → kind ≡ Switch
-    → element_events i uses b a ≡ change_events i (Elements kind least greatest uses) b a ++ motions_told i (Elements kind least greatest uses) (motion_cell (Elements kind least greatest uses) vs)
+told_by_bits : (i : ℕ) (kind : ControlKind) (least greatest : ℤ) (uses : List Usage) (b a : ControlState)
+    (vs : List ℤ) → kind ≡ Switch
+    → element_events i uses b a ≡ change_events i (Elements kind least greatest uses) b a
+    ++ form_motions i (Elements kind least greatest uses) (motion_state (Elements kind least greatest uses) vs)
 told_by_bits i Switch least greatest uses b a vs k = sym (append-nil (element_events i uses b a))
 told_by_bits i Value least greatest uses b a vs k = absurd (cc)
 told_by_bits i NullValue least greatest uses b a vs k = absurd (cc)
 told_by_bits i Relative least greatest uses b a vs k = absurd (cc)
 
-room_of_bits : (kind : ControlKind) (least greatest : ℤ) (uses : List Usage) (cell : Cell) → kind ≡ Switch → HasRoom (head_of (Elements kind least greatest uses)) cell → HasRoom (head.Elements Switch (pos 0) (pos 1) (length uses)) cell
-room_of_bits Switch least greatest uses (Pressed bs) k room = room
-room_of_bits Switch least greatest uses Vacant k room = absurd room
-room_of_bits Switch least greatest uses (Holding bs) k room = absurd room
-room_of_bits Switch least greatest uses (Moved bs) k room = absurd room
-room_of_bits Switch least greatest uses (RolledOver bs) k room = absurd room
-room_of_bits Value least greatest uses cell k room = absurd (cc)
-room_of_bits NullValue least greatest uses cell k room = absurd (cc)
-room_of_bits Relative least greatest uses cell k room = absurd (cc)
+room_of_bits : (kind : ControlKind) (least greatest : ℤ) (uses : List Usage) (state : ControlState) → kind ≡ Switch
+    → HasRoom (head_of (Elements kind least greatest uses)) state
+    → HasRoom (head.Elements Switch (pos 0) (pos 1) (length uses)) state
+room_of_bits Switch least greatest uses (Switches bs) k room = room
+room_of_bits Switch least greatest uses Absent k room = absurd room
+room_of_bits Switch least greatest uses (Values bs) k room = absurd room
+room_of_bits Switch least greatest uses (Motions bs) k room = absurd room
+room_of_bits Switch least greatest uses (RollOver bs) k room = absurd room
+room_of_bits Value least greatest uses state k room = absurd (cc)
+room_of_bits NullValue least greatest uses state k room = absurd (cc)
+room_of_bits Relative least greatest uses state k room = absurd (cc)
 
--- What the pattern of an item's switches makes of its cell is what their numbers make of it.
-pub record ReadsAsBits (layout : Contents) (bytes : List ℕ) (i : ℕ) (m : MainItem) (cell : Cell) : Type 0 where
+-- What the pattern of an item's switches makes of its control state is what their numbers make of it.
+pub record ReadsAsBits (layout : Contents) (bytes : List ℕ) (i : ℕ) (m : MainItem)
+    (state : ControlState) : Type 0 where
   pub places : length (usages_at layout i) ≡ m.count
-  pub room : HasRoom (head.Elements Switch (pos 0) (pos 1) (length (usages_at layout i))) cell
-  pub read : read_bits (pattern_in layout bytes m) cell ≡ read_by_numbers layout i m cell (item_numbers layout bytes m)
-  pub told : (after : Cell) → element_events i (usages_at layout i) cell after ≡ told_by_numbers layout i m cell after (item_numbers layout bytes m)
+  pub room : HasRoom (head.Elements Switch (pos 0) (pos 1) (length (usages_at layout i))) state
+  pub read : read_bits (pattern_in layout bytes m) state
+      ≡ state_by_numbers layout i m state (item_numbers layout bytes m)
+  pub told : (after : ControlState)
+      → element_events i (usages_at layout i) state after
+      ≡ number_events layout i m state after (item_numbers layout bytes m)
 
-pub reads_as_bits : (layout : Contents) (bytes : List ℕ) (i : ℕ) (m : MainItem) (cell : Cell) → IsLayout layout → slice_get layout.items i ≡ Some m → IsFormOf layout i m → HasBits m → HasRoom (head_of (form_at (items_of layout) i)) cell
-    → ReadsAsBits layout bytes i m cell
-reads_as_bits layout bytes i m cell laid listed form bits room =
+pub reads_as_bits : (layout : Contents) (bytes : List ℕ) (i : ℕ) (m : MainItem) (state : ControlState)
+    → IsLayout layout → slice_get layout.items i ≡ Some m → IsFormOf layout i m → HasBits m
+    → HasRoom (head_of (form_at (items_of layout) i)) state
+    → ReadsAsBits layout bytes i m state
+reads_as_bits layout bytes i m state laid listed form bits room =
     let us = list_at layout i in
     let es = got layout.entries i (omega (arith, laid.entries_there, slice_get_within layout.items i m listed)) in
     let some : 0 < length us = omega (arith, laid.some_usage i m es.0 listed es.1 (ap is_padding bits.shape), ap length (list_at-is layout i es.0 es.1)) in
-    let long : length (spread m.count us) ≡ m.count = spread-length m.count us some in
-    let is : form_at (items_of layout) i ≡ Elements (element_kind m) (least_of m) (greatest_of m) (spread m.count us) = form ∙ ap (form_of m us) bits.shape in
-    let here : HasRoom (head_of (Elements (element_kind m) (least_of m) (greatest_of m) (spread m.count us))) cell = subst (λ (f : Form). HasRoom (head_of f) cell) is room in
-    let uses : usages_at layout i ≡ spread m.count us = ap usages_of is in
+    let long : length (spread_usages m.count us) ≡ m.count = spread_usages-length m.count us some in
+    let is : form_at (items_of layout) i
+    ≡ Elements (element_kind m) (least_of m) (greatest_of m) (spread_usages m.count us) =
+    form ∙ ap (form_of m us) bits.shape in
+    let here : HasRoom
+    (head_of (Elements (element_kind m) (least_of m) (greatest_of m) (spread_usages m.count us))) state =
+    subst (λ (f : Form). HasRoom (head_of f) state) is room in
+    let uses : usages_at layout i ≡ spread_usages m.count us = ap usages_of is in
     let count : length (usages_at layout i) ≡ m.count = ap length uses ∙ long in
     let unsigned : is_negative m.min ≡ false = ap is_negative bits.from_zero in
     let numbers : item_numbers layout bytes m ≡ numbers_in bytes (first_bit layout + m.offset) 1 false m.count = ap (λ (w : ℕ). numbers_in bytes (first_bit layout + m.offset) w (is_negative m.min) m.count) bits.size ∙ ap (λ (s : Bool). numbers_in bytes (first_bit layout + m.offset) 1 s m.count) unsigned in
     record {
       places = count;
-      room = rw uses (room_of_bits (element_kind m) (least_of m) (greatest_of m) (spread m.count us) cell bits.kind here);
+      room = rw uses
+          (room_of_bits (element_kind m) (least_of m) (greatest_of m) (spread_usages m.count us) state bits.kind here);
       read =
-          cell_by_bits m us (element_kind m) (least_of m) (greatest_of m) (spread m.count us) cell (item_numbers layout bytes m) (pattern_in layout bytes m) bits.kind here
+          state_by_bits m us (element_kind m) (least_of m) (greatest_of m) (spread_usages m.count us) state
+          (item_numbers layout bytes m) (pattern_in layout bytes m) bits.kind here
           (λ bs l.
           ap (λ (vs : List ℤ). map (λ p. read_switch p.0 p.1) (zip bs vs)) numbers ∙ bits_read bytes (first_bit layout + m.offset) m.count bs (l ∙ long) ∙ ap (λ (n : ℕ). bits_in n (pattern_in layout bytes m)) (sym (l ∙ long)))
-          ∙ ap (λ (f : Form). read_cell m us f cell (item_numbers layout bytes m)) (sym is);
+          ∙ ap (λ (f : Form). read_state m us f state (item_numbers layout bytes m)) (sym is);
       told = λ after.
-          ap (λ (l : List Usage). element_events i l cell after) uses
-          ∙ told_by_bits i (element_kind m) (least_of m) (greatest_of m) (spread m.count us) cell after (item_numbers layout bytes m) bits.kind
-          ∙ ap (λ (f : Form). change_events i f cell after ++ motions_told i f (motion_cell f (item_numbers layout bytes m))) (sym is);
+          ap (λ (l : List Usage). element_events i l state after) uses
+          ∙ told_by_bits i (element_kind m) (least_of m) (greatest_of m) (spread_usages m.count us) state after
+          (item_numbers layout bytes m) bits.kind
+          ∙ ap (λ (f : Form). change_events i f state after
+          ++ form_motions i f (motion_state f (item_numbers layout bytes m))) (sym is);
     }

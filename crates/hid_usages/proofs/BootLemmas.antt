@@ -17,21 +17,21 @@ use Rattle.hid_layout.specs.declared.control.Control.{Control}
 use Rattle.hid_layout.specs.declared.main_item.MainItem.{MainItem}
 use Rattle.hid_descriptor.specs.declared.shape.Shape.TheVariants.{Array}
 use Rattle.hid_descriptor.specs.declared.usage.Usage.{Usage}
-use Rattle.hid_layout.specs.Controls.{Item, Key, input_item, Elements, Keys, items_of, items_from, keys_from, rollover_from, spread, control_of_key, head_of}
-use Rattle.hid_layout.specs.Finding.{shown_at}
-use Rattle.hid_snapshots.specs.declared.cell.Cell.{Cell}
-use Rattle.hid_snapshots.specs.declared.cell.Cell.TheVariants.{Vacant, Pressed, Holding, Moved, RolledOver}
+use Rattle.hid_layout.specs.Controls.{Item, Key, input_item, Elements, Keys, items_of, items_from, keys_from, rollover_from, spread_usages, control_of_key, head_of}
+use Rattle.hid_layout.specs.Finding.{control_usage}
+use Rattle.hid_snapshots.specs.declared.control_state.ControlState.{ControlState}
+use Rattle.hid_snapshots.specs.declared.control_state.ControlState.TheVariants.{Absent, Switches, Values, Motions, RollOver}
 use Rattle.hid_usages.specs.declared.boot.KeyboardReport.{KeyboardReport}
 use Rattle.hid_usages.specs.Boot.{field, keyboard_layout, mouse_layout, keyboard_of, mouse_of, motion_in, is_held, is_rolled, names, buttons_in, TellsKeys, TellsButtons}
-use Rattle.hid_snapshots.specs.Cells.{is_in, FitsView, HasRoom, InView}
+use Rattle.hid_snapshots.specs.ControlStates.{is_in, FitsView, HasRoom, InView}
 use Rattle.hid_snapshots.specs.Encoding.{AreBytes}
 use Rattle.hid_snapshots.specs.Numbers.{number_at, numbers_in}
-use Rattle.hid_usages.specs.Reading.{read_switch, read_motion, names_rollover, names_key, named_from, report_named, is_rollover_at}
+use Rattle.hid_usages.specs.Reading.{read_switch, read_motion, names_rollover, names_key, named_keys_from, report_named, is_rollover_at}
 use Rattle.hid_snapshots.specs.Samples.{usage, keyboard, mouse}
-use Rattle.hid_snapshots.specs.Snapshots.{is_pressed, cell_at}
+use Rattle.hid_snapshots.specs.Snapshots.{is_pressed, state_at}
 use Rattle.hid_snapshots.specs.declared.event.Event.{Event}
 use Rattle.hid_snapshots.specs.Events.{at, switch_events, motion_event, motion_events, change_events}
-use Rattle.hid_usages.specs.Taking.{read_view, read_by_report, told_by_report, read_events}
+use Rattle.hid_usages.specs.Taking.{read_view, state_by_report, report_events_from, read_events}
 use Rattle.hid_snapshots.proofs.CodeLemmas.{test_true}
 use Rattle.hid_snapshots.proofs.ItemLemmas.{got}
 use Rattle.hid_usages.proofs.KeyLemmas.{rollover_named}
@@ -147,7 +147,8 @@ any_rollover : (bs : List ℕ) → list_any (names_rollover key_item key_places)
 any_rollover [] = refl
 any_rollover (b ∷ bs) = rw (one_rollover b, any_rollover bs) refl
 
-named_at : (item : MainItem) (vs : List ℤ) (i : ℕ) (keys : List Key) (j : ℕ) (key : Key) → slice_get keys j ≡ Some key → slice_get (named_from item vs i keys) j ≡ Some (key.is_switch && names_key item vs (i + j))
+named_at : (item : MainItem) (vs : List ℤ) (i : ℕ) (keys : List Key) (j : ℕ) (key : Key) → slice_get keys j ≡ Some key
+    → slice_get (named_keys_from item vs i keys) j ≡ Some (key.is_switch && names_key item vs (i + j))
 named_at item vs i [] j key h = absurd (cc)
 named_at item vs i (k ∷ keys) zero key h =
     let e : k ≡ key = cc in
@@ -160,11 +161,11 @@ named_at item vs i (k ∷ keys) (suc j) key h =
 -- The controls.
 
 keyboard_controls : items_of keyboard_layout ≡ keyboard
-unfolding items_from keys_from rollover_from spread
+unfolding items_from keys_from rollover_from spread_usages
 keyboard_controls = refl
 
 mouse_controls : items_of mouse_layout ≡ mouse
-unfolding items_from spread
+unfolding items_from spread_usages
 mouse_controls = refl
 
 abbrev IsPlace : ℕ → ℕ → ℕ → Type 0
@@ -183,7 +184,7 @@ key_usage (Some key) u h = (key, refl, by_switch key.is_switch h)
     by_switch false e = absurd (cc)
 
 -- which control has a usage of page 07
-place_of : (i j id : ℕ) → shown_at keyboard (record { item = i; index = j }) ≡ Some (usage 7 id) → IsPlace i j id
+place_of : (i j id : ℕ) → control_usage keyboard (record { item = i; index = j }) ≡ Some (usage 7 id) → IsPlace i j id
 place_of zero j id h =
     let made = made_at (usage 7) 0xE0 8 j (usage 7 id) (switch_usage (slice_get (map (usage 7) (range_with_len 0xE0 8)) j) (usage 7 id) h) in
     inl (refl, made.0, ap (λ (u : Usage). u.id) made.1)
@@ -198,45 +199,58 @@ place_of (suc (suc (suc (suc (suc i))))) j id h = absurd (cc)
 
 -- The view.
 
-pressed_there : (view : List Cell) → FitsView keyboard view → (ps : List Bool) × (slice_get view 0 ≡ Some (Pressed ps)) × (length ps ≡ 8)
-pressed_there view fits = by_cell at.0 at.1 (fits.room 0 (input_item 0 8 (Elements Switch (pos 0) (pos 1) (map (usage 7) (range_with_len 0xE0 8)))) at.0 refl at.1)
+pressed_there : (view : List ControlState) → FitsView keyboard view
+    → (ps : List Bool) × (slice_get view 0 ≡ Some (Switches ps)) × (length ps ≡ 8)
+pressed_there view fits = by_state at.0 at.1 (fits.room 0 (input_item 0 8 (Elements Switch (pos 0) (pos 1) (map (usage 7) (range_with_len 0xE0 8)))) at.0 refl at.1)
   where
-    at : (cell : Cell) × (slice_get view 0 ≡ Some cell)
+    at : (state : ControlState) × (slice_get view 0 ≡ Some state)
     at = got view 0 (omega (arith, fits.one_each))
 
-    by_cell : (cell : Cell) → slice_get view 0 ≡ Some cell → HasRoom (head_of (Elements Switch (pos 0) (pos 1) (map (usage 7) (range_with_len 0xE0 8)))) cell → (ps : List Bool) × (slice_get view 0 ≡ Some (Pressed ps)) × (length ps ≡ 8)
-    by_cell Vacant e r = absurd r
-    by_cell (Pressed ps) e r = (ps, e, r)
-    by_cell (Holding vs) e r = absurd r
-    by_cell (Moved ms) e r = absurd r
-    by_cell (RolledOver ps) e r = absurd r
+    by_state : (state : ControlState) → slice_get view 0 ≡ Some state
+        → HasRoom (head_of (Elements Switch (pos 0) (pos 1) (map (usage 7) (range_with_len 0xE0 8)))) state
+        → (ps : List Bool) × (slice_get view 0 ≡ Some (Switches ps)) × (length ps ≡ 8)
+    by_state Absent e r = absurd r
+    by_state (Switches ps) e r = (ps, e, r)
+    by_state (Values vs) e r = absurd r
+    by_state (Motions ms) e r = absurd r
+    by_state (RollOver ps) e r = absurd r
 
-keys_there : (view : List Cell) → FitsView keyboard view → (ps : List Bool) × (slice_get view 4 ≡ Some (Pressed ps))
-keys_there view fits = by_cell at.0 at.1 (fits.room 4 (input_item 0 8 (Keys 6 true keyboard_keys)) at.0 refl at.1) (fits.suits 4 (input_item 0 8 (Keys 6 true keyboard_keys)) at.0 refl at.1)
+keys_there : (view : List ControlState) → FitsView keyboard view
+    → (ps : List Bool) × (slice_get view 4 ≡ Some (Switches ps))
+keys_there view fits = by_state at.0 at.1 (fits.room 4 (input_item 0 8 (Keys 6 true keyboard_keys)) at.0 refl at.1) (fits.suits 4 (input_item 0 8 (Keys 6 true keyboard_keys)) at.0 refl at.1)
   where
-    at : (cell : Cell) × (slice_get view 4 ≡ Some cell)
+    at : (state : ControlState) × (slice_get view 4 ≡ Some state)
     at = got view 4 (omega (arith, fits.one_each))
 
-    by_cell : (cell : Cell) → slice_get view 4 ≡ Some cell → HasRoom (head_of (Keys 6 true keyboard_keys)) cell → InView (Keys 6 true keyboard_keys) cell → (ps : List Bool) × (slice_get view 4 ≡ Some (Pressed ps))
-    by_cell Vacant e r s = absurd r
-    by_cell (Pressed ps) e r s = (ps, e)
-    by_cell (Holding vs) e r s = absurd r
-    by_cell (Moved ms) e r s = absurd r
-    by_cell (RolledOver ps) e r s = absurd s
+    by_state : (state : ControlState) → slice_get view 4 ≡ Some state
+        → HasRoom (head_of (Keys 6 true keyboard_keys)) state → InView (Keys 6 true keyboard_keys) state
+        → (ps : List Bool) × (slice_get view 4 ≡ Some (Switches ps))
+    by_state Absent e r s = absurd r
+    by_state (Switches ps) e r s = (ps, e)
+    by_state (Values vs) e r s = absurd r
+    by_state (Motions ms) e r s = absurd r
+    by_state (RollOver ps) e r s = absurd s
 
 -- what is read of the modifiers and of the keys
-modifiers_read : (bytes : List ℕ) (ps : List Bool) → length ps ≡ 8 → read_by_report keyboard_layout 0 bytes 0 (Pressed ps) ≡ Pressed (map (λ n. bit_at (get_or bytes 0 0) n == 1) (range_with_len 0 8))
-unfolding items_from keys_from rollover_from spread
+modifiers_read : (bytes : List ℕ) (ps : List Bool) → length ps ≡ 8
+    → state_by_report keyboard_layout 0 bytes 0 (Switches ps)
+    ≡ Switches (map (λ n. bit_at (get_or bytes 0 0) n == 1) (range_with_len 0 8))
+unfolding items_from keys_from rollover_from spread_usages
 modifiers_read bytes ps h =
-    ap (λ (vs : List ℤ). Pressed (map (λ p. read_switch p.0 p.1) (zip ps vs))) (eight_bits bytes)
-    ∙ ap Pressed (switches_read (bit_at (get_or bytes 0 0)) ps (range_with_len 0 8) h (λ n. bit_at-lt (get_or bytes 0 0) n))
+    ap (λ (vs : List ℤ). Switches (map (λ p. read_switch p.0 p.1) (zip ps vs))) (eight_bits bytes)
+    ∙ ap Switches
+    (switches_read (bit_at (get_or bytes 0 0)) ps (range_with_len 0 8) h (λ n. bit_at-lt (get_or bytes 0 0) n))
 
 keys_read : (bytes : List ℕ) (ps : List Bool) → AreBytes bytes → 8 ≤ length bytes → is_rolled (keyboard_of bytes) ≡ false
-    → read_by_report keyboard_layout 0 bytes 4 (Pressed ps) ≡ Pressed (named_from key_item (map pos (keyboard_of bytes).keys) 0 keyboard_keys)
-unfolding items_from keys_from rollover_from spread
+    → state_by_report keyboard_layout 0 bytes 4 (Switches ps)
+    ≡ Switches (named_keys_from key_item (map pos (keyboard_of bytes).keys) 0 keyboard_keys)
+unfolding items_from keys_from rollover_from spread_usages
 keys_read bytes ps bs within rolled =
-    ap (λ (vs : List ℤ). cond (list_any (names_rollover key_item key_places) vs) (Pressed ps) (Pressed (named_from key_item vs 0 keyboard_keys))) (six_keys bytes bs within)
-    ∙ ap (λ (b : Bool). cond b (Pressed ps) (Pressed (named_from key_item (map pos (keyboard_of bytes).keys) 0 keyboard_keys))) (any_rollover (keyboard_of bytes).keys ∙ rolled)
+    ap (λ (vs : List ℤ). cond (list_any (names_rollover key_item key_places) vs) (Switches ps)
+    (Switches (named_keys_from key_item vs 0 keyboard_keys))) (six_keys bytes bs within)
+    ∙ ap (λ (b : Bool). cond b (Switches ps)
+    (Switches (named_keys_from key_item (map pos (keyboard_of bytes).keys) 0 keyboard_keys)))
+    (any_rollover (keyboard_of bytes).keys ∙ rolled)
 
 -- what the report tells
 modifier_told : (report : KeyboardReport) (j : ℕ) → j < 8 → is_held report (0xE0 + j) ≡ (bit_at report.modifiers j == 1)
@@ -253,21 +267,26 @@ key_told report id low high rolled =
     let to : nat_le id 101 ≡ true = grind (arith, nat_tests) in
     rw (none, from, to, rolled) refl
 
-modifier_held : (bytes : List ℕ) (view : List Cell) (j : ℕ) → FitsView keyboard view → j < 8 → is_pressed (cell_at (read_view keyboard_layout 0 bytes view) 0) j ≡ (bit_at (get_or bytes 0 0) j == 1)
+modifier_held : (bytes : List ℕ) (view : List ControlState) (j : ℕ) → FitsView keyboard view → j < 8
+    → is_pressed (state_at (read_view keyboard_layout 0 bytes view) 0) j ≡ (bit_at (get_or bytes 0 0) j == 1)
 modifier_held bytes view j fits within =
     let at = pressed_there view fits in
-    let read = read_view-at keyboard_layout 0 bytes view 0 (Pressed at.0) at.1 ∙ ap Some (modifiers_read bytes at.0 at.2) in
-    ap (λ (o : Option Cell). is_pressed (unwrap_or o Vacant) j) read
+    let read =
+    read_view-at keyboard_layout 0 bytes view 0 (Switches at.0) at.1 ∙ ap Some (modifiers_read bytes at.0 at.2) in
+    ap (λ (o : Option ControlState). is_pressed (unwrap_or o Absent) j) read
     ∙ ap (λ (o : Option Bool). unwrap_or o false) (there_at (λ n. bit_at (get_or bytes 0 0) n == 1) 0 8 j within)
     ∙ ap (λ (n : ℕ). bit_at (get_or bytes 0 0) n == 1) (zero-add j)
 
-key_held : (bytes : List ℕ) (view : List Cell) (id : ℕ) → AreBytes bytes → 8 ≤ length bytes → FitsView keyboard view → 4 ≤ id → id ≤ 101 → is_rolled (keyboard_of bytes) ≡ false
-    → is_pressed (cell_at (read_view keyboard_layout 0 bytes view) 4) id ≡ names id (keyboard_of bytes)
+key_held : (bytes : List ℕ) (view : List ControlState) (id : ℕ) → AreBytes bytes → 8 ≤ length bytes
+    → FitsView keyboard view → 4 ≤ id → id ≤ 101 → is_rolled (keyboard_of bytes) ≡ false
+    → is_pressed (state_at (read_view keyboard_layout 0 bytes view) 4) id ≡ names id (keyboard_of bytes)
 key_held bytes view id bs long fits low high rolled =
     let at = keys_there view fits in
-    let read = read_view-at keyboard_layout 0 bytes view 4 (Pressed at.0) at.1 ∙ ap Some (keys_read bytes at.0 bs long rolled) in
+    let read =
+    read_view-at keyboard_layout 0 bytes view 4 (Switches at.0) at.1
+    ∙ ap Some (keys_read bytes at.0 bs long rolled) in
     let switch : nat_lt 3 (0 + id) ≡ true = grind (arith, nat_tests) in
-    ap (λ (o : Option Cell). is_pressed (unwrap_or o Vacant) id) read
+    ap (λ (o : Option ControlState). is_pressed (unwrap_or o Absent) id) read
     ∙ ap (λ (o : Option Bool). unwrap_or o false) (named_at key_item (map pos (keyboard_of bytes).keys) 0 keyboard_keys id (key_of (0 + id)) (there_at key_of 0 102 id (omega arith)))
     ∙ ap (λ (b : Bool). b && names_key key_item (map pos (keyboard_of bytes).keys) (0 + id)) switch
     ∙ ap (names_key key_item (map pos (keyboard_of bytes).keys)) (zero-add id)
@@ -275,12 +294,15 @@ key_held bytes view id bs long fits low high rolled =
 
 -- The boot keyboard.
 
-modifier_place : (bytes : List ℕ) (view : List Cell) (id i j : ℕ) → FitsView keyboard view → 0xE0 ≤ id → IsPlace i j id → is_pressed (cell_at (read_view keyboard_layout 0 bytes view) i) j ≡ is_held (keyboard_of bytes) id
+modifier_place : (bytes : List ℕ) (view : List ControlState) (id i j : ℕ) → FitsView keyboard view → 0xE0 ≤ id
+    → IsPlace i j id
+    → is_pressed (state_at (read_view keyboard_layout 0 bytes view) i) j ≡ is_held (keyboard_of bytes) id
 modifier_place bytes view id i j fits low (inl p) = rw (p.0, p.2) (modifier_held bytes view j fits p.1 ∙ sym (modifier_told (keyboard_of bytes) j p.1))
 modifier_place bytes view id i j fits low (inr p) = absurd (omega (arith, p.1, p.2))
 
-key_place : (bytes : List ℕ) (view : List Cell) (id i j : ℕ) → AreBytes bytes → 8 ≤ length bytes → FitsView keyboard view → 4 ≤ id → id ≤ 101 → is_rolled (keyboard_of bytes) ≡ false → IsPlace i j id
-    → is_pressed (cell_at (read_view keyboard_layout 0 bytes view) i) j ≡ is_held (keyboard_of bytes) id
+key_place : (bytes : List ℕ) (view : List ControlState) (id i j : ℕ) → AreBytes bytes → 8 ≤ length bytes
+    → FitsView keyboard view → 4 ≤ id → id ≤ 101 → is_rolled (keyboard_of bytes) ≡ false → IsPlace i j id
+    → is_pressed (state_at (read_view keyboard_layout 0 bytes view) i) j ≡ is_held (keyboard_of bytes) id
 key_place bytes view id i j bs long fits low high rolled (inl p) = absurd (omega (arith, p.2))
 key_place bytes view id i j bs long fits low high rolled (inr p) =
     rw (p.0, ← p.2) (key_held bytes view id bs long fits low high rolled ∙ sym (key_told (keyboard_of bytes) id low high rolled))
@@ -290,7 +312,8 @@ named_keyboard bytes h =
     let long : nat_lt (length bytes) 8 ≡ false = grind (arith, nat_tests) in
     rw long refl
 
-pub keys_told : (bytes : List ℕ) (view : List Cell) → AreBytes bytes → 8 ≤ length bytes → FitsView (items_of keyboard_layout) view → TellsKeys bytes view
+pub keys_told : (bytes : List ℕ) (view : List ControlState) → AreBytes bytes → 8 ≤ length bytes
+    → FitsView (items_of keyboard_layout) view → TellsKeys bytes view
 keys_told bytes view bs long there =
     let fits : FitsView keyboard view = subst (λ (items : List Item). FitsView items view) keyboard_controls there in
     record {
@@ -301,12 +324,13 @@ keys_told bytes view bs long there =
       keys = λ id low high rolled c is. key_place bytes view id c.item c.index bs long fits low high rolled (place_of c.item c.index id (rw keyboard_controls at is));
     }
   where
-    modifier_is : (id : ℕ) → 0xE0 ≤ id → id ≤ 0xE7 → shown_at (items_of keyboard_layout) (at 0 (id - 0xE0)) ≡ Some (usage 7 id)
+    modifier_is : (id : ℕ) → 0xE0 ≤ id → id ≤ 0xE7
+        → control_usage (items_of keyboard_layout) (at 0 (id - 0xE0)) ≡ Some (usage 7 id)
     modifier_is id low high =
         let e : 0xE0 + (id - 0xE0) ≡ id = omega arith in
         rw (keyboard_controls, there_at (usage 7) 0xE0 8 (id - 0xE0) (omega arith), e) refl
 
-    key_is : (id : ℕ) → 4 ≤ id → id ≤ 0x65 → shown_at (items_of keyboard_layout) (at 4 id) ≡ Some (usage 7 id)
+    key_is : (id : ℕ) → 4 ≤ id → id ≤ 0x65 → control_usage (items_of keyboard_layout) (at 4 id) ≡ Some (usage 7 id)
     key_is id low high =
         let e : nat_lt 3 id ≡ true = grind (arith, nat_tests) in
         rw (keyboard_controls, there_at key_of 0 102 id (omega arith), zero-add id, e) refl
@@ -347,34 +371,41 @@ low_three b =
     let second : bit_at (b % 8) 2 ≡ bit_at b 2 = omega arith in
     rw (zeroth, first, second) refl
 
-buttons_read : (bytes : List ℕ) (ps : List Bool) → length ps ≡ 3 → read_by_report mouse_layout 0 bytes 0 (Pressed ps) ≡ Pressed (buttons_in bytes)
-unfolding items_from spread
+buttons_read : (bytes : List ℕ) (ps : List Bool) → length ps ≡ 3
+    → state_by_report mouse_layout 0 bytes 0 (Switches ps) ≡ Switches (buttons_in bytes)
+unfolding items_from spread_usages
 buttons_read bytes ps h =
-    ap (λ (vs : List ℤ). Pressed (map (λ p. read_switch p.0 p.1) (zip ps vs))) (three_bits bytes)
-    ∙ ap Pressed (switches_read (bit_at (get_or bytes 0 0)) ps (range_with_len 0 3) h (λ n. bit_at-lt (get_or bytes 0 0) n))
-    ∙ ap Pressed (low_three (get_or bytes 0 0))
+    ap (λ (vs : List ℤ). Switches (map (λ p. read_switch p.0 p.1) (zip ps vs))) (three_bits bytes)
+    ∙ ap Switches
+    (switches_read (bit_at (get_or bytes 0 0)) ps (range_with_len 0 3) h (λ n. bit_at-lt (get_or bytes 0 0) n))
+    ∙ ap Switches (low_three (get_or bytes 0 0))
 
 buttons_told : (bytes : List ℕ) (ps : List Bool) → length ps ≡ 3
-    → told_by_report mouse_layout 0 bytes 0 (Pressed ps) ≡ switch_events 0 (map (usage 9) (range_with_len 1 3)) ps (buttons_in bytes)
-unfolding items_from spread
+    → report_events_from mouse_layout 0 bytes 0 (Switches ps)
+    ≡ switch_events 0 (map (usage 9) (range_with_len 1 3)) ps (buttons_in bytes)
+unfolding items_from spread_usages
 buttons_told bytes ps h =
-    ap (λ (after : Cell). change_events 0 (Elements Switch (pos 0) (pos 1) (map (usage 9) (range_with_len 1 3))) (Pressed ps) after ++ []) (buttons_read bytes ps h)
+    ap (λ (after : ControlState). change_events 0
+    (Elements Switch (pos 0) (pos 1) (map (usage 9) (range_with_len 1 3))) (Switches ps) after ++ [])
+    (buttons_read bytes ps h)
     ∙ append-nil (switch_events 0 (map (usage 9) (range_with_len 1 3)) ps (buttons_in bytes))
 
 abbrev axes : List Usage
 axes = usage 0x01 0x30 ∷ usage 0x01 0x31 ∷ []
 
 motions_told : (bytes : List ℕ) (ms : List ℤ) → AreBytes bytes → 3 ≤ length bytes
-    → told_by_report mouse_layout 0 bytes 2 (Moved ms) ≡ motion_event (at 2 0) (usage 0x01 0x30) (mouse_of bytes).x ++ motion_event (at 2 1) (usage 0x01 0x31) (mouse_of bytes).y
-unfolding items_from spread
+    → report_events_from mouse_layout 0 bytes 2 (Motions ms)
+    ≡ motion_event (at 2 0) (usage 0x01 0x30) (mouse_of bytes).x
+    ++ motion_event (at 2 1) (usage 0x01 0x31) (mouse_of bytes).y
+unfolding items_from spread_usages
 motions_told bytes ms bs long =
     ap (λ (vs : List ℤ). motion_events 2 axes (map (read_motion (negsuc 126) (pos 127)) vs)) (two_numbers bytes bs long)
     ∙ ap (λ (x : ℤ). motion_events 2 axes (x ∷ read_motion (negsuc 126) (pos 127) (value_of (get_or bytes 2 0) 8 true) ∷ [])) (one_motion (get_or bytes 1 0) (byte_there bytes 1 bs (omega arith)))
     ∙ ap (λ (y : ℤ). motion_events 2 axes (motion_in (get_or bytes 1 0) ∷ y ∷ [])) (one_motion (get_or bytes 2 0) (byte_there bytes 2 bs (omega arith)))
     ∙ ap (λ (es : List Event). motion_event (at 2 0) (usage 0x01 0x30) (mouse_of bytes).x ++ es) (append-nil (motion_event (at 2 1) (usage 0x01 0x31) (mouse_of bytes).y))
 
-padding_told : (bytes : List ℕ) (cell : Cell) → told_by_report mouse_layout 0 bytes 1 cell ≡ []
-padding_told bytes cell = refl
+padding_told : (bytes : List ℕ) (state : ControlState) → report_events_from mouse_layout 0 bytes 1 state ≡ []
+padding_told bytes state = refl
 
 named_mouse : (bytes : List ℕ) → 3 ≤ length bytes → report_named mouse_layout bytes ≡ Ok 0
 named_mouse bytes h =
@@ -382,49 +413,60 @@ named_mouse bytes h =
     rw long refl
 
 -- a view of the mouse
-abbrev IsView : List Bool → Cell → List ℤ → List Cell → Type 0
-IsView ps c ms view = (view ≡ Pressed ps ∷ c ∷ Moved ms ∷ []) × (length ps ≡ 3)
+abbrev IsView : List Bool → ControlState → List ℤ → List ControlState → Type 0
+IsView ps c ms view = (view ≡ Switches ps ∷ c ∷ Motions ms ∷ []) × (length ps ≡ 3)
 
-view_there : (view : List Cell) → FitsView mouse view → (ps : List Bool) × (c : Cell) × (ms : List ℤ) × IsView ps c ms view
+view_there : (view : List ControlState) → FitsView mouse view
+    → (ps : List Bool) × (c : ControlState) × (ms : List ℤ) × IsView ps c ms view
 view_there [] fits = absurd (omega (arith, fits.one_each))
 view_there (a ∷ []) fits = absurd (omega (arith, fits.one_each))
 view_there (a ∷ b ∷ []) fits = absurd (omega (arith, fits.one_each))
 view_there (a ∷ b ∷ c ∷ d ∷ view) fits = absurd (omega (arith, fits.one_each))
 view_there (a ∷ b ∷ c ∷ []) fits =
-    by_cells a c (fits.room 0 (input_item 0 3 (Elements Switch (pos 0) (pos 1) (map (usage 9) (range_with_len 1 3)))) a refl refl) (fits.room 2 (input_item 0 3 (Elements Relative (negsuc 126) (pos 127) axes)) c refl refl)
+    by_states a c (fits.room 0 (input_item 0 3 (Elements Switch (pos 0) (pos 1) (map (usage 9) (range_with_len 1 3)))) a refl refl) (fits.room 2 (input_item 0 3 (Elements Relative (negsuc 126) (pos 127) axes)) c refl refl)
   where
-    by_cells : (x y : Cell) → HasRoom (head_of (Elements Switch (pos 0) (pos 1) (map (usage 9) (range_with_len 1 3)))) x → HasRoom (head_of (Elements Relative (negsuc 126) (pos 127) axes)) y
-        → (ps : List Bool) × (m : Cell) × (ms : List ℤ) × IsView ps m ms (x ∷ b ∷ y ∷ [])
-    by_cells Vacant y r s = absurd r
-    by_cells (Holding vs) y r s = absurd r
-    by_cells (Moved ms) y r s = absurd r
-    by_cells (RolledOver ps) y r s = absurd r
-    by_cells (Pressed ps) Vacant r s = absurd s
-    by_cells (Pressed ps) (Holding vs) r s = absurd s
-    by_cells (Pressed ps) (RolledOver vs) r s = absurd s
-    by_cells (Pressed ps) (Pressed vs) r s = absurd s
-    by_cells (Pressed ps) (Moved ms) r s = (ps, b, ms, (refl, r))
+    by_states : (x y : ControlState)
+        → HasRoom (head_of (Elements Switch (pos 0) (pos 1) (map (usage 9) (range_with_len 1 3)))) x
+        → HasRoom (head_of (Elements Relative (negsuc 126) (pos 127) axes)) y
+        → (ps : List Bool) × (m : ControlState) × (ms : List ℤ) × IsView ps m ms (x ∷ b ∷ y ∷ [])
+    by_states Absent y r s = absurd r
+    by_states (Values vs) y r s = absurd r
+    by_states (Motions ms) y r s = absurd r
+    by_states (RollOver ps) y r s = absurd r
+    by_states (Switches ps) Absent r s = absurd s
+    by_states (Switches ps) (Values vs) r s = absurd s
+    by_states (Switches ps) (RollOver vs) r s = absurd s
+    by_states (Switches ps) (Switches vs) r s = absurd s
+    by_states (Switches ps) (Motions ms) r s = (ps, b, ms, (refl, r))
 
-read_mouse : (bytes : List ℕ) (ps : List Bool) (c : Cell) (ms : List ℤ) → AreBytes bytes → 3 ≤ length bytes → length ps ≡ 3 → TellsButtons bytes (Pressed ps ∷ c ∷ Moved ms ∷ [])
+read_mouse : (bytes : List ℕ) (ps : List Bool) (c : ControlState) (ms : List ℤ) → AreBytes bytes → 3 ≤ length bytes
+    → length ps ≡ 3 → TellsButtons bytes (Switches ps ∷ c ∷ Motions ms ∷ [])
 read_mouse bytes ps c ms bs long h = record {
   named = named_mouse bytes long;
   held = buttons_read bytes ps h;
   motions = λ before is. motions before is;
 }
   where
-    told : read_events mouse_layout 0 bytes (Pressed ps ∷ c ∷ Moved ms ∷ []) ≡ switch_events 0 (map (usage 9) (range_with_len 1 3)) ps (buttons_in bytes)
+    told : read_events mouse_layout 0 bytes (Switches ps ∷ c ∷ Motions ms ∷ [])
+        ≡ switch_events 0 (map (usage 9) (range_with_len 1 3)) ps (buttons_in bytes)
         ++ (motion_event (at 2 0) (usage 0x01 0x30) (mouse_of bytes).x ++ motion_event (at 2 1) (usage 0x01 0x31) (mouse_of bytes).y)
     told =
-        ap (λ (es : List Event). es ++ (told_by_report mouse_layout 0 bytes 1 c ++ (told_by_report mouse_layout 0 bytes 2 (Moved ms) ++ []))) (buttons_told bytes ps h)
-        ∙ ap (λ (es : List Event). switch_events 0 (map (usage 9) (range_with_len 1 3)) ps (buttons_in bytes) ++ es) (append-nil (told_by_report mouse_layout 0 bytes 2 (Moved ms)) ∙ motions_told bytes ms bs long)
+        ap (λ (es : List Event). es
+        ++ (report_events_from mouse_layout 0 bytes 1 c
+        ++ (report_events_from mouse_layout 0 bytes 2 (Motions ms) ++ []))) (buttons_told bytes ps h)
+        ∙ ap (λ (es : List Event). switch_events 0 (map (usage 9) (range_with_len 1 3)) ps (buttons_in bytes) ++ es)
+        (append-nil (report_events_from mouse_layout 0 bytes 2 (Motions ms)) ∙ motions_told bytes ms bs long)
 
-    motions : (before : List Bool) → Pressed ps ≡ Pressed before → read_events mouse_layout 0 bytes (Pressed ps ∷ c ∷ Moved ms ∷ []) ≡ switch_events 0 (map (usage 9) (range_with_len 1 3)) before (buttons_in bytes)
+    motions : (before : List Bool) → Switches ps ≡ Switches before
+        → read_events mouse_layout 0 bytes (Switches ps ∷ c ∷ Motions ms ∷ [])
+        ≡ switch_events 0 (map (usage 9) (range_with_len 1 3)) before (buttons_in bytes)
         ++ (motion_event (at 2 0) (usage 0x01 0x30) (mouse_of bytes).x ++ motion_event (at 2 1) (usage 0x01 0x31) (mouse_of bytes).y)
     motions before is =
         let e : ps ≡ before = cc in
         told ∙ ap (λ (qs : List Bool). switch_events 0 (map (usage 9) (range_with_len 1 3)) qs (buttons_in bytes) ++ (motion_event (at 2 0) (usage 0x01 0x30) (mouse_of bytes).x ++ motion_event (at 2 1) (usage 0x01 0x31) (mouse_of bytes).y)) e
 
-pub buttons_are_told : (bytes : List ℕ) (view : List Cell) → AreBytes bytes → 3 ≤ length bytes → FitsView (items_of mouse_layout) view → TellsButtons bytes view
+pub buttons_are_told : (bytes : List ℕ) (view : List ControlState) → AreBytes bytes → 3 ≤ length bytes
+    → FitsView (items_of mouse_layout) view → TellsButtons bytes view
 buttons_are_told bytes view bs long fits =
     let v = view_there view (subst (λ (items : List Item). FitsView items view) mouse_controls fits) in
     subst (TellsButtons bytes) (sym v.3.0) (read_mouse bytes v.0 v.1 v.2 bs long v.3.1)

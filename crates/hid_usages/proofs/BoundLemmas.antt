@@ -16,18 +16,18 @@ use Rattle.hid_layout.specs.declared.main_item.MainItem.{MainItem}
 use Rattle.hid_layout.specs.declared.control.ControlKind.{ControlKind}
 use Rattle.hid_layout.specs.declared.control.ControlKind.TheVariants.{Switch, Value, NullValue, Relative}
 use Rattle.hid_layout.specs.Layout.{Contents}
-use Rattle.hid_layout.specs.Controls.{Form, Elements, element_kind, form_at, form_of, items_of, is_encodable, least_of, greatest_of, spread}
+use Rattle.hid_layout.specs.Controls.{Form, Elements, element_kind, form_at, form_of, items_of, is_encodable, least_of, greatest_of, spread_usages}
 use Rattle.hid_layout.proofs.CodeLemmas.{inside, under, above}
-use Rattle.hid_snapshots.specs.declared.cell.Cell.{Cell}
-use Rattle.hid_snapshots.specs.declared.cell.Cell.TheVariants.{Vacant, Pressed, Holding, Moved, RolledOver}
-use Rattle.hid_snapshots.specs.Cells.{has_null}
+use Rattle.hid_snapshots.specs.declared.control_state.ControlState.{ControlState}
+use Rattle.hid_snapshots.specs.declared.control_state.ControlState.TheVariants.{Absent, Switches, Values, Motions, RollOver}
+use Rattle.hid_snapshots.specs.ControlStates.{has_null}
 use Rattle.hid_snapshots.specs.Events.{change_events, element_events, usages_at, usages_of}
-use Rattle.hid_snapshots.specs.Views.{motions_of, motions_told}
+use Rattle.hid_snapshots.specs.Views.{form_motions, motions_of}
 use Rattle.hid_snapshots.specs.Numbers.{number_at, numbers_in}
 use Rattle.hid_snapshots.proofs.NumberLemmas.{numbers_in-at, numbers_in-length}
 use Rattle.hid_snapshots.proofs.SendLemmas.{pattern_fits}
-use Rattle.hid_usages.specs.Reading.{is_in, FitsFields, read_value, read_motion, read_elements, motion_elements, read_cell, motion_cell}
-use Rattle.hid_usages.specs.Taking.{list_at, IsFormOf, read_by_numbers, told_by_numbers}
+use Rattle.hid_usages.specs.Reading.{is_in, FitsFields, read_value, read_motion, read_elements, motion_elements, read_state, motion_state}
+use Rattle.hid_usages.specs.Taking.{list_at, IsFormOf, state_by_numbers, number_events}
 
 -- of the numbers that fit the fields of an item, those lie in this range that an element can carry
 abbrev pub AreBounds : MainItem → ℤ → ℤ → Type 0
@@ -91,37 +91,45 @@ same_motions item a b c d [] same fits = refl
 same_motions item a b c d (v ∷ vs) same fits =
     rw (same v (All-head (FitsFields item) v vs fits), same_motions item a b c d vs same (All-tail (FitsFields item) v vs fits)) refl
 
-read_alike : (item : MainItem) (kind : ControlKind) (a b c d : ℤ) (cell : Cell) (vs : List ℤ) → ((v : ℤ) → FitsFields item v → is_in a b v ≡ is_in c d v) → All (FitsFields item) vs
-    → read_elements kind a b cell vs ≡ read_elements kind c d cell vs
-read_alike item kind a b c d (Holding bs) vs same fits = ap Holding (same_values item (has_null kind) a b c d bs vs same fits)
-read_alike item kind a b c d (Pressed bs) vs same fits = refl
-read_alike item kind a b c d (Moved ms) vs same fits = refl
-read_alike item kind a b c d (RolledOver bs) vs same fits = refl
-read_alike item kind a b c d Vacant vs same fits = refl
+read_alike : (item : MainItem) (kind : ControlKind) (a b c d : ℤ) (state : ControlState) (vs : List ℤ)
+    → ((v : ℤ) → FitsFields item v → is_in a b v ≡ is_in c d v) → All (FitsFields item) vs
+    → read_elements kind a b state vs ≡ read_elements kind c d state vs
+read_alike item kind a b c d (Values bs) vs same fits =
+    ap Values (same_values item (has_null kind) a b c d bs vs same fits)
+read_alike item kind a b c d (Switches bs) vs same fits = refl
+read_alike item kind a b c d (Motions ms) vs same fits = refl
+read_alike item kind a b c d (RollOver bs) vs same fits = refl
+read_alike item kind a b c d Absent vs same fits = refl
 
 moved_alike : (item : MainItem) (kind : ControlKind) (a b c d : ℤ) (vs : List ℤ) → ((v : ℤ) → FitsFields item v → is_in a b v ≡ is_in c d v) → All (FitsFields item) vs
     → motion_elements kind a b vs ≡ motion_elements kind c d vs
-moved_alike item Relative a b c d vs same fits = ap Moved (same_motions item a b c d vs same fits)
+moved_alike item Relative a b c d vs same fits = ap Motions (same_motions item a b c d vs same fits)
 moved_alike item Switch a b c d vs same fits = refl
 moved_alike item Value a b c d vs same fits = refl
 moved_alike item NullValue a b c d vs same fits = refl
 
--- What the numbers of a variable item's elements make of its cell, and tell, is what they do within bounds of it.
-pub record ReadsWithin (layout : Contents) (i : ℕ) (m : MainItem) (kind : ControlKind) (least greatest : ℤ) (cell : Cell) (vs : List ℤ) : Type 0 where
-  pub read : read_elements kind least greatest cell vs ≡ read_by_numbers layout i m cell vs
-  pub told : (after : Cell) → element_events i (usages_at layout i) cell after ++ motions_of i (usages_at layout i) (motion_elements kind least greatest vs) ≡ told_by_numbers layout i m cell after vs
+-- What the numbers of a variable item's elements make of its control state, and tell, is what they do within bounds of it.
+pub record ReadsWithin (layout : Contents) (i : ℕ) (m : MainItem) (kind : ControlKind) (least greatest : ℤ)
+    (state : ControlState) (vs : List ℤ) : Type 0 where
+  pub read : read_elements kind least greatest state vs ≡ state_by_numbers layout i m state vs
+  pub told : (after : ControlState)
+      → element_events i (usages_at layout i) state after
+      ++ motions_of i (usages_at layout i) (motion_elements kind least greatest vs)
+      ≡ number_events layout i m state after vs
 
-pub reads_within : (layout : Contents) (i : ℕ) (m : MainItem) (kind : ControlKind) (least greatest : ℤ) (cell : Cell) (vs : List ℤ) → IsFormOf layout i m → m.shape ≡ Variable → kind ≡ element_kind m → AreBounds m least greatest → All (FitsFields m) vs
-    → ReadsWithin layout i m kind least greatest cell vs
-reads_within layout i m kind least greatest cell vs form shape of_kind bounds fits =
+pub reads_within : (layout : Contents) (i : ℕ) (m : MainItem) (kind : ControlKind) (least greatest : ℤ)
+    (state : ControlState) (vs : List ℤ) → IsFormOf layout i m → m.shape ≡ Variable → kind ≡ element_kind m
+    → AreBounds m least greatest → All (FitsFields m) vs
+    → ReadsWithin layout i m kind least greatest state vs
+reads_within layout i m kind least greatest state vs form shape of_kind bounds fits =
     let us = list_at layout i in
-    let uses = spread m.count us in
+    let uses = spread_usages m.count us in
     let is : form_at (items_of layout) i ≡ Elements kind (least_of m) (greatest_of m) uses = form ∙ ap (form_of m us) shape ∙ ap (λ (k : ControlKind). Elements k (least_of m) (greatest_of m) uses) (sym of_kind) in
     let moved = moved_alike m kind least greatest (least_of m) (greatest_of m) vs bounds fits in
     record {
-      read = read_alike m kind least greatest (least_of m) (greatest_of m) cell vs bounds fits ∙ ap (λ (f : Form). read_cell m us f cell vs) (sym is);
+      read = read_alike m kind least greatest (least_of m) (greatest_of m) state vs bounds fits ∙ ap (λ (f : Form). read_state m us f state vs) (sym is);
       told = λ after.
-          ap (λ (l : List Usage). element_events i l cell after ++ motions_of i l (motion_elements kind least greatest vs)) (ap usages_of is)
-          ∙ ap (λ (part : Cell). element_events i uses cell after ++ motions_of i uses part) moved
-          ∙ ap (λ (f : Form). change_events i f cell after ++ motions_told i f (motion_cell f vs)) (sym is);
+          ap (λ (l : List Usage). element_events i l state after ++ motions_of i l (motion_elements kind least greatest vs)) (ap usages_of is)
+          ∙ ap (λ (part : ControlState). element_events i uses state after ++ motions_of i uses part) moved
+          ∙ ap (λ (f : Form). change_events i f state after ++ form_motions i f (motion_state f vs)) (sym is);
     }

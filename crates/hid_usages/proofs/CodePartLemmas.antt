@@ -23,15 +23,15 @@ use Rattle.hid_descriptor.specs.Faults.{least_value, greatest_value}
 use Rattle.hid_descriptor.specs.Flags.{has_flag, RELATIVE, NULL_STATE}
 use Rattle.hid_descriptor.specs.Fields.{is_padding}
 use Rattle.hid_layout.specs.Reports.{HasElements}
-use Rattle.hid_layout.specs.Controls.{Elements, Keys, least_of, greatest_of, is_encodable, has_outside, element_kind, is_key, keys_from, key_places, rollover_from, has_place, form_of, head_of, spread, array_keys}
+use Rattle.hid_layout.specs.Controls.{Elements, Keys, least_of, greatest_of, is_encodable, has_outside, element_kind, is_key, keys_from, key_places, rollover_from, has_place, form_of, head_of, spread_usages, array_keys}
 use Rattle.hid_descriptor.specs.Usages.{tells_error, is_rollover}
 use Rattle.hid_layout.specs.Sent.{is_in, at_zero, place_named, number_of, first_passing, least_pattern, names_nothing, null_number, empty_number, rollover_number}
 use Rattle.hid_layout.proofs.PatternLemmas.{greatest_at, least_at, plain, low, high}
-use Rattle.hid_snapshots.specs.declared.cell.Cell.{Cell}
-use Rattle.hid_snapshots.specs.declared.cell.Cell.TheVariants.{Vacant, Pressed, Holding, Moved, RolledOver}
-use Rattle.hid_snapshots.specs.Cells.{has_null, are_pressable, HasRoom, InPart}
+use Rattle.hid_snapshots.specs.declared.control_state.ControlState.{ControlState}
+use Rattle.hid_snapshots.specs.declared.control_state.ControlState.TheVariants.{Absent, Switches, Values, Motions, RollOver}
+use Rattle.hid_snapshots.specs.ControlStates.{has_null, are_pressable, HasRoom, InPart}
 use Rattle.hid_usages.specs.Reading.{is_rollover_at, names_rollover}
-use Rattle.hid_snapshots.specs.Sending.{or_zero, placed_from, pressed_count}
+use Rattle.hid_snapshots.specs.Sending.{or_zero, pressed_places_from, switch_count}
 use Rattle.hid_usages.specs.Law.{names_no_key, IsPart}
 use Rattle.hid_snapshots.proofs.CodeLemmas.{test_true, true_test, both_true}
 use Rattle.hid_usages.proofs.KeyLemmas.{rollover_named}
@@ -47,7 +47,7 @@ passes test from (suc count) p h = by_test (passes test (from + 1) count p) (tes
     by_test rest true e k = let same : from ≡ p = cc in rw (← same) e
     by_test rest false e k = rest k
 
--- and where there is none, no number does
+-- where no number is the least that passes, none passes
 fails : (test : ℕ → Bool) (from count p : ℕ) → first_passing test from count ≡ None → from ≤ p → p < from + count → test p ≡ false
 unfolding first_passing
 fails test from zero p h low high = absurd (omega arith)
@@ -225,7 +225,7 @@ no_key_named m us code i (u ∷ ks) nothing at = (λ on. elim (cases_Bool (int_e
         let there = nothing_there m us i u ((both_true _ _ on).0) (stands_here us i u ks at) in
         on_and_off (is_key m i u) (tells_error u) on (sym there ∙ ap (names_nothing m us) (sym same) ∙ nothing)
 
--- nor ErrorRollOver
+-- the empty code doesn't name ErrorRollOver
 no_rollover_named : (m : MainItem) (us : List Usage) (v : ℤ) → names_nothing m us v ≡ true → names_rollover m us v ≡ false
 no_rollover_named m us v h = by_place (place_named m v) h
   where
@@ -260,8 +260,9 @@ no_rollover_key m us i u on at = rollover_named m us (m.min +ℤ pos i) i refl �
     last true = refl
     last false = refl
 
--- nor is any pressed key
-no_rollover_placed : (m : MainItem) (us : List Usage) (i : ℕ) (ks : List Usage) (ps : List Bool) → StandsFrom us i ks → are_pressable (keys_from m i ks) ps → list_any (names_rollover m us) (placed_from m.min i ps) ≡ false
+-- no key that is pressed is ErrorRollOver
+no_rollover_placed : (m : MainItem) (us : List Usage) (i : ℕ) (ks : List Usage) (ps : List Bool) → StandsFrom us i ks
+    → are_pressable (keys_from m i ks) ps → list_any (names_rollover m us) (pressed_places_from m.min i ps) ≡ false
 unfolding keys_from
 no_rollover_placed m us i [] [] at ok = refl
 no_rollover_placed m us i [] (p ∷ ps) at ok = absurd ok
@@ -307,47 +308,52 @@ stands_first n us = λ j u h. let e : 0 + j ≡ j = omega arith in rw e (first n
     first (suc n) (x ∷ us) zero u h = h
     first (suc n) (x ∷ us) (suc j) u h = first n us j u h
 
-keys_part : (m : MainItem) (us : List Usage) (cell : Cell) → HasElements m → is_some (empty_number m us) ≡ true
-    → HasRoom (head_of (Keys m.count (has_place (rollover_from m 0 us)) (array_keys m us))) cell → InPart (Keys m.count (has_place (rollover_from m 0 us)) (array_keys m us)) cell
-    → IsPart m us (Keys m.count (has_place (rollover_from m 0 us)) (array_keys m us)) cell
-keys_part m us Vacant has there room ok = absurd room
-keys_part m us (Holding vs) has there room ok = absurd room
-keys_part m us (Moved ms) has there room ok = absurd room
-keys_part m us (RolledOver ps) has there room ok = (has.some, rolls_over_named m us ok)
-keys_part m us (Pressed ps) has there room ok =
+keys_part : (m : MainItem) (us : List Usage) (state : ControlState) → HasElements m
+    → is_some (empty_number m us) ≡ true
+    → HasRoom (head_of (Keys m.count (has_place (rollover_from m 0 us)) (array_keys m us))) state → InPart (Keys m.count (has_place (rollover_from m 0 us)) (array_keys m us)) state
+    → IsPart m us (Keys m.count (has_place (rollover_from m 0 us)) (array_keys m us)) state
+keys_part m us Absent has there room ok = absurd room
+keys_part m us (Values vs) has there room ok = absurd room
+keys_part m us (Motions ms) has there room ok = absurd room
+keys_part m us (RollOver ps) has there room ok = (has.some, rolls_over_named m us ok)
+keys_part m us (Switches ps) has there room ok =
     let code = or_zero (empty_number m us) in
     let nothing : names_nothing m us code ≡ true = code_passes m (names_nothing m us) there in
     let at = stands_first 65536 us in
-    let rest = m.count - pressed_count ps in (
+    let rest = m.count - switch_count ps in (
       ok.0,
       no_key_named m us code 0 (key_places us) nothing at,
-      list_any-append (names_rollover m us) (placed_from m.min 0 ps) (replicate rest code)
+      list_any-append (names_rollover m us) (pressed_places_from m.min 0 ps) (replicate rest code)
           ∙ rw (no_rollover_placed m us 0 (key_places us) ps at ok.0) (any_of_same (names_rollover m us) rest code (no_rollover_named m us code nothing)),
     )
 
-elements_part : (m : MainItem) (us usages : List Usage) (kind : ControlKind) (cell : Cell) → HasElements m → element_kind m ≡ kind → HasRoom (head_of (Elements kind (least_of m) (greatest_of m) usages)) cell
-    → InPart (Elements kind (least_of m) (greatest_of m) usages) cell → IsPart m us (Elements kind (least_of m) (greatest_of m) usages) cell
-elements_part m us usages kind (Pressed ps) has is room ok = tt
-elements_part m us usages kind (Holding vs) has is room ok = (ok, λ null. null_outside m has.some_bits (has_outside_where m (rw is null)))
-elements_part m us usages kind (Moved ms) has is room ok = ok
-elements_part m us usages Switch Vacant has is room ok = absurd room
-elements_part m us usages Value Vacant has is room ok = absurd room
-elements_part m us usages NullValue Vacant has is room ok = absurd room
-elements_part m us usages Relative Vacant has is room ok = absurd room
-elements_part m us usages Switch (RolledOver ps) has is room ok = absurd room
-elements_part m us usages Value (RolledOver ps) has is room ok = absurd room
-elements_part m us usages NullValue (RolledOver ps) has is room ok = absurd room
-elements_part m us usages Relative (RolledOver ps) has is room ok = absurd room
+elements_part : (m : MainItem) (us usages : List Usage) (kind : ControlKind) (state : ControlState) → HasElements m
+    → element_kind m ≡ kind → HasRoom (head_of (Elements kind (least_of m) (greatest_of m) usages)) state
+    → InPart (Elements kind (least_of m) (greatest_of m) usages) state → IsPart m us (Elements kind (least_of m) (greatest_of m) usages) state
+elements_part m us usages kind (Switches ps) has is room ok = tt
+elements_part m us usages kind (Values vs) has is room ok =
+    (ok, λ null. null_outside m has.some_bits (has_outside_where m (rw is null)))
+elements_part m us usages kind (Motions ms) has is room ok = ok
+elements_part m us usages Switch Absent has is room ok = absurd room
+elements_part m us usages Value Absent has is room ok = absurd room
+elements_part m us usages NullValue Absent has is room ok = absurd room
+elements_part m us usages Relative Absent has is room ok = absurd room
+elements_part m us usages Switch (RollOver ps) has is room ok = absurd room
+elements_part m us usages Value (RollOver ps) has is room ok = absurd room
+elements_part m us usages NullValue (RollOver ps) has is room ok = absurd room
+elements_part m us usages Relative (RollOver ps) has is room ok = absurd room
 
 -- What a report shows of an item is a part of it.
-pub is_part : (m : MainItem) (us : List Usage) (shape : Shape) (cell : Cell) → (is_padding shape ≡ false → HasElements m) → (shape ≡ Array → is_some (empty_number m us) ≡ true)
-    → HasRoom (head_of (form_of m us shape)) cell → InPart (form_of m us shape) cell → IsPart m us (form_of m us shape) cell
-is_part m us Padding Vacant has there room ok = tt
-is_part m us Padding (Pressed ps) has there room ok = absurd room
-is_part m us Padding (Holding ps) has there room ok = absurd room
-is_part m us Padding (Moved ps) has there room ok = absurd room
-is_part m us Padding (RolledOver ps) has there room ok = absurd room
-is_part m us Variable cell has there room ok = elements_part m us (spread m.count us) (element_kind m) cell (has refl) refl room ok
-is_part m us Array cell has there room ok = keys_part m us cell (has refl) (there refl) room ok
+pub is_part : (m : MainItem) (us : List Usage) (shape : Shape) (state : ControlState)
+    → (is_padding shape ≡ false → HasElements m) → (shape ≡ Array → is_some (empty_number m us) ≡ true)
+    → HasRoom (head_of (form_of m us shape)) state → InPart (form_of m us shape) state → IsPart m us (form_of m us shape) state
+is_part m us Padding Absent has there room ok = tt
+is_part m us Padding (Switches ps) has there room ok = absurd room
+is_part m us Padding (Values ps) has there room ok = absurd room
+is_part m us Padding (Motions ps) has there room ok = absurd room
+is_part m us Padding (RollOver ps) has there room ok = absurd room
+is_part m us Variable state has there room ok =
+    elements_part m us (spread_usages m.count us) (element_kind m) state (has refl) refl room ok
+is_part m us Array state has there room ok = keys_part m us state (has refl) (there refl) room ok
 
 pub ruleset coded = (is_part)

@@ -18,146 +18,156 @@ use Rattle.hid_layout.specs.Layout.{Contents}
 use Rattle.hid_layout.specs.Reports.{IsLayout, report_bytes}
 use Rattle.hid_layout.specs.Controls.{Form, NoControls, Elements, Keys, Item, items_of, item_of, form_of, form_at, head_of, is_input, input_item, no_item}
 use Rattle.hid_layout.specs.Sent.{empty_number}
-use Rattle.hid_snapshots.specs.declared.cell.Cell.{Cell}
-use Rattle.hid_snapshots.specs.declared.cell.Cell.TheVariants.{Vacant, Pressed, Holding, Moved, RolledOver}
+use Rattle.hid_snapshots.specs.declared.control_state.ControlState.{ControlState}
+use Rattle.hid_snapshots.specs.declared.control_state.ControlState.TheVariants.{Absent, Switches, Values, Motions, RollOver}
 use Rattle.hid_snapshots.specs.declared.event.Event.{Event}
 use Rattle.hid_snapshots.specs.declared.event.Event.TheVariants as event
-use Rattle.hid_snapshots.specs.Cells.{HasRoom, InPart, InView}
+use Rattle.hid_snapshots.specs.ControlStates.{HasRoom, InPart, InView}
 use Rattle.hid_snapshots.specs.Codes.{is_array, has_empty_code, empty_codes_from, has_empty_codes}
 use Rattle.hid_snapshots.specs.Encoding.{IsData, part_numbers}
-use Rattle.hid_snapshots.specs.Events.{at, each, switch_event, value_event, change_events}
+use Rattle.hid_snapshots.specs.Events.{at, element_list_events, switch_event, value_event, change_events}
 use Rattle.hid_usages.specs.Law.{IsPart, IsLike}
 use Rattle.hid_snapshots.specs.Parts.{IsInput, is_of, by_item}
 use Rattle.hid_snapshots.specs.declared.fault.ReportFault.{ReportFault}
-use Rattle.hid_usages.specs.Reading.{report_named, read_cell, motion_cell, is_data_in, item_numbers}
-use Rattle.hid_snapshots.specs.Sending.{sent}
-use Rattle.hid_usages.specs.Taking.{list_at, read_by_numbers, told_by_numbers, read_by_report, told_by_report, read_from, told_from, read_view, read_events}
-use Rattle.hid_snapshots.specs.Views.{seen_cell, seen_of, motions_of, motions_told, part_of, events_from}
+use Rattle.hid_usages.specs.Reading.{report_named, read_state, motion_state, is_data_in, item_numbers}
+use Rattle.hid_snapshots.specs.Sending.{element_numbers}
+use Rattle.hid_usages.specs.Taking.{list_at, state_by_numbers, number_events, state_by_report, report_events_from, view_from_item, events_from_item, read_view, read_events}
+use Rattle.hid_snapshots.specs.Views.{seen_state, view_item_after, motions_of, form_motions, part_of, events_from}
 use Rattle.hid_usages.specs.Crossing.{PartsAreReadBack, PartsAreTaken, SeenIsView}
 use Rattle.hid_snapshots.proofs.CodeLemmas.{both_true}
 use Rattle.hid_usages.proofs.CodePartLemmas.{is_part}
-use Rattle.hid_snapshots.proofs.EncodingLemmas.{cell_numbers, data_if}
+use Rattle.hid_snapshots.proofs.EncodingLemmas.{state_numbers, data_if}
 use Rattle.hid_snapshots.proofs.ItemLemmas.{items_from-at, items_of-length, got}
 use Rattle.hid_usages.proofs.LawLemmas.{reads_back, motions_back}
 use Rattle.hid_usages.proofs.NamingLemmas.{names_report}
-use Rattle.hid_snapshots.proofs.ReportLemmas.{sent_at-is, form_in_input}
+use Rattle.hid_snapshots.proofs.ReportLemmas.{numbers_at-is, form_in_input}
 use Rattle.hid_snapshots.proofs.ShownLemmas.{suits_by}
 use Rattle.hid_usages.proofs.TakeLemmas.{list_at-is, form_of_item}
 use Rattle.hid_usages.proofs.ViewLemmas.{same_keys}
 
--- a view's cell and a part of the same item have one shape
-elements_like : (kind : ControlKind) (least greatest : ℤ) (us : List Usage) (view part : Cell) → HasRoom (head_of (Elements kind least greatest us)) view → HasRoom (head_of (Elements kind least greatest us)) part → IsLike view part
-elements_like Switch least greatest us (Pressed bs) (Pressed ps) room room' = room ∙ sym room'
-elements_like Switch least greatest us (Pressed bs) Vacant room room' = absurd room'
-elements_like Switch least greatest us (Pressed bs) (Holding ps) room room' = absurd room'
-elements_like Switch least greatest us (Pressed bs) (Moved ps) room room' = absurd room'
-elements_like Switch least greatest us (Pressed bs) (RolledOver ps) room room' = absurd room'
-elements_like Switch least greatest us Vacant part room room' = absurd room
-elements_like Switch least greatest us (Holding bs) part room room' = absurd room
-elements_like Switch least greatest us (Moved bs) part room room' = absurd room
-elements_like Switch least greatest us (RolledOver bs) part room room' = absurd room
-elements_like Value least greatest us (Holding bs) (Holding ps) room room' = room ∙ sym room'
-elements_like Value least greatest us (Holding bs) Vacant room room' = absurd room'
-elements_like Value least greatest us (Holding bs) (Pressed ps) room room' = absurd room'
-elements_like Value least greatest us (Holding bs) (Moved ps) room room' = absurd room'
-elements_like Value least greatest us (Holding bs) (RolledOver ps) room room' = absurd room'
-elements_like Value least greatest us Vacant part room room' = absurd room
-elements_like Value least greatest us (Pressed bs) part room room' = absurd room
-elements_like Value least greatest us (Moved bs) part room room' = absurd room
-elements_like Value least greatest us (RolledOver bs) part room room' = absurd room
-elements_like NullValue least greatest us (Holding bs) (Holding ps) room room' = room ∙ sym room'
-elements_like NullValue least greatest us (Holding bs) Vacant room room' = absurd room'
-elements_like NullValue least greatest us (Holding bs) (Pressed ps) room room' = absurd room'
-elements_like NullValue least greatest us (Holding bs) (Moved ps) room room' = absurd room'
-elements_like NullValue least greatest us (Holding bs) (RolledOver ps) room room' = absurd room'
-elements_like NullValue least greatest us Vacant part room room' = absurd room
-elements_like NullValue least greatest us (Pressed bs) part room room' = absurd room
-elements_like NullValue least greatest us (Moved bs) part room room' = absurd room
-elements_like NullValue least greatest us (RolledOver bs) part room room' = absurd room
-elements_like Relative least greatest us (Moved bs) (Moved ps) room room' = tt
-elements_like Relative least greatest us (Moved bs) Vacant room room' = absurd room'
-elements_like Relative least greatest us (Moved bs) (Pressed ps) room room' = absurd room'
-elements_like Relative least greatest us (Moved bs) (Holding ps) room room' = absurd room'
-elements_like Relative least greatest us (Moved bs) (RolledOver ps) room room' = absurd room'
-elements_like Relative least greatest us Vacant part room room' = absurd room
-elements_like Relative least greatest us (Pressed bs) part room room' = absurd room
-elements_like Relative least greatest us (Holding bs) part room room' = absurd room
-elements_like Relative least greatest us (RolledOver bs) part room room' = absurd room
+-- a view's control state and a part of the same item have one shape
+elements_like : (kind : ControlKind) (least greatest : ℤ) (us : List Usage) (view part : ControlState)
+    → HasRoom (head_of (Elements kind least greatest us)) view
+    → HasRoom (head_of (Elements kind least greatest us)) part → IsLike view part
+elements_like Switch least greatest us (Switches bs) (Switches ps) room room' = room ∙ sym room'
+elements_like Switch least greatest us (Switches bs) Absent room room' = absurd room'
+elements_like Switch least greatest us (Switches bs) (Values ps) room room' = absurd room'
+elements_like Switch least greatest us (Switches bs) (Motions ps) room room' = absurd room'
+elements_like Switch least greatest us (Switches bs) (RollOver ps) room room' = absurd room'
+elements_like Switch least greatest us Absent part room room' = absurd room
+elements_like Switch least greatest us (Values bs) part room room' = absurd room
+elements_like Switch least greatest us (Motions bs) part room room' = absurd room
+elements_like Switch least greatest us (RollOver bs) part room room' = absurd room
+elements_like Value least greatest us (Values bs) (Values ps) room room' = room ∙ sym room'
+elements_like Value least greatest us (Values bs) Absent room room' = absurd room'
+elements_like Value least greatest us (Values bs) (Switches ps) room room' = absurd room'
+elements_like Value least greatest us (Values bs) (Motions ps) room room' = absurd room'
+elements_like Value least greatest us (Values bs) (RollOver ps) room room' = absurd room'
+elements_like Value least greatest us Absent part room room' = absurd room
+elements_like Value least greatest us (Switches bs) part room room' = absurd room
+elements_like Value least greatest us (Motions bs) part room room' = absurd room
+elements_like Value least greatest us (RollOver bs) part room room' = absurd room
+elements_like NullValue least greatest us (Values bs) (Values ps) room room' = room ∙ sym room'
+elements_like NullValue least greatest us (Values bs) Absent room room' = absurd room'
+elements_like NullValue least greatest us (Values bs) (Switches ps) room room' = absurd room'
+elements_like NullValue least greatest us (Values bs) (Motions ps) room room' = absurd room'
+elements_like NullValue least greatest us (Values bs) (RollOver ps) room room' = absurd room'
+elements_like NullValue least greatest us Absent part room room' = absurd room
+elements_like NullValue least greatest us (Switches bs) part room room' = absurd room
+elements_like NullValue least greatest us (Motions bs) part room room' = absurd room
+elements_like NullValue least greatest us (RollOver bs) part room room' = absurd room
+elements_like Relative least greatest us (Motions bs) (Motions ps) room room' = tt
+elements_like Relative least greatest us (Motions bs) Absent room room' = absurd room'
+elements_like Relative least greatest us (Motions bs) (Switches ps) room room' = absurd room'
+elements_like Relative least greatest us (Motions bs) (Values ps) room room' = absurd room'
+elements_like Relative least greatest us (Motions bs) (RollOver ps) room room' = absurd room'
+elements_like Relative least greatest us Absent part room room' = absurd room
+elements_like Relative least greatest us (Switches bs) part room room' = absurd room
+elements_like Relative least greatest us (Values bs) part room room' = absurd room
+elements_like Relative least greatest us (RollOver bs) part room room' = absurd room
 
-like : (form : Form) (view part : Cell) → HasRoom (head_of form) view → InView form view → HasRoom (head_of form) part → IsLike view part
-like NoControls view Vacant room ok room' = by_view view room
+like : (form : Form) (view part : ControlState) → HasRoom (head_of form) view → InView form view
+    → HasRoom (head_of form) part → IsLike view part
+like NoControls view Absent room ok room' = by_view view room
   where
-    by_view : (view : Cell) → HasRoom (head_of NoControls) view → IsLike view Vacant
-    by_view Vacant h = tt
-    by_view (Pressed bs) h = tt
-    by_view (Holding bs) h = tt
-    by_view (Moved bs) h = tt
-    by_view (RolledOver bs) h = tt
-like NoControls view (Pressed ps) room ok room' = absurd room'
-like NoControls view (Holding ps) room ok room' = absurd room'
-like NoControls view (Moved ps) room ok room' = absurd room'
-like NoControls view (RolledOver ps) room ok room' = absurd room'
+    by_view : (view : ControlState) → HasRoom (head_of NoControls) view → IsLike view Absent
+    by_view Absent h = tt
+    by_view (Switches bs) h = tt
+    by_view (Values bs) h = tt
+    by_view (Motions bs) h = tt
+    by_view (RollOver bs) h = tt
+like NoControls view (Switches ps) room ok room' = absurd room'
+like NoControls view (Values ps) room ok room' = absurd room'
+like NoControls view (Motions ps) room ok room' = absurd room'
+like NoControls view (RollOver ps) room ok room' = absurd room'
 like (Elements kind least greatest us) view part room ok room' = elements_like kind least greatest us view part room room'
-like (Keys elements rolls keys) (Pressed bs) (Pressed ps) room ok room' = room ∙ sym room'
-like (Keys elements rolls keys) (Pressed bs) (RolledOver ps) room ok room' = tt
-like (Keys elements rolls keys) (Pressed bs) Vacant room ok room' = absurd room'
-like (Keys elements rolls keys) (Pressed bs) (Holding ps) room ok room' = absurd room'
-like (Keys elements rolls keys) (Pressed bs) (Moved ps) room ok room' = absurd room'
-like (Keys elements rolls keys) (RolledOver bs) part room ok room' = absurd ok
-like (Keys elements rolls keys) Vacant part room ok room' = absurd room
-like (Keys elements rolls keys) (Holding bs) part room ok room' = absurd room
-like (Keys elements rolls keys) (Moved bs) part room ok room' = absurd room
+like (Keys elements rolls keys) (Switches bs) (Switches ps) room ok room' = room ∙ sym room'
+like (Keys elements rolls keys) (Switches bs) (RollOver ps) room ok room' = tt
+like (Keys elements rolls keys) (Switches bs) Absent room ok room' = absurd room'
+like (Keys elements rolls keys) (Switches bs) (Values ps) room ok room' = absurd room'
+like (Keys elements rolls keys) (Switches bs) (Motions ps) room ok room' = absurd room'
+like (Keys elements rolls keys) (RollOver bs) part room ok room' = absurd ok
+like (Keys elements rolls keys) Absent part room ok room' = absurd room
+like (Keys elements rolls keys) (Values bs) part room ok room' = absurd room
+like (Keys elements rolls keys) (Motions bs) part room ok room' = absurd room
 
 -- the motions read are those of the part
-motions_read : (m : MainItem) (us : List Usage) (i : ℕ) (form : Form) (part : Cell) → HasRoom (head_of form) part → InPart form part → motions_told i form (motion_cell form (sent m us form part)) ≡ motions_told i form part
+motions_read : (m : MainItem) (us : List Usage) (i : ℕ) (form : Form) (part : ControlState)
+    → HasRoom (head_of form) part → InPart form part
+    → form_motions i form (motion_state form (element_numbers m us form part)) ≡ form_motions i form part
 motions_read m us i NoControls part room ok = refl
 motions_read m us i (Keys elements rolls keys) part room ok = refl
-motions_read m us i (Elements Relative least greatest usages) (Moved ms) room ok = ap (λ (l : List ℤ). motions_of i usages (Moved l)) (motions_back least greatest ms ok)
-motions_read m us i (Elements Relative least greatest usages) Vacant room ok = absurd room
-motions_read m us i (Elements Relative least greatest usages) (Pressed ps) room ok = absurd room
-motions_read m us i (Elements Relative least greatest usages) (Holding ps) room ok = absurd room
-motions_read m us i (Elements Relative least greatest usages) (RolledOver ps) room ok = absurd room
-motions_read m us i (Elements Switch least greatest usages) (Pressed ps) room ok = refl
-motions_read m us i (Elements Switch least greatest usages) Vacant room ok = absurd room
-motions_read m us i (Elements Switch least greatest usages) (Holding ps) room ok = absurd room
-motions_read m us i (Elements Switch least greatest usages) (Moved ps) room ok = absurd room
-motions_read m us i (Elements Switch least greatest usages) (RolledOver ps) room ok = absurd room
-motions_read m us i (Elements Value least greatest usages) (Holding ps) room ok = refl
-motions_read m us i (Elements Value least greatest usages) Vacant room ok = absurd room
-motions_read m us i (Elements Value least greatest usages) (Pressed ps) room ok = absurd room
-motions_read m us i (Elements Value least greatest usages) (Moved ps) room ok = absurd room
-motions_read m us i (Elements Value least greatest usages) (RolledOver ps) room ok = absurd room
-motions_read m us i (Elements NullValue least greatest usages) (Holding ps) room ok = refl
-motions_read m us i (Elements NullValue least greatest usages) Vacant room ok = absurd room
-motions_read m us i (Elements NullValue least greatest usages) (Pressed ps) room ok = absurd room
-motions_read m us i (Elements NullValue least greatest usages) (Moved ps) room ok = absurd room
-motions_read m us i (Elements NullValue least greatest usages) (RolledOver ps) room ok = absurd room
+motions_read m us i (Elements Relative least greatest usages) (Motions ms) room ok =
+    ap (λ (l : List ℤ). motions_of i usages (Motions l)) (motions_back least greatest ms ok)
+motions_read m us i (Elements Relative least greatest usages) Absent room ok = absurd room
+motions_read m us i (Elements Relative least greatest usages) (Switches ps) room ok = absurd room
+motions_read m us i (Elements Relative least greatest usages) (Values ps) room ok = absurd room
+motions_read m us i (Elements Relative least greatest usages) (RollOver ps) room ok = absurd room
+motions_read m us i (Elements Switch least greatest usages) (Switches ps) room ok = refl
+motions_read m us i (Elements Switch least greatest usages) Absent room ok = absurd room
+motions_read m us i (Elements Switch least greatest usages) (Values ps) room ok = absurd room
+motions_read m us i (Elements Switch least greatest usages) (Motions ps) room ok = absurd room
+motions_read m us i (Elements Switch least greatest usages) (RollOver ps) room ok = absurd room
+motions_read m us i (Elements Value least greatest usages) (Values ps) room ok = refl
+motions_read m us i (Elements Value least greatest usages) Absent room ok = absurd room
+motions_read m us i (Elements Value least greatest usages) (Switches ps) room ok = absurd room
+motions_read m us i (Elements Value least greatest usages) (Motions ps) room ok = absurd room
+motions_read m us i (Elements Value least greatest usages) (RollOver ps) room ok = absurd room
+motions_read m us i (Elements NullValue least greatest usages) (Values ps) room ok = refl
+motions_read m us i (Elements NullValue least greatest usages) Absent room ok = absurd room
+motions_read m us i (Elements NullValue least greatest usages) (Switches ps) room ok = absurd room
+motions_read m us i (Elements NullValue least greatest usages) (Motions ps) room ok = absurd room
+motions_read m us i (Elements NullValue least greatest usages) (RollOver ps) room ok = absurd room
 
--- a cell that stays tells nothing
-same_switches : (i j : ℕ) (us : List Usage) (bs : List Bool) → each (λ k u (p : Bool × Bool). switch_event (at i k) u p.0 p.1) j us (zip bs bs) ≡ []
+-- a control state that stays tells nothing
+same_switches : (i j : ℕ) (us : List Usage) (bs : List Bool)
+    → element_list_events (λ k u (p : Bool × Bool). switch_event (at i k) u p.0 p.1) j us (zip bs bs) ≡ []
 same_switches i j [] bs = refl
 same_switches i j (u ∷ us) [] = refl
 same_switches i j (u ∷ us) (true ∷ bs) = same_switches i (j + 1) us bs
 same_switches i j (u ∷ us) (false ∷ bs) = same_switches i (j + 1) us bs
 
-same_values : (i j : ℕ) (us : List Usage) (bs : List (Option ℤ)) → each (λ k u (p : Option ℤ × Option ℤ). value_event (at i k) u p.0 p.1) j us (zip bs bs) ≡ []
+same_values : (i j : ℕ) (us : List Usage) (bs : List (Option ℤ))
+    → element_list_events (λ k u (p : Option ℤ × Option ℤ). value_event (at i k) u p.0 p.1) j us (zip bs bs) ≡ []
 same_values i j [] bs = refl
 same_values i j (u ∷ us) [] = refl
 same_values i j (u ∷ us) (None ∷ bs) = same_values i (j + 1) us bs
 same_values i j (u ∷ us) (Some v ∷ bs) =
     let same : int_eq v v ≡ true = (Decides-int_eq v v).1 refl in
-    ap (λ (b : Bool). cond b [] (event.Value (at i j) u v ∷ []) ++ each (λ k u (p : Option ℤ × Option ℤ). value_event (at i k) u p.0 p.1) (j + 1) us (zip bs bs)) same ∙ same_values i (j + 1) us bs
+    ap (λ (b : Bool). cond b [] (event.Value (at i j) u v ∷ [])
+    ++ element_list_events (λ k u (p : Option ℤ × Option ℤ). value_event (at i k) u p.0 p.1) (j + 1) us
+    (zip bs bs)) same ∙ same_values i (j + 1) us bs
 
-pub same_cell : (i : ℕ) (form : Form) (cell : Cell) → change_events i form cell cell ≡ []
-same_cell i NoControls cell = refl
-same_cell i (Keys elements rolls keys) cell = same_keys i _ cell
-same_cell i (Elements kind least greatest us) (Pressed bs) = same_switches i 0 us bs
-same_cell i (Elements kind least greatest us) (Holding bs) = same_values i 0 us bs
-same_cell i (Elements kind least greatest us) Vacant = refl
-same_cell i (Elements kind least greatest us) (Moved bs) = refl
-same_cell i (Elements kind least greatest us) (RolledOver bs) = refl
+pub same_state : (i : ℕ) (form : Form) (state : ControlState) → change_events i form state state ≡ []
+same_state i NoControls state = refl
+same_state i (Keys elements rolls keys) state = same_keys i _ state
+same_state i (Elements kind least greatest us) (Switches bs) = same_switches i 0 us bs
+same_state i (Elements kind least greatest us) (Values bs) = same_values i 0 us bs
+same_state i (Elements kind least greatest us) Absent = refl
+same_state i (Elements kind least greatest us) (Motions bs) = refl
+same_state i (Elements kind least greatest us) (RollOver bs) = refl
 
-no_motion : (i : ℕ) (form : Form) → motions_told i form Vacant ≡ []
+no_motion : (i : ℕ) (form : Form) → form_motions i form Absent ≡ []
 no_motion i NoControls = refl
 no_motion i (Elements kind least greatest us) = refl
 no_motion i (Keys elements rolls keys) = refl
@@ -180,18 +190,24 @@ array_code reports m es all input shape =
     sym (ap (λ (t : Bool). cond t (is_some (empty_number m (usage_list es))) true) test) ∙ all
 
 -- What reading the bytes of a part makes of one item, and tells of it.
-pub record ReadsItem (layout : Contents) (r : ℕ) (bytes : List ℕ) (i : ℕ) (item : Item) (cell part : Cell) : Type 0 where
-  pub view : read_by_report layout r bytes i cell ≡ seen_of r item cell part
-  pub events : told_by_report layout r bytes i cell ≡ change_events i item.form cell (seen_of r item cell part) ++ motions_told i item.form (part_of r item part)
+pub record ReadsItem (layout : Contents) (r : ℕ) (bytes : List ℕ) (i : ℕ) (item : Item)
+    (state part : ControlState) : Type 0 where
+  pub view : state_by_report layout r bytes i state ≡ view_item_after r item state part
+  pub events : report_events_from layout r bytes i state
+      ≡ change_events i item.form state (view_item_after r item state part)
+      ++ form_motions i item.form (part_of r item part)
 
 -- an item with data elements in the report
-data_item : (layout : Contents) (r i : ℕ) (m : MainItem) (es : List Entry) (cell part : Cell) (vs : List ℤ) → IsLayout layout → IsInput layout r → IsData layout r i m → slice_get layout.entries i ≡ Some es
-    → has_empty_codes layout ≡ true → vs ≡ sent m (usage_list es) (form_of m (usage_list es) m.shape) part
-    → HasRoom (head_of (form_of m (usage_list es) m.shape)) cell → InView (form_of m (usage_list es) m.shape) cell
+data_item : (layout : Contents) (r i : ℕ) (m : MainItem) (es : List Entry) (state part : ControlState) (vs : List ℤ)
+    → IsLayout layout → IsInput layout r → IsData layout r i m → slice_get layout.entries i ≡ Some es
+    → has_empty_codes layout ≡ true → vs ≡ element_numbers m (usage_list es) (form_of m (usage_list es) m.shape) part
+    → HasRoom (head_of (form_of m (usage_list es) m.shape)) state → InView (form_of m (usage_list es) m.shape) state
     → HasRoom (head_of (form_of m (usage_list es) m.shape)) part → InPart (form_of m (usage_list es) m.shape) part
-    → (read_by_numbers layout i m cell vs ≡ seen_cell cell part)
-    × (told_by_numbers layout i m cell (read_by_numbers layout i m cell vs) vs ≡ change_events i (form_of m (usage_list es) m.shape) cell (seen_cell cell part) ++ motions_told i (form_of m (usage_list es) m.shape) part)
-data_item layout r i m es cell part vs laid input d entries codes numbers room ok room' ok' = (read, told)
+    → (state_by_numbers layout i m state vs ≡ seen_state state part)
+    × (number_events layout i m state (state_by_numbers layout i m state vs) vs
+    ≡ change_events i (form_of m (usage_list es) m.shape) state (seen_state state part)
+    ++ form_motions i (form_of m (usage_list es) m.shape) part)
+data_item layout r i m es state part vs laid input d entries codes numbers room ok room' ok' = (read, told)
   where
     us : List Usage
     us = usage_list es
@@ -211,25 +227,31 @@ data_item layout r i m es cell part vs laid input d entries codes numbers room o
     part_is : IsPart m us form part
     part_is = is_part m us m.shape part (laid.elements i m d.listed) (array_code layout.reports m es (code_at layout.reports layout.items layout.entries i m es d.listed entries codes) item_is_input) room' ok'
 
-    read_is : read_by_numbers layout i m cell vs ≡ read_cell m us form cell (sent m us form part)
-    read_is = ap (λ (l : List Usage). read_cell m l (form_at (items_of layout) i) cell vs) listed ∙ ap (λ (f : Form). read_cell m us f cell vs) at_form ∙ ap (read_cell m us form cell) numbers
+    read_is : state_by_numbers layout i m state vs ≡ read_state m us form state (element_numbers m us form part)
+    read_is = ap (λ (l : List Usage). read_state m l (form_at (items_of layout) i) state vs) listed ∙ ap (λ (f : Form). read_state m us f state vs) at_form ∙ ap (read_state m us form state) numbers
 
-    read : read_by_numbers layout i m cell vs ≡ seen_cell cell part
-    read = read_is ∙ reads_back m us form cell part part_is (like form cell part room ok room')
+    read : state_by_numbers layout i m state vs ≡ seen_state state part
+    read = read_is ∙ reads_back m us form state part part_is (like form state part room ok room')
 
-    told : told_by_numbers layout i m cell (read_by_numbers layout i m cell vs) vs ≡ change_events i form cell (seen_cell cell part) ++ motions_told i form part
+    told : number_events layout i m state (state_by_numbers layout i m state vs) vs
+        ≡ change_events i form state (seen_state state part) ++ form_motions i form part
     told =
-        ap (λ (c : Cell). told_by_numbers layout i m cell c vs) read
-        ∙ ap (λ (f : Form). change_events i f cell (seen_cell cell part) ++ motions_told i f (motion_cell f vs)) at_form
-        ∙ ap (λ (l : List ℤ). change_events i form cell (seen_cell cell part) ++ motions_told i form (motion_cell form l)) numbers
-        ∙ ap (λ (l : List Event). change_events i form cell (seen_cell cell part) ++ l) (motions_read m us i form part room' ok')
+        ap (λ (c : ControlState). number_events layout i m state c vs) read
+        ∙ ap (λ (f : Form). change_events i f state (seen_state state part)
+        ++ form_motions i f (motion_state f vs)) at_form
+        ∙ ap (λ (l : List ℤ). change_events i form state (seen_state state part)
+        ++ form_motions i form (motion_state form l)) numbers
+        ∙ ap (λ (l : List Event). change_events i form state (seen_state state part) ++ l) (motions_read m us i form part room' ok')
 
 -- any item of the layout
-pub reads_item : (layout : Contents) (r i : ℕ) (m : MainItem) (es : List Entry) (bytes : List ℕ) (cell part : Cell) → IsLayout layout → IsInput layout r → has_empty_codes layout ≡ true
-    → slice_get layout.items i ≡ Some m → slice_get layout.entries i ≡ Some es → (IsData layout r i m → item_numbers layout bytes m ≡ sent m (usage_list es) (form_of m (usage_list es) m.shape) part)
-    → HasRoom (head_of (item_of layout m es).form) cell → InView (item_of layout m es).form cell → HasRoom (head_of (item_of layout m es).form) part → InPart (item_of layout m es).form part
-    → ReadsItem layout r bytes i (item_of layout m es) cell part
-reads_item layout r i m es bytes cell part laid input codes listed entries numbers room ok room' ok' = by_data (nat_eq m.report r) (is_padding m.shape) refl refl
+pub reads_item : (layout : Contents) (r i : ℕ) (m : MainItem) (es : List Entry) (bytes : List ℕ)
+    (state part : ControlState) → IsLayout layout → IsInput layout r → has_empty_codes layout ≡ true
+    → slice_get layout.items i ≡ Some m → slice_get layout.entries i ≡ Some es
+    → (IsData layout r i m
+    → item_numbers layout bytes m ≡ element_numbers m (usage_list es) (form_of m (usage_list es) m.shape) part)
+    → HasRoom (head_of (item_of layout m es).form) state → InView (item_of layout m es).form state → HasRoom (head_of (item_of layout m es).form) part → InPart (item_of layout m es).form part
+    → ReadsItem layout r bytes i (item_of layout m es) state part
+reads_item layout r i m es bytes state part laid input codes listed entries numbers room ok room' ok' = by_data (nat_eq m.report r) (is_padding m.shape) refl refl
   where
     item : Item
     item = item_of layout m es
@@ -240,11 +262,26 @@ reads_item layout r i m es bytes cell part laid input codes listed entries numbe
     vs : List ℤ
     vs = item_numbers layout bytes m
 
-    read_is : read_by_report layout r bytes i cell ≡ cond (is_data_in r m) (read_by_numbers layout i m cell vs) cell
-    read_is = ap (λ (o : Option MainItem). elim o as (λ _. Cell) [ None ↦ cell | Some x ↦ cond (is_data_in r x) (read_by_numbers layout i x cell (item_numbers layout bytes x)) cell ]) listed
+    read_is : state_by_report layout r bytes i state ≡ cond (is_data_in r m) (state_by_numbers layout i m state vs) state
+    read_is =
+        ap (λ (o : Option MainItem). elim o as
+        (λ _. ControlState) [
+          | None ↦ state
+          | Some x ↦
+              cond (is_data_in r x) (state_by_numbers layout i x state (item_numbers layout bytes x)) state
+        ]) listed
 
-    told_is : told_by_report layout r bytes i cell ≡ cond (is_data_in r m) (told_by_numbers layout i m cell (read_by_numbers layout i m cell vs) vs) []
-    told_is = ap (λ (o : Option MainItem). elim o as (λ _. List Event) [ None ↦ [] | Some x ↦ cond (is_data_in r x) (told_by_numbers layout i x cell (read_by_numbers layout i x cell (item_numbers layout bytes x)) (item_numbers layout bytes x)) [] ]) listed
+    told_is : report_events_from layout r bytes i state
+        ≡ cond (is_data_in r m) (number_events layout i m state (state_by_numbers layout i m state vs) vs) []
+    told_is =
+        ap (λ (o : Option MainItem). elim o as
+        (λ _. List Event) [
+          | None ↦ []
+          | Some x ↦
+              cond (is_data_in r x)
+              (number_events layout i x state (state_by_numbers layout i x state (item_numbers layout bytes x))
+              (item_numbers layout bytes x)) []
+        ]) listed
 
     in_report : (m.report ≡ r) → item ≡ input_item m.report (report_bytes layout m.report) (form_of m us m.shape)
     in_report e =
@@ -261,136 +298,171 @@ reads_item layout r i m es bytes cell part laid input codes listed entries numbe
         by_input true = grind (arith, nat_tests)
         by_input false = refl
 
-    there_data : IsData layout r i m → is_data_in r m ≡ true → ReadsItem layout r bytes i item cell part
+    there_data : IsData layout r i m → is_data_in r m ≡ true → ReadsItem layout r bytes i item state part
     there_data d e =
         let formed : item.form ≡ form_of m us m.shape = form_in_input layout r m es input d.in_report in
-        let both = data_item layout r i m es cell part vs laid input d entries codes (numbers d)
-        (subst (λ (f : Form). HasRoom (head_of f) cell) formed room) (subst (λ (f : Form). InView f cell) formed ok)
+        let both = data_item layout r i m es state part vs laid input d entries codes (numbers d)
+        (subst (λ (f : Form). HasRoom (head_of f) state) formed room) (subst (λ (f : Form). InView f state) formed ok)
         (subst (λ (f : Form). HasRoom (head_of f) part) formed room') (subst (λ (f : Form). InPart f part) formed ok')
         in
         let here = is_here d.in_report in
-        let sees : seen_of r item cell part ≡ seen_cell cell part = ap (λ (b : Bool). cond b (seen_cell cell part) cell) here in
-        let its_part : part_of r item part ≡ part = ap (λ (b : Bool). cond b part Vacant) here in
+        let sees : view_item_after r item state part ≡ seen_state state part =
+        ap (λ (b : Bool). cond b (seen_state state part) state) here in
+        let its_part : part_of r item part ≡ part = ap (λ (b : Bool). cond b part Absent) here in
         record {
-          view = read_is ∙ ap (λ (b : Bool). cond b (read_by_numbers layout i m cell vs) cell) e ∙ both.0 ∙ sym sees;
-          events = told_is ∙ ap (λ (b : Bool). cond b (told_by_numbers layout i m cell (read_by_numbers layout i m cell vs) vs) []) e ∙ both.1
-              ∙ sym (ap (λ (f : Form). change_events i f cell (seen_of r item cell part) ++ motions_told i f (part_of r item part)) formed
-              ∙ ap (λ (c : Cell). change_events i (form_of m us m.shape) cell c ++ motions_told i (form_of m us m.shape) (part_of r item part)) sees
-              ∙ ap (λ (c : Cell). change_events i (form_of m us m.shape) cell (seen_cell cell part) ++ motions_told i (form_of m us m.shape) c) its_part);
+          view = read_is ∙ ap (λ (b : Bool). cond b (state_by_numbers layout i m state vs) state) e ∙ both.0 ∙ sym sees;
+          events = told_is
+              ∙ ap (λ (b : Bool). cond b (number_events layout i m state (state_by_numbers layout i m state vs) vs) []) e
+              ∙ both.1
+              ∙ sym (ap
+              (λ (f : Form). change_events i f state (view_item_after r item state part)
+              ++ form_motions i f (part_of r item part)) formed
+              ∙ ap (λ (c : ControlState). change_events i (form_of m us m.shape) state c
+              ++ form_motions i (form_of m us m.shape) (part_of r item part)) sees
+              ∙ ap (λ (c : ControlState). change_events i (form_of m us m.shape) state (seen_state state part)
+              ++ form_motions i (form_of m us m.shape) c) its_part);
         }
 
-    stays : is_data_in r m ≡ false → seen_of r item cell part ≡ cell → motions_told i item.form (part_of r item part) ≡ [] → ReadsItem layout r bytes i item cell part
+    stays : is_data_in r m ≡ false → view_item_after r item state part ≡ state
+        → form_motions i item.form (part_of r item part) ≡ [] → ReadsItem layout r bytes i item state part
     stays e sees quiet = record {
-      view = read_is ∙ ap (λ (b : Bool). cond b (read_by_numbers layout i m cell vs) cell) e ∙ sym sees;
-      events = told_is ∙ ap (λ (b : Bool). cond b (told_by_numbers layout i m cell (read_by_numbers layout i m cell vs) vs) []) e
-          ∙ sym (ap (λ (c : Cell). change_events i item.form cell c ++ motions_told i item.form (part_of r item part)) sees
-          ∙ ap (λ (l : List Event). l ++ motions_told i item.form (part_of r item part)) (same_cell i item.form cell) ∙ quiet);
+      view = read_is ∙ ap (λ (b : Bool). cond b (state_by_numbers layout i m state vs) state) e ∙ sym sees;
+      events = told_is
+          ∙ ap (λ (b : Bool). cond b (number_events layout i m state (state_by_numbers layout i m state vs) vs) []) e
+          ∙ sym (ap
+          (λ (c : ControlState). change_events i item.form state c
+          ++ form_motions i item.form (part_of r item part)) sees
+          ∙ ap (λ (l : List Event). l ++ form_motions i item.form (part_of r item part)) (same_state i item.form state)
+          ∙ quiet);
     }
 
-    other : is_data_in r m ≡ false → (m.report ≡ r → ⊥) → ReadsItem layout r bytes i item cell part
+    other : is_data_in r m ≡ false → (m.report ≡ r → ⊥) → ReadsItem layout r bytes i item state part
     other e ne =
         let there = is_there ne in
-        stays e (ap (λ (b : Bool). cond b (seen_cell cell part) cell) there)
-        (ap (λ (b : Bool). motions_told i item.form (cond b part Vacant)) there ∙ no_motion i item.form)
+        stays e (ap (λ (b : Bool). cond b (seen_state state part) state) there)
+        (ap (λ (b : Bool). form_motions i item.form (cond b part Absent)) there ∙ no_motion i item.form)
 
-    padded : is_data_in r m ≡ false → m.report ≡ r → is_padding m.shape ≡ true → ReadsItem layout r bytes i item cell part
+    padded : is_data_in r m ≡ false → m.report ≡ r → is_padding m.shape ≡ true → ReadsItem layout r bytes i item state part
     padded e at_r pads =
         let none : item.form ≡ NoControls = form_in_input layout r m es input at_r ∙ no_controls m.shape pads in
-        stays e (ap (λ (b : Bool). cond b (seen_cell cell part) cell) (is_here at_r) ∙ vacant part (subst (λ (f : Form). HasRoom (head_of f) part) none room'))
-        (ap (λ (f : Form). motions_told i f (part_of r item part)) none)
+        stays e (ap (λ (b : Bool). cond b (seen_state state part) state) (is_here at_r) ∙ vacant part (subst (λ (f : Form). HasRoom (head_of f) part) none room'))
+        (ap (λ (f : Form). form_motions i f (part_of r item part)) none)
       where
         no_controls : (shape : Shape) → is_padding shape ≡ true → form_of m us shape ≡ NoControls
         no_controls Padding h = refl
         no_controls Variable h = absurd (cc)
         no_controls Array h = absurd (cc)
 
-        vacant : (part : Cell) → HasRoom (head_of NoControls) part → seen_cell cell part ≡ cell
-        vacant Vacant h = refl
-        vacant (Pressed ps) h = absurd h
-        vacant (Holding ps) h = absurd h
-        vacant (Moved ps) h = absurd h
-        vacant (RolledOver ps) h = absurd h
+        vacant : (part : ControlState) → HasRoom (head_of NoControls) part → seen_state state part ≡ state
+        vacant Absent h = refl
+        vacant (Switches ps) h = absurd h
+        vacant (Values ps) h = absurd h
+        vacant (Motions ps) h = absurd h
+        vacant (RollOver ps) h = absurd h
 
-    by_data : (a p : Bool) → nat_eq m.report r ≡ a → is_padding m.shape ≡ p → ReadsItem layout r bytes i item cell part
+    by_data : (a p : Bool) → nat_eq m.report r ≡ a → is_padding m.shape ≡ p → ReadsItem layout r bytes i item state part
     by_data true false at_r data_ = let is : is_data_in r m ≡ true = rw (at_r, data_) refl in there_data (data_if layout r i m listed is) is
     by_data true true at_r pads = padded (rw (at_r, pads) refl) (grind (arith, nat_tests)) pads
     by_data false p not_r shape = other (rw not_r refl) (λ same. grind (arith, nat_tests))
 
 -- the whole list
-read_all : (layout : Contents) (r : ℕ) (bytes : List ℕ) (i : ℕ) (items : List Item) (cells parts : List Cell) → length cells ≡ length items → length parts ≡ length items
-    → ((k : ℕ) (item : Item) (cell part : Cell) → slice_get items k ≡ Some item → slice_get cells k ≡ Some cell → slice_get parts k ≡ Some part → ReadsItem layout r bytes (i + k) item cell part)
-    → (read_from layout r bytes i cells ≡ by_item (seen_of r) items cells parts) × (told_from layout r bytes i cells ≡ events_from i r items cells (by_item (seen_of r) items cells parts) parts)
-read_all layout r bytes i [] [] [] h k each = (refl, refl)
-read_all layout r bytes i [] (c ∷ cells) parts h k each = absurd (omega arith)
-read_all layout r bytes i [] [] (p ∷ parts) h k each = absurd (omega arith)
-read_all layout r bytes i (item ∷ items) [] parts h k each = absurd (omega arith)
-read_all layout r bytes i (item ∷ items) (c ∷ cells) [] h k each = absurd (omega arith)
-read_all layout r bytes i (item ∷ items) (c ∷ cells) (p ∷ parts) h k each =
+read_all : (layout : Contents) (r : ℕ) (bytes : List ℕ) (i : ℕ) (items : List Item) (states parts : List ControlState)
+    → length states ≡ length items → length parts ≡ length items
+    → ((k : ℕ) (item : Item) (state part : ControlState) → slice_get items k ≡ Some item
+    → slice_get states k ≡ Some state → slice_get parts k ≡ Some part → ReadsItem layout r bytes (i + k) item state part)
+    → (view_from_item layout r bytes i states ≡ by_item (view_item_after r) items states parts)
+    × (events_from_item layout r bytes i states
+    ≡ events_from i r items states (by_item (view_item_after r) items states parts) parts)
+read_all layout r bytes i [] [] [] h k element_list_events = (refl, refl)
+read_all layout r bytes i [] (c ∷ states) parts h k element_list_events = absurd (omega arith)
+read_all layout r bytes i [] [] (p ∷ parts) h k element_list_events = absurd (omega arith)
+read_all layout r bytes i (item ∷ items) [] parts h k element_list_events = absurd (omega arith)
+read_all layout r bytes i (item ∷ items) (c ∷ states) [] h k element_list_events = absurd (omega arith)
+read_all layout r bytes i (item ∷ items) (c ∷ states) (p ∷ parts) h k element_list_events =
     let zero_ : i + 0 ≡ i = omega arith in
-    let first : ReadsItem layout r bytes i item c p = let P : ℕ → Type 0 = λ n. ReadsItem layout r bytes n item c p in subst P zero_ (each 0 item c p refl refl refl) in
-    let rest = read_all layout r bytes (i + 1) items cells parts (omega arith) (omega arith)
-    (λ j it cell part g f e. let next : i + suc j ≡ (i + 1) + j = omega arith in let P : ℕ → Type 0 = λ n. ReadsItem layout r bytes n it cell part in subst P next (each (suc j) it cell part g f e))
+    let first : ReadsItem layout r bytes i item c p = let P : ℕ → Type 0 =
+    λ n. ReadsItem layout r bytes n item c p in subst P zero_ (element_list_events 0 item c p refl refl refl) in
+    let rest = read_all layout r bytes (i + 1) items states parts (omega arith) (omega arith)
+    (λ j it state part g f e. let next : i + suc j ≡ (i + 1) + j = omega arith in let P : ℕ → Type 0 =
+    λ n. ReadsItem layout r bytes n it state part in subst P next (element_list_events (suc j) it state part g f e))
     in (
-      ap (λ (x : Cell). x ∷ read_from layout r bytes (i + 1) cells) first.view ∙ ap (λ (xs : List Cell). seen_of r item c p ∷ xs) rest.0,
-      ap (λ (x : List Event). x ++ told_from layout r bytes (i + 1) cells) first.events
-          ∙ ap (λ (x : List Event). (change_events i item.form c (seen_of r item c p) ++ motions_told i item.form (part_of r item p)) ++ x) rest.1,
+      ap (λ (x : ControlState). x ∷ view_from_item layout r bytes (i + 1) states) first.view
+          ∙ ap (λ (xs : List ControlState). view_item_after r item c p ∷ xs) rest.0,
+      ap (λ (x : List Event). x ++ events_from_item layout r bytes (i + 1) states) first.events
+          ∙ ap (λ (x : List Event).
+          (change_events i item.form c (view_item_after r item c p) ++ form_motions i item.form (part_of r item p))
+          ++ x) rest.1,
     )
 
 -- a view that sees parts suits the items
-seen_room : (form : Form) (cell part : Cell) → HasRoom (head_of form) cell → InView form cell → HasRoom (head_of form) part → InPart form part → HasRoom (head_of form) (seen_cell cell part) × InView form (seen_cell cell part)
-seen_room form cell Vacant room ok room' ok' = (room, ok)
-seen_room form cell (Moved ms) room ok room' ok' = (room, ok)
-seen_room form cell (RolledOver ps) room ok room' ok' = (room, ok)
-seen_room NoControls cell (Pressed ps) room ok room' ok' = absurd room'
-seen_room (Elements kind least greatest us) cell (Pressed ps) room ok room' ok' = (room', tt)
-seen_room (Keys elements rolls keys) cell (Pressed ps) room ok room' ok' = (room', ok'.1)
-seen_room NoControls cell (Holding vs) room ok room' ok' = absurd room'
-seen_room (Elements kind least greatest us) cell (Holding vs) room ok room' ok' = (room', tt)
-seen_room (Keys elements rolls keys) cell (Holding vs) room ok room' ok' = absurd room'
+seen_room : (form : Form) (state part : ControlState) → HasRoom (head_of form) state → InView form state
+    → HasRoom (head_of form) part → InPart form part
+    → HasRoom (head_of form) (seen_state state part) × InView form (seen_state state part)
+seen_room form state Absent room ok room' ok' = (room, ok)
+seen_room form state (Motions ms) room ok room' ok' = (room, ok)
+seen_room form state (RollOver ps) room ok room' ok' = (room, ok)
+seen_room NoControls state (Switches ps) room ok room' ok' = absurd room'
+seen_room (Elements kind least greatest us) state (Switches ps) room ok room' ok' = (room', tt)
+seen_room (Keys elements rolls keys) state (Switches ps) room ok room' ok' = (room', ok'.1)
+seen_room NoControls state (Values vs) room ok room' ok' = absurd room'
+seen_room (Elements kind least greatest us) state (Values vs) room ok room' ok' = (room', tt)
+seen_room (Keys elements rolls keys) state (Values vs) room ok room' ok' = absurd room'
 
 pub seen_is_view : SeenIsView
-seen_is_view items r view parts fits shows = suits_by InView (seen_of r) items view parts fits.one_each shows.one_each at_item
+seen_is_view items r view parts fits shows =
+    suits_by InView (view_item_after r) items view parts fits.one_each shows.one_each at_item
   where
-    by_report : (b : Bool) (form : Form) (cell part : Cell) → HasRoom (head_of form) cell → InView form cell → HasRoom (head_of form) part → InPart form part
-        → HasRoom (head_of form) (cond b (seen_cell cell part) cell) × InView form (cond b (seen_cell cell part) cell)
-    by_report true form cell part room ok room' ok' = seen_room form cell part room ok room' ok'
-    by_report false form cell part room ok room' ok' = (room, ok)
+    by_report : (b : Bool) (form : Form) (state part : ControlState) → HasRoom (head_of form) state → InView form state
+        → HasRoom (head_of form) part → InPart form part
+        → HasRoom (head_of form) (cond b (seen_state state part) state) × InView form (cond b (seen_state state part) state)
+    by_report true form state part room ok room' ok' = seen_room form state part room ok room' ok'
+    by_report false form state part room ok room' ok' = (room, ok)
 
-    at_item : (i : ℕ) (item : Item) (a b : Cell) → slice_get items i ≡ Some item → slice_get view i ≡ Some a → slice_get parts i ≡ Some b → HasRoom (head_of item.form) (seen_of r item a b) × InView item.form (seen_of r item a b)
+    at_item : (i : ℕ) (item : Item) (a b : ControlState) → slice_get items i ≡ Some item → slice_get view i ≡ Some a
+        → slice_get parts i ≡ Some b
+        → HasRoom (head_of item.form) (view_item_after r item a b) × InView item.form (view_item_after r item a b)
     at_item i item a b h g k = by_report (is_of r item) item.form a b (fits.room i item a h g) (fits.suits i item a h g) (shows.room i item b h k) (shows.suits i item b h k)
 
 -- every part is read back
 pub parts_back : PartsAreReadBack
 parts_back layout r parts bytes view shows fits = record { report = names_report layout r (part_numbers layout parts) bytes shows.laid shows.input shows.are_bytes shows.encoding; view = all.0; events = all.1 }
   where
-    numbers : (i : ℕ) (m : MainItem) (es : List Entry) (part : Cell) → slice_get layout.entries i ≡ Some es → slice_get parts i ≡ Some part → IsData layout r i m
-        → item_numbers layout bytes m ≡ sent m (usage_list es) (form_of m (usage_list es) m.shape) part
+    numbers : (i : ℕ) (m : MainItem) (es : List Entry) (part : ControlState) → slice_get layout.entries i ≡ Some es
+        → slice_get parts i ≡ Some part → IsData layout r i m
+        → item_numbers layout bytes m ≡ element_numbers m (usage_list es) (form_of m (usage_list es) m.shape) part
     numbers i m es part entries there d =
-        shows.encoding.shows.elements i m (slice_get_within layout.items i m d.listed) d ∙ cell_numbers layout parts i part there ∙ sent_at-is layout i m es part d.listed entries
+        shows.encoding.shows.elements i m (slice_get_within layout.items i m d.listed) d
+        ∙ state_numbers layout parts i part there ∙ numbers_at-is layout i m es part d.listed entries
 
-    item_there : (i : ℕ) (m : MainItem) (es : List Entry) (item : Item) (cell part : Cell) → slice_get layout.items i ≡ Some m → slice_get layout.entries i ≡ Some es → item_of layout m es ≡ item
-        → slice_get (items_of layout) i ≡ Some item → slice_get view i ≡ Some cell → slice_get parts i ≡ Some part → ReadsItem layout r bytes i item cell part
-    item_there i m es item cell part listed entries is h g k =
-        let P : Item → Type 0 = λ it. HasRoom (head_of it.form) cell → InView it.form cell → HasRoom (head_of it.form) part → InPart it.form part → ReadsItem layout r bytes i it cell part in
-        let read : P (item_of layout m es) = reads_item layout r i m es bytes cell part shows.laid shows.input shows.empty_codes listed entries (numbers i m es part entries k) in
-        subst P is read (fits.room i item cell h g) (fits.suits i item cell h g) (shows.fits.room i item part h k) (shows.fits.suits i item part h k)
+    item_there : (i : ℕ) (m : MainItem) (es : List Entry) (item : Item) (state part : ControlState)
+        → slice_get layout.items i ≡ Some m → slice_get layout.entries i ≡ Some es → item_of layout m es ≡ item
+        → slice_get (items_of layout) i ≡ Some item → slice_get view i ≡ Some state → slice_get parts i ≡ Some part → ReadsItem layout r bytes i item state part
+    item_there i m es item state part listed entries is h g k =
+        let P : Item → Type 0 = λ it. HasRoom (head_of it.form) state → InView it.form state → HasRoom (head_of it.form) part → InPart it.form part → ReadsItem layout r bytes i it state part in
+        let read : P (item_of layout m es) = reads_item layout r i m es bytes state part shows.laid shows.input shows.empty_codes listed entries (numbers i m es part entries k) in
+        subst P is read (fits.room i item state h g) (fits.suits i item state h g) (shows.fits.room i item part h k) (shows.fits.suits i item part h k)
 
-    each : (i : ℕ) (item : Item) (cell part : Cell) → slice_get (items_of layout) i ≡ Some item → slice_get view i ≡ Some cell → slice_get parts i ≡ Some part → ReadsItem layout r bytes i item cell part
-    each i item cell part h g k =
+    element_list_events : (i : ℕ) (item : Item) (state part : ControlState) → slice_get (items_of layout) i ≡ Some item
+        → slice_get view i ≡ Some state → slice_get parts i ≡ Some part → ReadsItem layout r bytes i item state part
+    element_list_events i item state part h g k =
         let within : i < length layout.items = omega (arith, slice_get_within (items_of layout) i item h, items_of-length layout shows.laid) in
         let m = got layout.items i within in
         let es = got layout.entries i (omega (arith, shows.laid.entries_there)) in
         let there = items_from-at layout layout.items layout.entries i m.0 es.0 m.1 es.1 in
-        item_there i m.0 es.0 item cell part m.1 es.1 (same_item (item_of layout m.0 es.0) item i there h) h g k
+        item_there i m.0 es.0 item state part m.1 es.1 (same_item (item_of layout m.0 es.0) item i there h) h g k
       where
         same_item : (a b : Item) (i : ℕ) → slice_get (items_of layout) i ≡ Some a → slice_get (items_of layout) i ≡ Some b → a ≡ b
         same_item a b i h k = cc
 
-    all : (read_from layout r bytes 0 view ≡ by_item (seen_of r) (items_of layout) view parts) × (told_from layout r bytes 0 view ≡ events_from 0 r (items_of layout) view (by_item (seen_of r) (items_of layout) view parts) parts)
+    all : (view_from_item layout r bytes 0 view ≡ by_item (view_item_after r) (items_of layout) view parts)
+        × (events_from_item layout r bytes 0 view
+        ≡ events_from 0 r (items_of layout) view (by_item (view_item_after r) (items_of layout) view parts) parts)
     all = read_all layout r bytes 0 (items_of layout) view parts fits.one_each shows.fits.one_each
-        (λ k item cell part h g f. let P : ℕ → Type 0 = λ n. ReadsItem layout r bytes n item cell part in subst P (sym (zero-add k)) (each k item cell part h g f))
+        (λ k item state part h g f. let P : ℕ → Type 0 =
+        λ n. ReadsItem layout r bytes n item state part in
+        subst P (sym (zero-add k)) (element_list_events k item state part h g f))
 
--- and taken
+-- every part that is sent is taken
 pub parts_taken : PartsAreTaken
 parts_taken layout r parts bytes before out (Err fault) after told shows fits takes =
     let back = parts_back layout r parts bytes before shows fits in

@@ -3,20 +3,20 @@ use Rattle.std.specs.Prelude.{◌≡◌, ℕ, Bool, true, false, List, [], ◌�
 use Rattle.hid_descriptor.specs.declared.shape.Shape.TheVariants.{Padding, Variable, Array}
 use Rattle.hid_descriptor.specs.declared.report.ReportKind.TheVariants.{Input, Output}
 use Rattle.hid_layout.specs.Layout.{Contents}
-use Rattle.hid_layout.specs.Controls.{items_of, items_from, spread, keys_from, rollover_from}
+use Rattle.hid_layout.specs.Controls.{items_of, items_from, spread_usages, keys_from, rollover_from}
 use Rattle.hid_layout.specs.Sent.{first_passing}
-use Rattle.hid_snapshots.specs.declared.cell.Cell.{Cell}
-use Rattle.hid_snapshots.specs.declared.cell.Cell.TheVariants.{Vacant, Pressed, Moved, RolledOver}
+use Rattle.hid_snapshots.specs.declared.control_state.ControlState.{ControlState}
+use Rattle.hid_snapshots.specs.declared.control_state.ControlState.TheVariants.{Absent, Switches, Motions, RollOver}
 use Rattle.hid_snapshots.specs.declared.event.Event.TheVariants as event
-use Rattle.hid_snapshots.specs.Cells.{blank}
+use Rattle.hid_snapshots.specs.ControlStates.{blank}
 use Rattle.hid_snapshots.specs.Encoding.{part_numbers}
 use Rattle.hid_snapshots.specs.Encoded.{part_bytes}
-use Rattle.hid_snapshots.specs.Parts.{still}
+use Rattle.hid_snapshots.specs.Parts.{still_parts}
 use Rattle.hid_snapshots.specs.Events.{at}
 use Rattle.hid_usages.specs.Reading.{report_named}
 use Rattle.hid_snapshots.specs.Samples.{usage}
 use Rattle.hid_usages.specs.Taking.{read_view, read_events}
-use Rattle.hid_snapshots.specs.Views.{seen}
+use Rattle.hid_snapshots.specs.Views.{view_after_part}
 
 abbrev mouse : Contents
 mouse = record {
@@ -34,34 +34,38 @@ mouse = record {
 abbrev mouse_bytes : List ℕ
 mouse_bytes = 0x01 ∷ 0x7F ∷ 0x81 ∷ []
 
-abbrev mouse_parts : List Cell
-mouse_parts = Pressed (true ∷ false ∷ false ∷ []) ∷ Vacant ∷ Moved (pos 127 ∷ negsuc 126 ∷ []) ∷ []
+abbrev mouse_parts : List ControlState
+mouse_parts = Switches (true ∷ false ∷ false ∷ []) ∷ Absent ∷ Motions (pos 127 ∷ negsuc 126 ∷ []) ∷ []
 
 mouse_named : report_named mouse mouse_bytes ≡ Ok 0
 mouse_named = refl
 
-mouse_seen : read_view mouse 0 mouse_bytes (blank (items_of mouse)) ≡ seen (items_of mouse) 0 (blank (items_of mouse)) mouse_parts
-unfolding items_from spread
+mouse_seen : read_view mouse 0 mouse_bytes (blank (items_of mouse))
+    ≡ view_after_part (items_of mouse) 0 (blank (items_of mouse)) mouse_parts
+unfolding items_from spread_usages
 mouse_seen = refl
 
 mouse_told : read_events mouse 0 mouse_bytes (blank (items_of mouse)) ≡ event.Down (at 0 0) (usage 9 1) ∷ event.Motion (at 2 0) (usage 1 0x30) (pos 127) ∷ event.Motion (at 2 1) (usage 1 0x31) (negsuc 126) ∷ []
-unfolding items_from spread
+unfolding items_from spread_usages
 mouse_told = refl
 
 mouse_written : part_bytes mouse 0 mouse_parts ≡ mouse_bytes
-unfolding part_bytes items_from spread
+unfolding part_bytes items_from spread_usages
 mouse_written = refl
 
 -- its still part: the button alone, of 200 to the right and 3 up too
-mouse_still : part_bytes mouse 0 (still (items_of mouse) 0 (Pressed (true ∷ false ∷ false ∷ []) ∷ Vacant ∷ Moved (pos 200 ∷ negsuc 2 ∷ []) ∷ []) mouse_parts) ≡ 0x01 ∷ 0 ∷ 0 ∷ []
-unfolding part_bytes items_from spread
+mouse_still : part_bytes mouse 0
+    (still_parts (items_of mouse) 0
+    (Switches (true ∷ false ∷ false ∷ []) ∷ Absent ∷ Motions (pos 200 ∷ negsuc 2 ∷ []) ∷ []) mouse_parts) ≡ 0x01 ∷ 0
+    ∷ 0 ∷ []
+unfolding part_bytes items_from spread_usages
 mouse_still = refl
 
 mouse_sent : part_numbers mouse mouse_parts 2 ≡ pos 127 ∷ negsuc 126 ∷ []
-unfolding items_from spread
+unfolding items_from spread_usages
 mouse_sent = refl
 
--- the keyboard's Output report, the LEDs, comes behind its Input report
+-- the keyboard's Output report, the LEDs, comes after its Input report
 abbrev keyboard : Contents
 keyboard = record {
   reports = record { kind = Input; id = 0; bits = 64 } ∷ record { kind = Output; id = 0; bits = 8 } ∷ [];
@@ -86,8 +90,8 @@ shift_down = false ∷ true ∷ replicate 6 false
 abbrev four_down : List Bool
 four_down = replicate 4 false ++ true ∷ replicate 97 false
 
-abbrev keyboard_parts : List Cell
-keyboard_parts = Pressed shift_down ∷ Vacant ∷ Vacant ∷ Vacant ∷ Pressed four_down ∷ []
+abbrev keyboard_parts : List ControlState
+keyboard_parts = Switches shift_down ∷ Absent ∷ Absent ∷ Absent ∷ Switches four_down ∷ []
 
 keyboard_named : report_named keyboard keyboard_bytes ≡ Ok 0
 keyboard_named = refl
@@ -97,36 +101,42 @@ unfolding first_passing keys_from rollover_from
 keyboard_sent = refl
 
 keyboard_written : part_bytes keyboard 0 keyboard_parts ≡ keyboard_bytes
-unfolding part_bytes items_from first_passing keys_from rollover_from spread
+unfolding part_bytes items_from first_passing keys_from rollover_from spread_usages
 keyboard_written = refl
 
 -- the key alone, in place of a part that showed the left Shift too
-keyboard_still : part_bytes keyboard 0 (still (items_of keyboard) 0 (Pressed (replicate 8 false) ∷ Vacant ∷ Vacant ∷ Vacant ∷ Pressed four_down ∷ []) keyboard_parts) ≡ 0 ∷ 0 ∷ 4 ∷ 0 ∷ 0 ∷ 0 ∷ 0 ∷ 0 ∷ []
-unfolding part_bytes items_from first_passing keys_from rollover_from spread
+keyboard_still : part_bytes keyboard 0
+    (still_parts (items_of keyboard) 0
+    (Switches (replicate 8 false) ∷ Absent ∷ Absent ∷ Absent ∷ Switches four_down ∷ []) keyboard_parts) ≡ 0 ∷ 0 ∷ 4
+    ∷ 0 ∷ 0 ∷ 0 ∷ 0 ∷ 0 ∷ []
+unfolding part_bytes items_from first_passing keys_from rollover_from spread_usages
 keyboard_still = refl
 
-keyboard_seen : read_view keyboard 0 keyboard_bytes (blank (items_of keyboard)) ≡ seen (items_of keyboard) 0 (blank (items_of keyboard)) keyboard_parts
-unfolding items_from spread keys_from rollover_from
+keyboard_seen : read_view keyboard 0 keyboard_bytes (blank (items_of keyboard))
+    ≡ view_after_part (items_of keyboard) 0 (blank (items_of keyboard)) keyboard_parts
+unfolding items_from spread_usages keys_from rollover_from
 keyboard_seen = refl
 
 keyboard_told : read_events keyboard 0 keyboard_bytes (blank (items_of keyboard)) ≡ event.Down (at 0 1) (usage 7 0xE1) ∷ event.Down (at 4 4) (usage 7 4) ∷ []
-unfolding items_from spread keys_from rollover_from
+unfolding items_from spread_usages keys_from rollover_from
 keyboard_told = refl
 
 -- more keys than elements: each element names ErrorRollOver, and the keys stay as they were
-abbrev rolled_parts : List Cell
-rolled_parts = Pressed (replicate 8 false) ∷ Vacant ∷ Vacant ∷ Vacant ∷ RolledOver (replicate 4 false ++ replicate 7 true ++ replicate 91 false) ∷ []
+abbrev rolled_parts : List ControlState
+rolled_parts =
+    Switches (replicate 8 false) ∷ Absent ∷ Absent ∷ Absent
+    ∷ RollOver (replicate 4 false ++ replicate 7 true ++ replicate 91 false) ∷ []
 
 rolled_sent : part_numbers keyboard rolled_parts 4 ≡ replicate 6 (pos 1)
 unfolding first_passing keys_from rollover_from
 rolled_sent = refl
 
 rolled_written : part_bytes keyboard 0 rolled_parts ≡ 0 ∷ 0 ∷ 1 ∷ 1 ∷ 1 ∷ 1 ∷ 1 ∷ 1 ∷ []
-unfolding part_bytes items_from first_passing keys_from rollover_from spread
+unfolding part_bytes items_from first_passing keys_from rollover_from spread_usages
 rolled_written = refl
 
 rolled_told : read_events keyboard 0 (0 ∷ 0 ∷ 1 ∷ 1 ∷ 1 ∷ 1 ∷ 1 ∷ 1 ∷ []) keyboard_parts ≡ event.Up (at 0 1) (usage 7 0xE1) ∷ []
-unfolding items_from spread keys_from rollover_from
+unfolding items_from spread_usages keys_from rollover_from
 rolled_told = refl
 
 -- a wheel in report 1 and a button in report 2
@@ -145,23 +155,24 @@ button_named : report_named numbered (2 ∷ 1 ∷ []) ≡ Ok 1
 button_named = refl
 
 button_told : read_events numbered 1 (2 ∷ 1 ∷ []) (blank (items_of numbered)) ≡ event.Down (at 1 0) (usage 9 1) ∷ []
-unfolding items_from spread
+unfolding items_from spread_usages
 button_told = refl
 
 wheel_told : read_events numbered 0 (1 ∷ 0xFF ∷ []) (blank (items_of numbered)) ≡ event.Motion (at 0 0) (usage 1 0x38) (negsuc 0) ∷ []
-unfolding items_from spread
+unfolding items_from spread_usages
 wheel_told = refl
 
--- one to the left, and the button, each behind the ID of its report
-wheel_written : part_bytes numbered 0 (Moved (negsuc 0 ∷ []) ∷ Pressed (true ∷ []) ∷ []) ≡ 1 ∷ 0xFF ∷ []
-unfolding part_bytes items_from spread
+-- one to the left, and the button, each after the ID of its report
+wheel_written : part_bytes numbered 0 (Motions (negsuc 0 ∷ []) ∷ Switches (true ∷ []) ∷ []) ≡ 1 ∷ 0xFF ∷ []
+unfolding part_bytes items_from spread_usages
 wheel_written = refl
 
-button_written : part_bytes numbered 1 (Moved (negsuc 0 ∷ []) ∷ Pressed (true ∷ []) ∷ []) ≡ 2 ∷ 1 ∷ []
-unfolding part_bytes items_from spread
+button_written : part_bytes numbered 1 (Motions (negsuc 0 ∷ []) ∷ Switches (true ∷ []) ∷ []) ≡ 2 ∷ 1 ∷ []
+unfolding part_bytes items_from spread_usages
 button_written = refl
 
 -- the still part of a report leaves the motion of another
-button_still : still (items_of numbered) 1 (Moved (negsuc 0 ∷ []) ∷ Pressed (true ∷ []) ∷ []) (Moved (pos 9 ∷ []) ∷ Pressed (false ∷ []) ∷ []) ≡ Moved (pos 9 ∷ []) ∷ Pressed (true ∷ []) ∷ []
-unfolding items_from spread
+button_still : still_parts (items_of numbered) 1 (Motions (negsuc 0 ∷ []) ∷ Switches (true ∷ []) ∷ [])
+    (Motions (pos 9 ∷ []) ∷ Switches (false ∷ []) ∷ []) ≡ Motions (pos 9 ∷ []) ∷ Switches (true ∷ []) ∷ []
+unfolding items_from spread_usages
 button_still = refl

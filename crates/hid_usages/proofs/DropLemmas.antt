@@ -10,15 +10,15 @@ use Rattle.hid_layout.specs.declared.control.ControlId.{ControlId}
 use Rattle.hid_layout.specs.declared.control.ControlKind.{ControlKind}
 use Rattle.hid_layout.specs.declared.control.ControlKind.TheVariants.{Switch, Value, NullValue, Relative}
 use Rattle.hid_layout.specs.Controls.{Form, NoControls, Elements, Keys, Item, form_at, head_of, events_in, max_events}
-use Rattle.hid_snapshots.specs.declared.cell.Cell.{Cell}
-use Rattle.hid_snapshots.specs.declared.cell.Cell.TheVariants.{Vacant, Pressed, Holding, Moved, RolledOver}
+use Rattle.hid_snapshots.specs.declared.control_state.ControlState.{ControlState}
+use Rattle.hid_snapshots.specs.declared.control_state.ControlState.TheVariants.{Absent, Switches, Values, Motions, RollOver}
 use Rattle.hid_snapshots.specs.declared.event.Event.{Event}
 use Rattle.hid_snapshots.specs.declared.event.Event.TheVariants as event
-use Rattle.hid_snapshots.specs.Cells.{HasRoom, InView, InPart, Suits}
-use Rattle.hid_snapshots.specs.Events.{at, each, switch_event, value_event, motion_event, up_event, down_event, ups, downs, key_usages, element_events, key_events, change_events}
+use Rattle.hid_snapshots.specs.ControlStates.{HasRoom, InView, InPart, Suits}
+use Rattle.hid_snapshots.specs.Events.{at, element_list_events, switch_event, value_event, motion_event, up_event, down_event, ups, downs, key_usages, element_events, key_events, change_events}
 use Rattle.hid_snapshots.specs.Parts.{is_of, item_at}
-use Rattle.hid_snapshots.specs.Snapshots.{cell_at, motion_in}
-use Rattle.hid_snapshots.specs.Views.{as_dropped, motions_told, part_of, events_from, drops_between}
+use Rattle.hid_snapshots.specs.Snapshots.{state_at, motion_in}
+use Rattle.hid_snapshots.specs.Views.{as_dropped, form_motions, part_of, events_from, drops_between}
 use Rattle.hid_snapshots.proofs.ItemLemmas.{got, form_at-is}
 use Rattle.hid_usages.specs.Dropping.{motions_in, drop_event, drop_events, drops_told, drops_from}
 use Rattle.hid_usages.proofs.EventLemmas.{drop_at}
@@ -26,17 +26,22 @@ use Rattle.hid_usages.proofs.ViewLemmas.{each_few, element_few, change_few, suit
 
 -- ---- events of changes stay, and those of motions are dropped
 
-each_dropped : {C : Type 0} (f : ℕ → Usage → C → List Event) (j : ℕ) (us : List Usage) (cs : List C) → map as_dropped (each f j us cs) ≡ each (λ k u c. map as_dropped (f k u c)) j us cs
+each_dropped : {C : Type 0} (f : ℕ → Usage → C → List Event) (j : ℕ) (us : List Usage) (cs : List C)
+    → map as_dropped (element_list_events f j us cs) ≡ element_list_events (λ k u c. map as_dropped (f k u c)) j us cs
 each_dropped f j [] cs = refl
 each_dropped f j (u ∷ us) [] = refl
-each_dropped f j (u ∷ us) (c ∷ cs) = map-append as_dropped (f j u c) (each f (j + 1) us cs) ∙ ap (λ (es : List Event). map as_dropped (f j u c) ++ es) (each_dropped f (j + 1) us cs)
+each_dropped f j (u ∷ us) (c ∷ cs) =
+    map-append as_dropped (f j u c) (element_list_events f (j + 1) us cs)
+    ∙ ap (λ (es : List Event). map as_dropped (f j u c) ++ es) (each_dropped f (j + 1) us cs)
 
-each_stays : {C : Type 0} (f : ℕ → Usage → C → List Event) → ((j : ℕ) (u : Usage) (c : C) → map as_dropped (f j u c) ≡ f j u c) → (j : ℕ) (us : List Usage) (cs : List C) → map as_dropped (each f j us cs) ≡ each f j us cs
+each_stays : {C : Type 0} (f : ℕ → Usage → C → List Event)
+    → ((j : ℕ) (u : Usage) (c : C) → map as_dropped (f j u c) ≡ f j u c) → (j : ℕ) (us : List Usage) (cs : List C)
+    → map as_dropped (element_list_events f j us cs) ≡ element_list_events f j us cs
 each_stays f same j [] cs = refl
 each_stays f same j (u ∷ us) [] = refl
 each_stays f same j (u ∷ us) (c ∷ cs) =
-    map-append as_dropped (f j u c) (each f (j + 1) us cs)
-    ∙ ap (λ (es : List Event). es ++ map as_dropped (each f (j + 1) us cs)) (same j u c)
+    map-append as_dropped (f j u c) (element_list_events f (j + 1) us cs)
+    ∙ ap (λ (es : List Event). es ++ map as_dropped (element_list_events f (j + 1) us cs)) (same j u c)
     ∙ ap (λ (es : List Event). f j u c ++ es) (each_stays f same (j + 1) us cs)
 
 switch_stays : (c : ControlId) (u : Usage) (p q : Bool) → map as_dropped (switch_event c u p q) ≡ switch_event c u p q
@@ -67,62 +72,69 @@ down_stays c u true false = refl
 down_stays c u false true = refl
 down_stays c u false false = refl
 
-element_stays : (i : ℕ) (us : List Usage) (b a : Cell) → map as_dropped (element_events i us b a) ≡ element_events i us b a
-element_stays i us (Pressed bs) (Pressed xs) = each_stays _ (λ j u p. switch_stays (at i j) u p.0 p.1) 0 us (zip bs xs)
-element_stays i us (Pressed bs) Vacant = refl
-element_stays i us (Pressed bs) (Holding xs) = refl
-element_stays i us (Pressed bs) (Moved xs) = refl
-element_stays i us (Pressed bs) (RolledOver xs) = refl
-element_stays i us (Holding bs) (Holding xs) = each_stays _ (λ j u p. value_stays (at i j) u p.0 p.1) 0 us (zip bs xs)
-element_stays i us (Holding bs) Vacant = refl
-element_stays i us (Holding bs) (Pressed xs) = refl
-element_stays i us (Holding bs) (Moved xs) = refl
-element_stays i us (Holding bs) (RolledOver xs) = refl
-element_stays i us Vacant a = refl
-element_stays i us (Moved bs) a = refl
-element_stays i us (RolledOver bs) a = refl
+element_stays : (i : ℕ) (us : List Usage) (b a : ControlState)
+    → map as_dropped (element_events i us b a) ≡ element_events i us b a
+element_stays i us (Switches bs) (Switches xs) =
+    each_stays _ (λ j u p. switch_stays (at i j) u p.0 p.1) 0 us (zip bs xs)
+element_stays i us (Switches bs) Absent = refl
+element_stays i us (Switches bs) (Values xs) = refl
+element_stays i us (Switches bs) (Motions xs) = refl
+element_stays i us (Switches bs) (RollOver xs) = refl
+element_stays i us (Values bs) (Values xs) = each_stays _ (λ j u p. value_stays (at i j) u p.0 p.1) 0 us (zip bs xs)
+element_stays i us (Values bs) Absent = refl
+element_stays i us (Values bs) (Switches xs) = refl
+element_stays i us (Values bs) (Motions xs) = refl
+element_stays i us (Values bs) (RollOver xs) = refl
+element_stays i us Absent a = refl
+element_stays i us (Motions bs) a = refl
+element_stays i us (RollOver bs) a = refl
 
-key_stays : (i : ℕ) (us : List Usage) (b a : Cell) → map as_dropped (key_events i us b a) ≡ key_events i us b a
-key_stays i us (Pressed bs) (Pressed xs) =
+key_stays : (i : ℕ) (us : List Usage) (b a : ControlState)
+    → map as_dropped (key_events i us b a) ≡ key_events i us b a
+key_stays i us (Switches bs) (Switches xs) =
     map-append as_dropped (ups i us bs xs) (downs i us bs xs)
     ∙ ap (λ (es : List Event). es ++ map as_dropped (downs i us bs xs)) (each_stays _ (λ j u p. up_stays (at i j) u p.0 p.1) 0 us (zip bs xs))
     ∙ ap (λ (es : List Event). ups i us bs xs ++ es) (each_stays _ (λ j u p. down_stays (at i j) u p.0 p.1) 0 us (zip bs xs))
-key_stays i us (Pressed bs) Vacant = refl
-key_stays i us (Pressed bs) (Holding xs) = refl
-key_stays i us (Pressed bs) (Moved xs) = refl
-key_stays i us (Pressed bs) (RolledOver xs) = refl
-key_stays i us Vacant a = refl
-key_stays i us (Holding bs) a = refl
-key_stays i us (Moved bs) a = refl
-key_stays i us (RolledOver bs) a = refl
+key_stays i us (Switches bs) Absent = refl
+key_stays i us (Switches bs) (Values xs) = refl
+key_stays i us (Switches bs) (Motions xs) = refl
+key_stays i us (Switches bs) (RollOver xs) = refl
+key_stays i us Absent a = refl
+key_stays i us (Values bs) a = refl
+key_stays i us (Motions bs) a = refl
+key_stays i us (RollOver bs) a = refl
 
-change_stays : (i : ℕ) (form : Form) (b a : Cell) → map as_dropped (change_events i form b a) ≡ change_events i form b a
+change_stays : (i : ℕ) (form : Form) (b a : ControlState)
+    → map as_dropped (change_events i form b a) ≡ change_events i form b a
 change_stays i NoControls b a = refl
 change_stays i (Elements kind least greatest us) b a = element_stays i us b a
 change_stays i (Keys elements rolls keys) b a = key_stays i (key_usages keys) b a
 
 -- without motions nothing is told
-none_dropped : (i j : ℕ) (us : List Usage) → each (λ k u m. drop_event (at i k) u m) j us [] ≡ []
+none_dropped : (i j : ℕ) (us : List Usage) → element_list_events (λ k u m. drop_event (at i k) u m) j us [] ≡ []
 none_dropped i j [] = refl
 none_dropped i j (u ∷ us) = refl
 
-told_dropped : (i : ℕ) (form : Form) (part : Cell) → map as_dropped (motions_told i form part) ≡ drops_told i form part
+told_dropped : (i : ℕ) (form : Form) (part : ControlState)
+    → map as_dropped (form_motions i form part) ≡ drops_told i form part
 told_dropped i NoControls part = refl
-told_dropped i (Elements kind least greatest us) (Moved ms) = each_dropped (λ j u m. motion_event (at i j) u m) 0 us ms
-told_dropped i (Elements kind least greatest us) Vacant = sym (none_dropped i 0 us)
-told_dropped i (Elements kind least greatest us) (Pressed ps) = sym (none_dropped i 0 us)
-told_dropped i (Elements kind least greatest us) (Holding vs) = sym (none_dropped i 0 us)
-told_dropped i (Elements kind least greatest us) (RolledOver ps) = sym (none_dropped i 0 us)
+told_dropped i (Elements kind least greatest us) (Motions ms) =
+    each_dropped (λ j u m. motion_event (at i j) u m) 0 us ms
+told_dropped i (Elements kind least greatest us) Absent = sym (none_dropped i 0 us)
+told_dropped i (Elements kind least greatest us) (Switches ps) = sym (none_dropped i 0 us)
+told_dropped i (Elements kind least greatest us) (Values vs) = sym (none_dropped i 0 us)
+told_dropped i (Elements kind least greatest us) (RollOver ps) = sym (none_dropped i 0 us)
 told_dropped i (Keys elements rolls keys) part = refl
 
-all_dropped : (i r : ℕ) (items : List Item) (bs xs ps : List Cell) → map as_dropped (events_from i r items bs xs ps) ≡ drops_from i r items bs xs ps
+all_dropped : (i r : ℕ) (items : List Item) (bs xs ps : List ControlState)
+    → map as_dropped (events_from i r items bs xs ps) ≡ drops_from i r items bs xs ps
 all_dropped i r [] bs xs ps = refl
 all_dropped i r (item ∷ items) [] xs ps = refl
 all_dropped i r (item ∷ items) (b ∷ bs) [] ps = refl
 all_dropped i r (item ∷ items) (b ∷ bs) (a ∷ xs) [] = refl
 all_dropped i r (item ∷ items) (b ∷ bs) (a ∷ xs) (p ∷ ps) =
     let here : List Event = change_events i item.form b a in
-    let moved : List Event = motions_told i item.form (part_of r item p) in
+    let moved : List Event = form_motions i item.form (part_of r item p) in
     let rest : List Event = events_from (i + 1) r items bs xs ps in
     map-append as_dropped (here ++ moved) rest
     ∙ ap (λ (es : List Event). es ++ map as_dropped rest) (map-append as_dropped here moved)
@@ -130,27 +142,30 @@ all_dropped i r (item ∷ items) (b ∷ bs) (a ∷ xs) (p ∷ ps) =
     ∙ ap (λ (es : List Event). (here ++ es) ++ map as_dropped rest) (told_dropped i item.form (part_of r item p))
     ∙ ap (λ (es : List Event). (here ++ drops_told i item.form (part_of r item p)) ++ es) (all_dropped (i + 1) r items bs xs ps)
 
-pub drops_are : (items : List Item) (r : ℕ) (before after parts : List Cell) → drops_between items r before after parts ≡ drops_from 0 r items before after parts
+pub drops_are : (items : List Item) (r : ℕ) (before after parts : List ControlState)
+    → drops_between items r before after parts ≡ drops_from 0 r items before after parts
 drops_are items r before after parts = all_dropped 0 r items before after parts
 
 -- ---- one item more
 
-pub drops_from-next : (items : List Item) (r : ℕ) (bs xs ps : List Cell) (i : ℕ) (b a p : Cell) → i < length items → slice_get bs i ≡ Some b → slice_get xs i ≡ Some a → slice_get ps i ≡ Some p
+pub drops_from-next : (items : List Item) (r : ℕ) (bs xs ps : List ControlState) (i : ℕ) (b a p : ControlState)
+    → i < length items → slice_get bs i ≡ Some b → slice_get xs i ≡ Some a → slice_get ps i ≡ Some p
     → drops_from i r (drop i items) (drop i bs) (drop i xs) (drop i ps)
-    ≡ (change_events i (form_at items i) b a ++ drops_told i (form_at items i) (part_of r (item_at items i) (cell_at ps i))) ++ drops_from (i + 1) r (drop (i + 1) items) (drop (i + 1) bs) (drop (i + 1) xs) (drop (i + 1) ps)
+    ≡ (change_events i (form_at items i) b a ++ drops_told i (form_at items i) (part_of r (item_at items i) (state_at ps i))) ++ drops_from (i + 1) r (drop (i + 1) items) (drop (i + 1) bs) (drop (i + 1) xs) (drop (i + 1) ps)
 drops_from-next items r bs xs ps i b a p within h k g =
     let item = got items i within in
     rw (drop_at items i item.0 item.1, drop_at bs i b h, drop_at xs i a k, drop_at ps i p g, form_at-is items i item.0 item.1, item.1, g) refl
 
 -- the motion of an element
-pub motion_there : (cell : Cell) (n j : ℕ) → HasRoom (head.Elements Relative (pos 0) (pos 0) n) cell → j < n → slice_get (motions_in cell) j ≡ Some (motion_in cell j)
-motion_there (Moved ms) n j room within =
+pub motion_there : (state : ControlState) (n j : ℕ) → HasRoom (head.Elements Relative (pos 0) (pos 0) n) state → j < n
+    → slice_get (motions_in state) j ≡ Some (motion_in state j)
+motion_there (Motions ms) n j room within =
     let m = got ms j (omega (arith, room)) in
     m.1 ∙ ap (λ (o : Option ℤ). Some (unwrap_or o (pos 0))) (sym m.1)
-motion_there Vacant n j room within = absurd room
-motion_there (Pressed ps) n j room within = absurd room
-motion_there (Holding vs) n j room within = absurd room
-motion_there (RolledOver ps) n j room within = absurd room
+motion_there Absent n j room within = absurd room
+motion_there (Switches ps) n j room within = absurd room
+motion_there (Values vs) n j room within = absurd room
+motion_there (RollOver ps) n j room within = absurd room
 
 -- ---- how many there are
 
@@ -161,30 +176,37 @@ drop_one c u m = by_same (int_eq m (pos 0))
     by_same true = omega arith
     by_same false = omega arith
 
-drops_few_of : (i : ℕ) (us : List Usage) (kind : ControlKind) (least greatest : ℤ) (b a p : Cell) → HasRoom (head.Elements kind least greatest (length us)) b → HasRoom (head.Elements kind least greatest (length us)) p
+drops_few_of : (i : ℕ) (us : List Usage) (kind : ControlKind) (least greatest : ℤ) (b a p : ControlState)
+    → HasRoom (head.Elements kind least greatest (length us)) b
+    → HasRoom (head.Elements kind least greatest (length us)) p
     → length (element_events i us b a) + length (drop_events i us (motions_in p)) ≤ length us
-drops_few_of i us Switch least greatest b a (Pressed ps) room part = omega (arith, element_few i us b a, ap length (none_dropped i 0 us))
-drops_few_of i us Switch least greatest b a Vacant room part = absurd part
-drops_few_of i us Switch least greatest b a (Holding vs) room part = absurd part
-drops_few_of i us Switch least greatest b a (Moved ms) room part = absurd part
-drops_few_of i us Switch least greatest b a (RolledOver ps) room part = absurd part
-drops_few_of i us Value least greatest b a (Holding vs) room part = omega (arith, element_few i us b a, ap length (none_dropped i 0 us))
-drops_few_of i us Value least greatest b a Vacant room part = absurd part
-drops_few_of i us Value least greatest b a (Pressed ps) room part = absurd part
-drops_few_of i us Value least greatest b a (Moved ms) room part = absurd part
-drops_few_of i us Value least greatest b a (RolledOver ps) room part = absurd part
-drops_few_of i us NullValue least greatest b a (Holding vs) room part = omega (arith, element_few i us b a, ap length (none_dropped i 0 us))
-drops_few_of i us NullValue least greatest b a Vacant room part = absurd part
-drops_few_of i us NullValue least greatest b a (Pressed ps) room part = absurd part
-drops_few_of i us NullValue least greatest b a (Moved ms) room part = absurd part
-drops_few_of i us NullValue least greatest b a (RolledOver ps) room part = absurd part
-drops_few_of i us Relative least greatest (Moved bs) a p room part = omega (arith, each_few _ (λ j u m. drop_one (at i j) u m) 0 us (motions_in p))
-drops_few_of i us Relative least greatest Vacant a p room part = absurd room
-drops_few_of i us Relative least greatest (Pressed bs) a p room part = absurd room
-drops_few_of i us Relative least greatest (Holding bs) a p room part = absurd room
-drops_few_of i us Relative least greatest (RolledOver bs) a p room part = absurd room
+drops_few_of i us Switch least greatest b a (Switches ps) room part =
+    omega (arith, element_few i us b a, ap length (none_dropped i 0 us))
+drops_few_of i us Switch least greatest b a Absent room part = absurd part
+drops_few_of i us Switch least greatest b a (Values vs) room part = absurd part
+drops_few_of i us Switch least greatest b a (Motions ms) room part = absurd part
+drops_few_of i us Switch least greatest b a (RollOver ps) room part = absurd part
+drops_few_of i us Value least greatest b a (Values vs) room part =
+    omega (arith, element_few i us b a, ap length (none_dropped i 0 us))
+drops_few_of i us Value least greatest b a Absent room part = absurd part
+drops_few_of i us Value least greatest b a (Switches ps) room part = absurd part
+drops_few_of i us Value least greatest b a (Motions ms) room part = absurd part
+drops_few_of i us Value least greatest b a (RollOver ps) room part = absurd part
+drops_few_of i us NullValue least greatest b a (Values vs) room part =
+    omega (arith, element_few i us b a, ap length (none_dropped i 0 us))
+drops_few_of i us NullValue least greatest b a Absent room part = absurd part
+drops_few_of i us NullValue least greatest b a (Switches ps) room part = absurd part
+drops_few_of i us NullValue least greatest b a (Motions ms) room part = absurd part
+drops_few_of i us NullValue least greatest b a (RollOver ps) room part = absurd part
+drops_few_of i us Relative least greatest (Motions bs) a p room part =
+    omega (arith, each_few _ (λ j u m. drop_one (at i j) u m) 0 us (motions_in p))
+drops_few_of i us Relative least greatest Absent a p room part = absurd room
+drops_few_of i us Relative least greatest (Switches bs) a p room part = absurd room
+drops_few_of i us Relative least greatest (Values bs) a p room part = absurd room
+drops_few_of i us Relative least greatest (RollOver bs) a p room part = absurd room
 
-drops_few_in : (i : ℕ) (form : Form) (b a p : Cell) → HasRoom (head_of form) b → HasRoom (head_of form) p → InView form b → InView form a → length (change_events i form b a ++ drops_told i form p) ≤ events_in form
+drops_few_in : (i : ℕ) (form : Form) (b a p : ControlState) → HasRoom (head_of form) b → HasRoom (head_of form) p
+    → InView form b → InView form a → length (change_events i form b a ++ drops_told i form p) ≤ events_in form
 drops_few_in i NoControls b a p room part ok ok' = omega arith
 drops_few_in i (Elements kind least greatest us) b a p room part ok ok' =
     omega (arith, drops_few_of i us kind least greatest b a p room part, length-append (element_events i us b a) (drop_events i us (motions_in p)))
@@ -192,37 +214,54 @@ drops_few_in i (Keys elements rolls keys) b a p room part ok ok' =
     omega (arith, change_few i (Keys elements rolls keys) b a ok ok', ap length (append-nil (key_events i (key_usages keys) b a)))
 
 -- of an item of another report nothing is dropped
-pub none_told : (i : ℕ) (form : Form) → drops_told i form Vacant ≡ []
+pub none_told : (i : ℕ) (form : Form) → drops_told i form Absent ≡ []
 none_told i NoControls = refl
 none_told i (Elements kind least greatest us) = none_dropped i 0 us
 none_told i (Keys elements rolls keys) = refl
 
--- nor of switches and values
+-- of switches and values nothing is dropped
 still : (kind : ControlKind) → (kind ≡ Switch) ⊎ ((kind ≡ Value) ⊎ (kind ≡ NullValue)) → kind ≡ Relative → ⊥
 still kind (inl h) e = cc
 still kind (inr (inl h)) e = cc
 still kind (inr (inr h)) e = cc
 
-pub no_drops : (i : ℕ) (form : Form) (of_it : Bool) (part : Cell) (kind : ControlKind) (least greatest : ℤ) (count : ℕ) → head_of form ≡ head.Elements kind least greatest count → (kind ≡ Switch) ⊎ ((kind ≡ Value) ⊎ (kind ≡ NullValue)) → HasRoom (head_of form) part
-    → drops_told i form (cond of_it part Vacant) ≡ []
+pub no_drops : (i : ℕ) (form : Form) (of_it : Bool) (part : ControlState) (kind : ControlKind) (least greatest : ℤ)
+    (count : ℕ) → head_of form ≡ head.Elements kind least greatest count
+    → (kind ≡ Switch) ⊎ ((kind ≡ Value) ⊎ (kind ≡ NullValue)) → HasRoom (head_of form) part
+    → drops_told i form (cond of_it part Absent) ≡ []
 no_drops i form false part kind least greatest count is kinds room = none_told i form
-no_drops i form true Vacant kind least greatest count is kinds room = none_told i form
+no_drops i form true Absent kind least greatest count is kinds room = none_told i form
 no_drops i NoControls true part kind least greatest count is kinds room = refl
 no_drops i (Keys elements rolls keys) true part kind least greatest count is kinds room = refl
-no_drops i (Elements k least' greatest' us) true (Pressed ps) kind least greatest count is kinds room = none_dropped i 0 us
-no_drops i (Elements k least' greatest' us) true (Holding vs) kind least greatest count is kinds room = none_dropped i 0 us
-no_drops i (Elements k least' greatest' us) true (RolledOver ps) kind least greatest count is kinds room = none_dropped i 0 us
-no_drops i (Elements Switch least' greatest' us) true (Moved ms) kind least greatest count is kinds room = absurd room
-no_drops i (Elements Value least' greatest' us) true (Moved ms) kind least greatest count is kinds room = absurd room
-no_drops i (Elements NullValue least' greatest' us) true (Moved ms) kind least greatest count is kinds room = absurd room
-no_drops i (Elements Relative least' greatest' us) true (Moved ms) kind least greatest count is kinds room = absurd (still kind kinds (cc))
+no_drops i (Elements k least' greatest' us) true (Switches ps) kind least greatest count is kinds room =
+    none_dropped i 0 us
+no_drops i (Elements k least' greatest' us) true (Values vs) kind least greatest count is kinds room =
+    none_dropped i 0 us
+no_drops i (Elements k least' greatest' us) true (RollOver ps) kind least greatest count is kinds room =
+    none_dropped i 0 us
+no_drops i (Elements Switch least' greatest' us) true (Motions ms) kind least greatest count is kinds room =
+    absurd room
+no_drops i (Elements Value least' greatest' us) true (Motions ms) kind least greatest count is kinds room =
+    absurd room
+no_drops i (Elements NullValue least' greatest' us) true (Motions ms) kind least greatest count is kinds room =
+    absurd room
+no_drops i (Elements Relative least' greatest' us) true (Motions ms) kind least greatest count is kinds room =
+    absurd (still kind kinds (cc))
 
-drops_few_by : (of_it : Bool) (i : ℕ) (form : Form) (b a p : Cell) → HasRoom (head_of form) b → HasRoom (head_of form) p → InView form b → InView form a → length (change_events i form b a ++ drops_told i form (cond of_it p Vacant)) ≤ events_in form
+drops_few_by : (of_it : Bool) (i : ℕ) (form : Form) (b a p : ControlState) → HasRoom (head_of form) b
+    → HasRoom (head_of form) p → InView form b → InView form a
+    → length (change_events i form b a ++ drops_told i form (cond of_it p Absent)) ≤ events_in form
 drops_few_by true i form b a p room part ok ok' = drops_few_in i form b a p room part ok ok'
 drops_few_by false i form b a p room part ok ok' =
-    omega (arith, change_few i form b a ok ok', length-append (change_events i form b a) (drops_told i form Vacant), ap length (none_told i form))
+    omega (
+      arith,
+      change_few i form b a ok ok',
+      length-append (change_events i form b a) (drops_told i form Absent),
+      ap length (none_told i form),
+    )
 
-pub drops_few : (i r : ℕ) (items : List Item) (bs xs ps : List Cell) → Suits InView items bs → Suits InView items xs → Suits InPart items ps → length (drops_from i r items bs xs ps) ≤ max_events items
+pub drops_few : (i r : ℕ) (items : List Item) (bs xs ps : List ControlState) → Suits InView items bs
+    → Suits InView items xs → Suits InPart items ps → length (drops_from i r items bs xs ps) ≤ max_events items
 drops_few i r [] bs xs ps fits fits' parts = omega arith
 drops_few i r (item ∷ items) [] xs ps fits fits' parts = absurd (let e = fits.one_each in omega arith)
 drops_few i r (item ∷ items) (b ∷ bs) [] ps fits fits' parts = absurd (let e = fits'.one_each in omega arith)

@@ -1,16 +1,18 @@
 -- The elements of a variable item are read in place, one after another, and each tells its change.
-use Rattle.std.proofs.Common.{Vec, vec_len, vec_capacity, ◌≡◌, ℕ, zero, suc, ◌+◌, ◌-◌, ◌*◌, ◌<◌, ◌≤◌, ◌==◌, ◌⊎◌, inl, inr, not, Bool, true, false, Option, unwrap_or, ℤ, pos, List, [], ◌++◌, length, take, drop, map, Some, None, refl, sym, ap, ◌∙◌, subst, arith}
+use Rattle.std.proofs.Common.{Vec, vec_len, vec_capacity, ◌≡◌, ℕ, zero, suc, ◌+◌, ◌-◌, ◌*◌, ◌<◌, ◌≤◌, ◌==◌, ◌⊎◌, inl, inr, not, Bool, true, false, Option, unwrap_or, ℤ, pos, List, [], ◌++◌, length, take, drop, Some, None, refl, sym, ap, ◌∙◌, subst, arith}
 use Rattle.std.specs.List.{slice_get, slice_set, zip}
 use Rattle.hid_descriptor.specs.declared.usage.Usage.{Usage}
 use Rattle.hid_snapshots.specs.declared.event.Event.{Event}
-use Rattle.hid_snapshots.specs.Events.{each, switch_event, value_event}
+use Rattle.hid_snapshots.specs.Events.{at, element_list_events, switch_event, value_event}
 use Rattle.hid_layout.specs.declared.control.ControlId.{ControlId}
 use Rattle.std.specs.Ordering.{int_eq}
 use Rattle.std.proofs.lemmas.Bool.Decides.{Decides-int_eq}
 use Rattle.hid_snapshots.proofs.FillLemmas.{filled, length_map_zip, map_zip_at, set_length, zip_next, zip_there}
 use Rattle.hid_usages.specs.Appending.{Appends}
 use Rattle.hid_snapshots.proofs.ItemLemmas.{got, set_same}
-use Rattle.hid_usages.specs.Keeping.{AreKept}
+use Rattle.hid_usages.specs.declared.elements.Carriable.{Carriable}
+use Rattle.hid_usages.specs.Elements.{switch_by_number, value_by_number, read_all}
+use Rattle.hid_usages.specs.Keeping.{AreKept, FindsKept}
 use Rattle.hid_usages.specs.Reading.{read_switch}
 use Rattle.hid_usages.proofs.BitLemmas.{switch_of}
 use Rattle.hid_snapshots.specs.Numbers.{IsWordOf}
@@ -22,15 +24,12 @@ use Rattle.std.specs.Int.{bit_at}
 use Rattle.std.proofs.lemmas.Nat.Bits.{bit_at-lt}
 use Rattle.std.proofs.lemmas.Bool.{cases_Bool, cases_lt}
 use Rattle.std.proofs.lemmas.Option.{slice_get_within}
-use Rattle.hid_usages.proofs.EventLemmas.{all_appended, each-from, each_end, no_switch, nothing_appended, room_for, room_left, told, zip_at}
-
--- what is kept of each element once its number is read
-abbrev pub read_all : {A : Type 0} → (A × ℤ → A) → List A → List ℤ → List A
-read_all read start numbers = map read (zip start numbers)
+use Rattle.hid_usages.proofs.EventLemmas.{all_appended, each_end, element_list_events-from, no_switch, nothing_appended, room_for, room_left, told, zip_at}
 
 -- what is left to be told from an element on
 abbrev pub left_from : {A : Type 0} → (A × ℤ → A) → (ℕ → Usage → A × A → List Event) → List Usage → List A → List ℤ → ℕ → List Event
-left_from read tell us start numbers i = each tell i (drop i us) (drop i (zip start (read_all read start numbers)))
+left_from read tell us start numbers i =
+    element_list_events tell i (drop i us) (drop i (zip start (read_all read start numbers)))
 
 -- the first elements are read, and have told their events
 pub record AreTaken {A : Type 0} (read : A × ℤ → A) (tell : ℕ → Usage → A × A → List Event) (us : List Usage) (start : List A) (numbers : List ℤ) (now : List A) (all done : List Event) (len room i : ℕ) : Type 0 where
@@ -52,7 +51,8 @@ pub left_next : {A : Type 0} (read : A × ℤ → A) (tell : ℕ → Usage → A
     → now ≡ take i (read_all read start numbers) ++ drop i start → slice_get us i ≡ Some u → slice_get now i ≡ Some b → slice_get numbers i ≡ Some v
     → left_from read tell us start numbers i ≡ tell i u (b, read (b, v)) ++ left_from read tell us start numbers (i + 1)
 left_next read tell us start now numbers i u b v same so_far usage here number =
-    each-from tell us (zip start (read_all read start numbers)) i u (b, read (b, v)) usage (one_taken read start now numbers i b v same so_far here number)
+    element_list_events-from tell us (zip start (read_all read start numbers)) i u (b, read (b, v)) usage
+    (one_taken read start now numbers i b v same so_far here number)
 
 -- there is room for it
 pub room_next : {A : Type 0} (read : A × ℤ → A) (tell : ℕ → Usage → A × A → List Event) (us : List Usage) (start now : List A) (numbers : List ℤ) (all done : List Event) (len room i : ℕ) (u : Usage) (b : A) (v : ℤ) → length start ≡ length numbers
@@ -105,7 +105,7 @@ taken_over read tell us start now numbers all out i (suc n) same long within qui
     (taken_over read tell us start now numbers all out (i + 1) n same long (omega arith) quiet (λ j x w a l h g. kept j x w (omega arith) (omega arith) h g) next)
 
 -- up to the next element that its number changes
-pub taken_to : {A : Type 0} {Z : Type 0} (read : A × ℤ → A) (tell : ℕ → Usage → A × A → List Event) (us : List Usage) (start now : List A) (numbers : List ℤ) (all : List Event) (out : Vec Event Z) (i k : ℕ) → length start ≡ length numbers → length us ≡ length start
+taken_to : {A : Type 0} {Z : Type 0} (read : A × ℤ → A) (tell : ℕ → Usage → A × A → List Event) (us : List Usage) (start now : List A) (numbers : List ℤ) (all : List Event) (out : Vec Event Z) (i k : ℕ) → length start ≡ length numbers → length us ≡ length start
     → i ≤ k → k ≤ length start → ((j : ℕ) (u : Usage) (x : A) → tell j u (x, x) ≡ []) → AreKept read now numbers i k
     → AreTaken read tell us start numbers now all out.items (vec_len out) (vec_capacity out) i → AreTaken read tell us start numbers now all out.items (vec_len out) (vec_capacity out) k
 taken_to read tell us start now numbers all out i k same long low within quiet kept taken =
@@ -114,7 +114,7 @@ taken_to read tell us start now numbers all out i k same long low within quiet k
     (taken_over read tell us start now numbers all out i (k - i) same long (omega arith) quiet (λ j x w a l h g. kept j x w a (omega arith) h g) taken)
 
 -- all elements are read
-pub all_taken : {A : Type 0} {Z : Type 0} (read : A × ℤ → A) (tell : ℕ → Usage → A × A → List Event) (us : List Usage) (start now : List A) (numbers : List ℤ) (all : List Event) (before out : Vec Event Z) (i : ℕ) → length start ≡ length numbers → i ≡ length start → length us ≤ i
+all_taken : {A : Type 0} {Z : Type 0} (read : A × ℤ → A) (tell : ℕ → Usage → A × A → List Event) (us : List Usage) (start now : List A) (numbers : List ℤ) (all : List Event) (before out : Vec Event Z) (i : ℕ) → length start ≡ length numbers → i ≡ length start → length us ≤ i
     → AreTaken read tell us start numbers now (before.items ++ all) out.items (vec_len out) (vec_capacity out) i → vec_capacity out ≡ vec_capacity before
     → (now ≡ read_all read start numbers) × Appends before all out
 all_taken read tell us start now numbers all before out i same done past taken room =
@@ -122,6 +122,72 @@ all_taken read tell us start now numbers all before out i same done past taken r
       taken.so_far ∙ filled (read_all read start numbers) start i (omega (arith, len)) (sym len),
       all_appended before out _ all (each_end tell us (drop i (zip start (read_all read start numbers))) i past) taken.events room,
     )
+
+-- elements have a usage and a number each, and one that its number leaves as it is tells nothing
+pub record AreReadable {A : Type 0} (read : A × ℤ → A) (tell : ℕ → Usage → A × A → List Event) (us : List Usage) (start : List A) (numbers : List ℤ) : Type 0 where
+  pub same : length start ≡ length numbers
+  pub long : length us ≡ length start
+  pub quiet : (j : ℕ) (u : Usage) (x : A) → tell j u (x, x) ≡ []
+
+pub switches_readable : (item : ℕ) (us : List Usage) (start : List Bool) (numbers : List ℤ) → length numbers ≡ length us → length start ≡ length us
+    → AreReadable switch_by_number (λ j u p. switch_event (at item j) u p.0 p.1) us start numbers
+switches_readable item us start numbers same long = record { same = long ∙ sym same; long = sym long; quiet = λ j u x. switch_stays (at item j) u x }
+
+pub values_readable : (carriable : Carriable) (item : ℕ) (us : List Usage) (start : List (Option ℤ)) (numbers : List ℤ) → length numbers ≡ length us → length start ≡ length us
+    → AreReadable (value_by_number carriable) (λ j u p. value_event (at item j) u p.0 p.1) us start numbers
+values_readable carriable item us start numbers same long = record { same = long ∙ sym same; long = sym long; quiet = λ j u x. value_stays (at item j) u x }
+
+-- the elements before one are read, and have told their events into the room that was there
+pub record IsReading {A : Type 0} {Z : Type 0} (read : A × ℤ → A) (tell : ℕ → Usage → A × A → List Event) (us : List Usage) (start : List A) (numbers : List ℤ) (before : Vec Event Z) (all : List Event) (now : List A) (out : Vec Event Z) (i : ℕ) : Type 0 where
+  pub taken : AreTaken read tell us start numbers now (before.items ++ all) out.items (vec_len out) (vec_capacity out) i
+  pub within : i ≤ length start
+  pub same_room : vec_capacity out ≡ vec_capacity before
+
+-- up to an element that is found, those before it are read
+found_next : {A : Type 0} {Z : Type 0} (read : A × ℤ → A) (tell : ℕ → Usage → A × A → List Event) (us : List Usage) (start : List A) (numbers : List ℤ) → AreReadable read tell us start numbers
+    → (before : Vec Event Z) (all : List Event) (now : List A) (out : Vec Event Z) (i k : ℕ) → FindsKept read now numbers i (length now) (Some k)
+    → IsReading read tell us start numbers before all now out i
+    → AreTaken read tell us start numbers now (before.items ++ all) out.items (vec_len out) (vec_capacity out) k
+found_next read tell us start numbers can before all now out i k found so_far =
+    taken_to read tell us start now numbers (before.items ++ all) out i k can.same can.long found.0 (omega (arith, found.1, so_far.taken.same_length)) can.quiet found.2 so_far.taken
+
+-- there is room for the event of the element that is found
+pub room_found : {A : Type 0} {Z : Type 0} (read : A × ℤ → A) (tell : ℕ → Usage → A × A → List Event) (us : List Usage) (start : List A) (numbers : List ℤ) → AreReadable read tell us start numbers
+    → (before : Vec Event Z) (all : List Event) (now : List A) (out : Vec Event Z) (i k : ℕ) (u : Usage) (b : A) (v : ℤ) → FindsKept read now numbers i (length now) (Some k)
+    → IsReading read tell us start numbers before all now out i → slice_get us k ≡ Some u → slice_get now k ≡ Some b → slice_get numbers k ≡ Some v
+    → vec_len out + length (tell k u (b, read (b, v))) ≤ vec_capacity out
+room_found read tell us start numbers can before all now out i k u b v found so_far usage here number =
+    room_next read tell us start now numbers (before.items ++ all) out.items (vec_len out) (vec_capacity out) k u b v can.same
+    (found_next read tell us start numbers can before all now out i k found so_far) usage here number
+
+-- the element that is found is read
+pub reading_found : {A : Type 0} {Z : Type 0} (read : A × ℤ → A) (tell : ℕ → Usage → A × A → List Event) (us : List Usage) (start : List A) (numbers : List ℤ) → AreReadable read tell us start numbers
+    → (before : Vec Event Z) (all : List Event) (now new : List A) (out out' : Vec Event Z) (i k : ℕ) (v : ℤ) → FindsKept read now numbers i (length now) (Some k)
+    → IsReading read tell us start numbers before all now out i → slice_get numbers k ≡ Some v
+    → ((b : A) → slice_get now k ≡ Some b → new ≡ slice_set now k (read (b, v)))
+    → ((u : Usage) (b : A) → slice_get us k ≡ Some u → slice_get now k ≡ Some b → Appends out (tell k u (b, read (b, v))) out')
+    → IsReading read tell us start numbers before all new out' (k + 1)
+reading_found read tell us start numbers can before all now new out out' i k v found so_far number is appends =
+    let inside : k < length start = omega (arith, found.1, so_far.taken.same_length) in
+    let u = got us k (omega (arith, can.long)) in
+    let b = got now k found.1 in
+    let told = appends u.0 b.0 u.1 b.1 in
+    record {
+      taken = taken_next read tell us start now new numbers (before.items ++ all) out out' k u.0 b.0 v can.same
+          (found_next read tell us start numbers can before all now out i k found so_far) u.1 b.1 number inside (is b.0 b.1) told;
+      within = omega arith;
+      same_room = told.room ∙ so_far.same_room;
+    }
+
+-- where none is found, all elements are read
+pub reading_done : {A : Type 0} {Z : Type 0} (read : A × ℤ → A) (tell : ℕ → Usage → A × A → List Event) (us : List Usage) (start : List A) (numbers : List ℤ) → AreReadable read tell us start numbers
+    → (before : Vec Event Z) (all : List Event) (now : List A) (out : Vec Event Z) (i : ℕ) → FindsKept read now numbers i (length now) None
+    → IsReading read tell us start numbers before all now out i
+    → (now ≡ read_all read start numbers) × Appends before all out
+reading_done read tell us start numbers can before all now out i kept so_far =
+    let len = so_far.taken.same_length in
+    let taken = taken_to read tell us start now numbers (before.items ++ all) out i (length now) can.same can.long (omega (arith, so_far.within, len)) (omega (arith, len)) can.quiet kept so_far.taken in
+    all_taken read tell us start now numbers all before out (length now) can.same len (omega (arith, can.long, len)) taken so_far.same_room
 
 -- one element more stays
 pub kept_next : {A : Type 0} (read : A × ℤ → A) (held : List A) (numbers : List ℤ) (from i : ℕ) (b : A) (w : ℤ) → AreKept read held numbers from i → slice_get held i ≡ Some b → slice_get numbers i ≡ Some w → read (b, w) ≡ b

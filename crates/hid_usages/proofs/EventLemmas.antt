@@ -12,17 +12,19 @@ use Rattle.hid_layout.specs.declared.control.Controls.TheVariants as head
 use Rattle.hid_layout.specs.declared.control.ControlKind.{ControlKind}
 use Rattle.hid_layout.specs.declared.control.ControlKind.TheVariants.{Switch, Value, NullValue, Relative}
 use Rattle.hid_layout.specs.Controls.{Form, NoControls, Elements, Keys, head_of}
-use Rattle.hid_snapshots.specs.declared.cell.Cell.{Cell}
-use Rattle.hid_snapshots.specs.declared.cell.Cell.TheVariants.{Vacant, Pressed, Holding, Moved, RolledOver}
-use Rattle.hid_snapshots.specs.Cells.{HasRoom}
+use Rattle.hid_snapshots.specs.declared.control_state.ControlState.{ControlState}
+use Rattle.hid_snapshots.specs.declared.control_state.ControlState.TheVariants.{Absent, Switches, Values, Motions, RollOver}
+use Rattle.hid_snapshots.specs.ControlStates.{HasRoom}
 pub use Rattle.hid_snapshots.proofs.ListLemmas.{drop_at, zip_at}
 use Rattle.hid_usages.specs.Appending.{HasSpace, Appends}
-use Rattle.hid_snapshots.specs.Events.{at, switch_event, up_event, down_event, each, usages_of, element_events, key_events, change_events, HasPlaces}
+use Rattle.hid_snapshots.specs.Events.{at, switch_event, up_event, down_event, element_list_events, usages_of, element_events, key_events, change_events, HasPlaces}
 
 -- the events from one element on
-pub each-from : {C : Type 0} (f : ℕ → Usage → C → List Event) (us : List Usage) (cs : List C) (j : ℕ) (u : Usage) (c : C) → slice_get us j ≡ Some u → slice_get cs j ≡ Some c
-    → each f j (drop j us) (drop j cs) ≡ f j u c ++ each f (j + 1) (drop (j + 1) us) (drop (j + 1) cs)
-each-from f us cs j u c h k = rw (drop_at us j u h, drop_at cs j c k) refl
+pub element_list_events-from : {C : Type 0} (f : ℕ → Usage → C → List Event) (us : List Usage) (cs : List C) (j : ℕ)
+    (u : Usage) (c : C) → slice_get us j ≡ Some u → slice_get cs j ≡ Some c
+    → element_list_events f j (drop j us) (drop j cs) ≡ f j u c
+    ++ element_list_events f (j + 1) (drop (j + 1) us) (drop (j + 1) cs)
+element_list_events-from f us cs j u c h k = rw (drop_at us j u h, drop_at cs j c k) refl
 
 -- A loop appends what its next element tells: what is left then, and the room for it.
 pub room_for : (len cap : ℕ) (left now rest : List Event) → left ≡ now ++ rest → len + length left ≤ cap → len + length now ≤ cap
@@ -49,7 +51,7 @@ appends before after events h room = record {
 pub nothing_appended : {Z : Type 0} (out : Vec Event Z) (events : List Event) → events ≡ [] → Appends out events out
 nothing_appended out events none = appends out out events (nothing_told out.items events none) refl
 
--- Of two lots of events, one behind the other, there is room for each, and both are appended.
+-- Of two lots of events, one after the other, there is room for each, and both are appended.
 pub space_first : {Z : Type 0} (out : Vec Event Z) (first second : List Event) → HasSpace out (first ++ second) → HasSpace out first
 space_first out first second room = omega (arith, room, length-append first second)
 
@@ -65,51 +67,57 @@ pub all_appended : {Z : Type 0} (before after : Vec Event Z) (left all : List Ev
 all_appended before after left all done h room =
     appends before after all (sym (append-nil after.items) ∙ ap (λ (t : List Event). after.items ++ t) (sym done) ∙ h) room
 
-pub each_end : {C : Type 0} (f : ℕ → Usage → C → List Event) (us : List Usage) (cs : List C) (j : ℕ) → length us ≤ j → each f j (drop j us) cs ≡ []
-each_end f us cs j h = ap (λ (vs : List Usage). each f j vs cs) (drop_all j us h)
+pub each_end : {C : Type 0} (f : ℕ → Usage → C → List Event) (us : List Usage) (cs : List C) (j : ℕ) → length us ≤ j
+    → element_list_events f j (drop j us) cs ≡ []
+each_end f us cs j h = ap (λ (vs : List Usage). element_list_events f j vs cs) (drop_all j us h)
 
--- a cell with room for an item's controls has a place for each usage
-pub has_places : (form : Form) (cell : Cell) → HasRoom (head_of form) cell → HasPlaces cell (length (usages_of form))
-has_places form Vacant room = tt
-has_places NoControls (Pressed ps) room = absurd room
-has_places NoControls (Holding ps) room = absurd room
-has_places NoControls (Moved ps) room = absurd room
-has_places NoControls (RolledOver ps) room = absurd room
-has_places (Elements Switch least greatest us) (Pressed ps) room = room
-has_places (Elements Switch least greatest us) (Holding ps) room = absurd room
-has_places (Elements Switch least greatest us) (Moved ps) room = absurd room
-has_places (Elements Switch least greatest us) (RolledOver ps) room = absurd room
-has_places (Elements Value least greatest us) (Pressed ps) room = absurd room
-has_places (Elements Value least greatest us) (Holding ps) room = room
-has_places (Elements Value least greatest us) (Moved ps) room = absurd room
-has_places (Elements Value least greatest us) (RolledOver ps) room = absurd room
-has_places (Elements NullValue least greatest us) (Pressed ps) room = absurd room
-has_places (Elements NullValue least greatest us) (Holding ps) room = room
-has_places (Elements NullValue least greatest us) (Moved ps) room = absurd room
-has_places (Elements NullValue least greatest us) (RolledOver ps) room = absurd room
-has_places (Elements Relative least greatest us) (Pressed ps) room = absurd room
-has_places (Elements Relative least greatest us) (Holding ps) room = absurd room
-has_places (Elements Relative least greatest us) (Moved ps) room = room
-has_places (Elements Relative least greatest us) (RolledOver ps) room = absurd room
-has_places (Keys elements rolls keys) (Pressed ps) room = room ∙ sym (length-map keys _)
-has_places (Keys elements rolls keys) (RolledOver ps) room = room ∙ sym (length-map keys _)
-has_places (Keys elements rolls keys) (Holding ps) room = absurd room
-has_places (Keys elements rolls keys) (Moved ps) room = absurd room
+-- a control state with room for an item's controls has a place for each usage
+pub has_places : (form : Form) (state : ControlState) → HasRoom (head_of form) state
+    → HasPlaces state (length (usages_of form))
+has_places form Absent room = tt
+has_places NoControls (Switches ps) room = absurd room
+has_places NoControls (Values ps) room = absurd room
+has_places NoControls (Motions ps) room = absurd room
+has_places NoControls (RollOver ps) room = absurd room
+has_places (Elements Switch least greatest us) (Switches ps) room = room
+has_places (Elements Switch least greatest us) (Values ps) room = absurd room
+has_places (Elements Switch least greatest us) (Motions ps) room = absurd room
+has_places (Elements Switch least greatest us) (RollOver ps) room = absurd room
+has_places (Elements Value least greatest us) (Switches ps) room = absurd room
+has_places (Elements Value least greatest us) (Values ps) room = room
+has_places (Elements Value least greatest us) (Motions ps) room = absurd room
+has_places (Elements Value least greatest us) (RollOver ps) room = absurd room
+has_places (Elements NullValue least greatest us) (Switches ps) room = absurd room
+has_places (Elements NullValue least greatest us) (Values ps) room = room
+has_places (Elements NullValue least greatest us) (Motions ps) room = absurd room
+has_places (Elements NullValue least greatest us) (RollOver ps) room = absurd room
+has_places (Elements Relative least greatest us) (Switches ps) room = absurd room
+has_places (Elements Relative least greatest us) (Values ps) room = absurd room
+has_places (Elements Relative least greatest us) (Motions ps) room = room
+has_places (Elements Relative least greatest us) (RollOver ps) room = absurd room
+has_places (Keys elements rolls keys) (Switches ps) room = room ∙ sym (length-map keys _)
+has_places (Keys elements rolls keys) (RollOver ps) room = room ∙ sym (length-map keys _)
+has_places (Keys elements rolls keys) (Values ps) room = absurd room
+has_places (Keys elements rolls keys) (Motions ps) room = absurd room
 
 pub ruleset item_places = (has_places)
 
 -- what changes, by what the item's controls are
-pub events_of_none : (i : ℕ) (form : Form) (b a : Cell) → head.None ≡ head_of form → change_events i form b a ≡ []
+pub events_of_none : (i : ℕ) (form : Form) (b a : ControlState) → head.None ≡ head_of form
+    → change_events i form b a ≡ []
 events_of_none i NoControls b a h = refl
 events_of_none i (Elements kind least greatest us) b a h = absurd (cc)
 events_of_none i (Keys elements rolls keys) b a h = absurd (cc)
 
-pub events_of_elements : (i : ℕ) (form : Form) (kind : ControlKind) (least greatest : ℤ) (n : ℕ) (b a : Cell) → head.Elements kind least greatest n ≡ head_of form → change_events i form b a ≡ element_events i (usages_of form) b a
+pub events_of_elements : (i : ℕ) (form : Form) (kind : ControlKind) (least greatest : ℤ) (n : ℕ) (b a : ControlState)
+    → head.Elements kind least greatest n ≡ head_of form
+    → change_events i form b a ≡ element_events i (usages_of form) b a
 events_of_elements i NoControls kind least greatest n b a h = absurd (cc)
 events_of_elements i (Elements k l g us) kind least greatest n b a h = refl
 events_of_elements i (Keys elements rolls keys) kind least greatest n b a h = absurd (cc)
 
-pub events_of_keys : (i : ℕ) (form : Form) (elements : ℕ) (rolls : Bool) (n : ℕ) (b a : Cell) → head.Keys elements rolls n ≡ head_of form → change_events i form b a ≡ key_events i (usages_of form) b a
+pub events_of_keys : (i : ℕ) (form : Form) (elements : ℕ) (rolls : Bool) (n : ℕ) (b a : ControlState)
+    → head.Keys elements rolls n ≡ head_of form → change_events i form b a ≡ key_events i (usages_of form) b a
 events_of_keys i NoControls elements rolls n b a h = absurd (cc)
 events_of_keys i (Elements k l g us) elements rolls n b a h = absurd (cc)
 events_of_keys i (Keys e r keys) elements rolls n b a h = refl
@@ -117,16 +125,19 @@ events_of_keys i (Keys e r keys) elements rolls n b a h = refl
 -- Where the elements from one index up to another tell nothing, they are passed over.
 pub each_quiet : {C : Type 0} (f : ℕ → Usage → C → List Event) (us : List Usage) (cs : List C) (from n : ℕ) → from + n ≤ length us → from + n ≤ length cs
     → ((j : ℕ) (u : Usage) (c : C) → from ≤ j → j < from + n → slice_get us j ≡ Some u → slice_get cs j ≡ Some c → f j u c ≡ [])
-    → each f from (drop from us) (drop from cs) ≡ each f (from + n) (drop (from + n) us) (drop (from + n) cs)
-each_quiet f us cs from zero within within' quiet = let e : from ≡ from + 0 = omega arith in ap (λ (k : ℕ). each f k (drop k us) (drop k cs)) e
+    → element_list_events f from (drop from us) (drop from cs)
+    ≡ element_list_events f (from + n) (drop (from + n) us) (drop (from + n) cs)
+each_quiet f us cs from zero within within' quiet = let e : from ≡ from + 0 =
+    omega arith in ap (λ (k : ℕ). element_list_events f k (drop k us) (drop k cs)) e
 each_quiet f us cs from (suc n) within within' quiet =
     let u = got us from (omega arith) in
     let c = got cs from (omega arith) in
     let e : (from + 1) + n ≡ from + suc n = omega arith in
-    each-from f us cs from u.0 c.0 u.1 c.1
-    ∙ ap (λ (t : List Event). t ++ each f (from + 1) (drop (from + 1) us) (drop (from + 1) cs)) (quiet from u.0 c.0 (omega arith) (omega arith) u.1 c.1)
+    element_list_events-from f us cs from u.0 c.0 u.1 c.1
+    ∙ ap (λ (t : List Event). t ++ element_list_events f (from + 1) (drop (from + 1) us) (drop (from + 1) cs))
+    (quiet from u.0 c.0 (omega arith) (omega arith) u.1 c.1)
     ∙ each_quiet f us cs (from + 1) n (omega arith) (omega arith) (λ j v d a b. quiet j v d (omega arith) (omega arith))
-    ∙ ap (λ (k : ℕ). each f k (drop k us) (drop k cs)) e
+    ∙ ap (λ (k : ℕ). element_list_events f k (drop k us) (drop k cs)) e
 
 pub length_zip : {A B : Type 0} (xs : List A) (ys : List B) → length xs ≤ length ys → length (zip xs ys) ≡ length xs
 length_zip [] ys h = refl
@@ -182,7 +193,8 @@ downs_by i bs xs = record {
 -- the next event, of the first index that passes the test
 pub each_next : (f : ℕ → Usage → Bool × Bool → List Event) (test : ℕ → Bool) (bs xs : List Bool) (told_at : ℕ → Usage → Event) (us : List Usage) (from j : ℕ) (u : Usage) → TellsBy f test bs xs told_at → length bs ≡ length us → length us ≤ length xs
     → IsFirst test from (length us) j → slice_get us j ≡ Some u
-    → each f from (drop from us) (drop from (zip bs xs)) ≡ (told_at j u ∷ []) ++ each f (j + 1) (drop (j + 1) us) (drop (j + 1) (zip bs xs))
+    → element_list_events f from (drop from us) (drop from (zip bs xs)) ≡ (told_at j u ∷ [])
+    ++ element_list_events f (j + 1) (drop (j + 1) us) (drop (j + 1) (zip bs xs))
 each_next f test bs xs told_at us from j u tells long long' first here =
     let low = first.low in
     let high = first.high in
@@ -190,19 +202,22 @@ each_next f test bs xs told_at us from j u tells long long' first here =
     let e : from + (j - from) ≡ j = omega arith in
     let p = got (zip bs xs) j (omega arith) in
     each_quiet f us (zip bs xs) from (j - from) (omega arith) (omega arith) (λ k v q a b h g. tells.none k v q g (first.before k a (omega arith)))
-    ∙ ap (λ (k : ℕ). each f k (drop k us) (drop k (zip bs xs))) e
-    ∙ each-from f us (zip bs xs) j u p.0 here p.1
-    ∙ ap (λ (t : List Event). t ++ each f (j + 1) (drop (j + 1) us) (drop (j + 1) (zip bs xs))) (tells.one j u p.0 p.1 first.hit)
+    ∙ ap (λ (k : ℕ). element_list_events f k (drop k us) (drop k (zip bs xs))) e
+    ∙ element_list_events-from f us (zip bs xs) j u p.0 here p.1
+    ∙ ap (λ (t : List Event). t ++ element_list_events f (j + 1) (drop (j + 1) us) (drop (j + 1) (zip bs xs)))
+    (tells.one j u p.0 p.1 first.hit)
 
 -- no event is left where no index passes
 pub each_done : (f : ℕ → Usage → Bool × Bool → List Event) (test : ℕ → Bool) (bs xs : List Bool) (told_at : ℕ → Usage → Event) (us : List Usage) (from : ℕ) → TellsBy f test bs xs told_at → length bs ≡ length us → length us ≤ length xs → from ≤ length us
-    → ((j : ℕ) → from ≤ j → j < length us → test j ≡ false) → each f from (drop from us) (drop from (zip bs xs)) ≡ []
+    → ((j : ℕ) → from ≤ j → j < length us → test j ≡ false)
+    → element_list_events f from (drop from us) (drop from (zip bs xs)) ≡ []
 each_done f test bs xs told_at us from tells long long' within none =
     let pairs : length (zip bs xs) ≡ length us = length_zip bs xs (omega (arith, long, long')) ∙ long in
     let e : from + (length us - from) ≡ length us = omega arith in
     each_quiet f us (zip bs xs) from (length us - from) (omega arith) (omega arith) (λ k v q a b h g. tells.none k v q g (none k a (omega arith)))
-    ∙ ap (λ (k : ℕ). each f k (drop k us) (drop k (zip bs xs))) e
-    ∙ ap (λ (vs : List Usage). each f (length us) vs (drop (length us) (zip bs xs))) (drop_all (length us) us (omega arith))
+    ∙ ap (λ (k : ℕ). element_list_events f k (drop k us) (drop k (zip bs xs))) e
+    ∙ ap (λ (vs : List Usage). element_list_events f (length us) vs (drop (length us) (zip bs xs)))
+    (drop_all (length us) us (omega arith))
 
 pub same_usage : (us : List Usage) (j : ℕ) (u v : Usage) → slice_get us j ≡ Some u → slice_get us j ≡ Some v → u ≡ v
 same_usage us j u v h k = (cc)

@@ -13,21 +13,24 @@ use Rattle.hid_layout.specs.declared.control.Control.{Control}
 use Rattle.hid_layout.specs.declared.control.ControlKind.TheVariants.{Switch}
 use Rattle.hid_layout.specs.Layout.{Contents}
 use Rattle.hid_layout.specs.Controls.{Form, NoControls, Elements, Keys, Key, Item, items_of, control_in, control_of}
-use Rattle.hid_usages.specs.Reading.{at_zero, is_rollover_at, names_rollover, names_key, named_from, keys_of, keys_at}
+use Rattle.hid_usages.specs.Reading.{at_zero, is_rollover_at, names_rollover, names_key, named_keys_from, keys_of, keys_at}
 use Rattle.hid_snapshots.proofs.CodeLemmas.{test_true, true_test, both_true}
 use Rattle.std.specs.Int.Signed.{le_z}
 use Rattle.hid_descriptor.specs.declared.usage.Usage.{Usage}
 use Rattle.hid_descriptor.specs.Usages.{is_rollover}
-use Rattle.hid_snapshots.specs.Cells.{is_in, pressed_count}
+use Rattle.hid_snapshots.specs.ControlStates.{is_in, switch_count}
 use Rattle.std.proofs.Math.Seq.{take-length}
 use Rattle.hid_snapshots.proofs.BlankLemmas.{none_pressed}
 use Rattle.hid_snapshots.proofs.ListLemmas.{map_at, cons_count, take_at}
 use Rattle.hid_snapshots.proofs.ItemLemmas.{got}
 
 -- no number names a key
-pub named_none : (item : MainItem) (i : ℕ) (keys : List Key) → replicate (length keys) false ≡ named_from item [] i keys
+pub named_none : (item : MainItem) (i : ℕ) (keys : List Key)
+    → replicate (length keys) false ≡ named_keys_from item [] i keys
 named_none item i [] = refl
-named_none item i (key ∷ keys) = ap (λ t. false ∷ t) (named_none item (i + 1) keys) ∙ ap (λ b. b ∷ named_from item [] (i + 1) keys) (no_key key.is_switch)
+named_none item i (key ∷ keys) =
+    ap (λ t. false ∷ t) (named_none item (i + 1) keys)
+    ∙ ap (λ b. b ∷ named_keys_from item [] (i + 1) keys) (no_key key.is_switch)
   where
     no_key : (b : Bool) → false ≡ (b && false)
     no_key true = refl
@@ -45,11 +48,13 @@ not_named item v i ne = elim (cases_Bool (int_eq v (item.min +ℤ pos i))) [ inl
 
 -- a number that names no key adds none
 pub named_same : (item : MainItem) (vs : List ℤ) (v : ℤ) (i : ℕ) (keys : List Key) → ((j : ℕ) (key : Key) → slice_get keys j ≡ Some key → v ≡ item.min +ℤ pos (i + j) → key.is_switch ≡ false)
-    → named_from item vs i keys ≡ named_from item (vs ++ v ∷ []) i keys
+    → named_keys_from item vs i keys ≡ named_keys_from item (vs ++ v ∷ []) i keys
 named_same item vs v i [] h = refl
 named_same item vs v i (key ∷ keys) h =
     let rest = named_same item vs v (i + 1) keys (λ j k g e. h (suc j) k g (let n : i + suc j ≡ (i + 1) + j = omega arith in rw n e)) in
-    ap (λ t. (key.is_switch && names_key item vs i) ∷ t) rest ∙ ap (λ b. b ∷ named_from item (vs ++ v ∷ []) (i + 1) keys) (here (cases_Bool (int_eq v (item.min +ℤ pos i))))
+    ap (λ t. (key.is_switch && names_key item vs i) ∷ t) rest
+    ∙ ap (λ b. b ∷ named_keys_from item (vs ++ v ∷ []) (i + 1) keys)
+    (here (cases_Bool (int_eq v (item.min +ℤ pos i))))
   where
     with_named : (s n : Bool) → s ≡ false → (s && n) ≡ (s && (n || true))
     with_named true n e = absurd (cc)
@@ -68,14 +73,16 @@ named_same item vs v i (key ∷ keys) h =
 
 -- a number that names a key adds it
 pub named_set : (item : MainItem) (vs : List ℤ) (v : ℤ) (i : ℕ) (keys : List Key) (p : ℕ) (key : Key) → slice_get keys p ≡ Some key → key.is_switch ≡ true → v ≡ item.min +ℤ pos (i + p)
-    → slice_set (named_from item vs i keys) p true ≡ named_from item (vs ++ v ∷ []) i keys
+    → slice_set (named_keys_from item vs i keys) p true ≡ named_keys_from item (vs ++ v ∷ []) i keys
 named_set item vs v i [] p key h s e = absurd (cc)
 named_set item vs v i (k ∷ keys) zero key h s e =
     let same : k ≡ key = cc in
     let is : v ≡ item.min +ℤ pos i = (let z : i + 0 ≡ i = omega arith in rw z at e) in
     let rest = named_same item vs v (i + 1) keys (λ j other g f. absurd (omega (arith, ints))) in
     let named : int_eq v (item.min +ℤ pos i) ≡ true = (Decides-int_eq v (item.min +ℤ pos i)).1 is in
-    ap (λ t. true ∷ t) rest ∙ ap (λ b. b ∷ named_from item (vs ++ v ∷ []) (i + 1) keys) (sym (rw (same, s, names_more item vs v i, named) (both (names_key item vs i))))
+    ap (λ t. true ∷ t) rest
+    ∙ ap (λ b. b ∷ named_keys_from item (vs ++ v ∷ []) (i + 1) keys)
+    (sym (rw (same, s, names_more item vs v i, named) (both (names_key item vs i))))
   where
     both : (n : Bool) → (n || true) ≡ true
     both true = refl
@@ -84,15 +91,17 @@ named_set item vs v i (k ∷ keys) (suc p) key h s e =
     let is : v ≡ item.min +ℤ pos ((i + 1) + p) = (let n : i + suc p ≡ (i + 1) + p = omega arith in rw n at e) in
     let other : int_eq v (item.min +ℤ pos i) ≡ false = not_named item v i (λ f. omega (arith, ints)) in
     ap (λ t. (k.is_switch && names_key item vs i) ∷ t) (named_set item vs v (i + 1) keys p key h s is)
-    ∙ ap (λ b. b ∷ named_from item (vs ++ v ∷ []) (i + 1) keys) (rw (names_more item vs v i, other) (without k.is_switch (names_key item vs i)))
+    ∙ ap (λ b. b ∷ named_keys_from item (vs ++ v ∷ []) (i + 1) keys)
+    (rw (names_more item vs v i, other) (without k.is_switch (names_key item vs i)))
   where
     without : (s n : Bool) → (s && n) ≡ (s && (n || false))
     without true true = refl
     without true false = refl
     without false n = refl
 
--- a number that stands there names no key anew
-pub named_again : (item : MainItem) (vs : List ℤ) (v : ℤ) (i : ℕ) (keys : List Key) → named_from item (vs ++ v ∷ []) i keys ≡ named_from item ((vs ++ v ∷ []) ++ v ∷ []) i keys
+-- a number that stands there names no key again
+pub named_again : (item : MainItem) (vs : List ℤ) (v : ℤ) (i : ℕ) (keys : List Key)
+    → named_keys_from item (vs ++ v ∷ []) i keys ≡ named_keys_from item ((vs ++ v ∷ []) ++ v ∷ []) i keys
 named_again item vs v i [] = refl
 named_again item vs v i (key ∷ keys) =
     let same : names_key item (vs ++ v ∷ []) i ≡ names_key item ((vs ++ v ∷ []) ++ v ∷ []) i =
@@ -100,7 +109,7 @@ named_again item vs v i (key ∷ keys) =
     ∙ ap (λ (b : Bool). b || int_eq v (item.min +ℤ pos i)) (sym (names_more item vs v i)) ∙ sym (names_more item (vs ++ v ∷ []) v i)
     in
     ap (λ t. (key.is_switch && names_key item (vs ++ v ∷ []) i) ∷ t) (named_again item vs v (i + 1) keys)
-    ∙ ap (λ (b : Bool). (key.is_switch && b) ∷ named_from item ((vs ++ v ∷ []) ++ v ∷ []) (i + 1) keys) same
+    ∙ ap (λ (b : Bool). (key.is_switch && b) ∷ named_keys_from item ((vs ++ v ∷ []) ++ v ∷ []) (i + 1) keys) same
   where
     twice : (n e : Bool) → (n || e) ≡ ((n || e) || e)
     twice true e = refl
@@ -140,20 +149,22 @@ switch_is : (keys : List Key) (p : ℕ) (b : Bool) (key : Key) → slice_get (ma
 switch_is keys p b key h k = let e = map_at (λ (x : Key). x.is_switch) keys p key k in cc
 
 pub key_added : (item : MainItem) (vs : List ℤ) (v : ℤ) (keys : List Key) (p : ℕ) → p < length keys → slice_get (map (λ (k : Key). k.is_switch) keys) p ≡ Some true → v ≡ item.min +ℤ pos p
-    → slice_set (named_from item vs 0 keys) p true ≡ named_from item (vs ++ v ∷ []) 0 keys
+    → slice_set (named_keys_from item vs 0 keys) p true ≡ named_keys_from item (vs ++ v ∷ []) 0 keys
 key_added item vs v keys p within h is =
     let key = got keys p within in
     named_set item vs v 0 keys p key.0 key.1 (switch_is keys p true key.0 h key.1) (let n : 0 + p ≡ p = omega arith in rw n is)
 
 pub no_key_added : (item : MainItem) (vs : List ℤ) (v : ℤ) (keys : List Key) (p : ℕ) → slice_get (map (λ (k : Key). k.is_switch) keys) p ≡ Some false → v ≡ item.min +ℤ pos p
-    → named_from item vs 0 keys ≡ named_from item (vs ++ v ∷ []) 0 keys
+    → named_keys_from item vs 0 keys ≡ named_keys_from item (vs ++ v ∷ []) 0 keys
 no_key_added item vs v keys p h is =
     named_same item vs v 0 keys (λ j key g e.
     let same : j ≡ p = (let n : v ≡ item.min +ℤ pos (0 + j) = e in omega (arith, ints)) in
     let Q : ℕ → Type 0 = λ n. slice_get keys n ≡ Some key in
     switch_is keys p false key h (subst Q same g))
 
-pub no_place_added : (item : MainItem) (vs : List ℤ) (v : ℤ) (keys : List Key) → ((p : ℕ) → p < length keys → v ≢ (item.min +ℤ pos p)) → named_from item vs 0 keys ≡ named_from item (vs ++ v ∷ []) 0 keys
+pub no_place_added : (item : MainItem) (vs : List ℤ) (v : ℤ) (keys : List Key)
+    → ((p : ℕ) → p < length keys → v ≢ (item.min +ℤ pos p))
+    → named_keys_from item vs 0 keys ≡ named_keys_from item (vs ++ v ∷ []) 0 keys
 no_place_added item vs v keys none =
     named_same item vs v 0 keys (λ j key g e. absurd (none j (slice_get_within keys j key g) (let n : 0 + j ≡ j = omega arith in rw n at e)))
 
@@ -175,7 +186,7 @@ rollover_named item us v p is =
     by_max true e = rw e refl
     by_max false e = refl
 
--- and one that names no place names none
+-- an element that names no place doesn't name ErrorRollOver
 pub no_rollover_named : (item : MainItem) (us : List Usage) (v : ℤ) → ((p : ℕ) → p < length us → v ≢ (item.min +ℤ pos p)) → names_rollover item us v ≡ false
 no_rollover_named item us v none = by_range (is_in item.min item.max v) refl
   where
@@ -195,7 +206,8 @@ no_rollover_named item us v none = by_range (is_in item.min item.max v) refl
     by_range true e = by_usage (slice_get us (at_zero (v -ℤ item.min))) refl (record { le = true_test (le_z item.min v) ((both_true (le_z item.min v) (le_z v item.max) e).0) })
 
 -- one number names one key more at most
-named_few : (item : MainItem) (vs : List ℤ) (v : ℤ) (i : ℕ) (keys : List Key) → pressed_count (named_from item (vs ++ v ∷ []) i keys) ≤ pressed_count (named_from item vs i keys) + 1
+named_few : (item : MainItem) (vs : List ℤ) (v : ℤ) (i : ℕ) (keys : List Key)
+    → switch_count (named_keys_from item (vs ++ v ∷ []) i keys) ≤ switch_count (named_keys_from item vs i keys) + 1
 named_few item vs v i [] = omega arith
 named_few item vs v i (key ∷ keys) = by_test (cases_Bool (int_eq v (item.min +ℤ pos i))) (named_few item vs v (i + 1) keys)
   where
@@ -214,26 +226,52 @@ named_few item vs v i (key ∷ keys) = by_test (cases_Bool (int_eq v (item.min +
     few true = omega arith
     few false = omega arith
 
-    by_test : (int_eq v (item.min +ℤ pos i) ≡ true) ⊎ (int_eq v (item.min +ℤ pos i) ≡ false) → pressed_count (named_from item (vs ++ v ∷ []) (i + 1) keys) ≤ pressed_count (named_from item vs (i + 1) keys) + 1
-        → pressed_count (new ∷ named_from item (vs ++ v ∷ []) (i + 1) keys) ≤ pressed_count (old ∷ named_from item vs (i + 1) keys) + 1
+    by_test : (int_eq v (item.min +ℤ pos i) ≡ true) ⊎ (int_eq v (item.min +ℤ pos i) ≡ false)
+        → switch_count (named_keys_from item (vs ++ v ∷ []) (i + 1) keys) ≤ switch_count
+        (named_keys_from item vs (i + 1) keys) + 1
+        → switch_count (new ∷ named_keys_from item (vs ++ v ∷ []) (i + 1) keys) ≤ switch_count
+        (old ∷ named_keys_from item vs (i + 1) keys) + 1
     by_test (inl e) rest =
         let is : v ≡ item.min +ℤ pos i = (Decides-int_eq v (item.min +ℤ pos i)).0 e in
         let same = named_same item vs v (i + 1) keys (λ j k g f. absurd (omega (arith, ints))) in
-        omega (arith, cons_count new (named_from item (vs ++ v ∷ []) (i + 1) keys), cons_count old (named_from item vs (i + 1) keys), ap pressed_count same, few new)
+        omega (
+          arith,
+          cons_count new (named_keys_from item (vs ++ v ∷ []) (i + 1) keys),
+          cons_count old (named_keys_from item vs (i + 1) keys),
+          ap switch_count same,
+          few new,
+        )
     by_test (inr e) rest =
         let same : new ≡ old = rw (names_more item vs v i, e) (sym (without key.is_switch (names_key item vs i))) in
-        omega (arith, cons_count new (named_from item (vs ++ v ∷ []) (i + 1) keys), cons_count old (named_from item vs (i + 1) keys), (let count : Bool → ℕ = λ b. cond b 1 0 in ap count same), rest)
+        omega (
+          arith,
+          cons_count new (named_keys_from item (vs ++ v ∷ []) (i + 1) keys),
+          cons_count old (named_keys_from item vs (i + 1) keys),
+          (let count : Bool → ℕ = λ b. cond b 1 0 in ap count same),
+          rest,
+        )
 
-named_prefix : (item : MainItem) (keys : List Key) (vs : List ℤ) (n : ℕ) → n ≤ length vs → pressed_count (named_from item (take n vs) 0 keys) ≤ n
-named_prefix item keys vs zero h = omega (arith, ap pressed_count (named_none item 0 keys), none_pressed (length keys))
+named_prefix : (item : MainItem) (keys : List Key) (vs : List ℤ) (n : ℕ) → n ≤ length vs
+    → switch_count (named_keys_from item (take n vs) 0 keys) ≤ n
+named_prefix item keys vs zero h = omega (arith, ap switch_count (named_none item 0 keys), none_pressed (length keys))
 named_prefix item keys vs (suc n) h =
     let v = got vs n (omega arith) in
     let one : suc n ≡ n + 1 = omega arith in
     let next : take (suc n) vs ≡ take n vs ++ v.0 ∷ [] = rw one (take_at vs n v.0 v.1) in
-    omega (arith, ap (λ (l : List ℤ). pressed_count (named_from item l 0 keys)) next, named_few item (take n vs) v.0 0 keys, named_prefix item keys vs n (omega arith))
+    omega (
+      arith,
+      ap (λ (l : List ℤ). switch_count (named_keys_from item l 0 keys)) next,
+      named_few item (take n vs) v.0 0 keys,
+      named_prefix item keys vs n (omega arith),
+    )
 
 -- no more keys are named than there are elements
-pub named_count : (item : MainItem) (keys : List Key) (vs : List ℤ) → pressed_count (named_from item vs 0 keys) ≤ length vs
+pub named_count : (item : MainItem) (keys : List Key) (vs : List ℤ)
+    → switch_count (named_keys_from item vs 0 keys) ≤ length vs
 named_count item keys vs =
     let all : take (length vs) vs ≡ vs = take-length vs in
-    omega (arith, named_prefix item keys vs (length vs) (omega arith), ap (λ (l : List ℤ). pressed_count (named_from item l 0 keys)) all)
+    omega (
+      arith,
+      named_prefix item keys vs (length vs) (omega arith),
+      ap (λ (l : List ℤ). switch_count (named_keys_from item l 0 keys)) all,
+    )

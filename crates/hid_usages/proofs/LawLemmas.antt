@@ -9,11 +9,11 @@ use Rattle.std.proofs.lemmas.Bool.Decides.{Decides-int_eq}
 use Rattle.hid_layout.specs.declared.main_item.MainItem.{MainItem}
 use Rattle.hid_descriptor.specs.declared.usage.Usage.{Usage}
 use Rattle.hid_layout.specs.Controls.{NoControls, Elements, Keys, Key}
-use Rattle.hid_snapshots.specs.Cells.{is_value, are_values, are_motions, are_pressable}
+use Rattle.hid_snapshots.specs.ControlStates.{is_value, are_values, are_motions, are_pressable}
 use Rattle.hid_usages.specs.Law.{names_no_key, ReadsBack}
-use Rattle.hid_snapshots.specs.declared.cell.Cell.TheVariants.{Vacant, Pressed, Holding, Moved, RolledOver}
-use Rattle.hid_usages.specs.Reading.{read_cell, has_null, names_rollover, is_in, read_switch, read_value, read_motion, names_key, named_from}
-use Rattle.hid_snapshots.specs.Sending.{switch_number, placed_from, pressed_count, sent, or_zero, null_number, empty_number, rollover_number}
+use Rattle.hid_snapshots.specs.declared.control_state.ControlState.TheVariants.{Absent, Switches, Values, Motions, RollOver}
+use Rattle.hid_usages.specs.Reading.{read_state, has_null, names_rollover, is_in, read_switch, read_value, read_motion, names_key, named_keys_from}
+use Rattle.hid_snapshots.specs.Sending.{switch_number, pressed_places_from, switch_count, element_numbers, or_zero, null_number, empty_number, rollover_number}
 
 int_same : (x : ℤ) → int_eq x x ≡ true
 int_same x = (Decides-int_eq x x).1 refl
@@ -47,13 +47,15 @@ motions_back least greatest [] ok = refl
 motions_back least greatest (m ∷ ms) ok = rw ok.0 (ap (λ t. m ∷ t) (motions_back least greatest ms ok.1))
 
 -- a key names no place before the first
-none_before : (min : ℤ) (ps : List Bool) (i j : ℕ) → j < i → list_any (λ v. int_eq v (min +ℤ pos j)) (placed_from min i ps) ≡ false
+none_before : (min : ℤ) (ps : List Bool) (i j : ℕ) → j < i
+    → list_any (λ v. int_eq v (min +ℤ pos j)) (pressed_places_from min i ps) ≡ false
 none_before min [] i j h = refl
 none_before min (true ∷ ps) i j h = rw (int_other (min +ℤ pos i) (min +ℤ pos j) (λ e. omega (arith, ints))) (none_before min ps (i + 1) j (omega arith))
 none_before min (false ∷ ps) i j h = none_before min ps (i + 1) j (omega arith)
 
 -- a place is named exactly where its key is pressed
-pub placed_names : (min : ℤ) (ps : List Bool) (i k : ℕ) (p : Bool) → slice_get ps k ≡ Some p → list_any (λ v. int_eq v (min +ℤ pos (i + k))) (placed_from min i ps) ≡ p
+pub placed_names : (min : ℤ) (ps : List Bool) (i k : ℕ) (p : Bool) → slice_get ps k ≡ Some p
+    → list_any (λ v. int_eq v (min +ℤ pos (i + k))) (pressed_places_from min i ps) ≡ p
 placed_names min [] i k p h = absurd (cc)
 placed_names min (true ∷ ps) i zero p h =
     let e : true ≡ p = cc in
@@ -66,10 +68,12 @@ placed_names min (false ∷ ps) i zero p h =
 placed_names min (true ∷ ps) i (suc k) p h =
     let z : (i + 1) + k ≡ i + suc k = omega arith in
     rw (int_other (min +ℤ pos i) (min +ℤ pos (i + suc k)) (λ e. omega (arith, ints)))
-    (ap (λ (n : ℕ). list_any (λ v. int_eq v (min +ℤ pos n)) (placed_from min (i + 1) ps)) (sym z) ∙ placed_names min ps (i + 1) k p h)
+    (ap (λ (n : ℕ). list_any (λ v. int_eq v (min +ℤ pos n)) (pressed_places_from min (i + 1) ps)) (sym z)
+    ∙ placed_names min ps (i + 1) k p h)
 placed_names min (false ∷ ps) i (suc k) p h =
     let z : (i + 1) + k ≡ i + suc k = omega arith in
-    ap (λ (n : ℕ). list_any (λ v. int_eq v (min +ℤ pos n)) (placed_from min (i + 1) ps)) (sym z) ∙ placed_names min ps (i + 1) k p h
+    ap (λ (n : ℕ). list_any (λ v. int_eq v (min +ℤ pos n)) (pressed_places_from min (i + 1) ps)) (sym z)
+    ∙ placed_names min ps (i + 1) k p h
 
 pub any_of_same : (test : ℤ → Bool) (n : ℕ) (v : ℤ) → test v ≡ false → list_any test (replicate n v) ≡ false
 any_of_same test zero v h = refl
@@ -89,9 +93,10 @@ named_here key false other on off = by_switch key.is_switch other off
     by_switch false other off = refl
 
 -- the keys from one on, of which all numbers are known
-keys_from_back : (item : MainItem) (vs : List ℤ) (code : ℤ) (rest i k : ℕ) (keys : List Key) (all ps : List Bool) → vs ≡ placed_from item.min i all ++ replicate rest code
+keys_from_back : (item : MainItem) (vs : List ℤ) (code : ℤ) (rest i k : ℕ) (keys : List Key) (all ps : List Bool)
+    → vs ≡ pressed_places_from item.min i all ++ replicate rest code
     → ((j : ℕ) (p : Bool) → slice_get ps j ≡ Some p → slice_get all (k + j) ≡ Some p)
-    → are_pressable keys ps → names_no_key code item.min (i + k) keys → named_from item vs (i + k) keys ≡ ps
+    → are_pressable keys ps → names_no_key code item.min (i + k) keys → named_keys_from item vs (i + k) keys ≡ ps
 keys_from_back item vs code rest i k [] all [] is at pressable apart = refl
 keys_from_back item vs code rest i k [] all (p ∷ ps) is at pressable apart = absurd pressable
 keys_from_back item vs code rest i k (key ∷ keys) all [] is at pressable apart = absurd pressable
@@ -106,61 +111,66 @@ keys_from_back item vs code rest i k (key ∷ keys) all (p ∷ ps) is at pressab
     rw named (named_here key p _ pressable.0 (λ s. any_of_same (λ v. int_eq v (item.min +ℤ pos (i + k))) rest code (apart.0 s)))
     in
     let apart' : names_no_key code item.min (i + (k + 1)) keys = rw (← next) apart.1 in
-    let tail : named_from item vs (i + (k + 1)) keys ≡ ps =
+    let tail : named_keys_from item vs (i + (k + 1)) keys ≡ ps =
     keys_from_back item vs code rest i (k + 1) keys all ps is (λ j q h. let e : (k + 1) + j ≡ k + suc j = omega arith in rw e (at (suc j) q h)) pressable.1 apart'
     in
     rw (head, next) (ap (λ t. p ∷ t) tail)
 
 -- pressed keys are read as they were sent
 pub keys_back : (item : MainItem) (code : ℤ) (rest : ℕ) (keys : List Key) (ps : List Bool) → are_pressable keys ps → names_no_key code item.min 0 keys
-    → named_from item (placed_from item.min 0 ps ++ replicate rest code) 0 keys ≡ ps
+    → named_keys_from item (pressed_places_from item.min 0 ps ++ replicate rest code) 0 keys ≡ ps
 keys_back item code rest keys ps pressable apart =
-    keys_from_back item (placed_from item.min 0 ps ++ replicate rest code) code rest 0 0 keys ps ps refl (λ j p h. let e : 0 + j ≡ j = omega arith in rw e h) pressable apart
+    keys_from_back item (pressed_places_from item.min 0 ps ++ replicate rest code) code rest 0 0 keys ps ps refl
+    (λ j p h. let e : 0 + j ≡ j = omega arith in rw e h) pressable apart
 
 read_keys : (item : MainItem) (us : List Usage) (elements : ℕ) (rolls : Bool) (keys : List Key) (bs : List Bool) (vs : List ℤ) (b : Bool) → list_any (names_rollover item us) vs ≡ b
-    → read_cell item us (Keys elements rolls keys) (Pressed bs) vs ≡ cond b (Pressed bs) (Pressed (named_from item vs 0 keys))
-read_keys item us elements rolls keys bs vs b h = ap (λ (x : Bool). cond x (Pressed bs) (Pressed (named_from item vs 0 keys))) h
+    → read_state item us (Keys elements rolls keys) (Switches bs) vs
+    ≡ cond b (Switches bs) (Switches (named_keys_from item vs 0 keys))
+read_keys item us elements rolls keys bs vs b h =
+    ap (λ (x : Bool). cond x (Switches bs) (Switches (named_keys_from item vs 0 keys))) h
 
 pub reads_back : ReadsBack
-reads_back item us NoControls view Vacant ok like = refl
-reads_back item us NoControls view (Pressed ps) ok like = absurd ok
-reads_back item us NoControls view (Holding ps) ok like = absurd ok
-reads_back item us NoControls view (Moved ps) ok like = absurd ok
-reads_back item us NoControls view (RolledOver ps) ok like = absurd ok
-reads_back item us (Elements kind least greatest usages) view Vacant ok like = absurd ok
-reads_back item us (Elements kind least greatest usages) view (RolledOver ps) ok like = absurd ok
-reads_back item us (Elements kind least greatest usages) Vacant (Pressed ps) ok like = absurd like
-reads_back item us (Elements kind least greatest usages) (Pressed bs) (Pressed ps) ok like = ap Pressed (switches_back bs ps like)
-reads_back item us (Elements kind least greatest usages) (Holding bs) (Pressed ps) ok like = absurd like
-reads_back item us (Elements kind least greatest usages) (Moved bs) (Pressed ps) ok like = absurd like
-reads_back item us (Elements kind least greatest usages) (RolledOver bs) (Pressed ps) ok like = absurd like
-reads_back item us (Elements kind least greatest usages) Vacant (Holding ps) ok like = absurd like
-reads_back item us (Elements kind least greatest usages) (Pressed bs) (Holding ps) ok like = absurd like
-reads_back item us (Elements kind least greatest usages) (Holding bs) (Holding ps) ok like =
-    ap Holding (values_back (has_null kind) least greatest (or_zero (null_number item)) bs ps ok.1 like ok.0)
-reads_back item us (Elements kind least greatest usages) (Moved bs) (Holding ps) ok like = absurd like
-reads_back item us (Elements kind least greatest usages) (RolledOver bs) (Holding ps) ok like = absurd like
-reads_back item us (Elements kind least greatest usages) Vacant (Moved ps) ok like = refl
-reads_back item us (Elements kind least greatest usages) (Pressed bs) (Moved ps) ok like = absurd like
-reads_back item us (Elements kind least greatest usages) (Holding bs) (Moved ps) ok like = absurd like
-reads_back item us (Elements kind least greatest usages) (Moved bs) (Moved ps) ok like = refl
-reads_back item us (Elements kind least greatest usages) (RolledOver bs) (Moved ps) ok like = absurd like
-reads_back item us (Keys elements rolls keys) view Vacant ok like = absurd ok
-reads_back item us (Keys elements rolls keys) view (Holding ps) ok like = absurd ok
-reads_back item us (Keys elements rolls keys) view (Moved ps) ok like = absurd ok
-reads_back item us (Keys elements rolls keys) Vacant (Pressed ps) ok like = absurd like
-reads_back item us (Keys elements rolls keys) (Pressed bs) (Pressed ps) ok like =
-    read_keys item us elements rolls keys bs (sent item us (Keys elements rolls keys) (Pressed ps)) false ok.2
-    ∙ ap Pressed (keys_back item (or_zero (empty_number item us)) (elements - pressed_count ps) keys ps ok.0 ok.1)
-reads_back item us (Keys elements rolls keys) (Holding bs) (Pressed ps) ok like = absurd like
-reads_back item us (Keys elements rolls keys) (Moved bs) (Pressed ps) ok like = absurd like
-reads_back item us (Keys elements rolls keys) (RolledOver bs) (Pressed ps) ok like = absurd like
-reads_back item us (Keys elements rolls keys) Vacant (RolledOver ps) ok like = absurd like
-reads_back item us (Keys elements rolls keys) (Pressed bs) (RolledOver ps) ok like =
+reads_back item us NoControls view Absent ok like = refl
+reads_back item us NoControls view (Switches ps) ok like = absurd ok
+reads_back item us NoControls view (Values ps) ok like = absurd ok
+reads_back item us NoControls view (Motions ps) ok like = absurd ok
+reads_back item us NoControls view (RollOver ps) ok like = absurd ok
+reads_back item us (Elements kind least greatest usages) view Absent ok like = absurd ok
+reads_back item us (Elements kind least greatest usages) view (RollOver ps) ok like = absurd ok
+reads_back item us (Elements kind least greatest usages) Absent (Switches ps) ok like = absurd like
+reads_back item us (Elements kind least greatest usages) (Switches bs) (Switches ps) ok like =
+    ap Switches (switches_back bs ps like)
+reads_back item us (Elements kind least greatest usages) (Values bs) (Switches ps) ok like = absurd like
+reads_back item us (Elements kind least greatest usages) (Motions bs) (Switches ps) ok like = absurd like
+reads_back item us (Elements kind least greatest usages) (RollOver bs) (Switches ps) ok like = absurd like
+reads_back item us (Elements kind least greatest usages) Absent (Values ps) ok like = absurd like
+reads_back item us (Elements kind least greatest usages) (Switches bs) (Values ps) ok like = absurd like
+reads_back item us (Elements kind least greatest usages) (Values bs) (Values ps) ok like =
+    ap Values (values_back (has_null kind) least greatest (or_zero (null_number item)) bs ps ok.1 like ok.0)
+reads_back item us (Elements kind least greatest usages) (Motions bs) (Values ps) ok like = absurd like
+reads_back item us (Elements kind least greatest usages) (RollOver bs) (Values ps) ok like = absurd like
+reads_back item us (Elements kind least greatest usages) Absent (Motions ps) ok like = refl
+reads_back item us (Elements kind least greatest usages) (Switches bs) (Motions ps) ok like = absurd like
+reads_back item us (Elements kind least greatest usages) (Values bs) (Motions ps) ok like = absurd like
+reads_back item us (Elements kind least greatest usages) (Motions bs) (Motions ps) ok like = refl
+reads_back item us (Elements kind least greatest usages) (RollOver bs) (Motions ps) ok like = absurd like
+reads_back item us (Keys elements rolls keys) view Absent ok like = absurd ok
+reads_back item us (Keys elements rolls keys) view (Values ps) ok like = absurd ok
+reads_back item us (Keys elements rolls keys) view (Motions ps) ok like = absurd ok
+reads_back item us (Keys elements rolls keys) Absent (Switches ps) ok like = absurd like
+reads_back item us (Keys elements rolls keys) (Switches bs) (Switches ps) ok like =
+    read_keys item us elements rolls keys bs
+    (element_numbers item us (Keys elements rolls keys) (Switches ps)) false ok.2
+    ∙ ap Switches (keys_back item (or_zero (empty_number item us)) (elements - switch_count ps) keys ps ok.0 ok.1)
+reads_back item us (Keys elements rolls keys) (Values bs) (Switches ps) ok like = absurd like
+reads_back item us (Keys elements rolls keys) (Motions bs) (Switches ps) ok like = absurd like
+reads_back item us (Keys elements rolls keys) (RollOver bs) (Switches ps) ok like = absurd like
+reads_back item us (Keys elements rolls keys) Absent (RollOver ps) ok like = absurd like
+reads_back item us (Keys elements rolls keys) (Switches bs) (RollOver ps) ok like =
     read_keys item us elements rolls keys bs (replicate elements (or_zero (rollover_number item us))) true
     (some_of_same (names_rollover item us) elements (or_zero (rollover_number item us)) ok.0 ok.1)
-reads_back item us (Keys elements rolls keys) (Holding bs) (RolledOver ps) ok like = absurd like
-reads_back item us (Keys elements rolls keys) (Moved bs) (RolledOver ps) ok like = absurd like
-reads_back item us (Keys elements rolls keys) (RolledOver bs) (RolledOver ps) ok like = absurd like
+reads_back item us (Keys elements rolls keys) (Values bs) (RollOver ps) ok like = absurd like
+reads_back item us (Keys elements rolls keys) (Motions bs) (RollOver ps) ok like = absurd like
+reads_back item us (Keys elements rolls keys) (RollOver bs) (RollOver ps) ok like = absurd like
 
 pub ruleset back = (reads_back, motions_back)

@@ -13,7 +13,7 @@ use Rattle.hid_descriptor.specs.declared.shape.Shape.{Shape}
 use Rattle.hid_descriptor.specs.declared.shape.Shape.TheVariants.{Padding, Variable, Array}
 use Rattle.hid_layout.specs.declared.control.Controls.TheVariants as head
 use Rattle.hid_descriptor.specs.Usages.{Entry, usage_list, is_rollover, tells_error}
-use Rattle.hid_usages.specs.Taking.{list_at, IsFormOf, read_by_numbers, told_by_numbers}
+use Rattle.hid_usages.specs.Taking.{list_at, IsFormOf, state_by_numbers, number_events}
 use Rattle.hid_usages.proofs.TakeLemmas.{list_at-is}
 use Rattle.hid_layout.specs.Layout.{Contents}
 use Rattle.hid_layout.specs.Controls.{Form, Keys, Key, head_of, form_of, form_at, items_of, has_place, rollover_from, is_key, is_encodable}
@@ -21,17 +21,17 @@ use Rattle.hid_layout.proofs.FormLemmas.{key-get, keys-length}
 use Rattle.hid_layout.proofs.CodeLemmas.{inside}
 use Rattle.hid_snapshots.proofs.CodeLemmas.{both_true}
 use Rattle.hid_snapshots.proofs.ListLemmas.{map_at}
-use Rattle.hid_snapshots.specs.declared.cell.Cell.{Cell}
-use Rattle.hid_snapshots.specs.declared.cell.Cell.TheVariants.{Pressed}
-use Rattle.hid_snapshots.specs.Cells.{HasRoom}
+use Rattle.hid_snapshots.specs.declared.control_state.ControlState.{ControlState}
+use Rattle.hid_snapshots.specs.declared.control_state.ControlState.TheVariants.{Switches}
+use Rattle.hid_snapshots.specs.ControlStates.{HasRoom}
 use Rattle.hid_snapshots.specs.Events.{change_events, key_events, key_usages, usages_at, usages_of, HasPlaces}
-use Rattle.hid_snapshots.specs.Views.{motions_told}
+use Rattle.hid_snapshots.specs.Views.{form_motions}
 use Rattle.hid_usages.proofs.EventLemmas.{has_places}
-use Rattle.hid_usages.specs.Reading.{FitsFields, motion_cell, read_cell, array_keys, keys_of, keys_at, named_from, names_rollover, read_keys}
+use Rattle.hid_usages.specs.Reading.{FitsFields, motion_state, read_state, array_keys, keys_of, keys_at, named_keys_from, names_rollover, read_keys}
 use Rattle.hid_usages.proofs.BoundLemmas.{in_range}
 use Rattle.hid_usages.proofs.KeyLemmas.{key_added, no_key_added, no_place_added, rollover_named}
 
--- no key stands behind the last place that a key can have
+-- no key stands after the last place that a key can have
 key_low : (m : MainItem) (p : ℕ) (u : Usage) → is_key m p u ≡ true → p < 65536
 key_low m p u h =
     let low = (both_true (nat_lt p 65536) _ ((both_true (is_encodable m (m.min +ℤ pos p)) _ h).1)).0 in
@@ -51,14 +51,15 @@ key_here m us p u here within =
 
 -- a number names the key at its place
 pub pressed : (m : MainItem) (us : List Usage) (vs : List ℤ) (v : ℤ) (p : ℕ) (u : Usage) → slice_get us p ≡ Some u → v ≡ m.min +ℤ pos p → is_key m p u ≡ true
-    → slice_set (named_from m vs 0 (array_keys m us)) p true ≡ named_from m (vs ++ v ∷ []) 0 (array_keys m us)
+    → slice_set (named_keys_from m vs 0 (array_keys m us)) p true
+    ≡ named_keys_from m (vs ++ v ∷ []) 0 (array_keys m us)
 pressed m us vs v p u here is on =
     let within = key_place m us p u here on in
     key_added m vs v (array_keys m us) p within (key_here m us p u here within ∙ ap (λ (b : Bool). Some b) on) is
 
--- and none where no key stands there
+-- a number names no key where none stands at its place
 pub not_pressed : (m : MainItem) (us : List Usage) (vs : List ℤ) (v : ℤ) (p : ℕ) (u : Usage) → slice_get us p ≡ Some u → v ≡ m.min +ℤ pos p → is_key m p u ≡ false
-    → named_from m vs 0 (array_keys m us) ≡ named_from m (vs ++ v ∷ []) 0 (array_keys m us)
+    → named_keys_from m vs 0 (array_keys m us) ≡ named_keys_from m (vs ++ v ∷ []) 0 (array_keys m us)
 not_pressed m us vs v p u here is off = elim (cases_lt p (length (array_keys m us))) [
   | inl within ↦ no_key_added m vs v (array_keys m us) p (key_here m us p u here within ∙ ap (λ (b : Bool). Some b) off) is
   | inr past ↦
@@ -68,11 +69,14 @@ not_pressed m us vs v p u here is off = elim (cases_lt p (length (array_keys m u
       omega arith)
 ]
 
--- the keys stay where a number names ErrorRollOver, and are named anew elsewhere
-pub keys_stay : (m : MainItem) (us : List Usage) (keys : List Key) (bs : List Bool) (vs : List ℤ) → list_any (names_rollover m us) vs ≡ true → read_keys m us keys (Pressed bs) vs ≡ Pressed bs
+-- the keys stay where a number names ErrorRollOver, and are named again elsewhere
+pub keys_stay : (m : MainItem) (us : List Usage) (keys : List Key) (bs : List Bool) (vs : List ℤ)
+    → list_any (names_rollover m us) vs ≡ true → read_keys m us keys (Switches bs) vs ≡ Switches bs
 keys_stay m us keys bs vs h = rw h refl
 
-pub keys_named : (m : MainItem) (us : List Usage) (keys : List Key) (bs : List Bool) (vs : List ℤ) → list_any (names_rollover m us) vs ≡ false → read_keys m us keys (Pressed bs) vs ≡ Pressed (named_from m vs 0 keys)
+pub keys_named : (m : MainItem) (us : List Usage) (keys : List Key) (bs : List Bool) (vs : List ℤ)
+    → list_any (names_rollover m us) vs ≡ false
+    → read_keys m us keys (Switches bs) vs ≡ Switches (named_keys_from m vs 0 keys)
 keys_named m us keys bs vs h = rw h refl
 
 -- whether a number that names a place tells ErrorRollOver
@@ -108,17 +112,21 @@ pub key_tested : (m : MainItem) (v : ℤ) (p : ℕ) (u : Usage) (few low none : 
     → is_key m p u ≡ (few && (low && (not none && not (tells_error u))))
 key_tested m v p u few low none fits is at_most before zero = rw (place_encodable m v p fits is, at_most, before, zero) refl
 
--- What the numbers of an array's elements make of its cell, and tell, is what they do by its usage list.
-pub record ReadsKeys (layout : Contents) (i : ℕ) (m : MainItem) (us : List Usage) (cell : Cell) (vs : List ℤ) : Type 0 where
+-- What the numbers of an array's elements make of its control state, and tell, is what they do by its usage list.
+pub record ReadsKeys (layout : Contents) (i : ℕ) (m : MainItem) (us : List Usage) (state : ControlState)
+    (vs : List ℤ) : Type 0 where
   pub keys : keys_at layout i ≡ array_keys m us
   pub usages : length (usages_at layout i) ≡ length (keys_at layout i)
-  pub places : HasPlaces cell (length (keys_at layout i))
-  pub read : read_keys m us (keys_at layout i) cell vs ≡ read_by_numbers layout i m cell vs
-  pub told : (after : Cell) → key_events i (usages_at layout i) cell after ≡ told_by_numbers layout i m cell after vs
+  pub places : HasPlaces state (length (keys_at layout i))
+  pub read : read_keys m us (keys_at layout i) state vs ≡ state_by_numbers layout i m state vs
+  pub told : (after : ControlState)
+      → key_events i (usages_at layout i) state after ≡ number_events layout i m state after vs
 
-pub reads_keys : (layout : Contents) (i : ℕ) (m : MainItem) (es : List Entry) (cell : Cell) (vs : List ℤ) → IsFormOf layout i m → m.shape ≡ Array → slice_get layout.entries i ≡ Some es → HasRoom (head_of (form_at (items_of layout) i)) cell
-    → ReadsKeys layout i m (usage_list es) cell vs
-reads_keys layout i m es cell vs form shape there room =
+pub reads_keys : (layout : Contents) (i : ℕ) (m : MainItem) (es : List Entry) (state : ControlState) (vs : List ℤ)
+    → IsFormOf layout i m → m.shape ≡ Array → slice_get layout.entries i ≡ Some es
+    → HasRoom (head_of (form_at (items_of layout) i)) state
+    → ReadsKeys layout i m (usage_list es) state vs
+reads_keys layout i m es state vs form shape there room =
     let listed = list_at-is layout i es there in
     let us = usage_list es in
     let rolls = has_place (rollover_from m 0 us) in
@@ -128,11 +136,11 @@ reads_keys layout i m es cell vs form shape there room =
     record {
       keys = ap keys_of is;
       usages = same;
-      places = subst (HasPlaces cell) same (has_places (form_at (items_of layout) i) cell room);
+      places = subst (HasPlaces state) same (has_places (form_at (items_of layout) i) state room);
       read =
-          ap (λ (ks : List Key). read_keys m us ks cell vs) (ap keys_of is) ∙ ap (λ (l : List Usage). read_keys m l (array_keys m us) cell vs) (sym listed)
-          ∙ ap (λ (f : Form). read_cell m (list_at layout i) f cell vs) (sym is);
+          ap (λ (ks : List Key). read_keys m us ks state vs) (ap keys_of is) ∙ ap (λ (l : List Usage). read_keys m l (array_keys m us) state vs) (sym listed)
+          ∙ ap (λ (f : Form). read_state m (list_at layout i) f state vs) (sym is);
       told = λ after.
-          ap (λ (f : Form). key_events i (usages_of f) cell after) is ∙ sym (append-nil (key_events i (key_usages (array_keys m us)) cell after))
-          ∙ ap (λ (f : Form). change_events i f cell after ++ motions_told i f (motion_cell f vs)) (sym is);
+          ap (λ (f : Form). key_events i (usages_of f) state after) is ∙ sym (append-nil (key_events i (key_usages (array_keys m us)) state after))
+          ∙ ap (λ (f : Form). change_events i f state after ++ form_motions i f (motion_state f vs)) (sym is);
     }

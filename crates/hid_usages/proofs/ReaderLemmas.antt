@@ -11,21 +11,21 @@ use Rattle.hid_layout.specs.declared.control.ControlId.{ControlId}
 use Rattle.hid_layout.specs.Layout.{Contents}
 use Rattle.hid_layout.specs.Reports.{IsLayout}
 use Rattle.hid_layout.specs.Controls.{Form, NoControls, Elements, Keys, items_of, form_at, head_of}
-use Rattle.hid_snapshots.specs.declared.cell.Cell.{Cell}
-use Rattle.hid_snapshots.specs.declared.cell.Cell.TheVariants.{Vacant, Pressed, Holding, Moved, RolledOver}
+use Rattle.hid_snapshots.specs.declared.control_state.ControlState.{ControlState}
+use Rattle.hid_snapshots.specs.declared.control_state.ControlState.TheVariants.{Absent, Switches, Values, Motions, RollOver}
 use Rattle.hid_snapshots.specs.declared.event.Event.{Event}
-use Rattle.hid_snapshots.specs.Cells.{HasRoom, FitsView}
-use Rattle.hid_snapshots.specs.Events.{at, each, switch_event, value_event, up_event, down_event, usages_of, key_events, key_usages, change_events, HasPlaces}
+use Rattle.hid_snapshots.specs.ControlStates.{HasRoom, FitsView}
+use Rattle.hid_snapshots.specs.Events.{at, element_list_events, switch_event, value_event, up_event, down_event, usages_of, key_events, key_usages, change_events, HasPlaces}
 use Rattle.hid_snapshots.specs.Parts.{IsInput}
 use Rattle.hid_snapshots.proofs.ItemLemmas.{got, form_at-is}
-use Rattle.hid_usages.specs.Reading.{read_cell, names_rollover, read_named, is_data_in, item_numbers}
-use Rattle.hid_usages.specs.Taking.{TakesReport, list_at, read_by_report, told_by_report, read_by_numbers, told_by_numbers, read_from, told_from, read_view, read_events}
+use Rattle.hid_usages.specs.Reading.{read_state, names_rollover, read_named, is_data_in, item_numbers}
+use Rattle.hid_usages.specs.Taking.{TakesReport, list_at, state_by_report, report_events_from, state_by_numbers, number_events, view_from_item, events_from_item, read_view, read_events}
 use Rattle.hid_usages.proofs.EventLemmas.{has_places}
-use Rattle.hid_usages.specs.Reader.{IsStill, IsReader, kept_of}
+use Rattle.hid_usages.specs.Reader.{IsStill, IsReader, still_bytes_of}
 use Rattle.hid_snapshots.proofs.CodeLemmas.{both_true}
 use Rattle.hid_usages.proofs.TakeLemmas.{named_input, read_view-at, read_view_fits}
 
--- of events of which there are none, none stand in front and none behind
+-- of events of which there are none, none stand in front and none after
 none_in_front : (xs ys : List Event) → xs ++ ys ≡ [] → xs ≡ []
 none_in_front [] ys h = refl
 none_in_front (x ∷ xs) ys h = absurd (cc)
@@ -36,15 +36,18 @@ none_behind (x ∷ xs) ys h = absurd (cc)
 
 -- elements of which none tells anything are as they were
 quiet_each : {C : Type 0} (f : ℕ → Usage → C × C → List Event) → ((k : ℕ) (u : Usage) (b x : C) → f k u (b, x) ≡ [] → x ≡ b)
-    → (j : ℕ) (us : List Usage) (bs xs : List C) → length bs ≡ length us → length xs ≡ length us → each f j us (zip bs xs) ≡ [] → xs ≡ bs
+    → (j : ℕ) (us : List Usage) (bs xs : List C) → length bs ≡ length us → length xs ≡ length us
+    → element_list_events f j us (zip bs xs) ≡ [] → xs ≡ bs
 quiet_each f same j [] [] [] l m h = refl
 quiet_each f same j [] (b ∷ bs) xs l m h = absurd (omega arith)
 quiet_each f same j [] [] (x ∷ xs) l m h = absurd (omega arith)
 quiet_each f same j (u ∷ us) [] xs l m h = absurd (omega arith)
 quiet_each f same j (u ∷ us) (b ∷ bs) [] l m h = absurd (omega arith)
 quiet_each f same j (u ∷ us) (b ∷ bs) (x ∷ xs) l m h =
-    let here = same j u b x (none_in_front (f j u (b, x)) (each f (j + 1) us (zip bs xs)) h) in
-    let rest = quiet_each f same (j + 1) us bs xs (omega arith) (omega arith) (none_behind (f j u (b, x)) (each f (j + 1) us (zip bs xs)) h) in
+    let here = same j u b x (none_in_front (f j u (b, x)) (element_list_events f (j + 1) us (zip bs xs)) h) in
+    let rest =
+    quiet_each f same (j + 1) us bs xs (omega arith) (omega arith)
+    (none_behind (f j u (b, x)) (element_list_events f (j + 1) us (zip bs xs)) h) in
     rw (here, rest) refl
 
 quiet_switch : (c : ControlId) (u : Usage) (b x : Bool) → switch_event c u b x ≡ [] → x ≡ b
@@ -65,15 +68,25 @@ quiet_value c u (Some v) (Some w) h = by_test (int_eq v w) (Decides-int_eq v w) 
 
 -- keys of which none goes up and none goes down are as they were
 quiet_keys : (i j : ℕ) (us : List Usage) (bs xs : List Bool) → length bs ≡ length us → length xs ≡ length us
-    → each (λ k u p. up_event (at i k) u p.0 p.1) j us (zip bs xs) ≡ [] → each (λ k u p. down_event (at i k) u p.0 p.1) j us (zip bs xs) ≡ [] → xs ≡ bs
+    → element_list_events (λ k u p. up_event (at i k) u p.0 p.1) j us (zip bs xs) ≡ []
+    → element_list_events (λ k u p. down_event (at i k) u p.0 p.1) j us (zip bs xs) ≡ [] → xs ≡ bs
 quiet_keys i j [] [] [] l m h g = refl
 quiet_keys i j [] (b ∷ bs) xs l m h g = absurd (omega arith)
 quiet_keys i j [] [] (x ∷ xs) l m h g = absurd (omega arith)
 quiet_keys i j (u ∷ us) [] xs l m h g = absurd (omega arith)
 quiet_keys i j (u ∷ us) (b ∷ bs) [] l m h g = absurd (omega arith)
 quiet_keys i j (u ∷ us) (b ∷ bs) (x ∷ xs) l m h g =
-    let here = one b x (none_in_front (up_event (at i j) u b x) (each (λ k v p. up_event (at i k) v p.0 p.1) (j + 1) us (zip bs xs)) h) (none_in_front (down_event (at i j) u b x) (each (λ k v p. down_event (at i k) v p.0 p.1) (j + 1) us (zip bs xs)) g) in
-    let rest = quiet_keys i (j + 1) us bs xs (omega arith) (omega arith) (none_behind (up_event (at i j) u b x) (each (λ k v p. up_event (at i k) v p.0 p.1) (j + 1) us (zip bs xs)) h) (none_behind (down_event (at i j) u b x) (each (λ k v p. down_event (at i k) v p.0 p.1) (j + 1) us (zip bs xs)) g) in
+    let here =
+    one b x (none_in_front (up_event (at i j) u b x)
+    (element_list_events (λ k v p. up_event (at i k) v p.0 p.1) (j + 1) us (zip bs xs)) h)
+    (none_in_front (down_event (at i j) u b x)
+    (element_list_events (λ k v p. down_event (at i k) v p.0 p.1) (j + 1) us (zip bs xs)) g) in
+    let rest =
+    quiet_keys i (j + 1) us bs xs (omega arith) (omega arith)
+    (none_behind (up_event (at i j) u b x)
+    (element_list_events (λ k v p. up_event (at i k) v p.0 p.1) (j + 1) us (zip bs xs)) h)
+    (none_behind (down_event (at i j) u b x)
+    (element_list_events (λ k v p. down_event (at i k) v p.0 p.1) (j + 1) us (zip bs xs)) g) in
     rw (here, rest) refl
   where
     one : (p q : Bool) → up_event (at i j) u p q ≡ [] → down_event (at i j) u p q ≡ [] → q ≡ p
@@ -83,79 +96,120 @@ quiet_keys i j (u ∷ us) (b ∷ bs) (x ∷ xs) l m h g =
     one false true a b = absurd (cc)
 
 -- so is what is kept of an item of which nothing is told
-quiet_cell : (i : ℕ) (m : MainItem) (us : List Usage) (form : Form) (cell : Cell) (vs : List ℤ) → HasPlaces cell (length (usages_of form)) → HasPlaces (read_cell m us form cell vs) (length (usages_of form))
-    → change_events i form cell (read_cell m us form cell vs) ≡ [] → read_cell m us form cell vs ≡ cell
-quiet_cell i m us NoControls cell vs room after h = refl
-quiet_cell i m us (Elements kind least greatest us') Vacant vs room after h = refl
-quiet_cell i m us (Elements kind least greatest us') (Moved ms) vs room after h = refl
-quiet_cell i m us (Elements kind least greatest us') (RolledOver ps) vs room after h = refl
-quiet_cell i m us (Elements kind least greatest us') (Pressed bs) vs room after h = ap Pressed (quiet_each (λ k u p. switch_event (at i k) u p.0 p.1) (λ k u b x e. quiet_switch (at i k) u b x e) 0 us' bs _ room after h)
-quiet_cell i m us (Elements kind least greatest us') (Holding bs) vs room after h = ap Holding (quiet_each (λ k u p. value_event (at i k) u p.0 p.1) (λ k u b x e. quiet_value (at i k) u b x e) 0 us' bs _ room after h)
-quiet_cell i m us (Keys elements rolls keys) cell vs room after h = by_rolls (list_any (names_rollover m us) vs) cell room after h
+quiet_state : (i : ℕ) (m : MainItem) (us : List Usage) (form : Form) (state : ControlState) (vs : List ℤ)
+    → HasPlaces state (length (usages_of form)) → HasPlaces (read_state m us form state vs) (length (usages_of form))
+    → change_events i form state (read_state m us form state vs) ≡ [] → read_state m us form state vs ≡ state
+quiet_state i m us NoControls state vs room after h = refl
+quiet_state i m us (Elements kind least greatest us') Absent vs room after h = refl
+quiet_state i m us (Elements kind least greatest us') (Motions ms) vs room after h = refl
+quiet_state i m us (Elements kind least greatest us') (RollOver ps) vs room after h = refl
+quiet_state i m us (Elements kind least greatest us') (Switches bs) vs room after h =
+    ap Switches
+    (quiet_each (λ k u p. switch_event (at i k) u p.0 p.1)
+    (λ k u b x e. quiet_switch (at i k) u b x e) 0 us' bs _ room after h)
+quiet_state i m us (Elements kind least greatest us') (Values bs) vs room after h =
+    ap Values
+    (quiet_each (λ k u p. value_event (at i k) u p.0 p.1)
+    (λ k u b x e. quiet_value (at i k) u b x e) 0 us' bs _ room after h)
+quiet_state i m us (Keys elements rolls keys) state vs room after h = by_rolls (list_any (names_rollover m us) vs) state room after h
   where
-    by_rolls : (b : Bool) (cell : Cell) → HasPlaces cell (length (key_usages keys)) → HasPlaces (cond b cell (read_named m keys cell vs)) (length (key_usages keys))
-        → key_events i (key_usages keys) cell (cond b cell (read_named m keys cell vs)) ≡ [] → cond b cell (read_named m keys cell vs) ≡ cell
-    by_rolls true cell room after h = refl
-    by_rolls false Vacant room after h = refl
-    by_rolls false (Moved ms) room after h = refl
-    by_rolls false (Holding bs) room after h = refl
-    by_rolls false (RolledOver ps) room after h = refl
-    by_rolls false (Pressed bs) room after h =
-        ap Pressed (quiet_keys i 0 (key_usages keys) bs _ room after (none_in_front _ _ h) (none_behind _ _ h))
+    by_rolls : (b : Bool) (state : ControlState) → HasPlaces state (length (key_usages keys))
+        → HasPlaces (cond b state (read_named m keys state vs)) (length (key_usages keys))
+        → key_events i (key_usages keys) state (cond b state (read_named m keys state vs)) ≡ [] → cond b state (read_named m keys state vs) ≡ state
+    by_rolls true state room after h = refl
+    by_rolls false Absent room after h = refl
+    by_rolls false (Motions ms) room after h = refl
+    by_rolls false (Values bs) room after h = refl
+    by_rolls false (RollOver ps) room after h = refl
+    by_rolls false (Switches bs) room after h =
+        ap Switches (quiet_keys i 0 (key_usages keys) bs _ room after (none_in_front _ _ h) (none_behind _ _ h))
 
-quiet_place : (layout : Contents) (r : ℕ) (bytes : List ℕ) (i : ℕ) (cell : Cell) → HasRoom (head_of (form_at (items_of layout) i)) cell → HasRoom (head_of (form_at (items_of layout) i)) (read_by_report layout r bytes i cell)
-    → told_by_report layout r bytes i cell ≡ [] → read_by_report layout r bytes i cell ≡ cell
-quiet_place layout r bytes i cell room after h = of_item (slice_get layout.items i) after h
+quiet_place : (layout : Contents) (r : ℕ) (bytes : List ℕ) (i : ℕ) (state : ControlState)
+    → HasRoom (head_of (form_at (items_of layout) i)) state
+    → HasRoom (head_of (form_at (items_of layout) i)) (state_by_report layout r bytes i state)
+    → report_events_from layout r bytes i state ≡ [] → state_by_report layout r bytes i state ≡ state
+quiet_place layout r bytes i state room after h = of_item (slice_get layout.items i) after h
   where
     of_item : (o : Option MainItem)
-        → HasRoom (head_of (form_at (items_of layout) i)) (elim o as (λ _. Cell) [ None ↦ cell | Some m ↦ cond (is_data_in r m) (read_by_numbers layout i m cell (item_numbers layout bytes m)) cell ])
-        → elim o as (λ _. List Event) [ None ↦ [] | Some m ↦ cond (is_data_in r m) (told_by_numbers layout i m cell (read_by_numbers layout i m cell (item_numbers layout bytes m)) (item_numbers layout bytes m)) [] ] ≡ []
-        → elim o as (λ _. Cell) [ None ↦ cell | Some m ↦ cond (is_data_in r m) (read_by_numbers layout i m cell (item_numbers layout bytes m)) cell ] ≡ cell
+        → HasRoom (head_of (form_at (items_of layout) i))
+        (elim o as
+        (λ _. ControlState) [
+          | None ↦ state
+          | Some m ↦
+              cond (is_data_in r m) (state_by_numbers layout i m state (item_numbers layout bytes m)) state
+        ])
+        → elim o as
+        (λ _. List Event) [
+          | None ↦ []
+          | Some m ↦
+              cond (is_data_in r m)
+              (number_events layout i m state (state_by_numbers layout i m state (item_numbers layout bytes m))
+              (item_numbers layout bytes m)) []
+        ] ≡ []
+        → elim o as
+        (λ _. ControlState) [
+          | None ↦ state
+          | Some m ↦
+              cond (is_data_in r m) (state_by_numbers layout i m state (item_numbers layout bytes m)) state
+        ] ≡ state
     of_item None after h = refl
     of_item (Some m) after h = of_data (is_data_in r m) after h
       where
         of_data : (b : Bool)
-            → HasRoom (head_of (form_at (items_of layout) i)) (cond b (read_by_numbers layout i m cell (item_numbers layout bytes m)) cell)
-            → cond b (told_by_numbers layout i m cell (read_by_numbers layout i m cell (item_numbers layout bytes m)) (item_numbers layout bytes m)) [] ≡ []
-            → cond b (read_by_numbers layout i m cell (item_numbers layout bytes m)) cell ≡ cell
+            → HasRoom (head_of (form_at (items_of layout) i))
+            (cond b (state_by_numbers layout i m state (item_numbers layout bytes m)) state)
+            → cond b (number_events layout i m state (state_by_numbers layout i m state (item_numbers layout bytes m))
+            (item_numbers layout bytes m)) [] ≡ []
+            → cond b (state_by_numbers layout i m state (item_numbers layout bytes m)) state ≡ state
         of_data false after h = refl
         of_data true after h =
-            quiet_cell i m (list_at layout i) (form_at (items_of layout) i) cell (item_numbers layout bytes m)
-            (has_places (form_at (items_of layout) i) cell room) (has_places (form_at (items_of layout) i) _ after) (none_in_front _ _ h)
+            quiet_state i m (list_at layout i) (form_at (items_of layout) i) state (item_numbers layout bytes m)
+            (has_places (form_at (items_of layout) i) state room) (has_places (form_at (items_of layout) i) _ after) (none_in_front _ _ h)
 
-quiet_from : (layout : Contents) (r : ℕ) (bytes : List ℕ) (i : ℕ) (cells : List Cell)
-    → ((k : ℕ) (cell : Cell) → slice_get cells k ≡ Some cell → told_by_report layout r bytes (i + k) cell ≡ [] → read_by_report layout r bytes (i + k) cell ≡ cell)
-    → told_from layout r bytes i cells ≡ [] → read_from layout r bytes i cells ≡ cells
+quiet_from : (layout : Contents) (r : ℕ) (bytes : List ℕ) (i : ℕ) (states : List ControlState)
+    → ((k : ℕ) (state : ControlState) → slice_get states k ≡ Some state
+    → report_events_from layout r bytes (i + k) state ≡ [] → state_by_report layout r bytes (i + k) state ≡ state)
+    → events_from_item layout r bytes i states ≡ [] → view_from_item layout r bytes i states ≡ states
 quiet_from layout r bytes i [] quiet h = refl
-quiet_from layout r bytes i (c ∷ cells) quiet h =
+quiet_from layout r bytes i (c ∷ states) quiet h =
     let z : i + 0 ≡ i = omega arith in
-    let at_once = none_in_front (told_by_report layout r bytes i c) (told_from layout r bytes (i + 1) cells) h in
-    let here : read_by_report layout r bytes i c ≡ c =
-    subst (λ (n : ℕ). told_by_report layout r bytes n c ≡ [] → read_by_report layout r bytes n c ≡ c) z (quiet 0 c refl) at_once
+    let at_once =
+    none_in_front (report_events_from layout r bytes i c) (events_from_item layout r bytes (i + 1) states) h in
+    let here : state_by_report layout r bytes i c ≡ c =
+    subst (λ (n : ℕ). report_events_from layout r bytes n c ≡ [] → state_by_report layout r bytes n c ≡ c) z
+    (quiet 0 c refl) at_once
     in
-    let rest = quiet_from layout r bytes (i + 1) cells (λ k cell g e.
+    let rest = quiet_from layout r bytes (i + 1) states (λ k state g e.
     let n : i + suc k ≡ (i + 1) + k = omega arith in
-    subst (λ (n : ℕ). told_by_report layout r bytes n cell ≡ [] → read_by_report layout r bytes n cell ≡ cell) n (quiet (suc k) cell g) e)
-    (none_behind (told_by_report layout r bytes i c) (told_from layout r bytes (i + 1) cells) h) in
+    subst (λ (n : ℕ). report_events_from layout r bytes n state ≡ [] → state_by_report layout r bytes n state ≡ state) n
+    (quiet (suc k) state g) e)
+    (none_behind (report_events_from layout r bytes i c) (events_from_item layout r bytes (i + 1) states) h) in
     rw (here, rest) refl
 
 -- A report that tells nothing leaves the view.
-pub quiet_view : (layout : Contents) (r : ℕ) (bytes : List ℕ) (view : List Cell) → IsLayout layout → IsInput layout r → FitsView (items_of layout) view
+pub quiet_view : (layout : Contents) (r : ℕ) (bytes : List ℕ) (view : List ControlState) → IsLayout layout
+    → IsInput layout r → FitsView (items_of layout) view
     → read_events layout r bytes view ≡ [] → read_view layout r bytes view ≡ view
 quiet_view layout r bytes view laid input fits h =
     let after = read_view_fits layout r bytes view laid input fits in
     quiet_from layout r bytes 0 view
-    (λ k cell g e.
+    (λ k state g e.
     let z : 0 + k ≡ k = omega arith in
-    let item = got (items_of layout) k (omega (arith, slice_get_within view k cell g, fits.one_each)) in
+    let item = got (items_of layout) k (omega (arith, slice_get_within view k state g, fits.one_each)) in
     let form = form_at-is (items_of layout) k item.0 item.1 in
-    let room = subst (λ (f : Form). HasRoom (head_of f) cell) (sym form) (fits.room k item.0 cell item.1 g) in
-    let room' = subst (λ (f : Form). HasRoom (head_of f) (read_by_report layout r bytes k cell)) (sym form) (after.room k item.0 (read_by_report layout r bytes k cell) item.1 (read_view-at layout r bytes view k cell g)) in
-    subst (λ (n : ℕ). told_by_report layout r bytes n cell ≡ [] → read_by_report layout r bytes n cell ≡ cell) (sym z) (quiet_place layout r bytes k cell room room') e)
+    let room = subst (λ (f : Form). HasRoom (head_of f) state) (sym form) (fits.room k item.0 state item.1 g) in
+    let room' =
+    subst (λ (f : Form). HasRoom (head_of f) (state_by_report layout r bytes k state)) (sym form)
+    (after.room k item.0 (state_by_report layout r bytes k state) item.1
+    (read_view-at layout r bytes view k state g)) in
+    subst (λ (n : ℕ). report_events_from layout r bytes n state ≡ [] → state_by_report layout r bytes n state ≡ state)
+    (sym z) (quiet_place layout r bytes k state room room') e)
     h
 
 -- the bytes that are kept are taken so
-pub still_taken : (layout : Contents) (view : List Cell) (kept bytes : List ℕ) (out : List Event) (is : Bool) → IsStill layout view kept → OnTrue is ((0 < length kept) × (kept ≡ bytes)) → is ≡ true → TakesReport layout bytes view out (Ok tt) view out
+pub still_taken : (layout : Contents) (view : List ControlState) (kept bytes : List ℕ) (out : List Event) (is : Bool)
+    → IsStill layout view kept → OnTrue is ((0 < length kept) × (kept ≡ bytes)) → is ≡ true
+    → TakesReport layout bytes view out (Ok tt) view out
 still_taken layout view kept bytes out true still same h = subst (λ (bs : List ℕ). TakesReport layout bs view out (Ok tt) view out) same.1 (still same.0 out)
 still_taken layout view kept bytes out false still same h = absurd (cc)
 
@@ -164,17 +218,21 @@ no_events [] h = refl
 no_events (e ∷ es) h = absurd (omega arith)
 
 -- a report that told nothing is still
-taken_still : (layout : Contents) (view view' : List Cell) (bytes : List ℕ) (out out' : List Event) → IsLayout layout → FitsView (items_of layout) view → TakesReport layout bytes view out (Ok tt) view' out' → length out' ≡ length out → IsStill layout view' bytes
+taken_still : (layout : Contents) (view view' : List ControlState) (bytes : List ℕ) (out out' : List Event)
+    → IsLayout layout → FitsView (items_of layout) view → TakesReport layout bytes view out (Ok tt) view' out'
+    → length out' ≡ length out → IsStill layout view' bytes
 taken_still layout view view' bytes out out' laid fits (r, named, same, told) h = λ some before.
     let none : read_events layout r bytes view ≡ [] = no_events _ (omega (arith, ap (λ (es : List Event). length es) told, length-append out (read_events layout r bytes view), h)) in
     let quiet = quiet_view layout r bytes view laid (named_input layout bytes r named) fits none in
     let is : view' ≡ view = same ∙ quiet in
-    subst (λ (v : List Cell). TakesReport layout bytes v before (Ok tt) v before) (sym is)
+    subst (λ (v : List ControlState). TakesReport layout bytes v before (Ok tt) v before) (sym is)
     (r, named, sym quiet, sym (append-nil before) ∙ ap (λ (es : List Event). before ++ es) (sym none))
 
 -- What is kept of a report that was taken holds of the view then.
-pub reader_after : (layout : Contents) (view view' : List Cell) (bytes kept : List ℕ) (out out' : List Event) (silent : Bool) → IsLayout layout → FitsView (items_of layout) view → FitsView (items_of layout) view' → TakesReport layout bytes view out (Ok tt) view' out' → (silent ≡ true → length out' ≡ length out)
-    → kept ≡ kept_of silent bytes → IsReader layout view' kept
+pub reader_after : (layout : Contents) (view view' : List ControlState) (bytes kept : List ℕ) (out out' : List Event)
+    (silent : Bool) → IsLayout layout → FitsView (items_of layout) view → FitsView (items_of layout) view'
+    → TakesReport layout bytes view out (Ok tt) view' out' → (silent ≡ true → length out' ≡ length out)
+    → kept ≡ still_bytes_of silent bytes → IsReader layout view' kept
 reader_after layout view view' bytes kept out out' silent laid fits after taken none is = record {
   laid = laid;
   fits = after;

@@ -9,15 +9,15 @@ use Rattle.hid_layout.specs.declared.control.Controls.{Controls}
 use Rattle.hid_layout.specs.declared.control.Controls.TheVariants as head
 use Rattle.hid_layout.specs.declared.control.ControlKind.TheVariants.{Switch, Value, NullValue, Relative}
 use Rattle.hid_layout.specs.Controls.{Item, head_of}
-use Rattle.hid_snapshots.specs.declared.cell.Cell.{Cell}
-use Rattle.hid_snapshots.specs.declared.cell.Cell.TheVariants.{Vacant, Pressed, Holding, Moved, RolledOver}
-use Rattle.hid_snapshots.specs.Cells.{FitsView, HasRoom}
-use Rattle.hid_snapshots.specs.Events.{at, up_event, down_event, each, ups, downs}
+use Rattle.hid_snapshots.specs.declared.control_state.ControlState.{ControlState}
+use Rattle.hid_snapshots.specs.declared.control_state.ControlState.TheVariants.{Absent, Switches, Values, Motions, RollOver}
+use Rattle.hid_snapshots.specs.ControlStates.{FitsView, HasRoom}
+use Rattle.hid_snapshots.specs.Events.{at, up_event, down_event, element_list_events, ups, downs}
 use Rattle.hid_snapshots.specs.Words.{is_on, is_alone, IsFirst}
 use Rattle.hid_snapshots.proofs.ItemLemmas.{got}
 use Rattle.hid_usages.specs.Taking.{flag_places, NamesNone}
 
--- ---- flags behind the keys of an array
+-- ---- flags after the keys of an array
 
 pub off_past : (ps : List Bool) (i : ℕ) → length ps ≤ i → is_on ps i ≡ false
 off_past [] i h = refl
@@ -60,7 +60,9 @@ zip_take (x ∷ xs) (y ∷ ys) (suc n) h = ap (λ t. (x, y) ∷ t) (zip_take xs 
 -- so keys tell the same of the first flags as of all
 pub first_told : (i : ℕ) (us : List Usage) (bs xs : List Bool) (n : ℕ) → length bs ≤ n → (ups i us bs (take n xs) ++ downs i us bs (take n xs)) ≡ (ups i us bs xs ++ downs i us bs xs)
 first_told i us bs xs n h =
-    ap (λ (ps : List (Bool × Bool)). each (λ j u (p : Bool × Bool). up_event (at i j) u p.0 p.1) 0 us ps ++ each (λ j u (p : Bool × Bool). down_event (at i j) u p.0 p.1) 0 us ps) (zip_take bs xs n h)
+    ap (λ (ps : List (Bool × Bool)). element_list_events
+    (λ j u (p : Bool × Bool). up_event (at i j) u p.0 p.1) 0 us ps
+    ++ element_list_events (λ j u (p : Bool × Bool). down_event (at i j) u p.0 p.1) 0 us ps) (zip_take bs xs n h)
 
 -- ---- the room of a view
 
@@ -72,67 +74,72 @@ places_of (head.Elements NullValue least greatest n) = 0
 places_of (head.Elements Relative least greatest n) = 0
 places_of (head.Keys elements rolls n) = n
 
-room_flags : (controls : Controls) (cell : Cell) → HasRoom controls cell → flag_places cell ≡ places_of controls
+room_flags : (controls : Controls) (state : ControlState) → HasRoom controls state
+    → flag_places state ≡ places_of controls
 unfolding places_of
-room_flags head.None Vacant room = refl
-room_flags head.None (Pressed ps) room = absurd room
-room_flags head.None (Holding vs) room = absurd room
-room_flags head.None (Moved ms) room = absurd room
-room_flags head.None (RolledOver ps) room = absurd room
-room_flags (head.Elements Switch least greatest n) Vacant room = absurd room
-room_flags (head.Elements Switch least greatest n) (Pressed ps) room = room
-room_flags (head.Elements Switch least greatest n) (Holding vs) room = absurd room
-room_flags (head.Elements Switch least greatest n) (Moved ms) room = absurd room
-room_flags (head.Elements Switch least greatest n) (RolledOver ps) room = absurd room
-room_flags (head.Elements Value least greatest n) Vacant room = absurd room
-room_flags (head.Elements Value least greatest n) (Pressed ps) room = absurd room
-room_flags (head.Elements Value least greatest n) (Holding vs) room = refl
-room_flags (head.Elements Value least greatest n) (Moved ms) room = absurd room
-room_flags (head.Elements Value least greatest n) (RolledOver ps) room = absurd room
-room_flags (head.Elements NullValue least greatest n) Vacant room = absurd room
-room_flags (head.Elements NullValue least greatest n) (Pressed ps) room = absurd room
-room_flags (head.Elements NullValue least greatest n) (Holding vs) room = refl
-room_flags (head.Elements NullValue least greatest n) (Moved ms) room = absurd room
-room_flags (head.Elements NullValue least greatest n) (RolledOver ps) room = absurd room
-room_flags (head.Elements Relative least greatest n) Vacant room = absurd room
-room_flags (head.Elements Relative least greatest n) (Pressed ps) room = absurd room
-room_flags (head.Elements Relative least greatest n) (Holding vs) room = absurd room
-room_flags (head.Elements Relative least greatest n) (Moved ms) room = refl
-room_flags (head.Elements Relative least greatest n) (RolledOver ps) room = absurd room
-room_flags (head.Keys elements rolls n) Vacant room = absurd room
-room_flags (head.Keys elements rolls n) (Pressed ps) room = room
-room_flags (head.Keys elements rolls n) (Holding vs) room = absurd room
-room_flags (head.Keys elements rolls n) (Moved ms) room = absurd room
-room_flags (head.Keys elements rolls n) (RolledOver ps) room = room
+room_flags head.None Absent room = refl
+room_flags head.None (Switches ps) room = absurd room
+room_flags head.None (Values vs) room = absurd room
+room_flags head.None (Motions ms) room = absurd room
+room_flags head.None (RollOver ps) room = absurd room
+room_flags (head.Elements Switch least greatest n) Absent room = absurd room
+room_flags (head.Elements Switch least greatest n) (Switches ps) room = room
+room_flags (head.Elements Switch least greatest n) (Values vs) room = absurd room
+room_flags (head.Elements Switch least greatest n) (Motions ms) room = absurd room
+room_flags (head.Elements Switch least greatest n) (RollOver ps) room = absurd room
+room_flags (head.Elements Value least greatest n) Absent room = absurd room
+room_flags (head.Elements Value least greatest n) (Switches ps) room = absurd room
+room_flags (head.Elements Value least greatest n) (Values vs) room = refl
+room_flags (head.Elements Value least greatest n) (Motions ms) room = absurd room
+room_flags (head.Elements Value least greatest n) (RollOver ps) room = absurd room
+room_flags (head.Elements NullValue least greatest n) Absent room = absurd room
+room_flags (head.Elements NullValue least greatest n) (Switches ps) room = absurd room
+room_flags (head.Elements NullValue least greatest n) (Values vs) room = refl
+room_flags (head.Elements NullValue least greatest n) (Motions ms) room = absurd room
+room_flags (head.Elements NullValue least greatest n) (RollOver ps) room = absurd room
+room_flags (head.Elements Relative least greatest n) Absent room = absurd room
+room_flags (head.Elements Relative least greatest n) (Switches ps) room = absurd room
+room_flags (head.Elements Relative least greatest n) (Values vs) room = absurd room
+room_flags (head.Elements Relative least greatest n) (Motions ms) room = refl
+room_flags (head.Elements Relative least greatest n) (RollOver ps) room = absurd room
+room_flags (head.Keys elements rolls n) Absent room = absurd room
+room_flags (head.Keys elements rolls n) (Switches ps) room = room
+room_flags (head.Keys elements rolls n) (Values vs) room = absurd room
+room_flags (head.Keys elements rolls n) (Motions ms) room = absurd room
+room_flags (head.Keys elements rolls n) (RollOver ps) room = room
 
--- cells that have the same room want the same flags
-pub names_stay : (items : List Item) (cells new : List Cell) (named named' : List Bool) → FitsView items cells → FitsView items new → NamesNone cells named → named' ≡ named → NamesNone new named'
-names_stay items cells new named named' fits fits' names same = subst (NamesNone new) (sym same) (record {
+-- control states that have the same room want the same flags
+pub names_stay : (items : List Item) (states new : List ControlState) (named named' : List Bool) → FitsView items states
+    → FitsView items new → NamesNone states named → named' ≡ named → NamesNone new named'
+names_stay items states new named named' fits fits' names same = subst (NamesNone new) (sym same) (record {
   none = names.none;
-  each = λ i cell h.
-      let item = got items i (omega (arith, slice_get_within new i cell h, fits'.one_each)) in
-      let old = got cells i (omega (arith, slice_get_within new i cell h, fits'.one_each, fits.one_each)) in
-      omega (arith, room_flags (head_of item.0.form) cell (fits'.room i item.0 cell item.1 h), room_flags (head_of item.0.form) old.0 (fits.room i item.0 old.0 item.1 old.1), names.each i old.0 old.1);
+  each = λ i state h.
+      let item = got items i (omega (arith, slice_get_within new i state h, fits'.one_each)) in
+      let old = got states i (omega (arith, slice_get_within new i state h, fits'.one_each, fits.one_each)) in
+      omega (arith, room_flags (head_of item.0.form) state (fits'.room i item.0 state item.1 h), room_flags (head_of item.0.form) old.0 (fits.room i item.0 old.0 item.1 old.1), names.each i old.0 old.1);
 })
 
-pub names_none : (cells : List Cell) (named : List Bool) (n : ℕ) → named ≡ replicate n false → ((i : ℕ) (cell : Cell) → slice_get cells i ≡ Some cell → flag_places cell ≤ n) → NamesNone cells named
-names_none cells named n is most =
+pub names_none : (states : List ControlState) (named : List Bool) (n : ℕ) → named ≡ replicate n false
+    → ((i : ℕ) (state : ControlState) → slice_get states i ≡ Some state → flag_places state ≤ n) → NamesNone states named
+names_none states named n is most =
     let long : length named ≡ n = ap length is ∙ length-replicate n false in
     record {
       none = is ∙ ap (λ (k : ℕ). replicate k false) (sym long);
-      each = λ i cell h. omega (arith, most i cell h, long);
+      each = λ i state h. omega (arith, most i state h, long);
     }
 
--- the first cells want so many flags at most
-abbrev pub AreWithin : List Cell → ℕ → ℕ → Type 0
-AreWithin cells k most = (i : ℕ) (cell : Cell) → i < k → slice_get cells i ≡ Some cell → flag_places cell ≤ most
+-- the first control states want n flags at most
+abbrev pub AreWithin : List ControlState → ℕ → ℕ → Type 0
+AreWithin states k most =
+    (i : ℕ) (state : ControlState) → i < k → slice_get states i ≡ Some state → flag_places state ≤ most
 
-pub within_next : (cells : List Cell) (k most new : ℕ) (here : Cell) → AreWithin cells k most → slice_get cells k ≡ Some here → most ≤ new → flag_places here ≤ new → AreWithin cells (k + 1) new
-within_next cells k most new here within there more places i cell low h = elim (cases_eq i k) [
+pub within_next : (states : List ControlState) (k most new : ℕ) (here : ControlState) → AreWithin states k most
+    → slice_get states k ≡ Some here → most ≤ new → flag_places here ≤ new → AreWithin states (k + 1) new
+within_next states k most new here within there more places i state low h = elim (cases_eq i k) [
   | inl e ↦
-      let Q : ℕ → Type 0 = λ n. slice_get cells n ≡ Some cell in
-      let at_k : slice_get cells k ≡ Some cell = subst Q e h in
-      let same : here ≡ cell = cc in
+      let Q : ℕ → Type 0 = λ n. slice_get states n ≡ Some state in
+      let at_k : slice_get states k ≡ Some state = subst Q e h in
+      let same : here ≡ state = cc in
       omega (arith, places, ap flag_places same)
-  | inr ne ↦ omega (arith, within i cell (omega arith) h)
+  | inr ne ↦ omega (arith, within i state (omega arith) h)
 ]

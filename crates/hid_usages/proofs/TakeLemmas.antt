@@ -15,17 +15,17 @@ use Rattle.hid_layout.specs.Layout.{Contents}
 use Rattle.hid_layout.specs.Reports.{IsLayout, HasElements, first_bit, report_bytes}
 use Rattle.hid_layout.specs.Controls.{Form, NoControls, Elements, Keys, Item, items_of, item_of, form_of, form_at, head_of, array_keys, max_events, Key, has_place, rollover_from, element_kind, least_of, greatest_of, events_in, is_input_report}
 use Rattle.hid_snapshots.specs.Events.{usages_of, usages_at, element_events, key_events, key_usages, change_events}
-use Rattle.hid_usages.specs.Reading.{keys_of, keys_at, read_motion, names_rollover, named_from, read_elements, read_named, read_keys, read_cell, motion_elements, motion_cell, is_data_in, item_numbers, first_byte, is_input_with, whole_report, report_named}
-use Rattle.hid_usages.specs.Taking.{list_at, IsFormOf, read_by_report, told_by_report, read_from, told_from, read_view, read_events, read_by_numbers, told_by_numbers}
+use Rattle.hid_usages.specs.Reading.{keys_of, keys_at, read_motion, names_rollover, named_keys_from, read_elements, read_named, read_keys, read_state, motion_elements, motion_state, is_data_in, item_numbers, first_byte, is_input_with, whole_report, report_named}
+use Rattle.hid_usages.specs.Taking.{list_at, IsFormOf, state_by_report, report_events_from, view_from_item, events_from_item, read_view, read_events, state_by_numbers, number_events}
 use Rattle.hid_snapshots.proofs.PlanLemmas.{Skips}
-use Rattle.hid_snapshots.specs.declared.cell.Cell.{Cell}
+use Rattle.hid_snapshots.specs.declared.control_state.ControlState.{ControlState}
 use Rattle.hid_snapshots.specs.declared.event.Event.{Event}
-use Rattle.hid_snapshots.specs.Views.{motions_of, motions_told}
+use Rattle.hid_snapshots.specs.Views.{form_motions, motions_of}
 use Rattle.hid_usages.proofs.EventLemmas.{drop_at}
 use Rattle.hid_snapshots.proofs.FillLemmas.{unfilled_at, fill_next, length_map_zip}
 use Rattle.hid_layout.specs.declared.control.ControlKind.TheVariants.{Switch, Value, NullValue, Relative}
-use Rattle.hid_snapshots.specs.declared.cell.Cell.TheVariants.{Vacant, Pressed, Holding, Moved, RolledOver}
-use Rattle.hid_snapshots.specs.Cells.{pressed_count, HasRoom, InView, Suits}
+use Rattle.hid_snapshots.specs.declared.control_state.ControlState.TheVariants.{Absent, Switches, Values, Motions, RollOver}
+use Rattle.hid_snapshots.specs.ControlStates.{switch_count, HasRoom, InView, Suits}
 use Rattle.hid_usages.proofs.NamedLemmas.{named_length}
 use Rattle.hid_usages.proofs.KeyLemmas.{named_count}
 use Rattle.hid_usages.proofs.ViewLemmas.{sum_cons, element_few, motions_few, change_few}
@@ -42,14 +42,14 @@ use Rattle.hid_snapshots.proofs.CodeLemmas.{both_true}
 use Rattle.hid_snapshots.specs.Encoding.{IsData}
 use Rattle.hid_snapshots.proofs.ItemLemmas.{items_of-length, set_same, got, items_from-at, form_at-is}
 use Rattle.hid_snapshots.proofs.ReportLemmas.{form_in_input}
-use Rattle.hid_snapshots.proofs.SendLemmas.{spread-length, places_few}
+use Rattle.hid_snapshots.proofs.SendLemmas.{spread_usages-length, places_few}
 
 pub list_at-is : (layout : Contents) (i : ℕ) (es : List Entry) → slice_get layout.entries i ≡ Some es → list_at layout i ≡ usage_list es
 list_at-is layout i es h = ap (λ (o : Option (List Entry)). elim o as (λ _. List Usage) [ None ↦ [] | Some fs ↦ usage_list fs ]) h
 
 form_usages : (m : MainItem) (us : List Usage) (shape : Shape) (kind : ControlKind) (least greatest : ℤ) (n : ℕ) → 0 < length us → head.Elements kind least greatest n ≡ head_of (form_of m us shape) → length (usages_of (form_of m us shape)) ≡ m.count
 form_usages m us Padding kind least greatest n some h = absurd (cc)
-form_usages m us Variable kind least greatest n some h = spread-length m.count us some
+form_usages m us Variable kind least greatest n some h = spread_usages-length m.count us some
 form_usages m us Array kind least greatest n some h = absurd (cc)
 
 -- a variable item has a usage for each element
@@ -73,7 +73,9 @@ variable_controls layout i m laid listed form shape =
     let data_ : is_padding m.shape ≡ false = ap is_padding shape in
     let some : 0 < length (list_at layout i) = omega (arith, laid.some_usage i m es.0 listed es.1 data_, ap length us) in
     let is : form_at (items_of layout) i ≡ form_of m (list_at layout i) Variable = form ∙ ap (form_of m (list_at layout i)) shape in
-    sym (ap head_of is ∙ ap (λ (n : ℕ). head.Elements (element_kind m) (least_of m) (greatest_of m) n) (spread-length m.count (list_at layout i) some))
+    sym (ap head_of is
+    ∙ ap (λ (n : ℕ). head.Elements (element_kind m) (least_of m) (greatest_of m) n)
+    (spread_usages-length m.count (list_at layout i) some))
 
 form_keys : (m : MainItem) (us : List Usage) (shape : Shape) → length (keys_of (form_of m us shape)) ≤ 65536
 form_keys m us Padding = omega arith
@@ -91,34 +93,52 @@ form_of_item layout r i m laid input d =
     form_at-is (items_of layout) i (item_of layout m es.0) item ∙ form_in_input layout r m es.0 input d.in_report
     ∙ ap (λ (us : List Usage). form_of m us m.shape) (sym (list_at-is layout i es.0 es.1))
 
-pub read_from-at : (layout : Contents) (r : ℕ) (bytes : List ℕ) (i : ℕ) (cells : List Cell) (k : ℕ) (cell : Cell) → slice_get cells k ≡ Some cell → slice_get (read_from layout r bytes i cells) k ≡ Some (read_by_report layout r bytes (i + k) cell)
-read_from-at layout r bytes i [] k cell h = absurd (cc)
-read_from-at layout r bytes i (c ∷ cells) zero cell h =
-    let e : c ≡ cell = cc in
+pub view_from_item-at : (layout : Contents) (r : ℕ) (bytes : List ℕ) (i : ℕ) (states : List ControlState) (k : ℕ)
+    (state : ControlState) → slice_get states k ≡ Some state
+    → slice_get (view_from_item layout r bytes i states) k ≡ Some (state_by_report layout r bytes (i + k) state)
+view_from_item-at layout r bytes i [] k state h = absurd (cc)
+view_from_item-at layout r bytes i (c ∷ states) zero state h =
+    let e : c ≡ state = cc in
     let z : i + 0 ≡ i = omega arith in
     rw (e, z) refl
-read_from-at layout r bytes i (c ∷ cells) (suc k) cell h =
-    read_from-at layout r bytes (i + 1) cells k cell h ∙ ap (λ (n : ℕ). Some (read_by_report layout r bytes n cell)) (let n : (i + 1) + k ≡ i + suc k = omega arith in n)
+view_from_item-at layout r bytes i (c ∷ states) (suc k) state h =
+    view_from_item-at layout r bytes (i + 1) states k state h
+    ∙ ap (λ (n : ℕ). Some (state_by_report layout r bytes n state))
+    (let n : (i + 1) + k ≡ i + suc k = omega arith in n)
 
-pub read_from-length : (layout : Contents) (r : ℕ) (bytes : List ℕ) (i : ℕ) (cells : List Cell) → length (read_from layout r bytes i cells) ≡ length cells
-read_from-length layout r bytes i [] = refl
-read_from-length layout r bytes i (c ∷ cells) = ap suc (read_from-length layout r bytes (i + 1) cells)
+pub view_from_item-length : (layout : Contents) (r : ℕ) (bytes : List ℕ) (i : ℕ) (states : List ControlState)
+    → length (view_from_item layout r bytes i states) ≡ length states
+view_from_item-length layout r bytes i [] = refl
+view_from_item-length layout r bytes i (c ∷ states) = ap suc (view_from_item-length layout r bytes (i + 1) states)
 
-pub read_view-at : (layout : Contents) (r : ℕ) (bytes : List ℕ) (cells : List Cell) (k : ℕ) (cell : Cell) → slice_get cells k ≡ Some cell → slice_get (read_view layout r bytes cells) k ≡ Some (read_by_report layout r bytes k cell)
-read_view-at layout r bytes cells k cell h = read_from-at layout r bytes 0 cells k cell h ∙ ap (λ (n : ℕ). Some (read_by_report layout r bytes n cell)) (zero-add k)
+pub read_view-at : (layout : Contents) (r : ℕ) (bytes : List ℕ) (states : List ControlState) (k : ℕ)
+    (state : ControlState) → slice_get states k ≡ Some state
+    → slice_get (read_view layout r bytes states) k ≡ Some (state_by_report layout r bytes k state)
+read_view-at layout r bytes states k state h =
+    view_from_item-at layout r bytes 0 states k state h
+    ∙ ap (λ (n : ℕ). Some (state_by_report layout r bytes n state)) (zero-add k)
 
--- one cell more is read
-pub told_from-next : (layout : Contents) (r : ℕ) (bytes : List ℕ) (cells : List Cell) (i : ℕ) (cell : Cell) → slice_get cells i ≡ Some cell
-    → told_from layout r bytes i (drop i cells) ≡ told_by_report layout r bytes i cell ++ told_from layout r bytes (i + 1) (drop (i + 1) cells)
-told_from-next layout r bytes cells i cell h = rw (drop_at cells i cell h) refl
+-- one control state more is read
+pub events_from_item-next : (layout : Contents) (r : ℕ) (bytes : List ℕ) (states : List ControlState) (i : ℕ)
+    (state : ControlState) → slice_get states i ≡ Some state
+    → events_from_item layout r bytes i (drop i states) ≡ report_events_from layout r bytes i state
+    ++ events_from_item layout r bytes (i + 1) (drop (i + 1) states)
+events_from_item-next layout r bytes states i state h = rw (drop_at states i state h) refl
 
--- the cell that isn't read yet
-pub read_start : (layout : Contents) (r : ℕ) (bytes : List ℕ) (start now : List Cell) (i : ℕ) (d : Cell) → now ≡ take i (read_view layout r bytes start) ++ drop i start → i < length start → length now ≡ length start → slice_get start i ≡ Some (get_or now i d)
+-- the control state that isn't read yet
+pub read_start : (layout : Contents) (r : ℕ) (bytes : List ℕ) (start now : List ControlState) (i : ℕ)
+    (d : ControlState) → now ≡ take i (read_view layout r bytes start) ++ drop i start → i < length start
+    → length now ≡ length start → slice_get start i ≡ Some (get_or now i d)
 read_start layout r bytes start now i d so_far within ln =
-    unfilled_at (read_view layout r bytes start) start i (get_or now i d) (read_from-length layout r bytes 0 start) (ap (λ xs. slice_get xs i) (sym so_far) ∙ slice_get-get_or now i d (omega arith))
+    unfilled_at (read_view layout r bytes start) start i (get_or now i d)
+    (view_from_item-length layout r bytes 0 start)
+    (ap (λ xs. slice_get xs i) (sym so_far) ∙ slice_get-get_or now i d (omega arith))
 
-pub read_next : (layout : Contents) (r : ℕ) (bytes : List ℕ) (start now : List Cell) (i : ℕ) (d new : Cell) → now ≡ take i (read_view layout r bytes start) ++ drop i start → i < length start → length now ≡ length start
-    → new ≡ read_by_report layout r bytes i (get_or now i d) → slice_set now i new ≡ take (i + 1) (read_view layout r bytes start) ++ drop (i + 1) start
+pub read_next : (layout : Contents) (r : ℕ) (bytes : List ℕ) (start now : List ControlState) (i : ℕ)
+    (d new : ControlState) → now ≡ take i (read_view layout r bytes start) ++ drop i start → i < length start
+    → length now ≡ length start
+    → new ≡ state_by_report layout r bytes i (get_or now i d)
+    → slice_set now i new ≡ take (i + 1) (read_view layout r bytes start) ++ drop (i + 1) start
 read_next layout r bytes start now i d new so_far within ln is =
     let there = read_start layout r bytes start now i d so_far within ln in
     ap (λ xs. slice_set xs i new) so_far ∙ fill_next (read_view layout r bytes start) start i new (read_view-at layout r bytes start i (get_or now i d) there ∙ ap Some (sym is)) within
@@ -149,53 +169,74 @@ named_input layout bytes r h = by_numbered layout.numbered h
     by_numbered true k = of_byte (first_byte bytes) k
     by_numbered false k = of_found 0 (position (is_input_with 0) layout.reports) refl k
 
-read_elements_room : (kind : ControlKind) (least greatest : ℤ) (n : ℕ) (cell : Cell) (vs : List ℤ) → length vs ≡ n → HasRoom (head.Elements kind least greatest n) cell → HasRoom (head.Elements kind least greatest n) (read_elements kind least greatest cell vs)
-read_elements_room kind least greatest n Vacant vs h room = room
-read_elements_room kind least greatest n (Moved ms) vs h room = room
-read_elements_room kind least greatest n (RolledOver ps) vs h room = room
-read_elements_room Switch least greatest n (Pressed bs) vs h room = length_map_zip _ bs vs (h ∙ sym room) ∙ room
-read_elements_room Value least greatest n (Pressed bs) vs h room = absurd room
-read_elements_room NullValue least greatest n (Pressed bs) vs h room = absurd room
-read_elements_room Relative least greatest n (Pressed bs) vs h room = absurd room
-read_elements_room Switch least greatest n (Holding bs) vs h room = absurd room
-read_elements_room Value least greatest n (Holding bs) vs h room = length_map_zip _ bs vs (h ∙ sym room) ∙ room
-read_elements_room NullValue least greatest n (Holding bs) vs h room = length_map_zip _ bs vs (h ∙ sym room) ∙ room
-read_elements_room Relative least greatest n (Holding bs) vs h room = absurd room
+read_elements_room : (kind : ControlKind) (least greatest : ℤ) (n : ℕ) (state : ControlState) (vs : List ℤ)
+    → length vs ≡ n → HasRoom (head.Elements kind least greatest n) state
+    → HasRoom (head.Elements kind least greatest n) (read_elements kind least greatest state vs)
+read_elements_room kind least greatest n Absent vs h room = room
+read_elements_room kind least greatest n (Motions ms) vs h room = room
+read_elements_room kind least greatest n (RollOver ps) vs h room = room
+read_elements_room Switch least greatest n (Switches bs) vs h room = length_map_zip _ bs vs (h ∙ sym room) ∙ room
+read_elements_room Value least greatest n (Switches bs) vs h room = absurd room
+read_elements_room NullValue least greatest n (Switches bs) vs h room = absurd room
+read_elements_room Relative least greatest n (Switches bs) vs h room = absurd room
+read_elements_room Switch least greatest n (Values bs) vs h room = absurd room
+read_elements_room Value least greatest n (Values bs) vs h room = length_map_zip _ bs vs (h ∙ sym room) ∙ room
+read_elements_room NullValue least greatest n (Values bs) vs h room = length_map_zip _ bs vs (h ∙ sym room) ∙ room
+read_elements_room Relative least greatest n (Values bs) vs h room = absurd room
 
-read_keys_fits : (m : MainItem) (us : List Usage) (elements : ℕ) (rolls : Bool) (keys : List Key) (cell : Cell) (vs : List ℤ) → length vs ≡ elements → HasRoom (head_of (Keys elements rolls keys)) cell → InView (Keys elements rolls keys) cell
-    → HasRoom (head_of (Keys elements rolls keys)) (read_keys m us keys cell vs) × InView (Keys elements rolls keys) (read_keys m us keys cell vs)
-read_keys_fits m us elements rolls keys cell vs h room ok = by_rolls (list_any (names_rollover m us) vs)
+read_keys_fits : (m : MainItem) (us : List Usage) (elements : ℕ) (rolls : Bool) (keys : List Key)
+    (state : ControlState) (vs : List ℤ) → length vs ≡ elements → HasRoom (head_of (Keys elements rolls keys)) state
+    → InView (Keys elements rolls keys) state
+    → HasRoom (head_of (Keys elements rolls keys)) (read_keys m us keys state vs) × InView (Keys elements rolls keys) (read_keys m us keys state vs)
+read_keys_fits m us elements rolls keys state vs h room ok = by_rolls (list_any (names_rollover m us) vs)
   where
-    named : (cell : Cell) → HasRoom (head_of (Keys elements rolls keys)) cell → InView (Keys elements rolls keys) cell → HasRoom (head_of (Keys elements rolls keys)) (read_named m keys cell vs) × InView (Keys elements rolls keys) (read_named m keys cell vs)
-    named (Pressed bs) room ok = (named_length m vs 0 keys, (let few = named_count m keys vs in let in_all : pressed_count (named_from m vs 0 keys) ≤ elements = omega arith in in_all))
-    named Vacant room ok = absurd room
-    named (Holding bs) room ok = absurd room
-    named (Moved bs) room ok = absurd room
-    named (RolledOver bs) room ok = absurd ok
+    named : (state : ControlState) → HasRoom (head_of (Keys elements rolls keys)) state
+        → InView (Keys elements rolls keys) state
+        → HasRoom (head_of (Keys elements rolls keys)) (read_named m keys state vs)
+        × InView (Keys elements rolls keys) (read_named m keys state vs)
+    named (Switches bs) room ok = (
+      named_length m vs 0 keys,
+      (let few = named_count m keys vs in let in_all : switch_count (named_keys_from m vs 0 keys) ≤ elements =
+          omega arith in in_all),
+    )
+    named Absent room ok = absurd room
+    named (Values bs) room ok = absurd room
+    named (Motions bs) room ok = absurd room
+    named (RollOver bs) room ok = absurd ok
 
-    by_rolls : (b : Bool) → HasRoom (head_of (Keys elements rolls keys)) (cond b cell (read_named m keys cell vs)) × InView (Keys elements rolls keys) (cond b cell (read_named m keys cell vs))
+    by_rolls : (b : Bool) → HasRoom (head_of (Keys elements rolls keys)) (cond b state (read_named m keys state vs)) × InView (Keys elements rolls keys) (cond b state (read_named m keys state vs))
     by_rolls true = (room, ok)
-    by_rolls false = named cell room ok
+    by_rolls false = named state room ok
 
 -- what is read of an item suits it
-pub read_cell_fits : (m : MainItem) (us : List Usage) (shape : Shape) (cell : Cell) (vs : List ℤ) → (is_padding shape ≡ false) → 0 < length us → length vs ≡ m.count → HasRoom (head_of (form_of m us shape)) cell → InView (form_of m us shape) cell
-    → HasRoom (head_of (form_of m us shape)) (read_cell m us (form_of m us shape) cell vs) × InView (form_of m us shape) (read_cell m us (form_of m us shape) cell vs)
-read_cell_fits m us Padding cell vs data_ some h room ok = absurd (cc)
-read_cell_fits m us Variable cell vs data_ some h room ok = (read_elements_room (element_kind m) (least_of m) (greatest_of m) _ cell vs (h ∙ sym (spread-length m.count us some)) room, tt)
-read_cell_fits m us Array cell vs data_ some h room ok = read_keys_fits m us m.count (has_place (rollover_from m 0 us)) (array_keys m us) cell vs h room ok
+pub read_state_fits : (m : MainItem) (us : List Usage) (shape : Shape) (state : ControlState) (vs : List ℤ)
+    → (is_padding shape ≡ false) → 0 < length us → length vs ≡ m.count → HasRoom (head_of (form_of m us shape)) state
+    → InView (form_of m us shape) state
+    → HasRoom (head_of (form_of m us shape)) (read_state m us (form_of m us shape) state vs) × InView (form_of m us shape) (read_state m us (form_of m us shape) state vs)
+read_state_fits m us Padding state vs data_ some h room ok = absurd (cc)
+read_state_fits m us Variable state vs data_ some h room ok = (
+  read_elements_room (element_kind m) (least_of m) (greatest_of m) _ state vs
+      (h ∙ sym (spread_usages-length m.count us some)) room,
+  tt,
+)
+read_state_fits m us Array state vs data_ some h room ok = read_keys_fits m us m.count (has_place (rollover_from m 0 us)) (array_keys m us) state vs h room ok
 
 -- the events of what is read of an item are few
-elements_few : (i : ℕ) (us : List Usage) (kind : ControlKind) (least greatest : ℤ) (b a : Cell) (vs : List ℤ) → HasRoom (head.Elements kind least greatest (length us)) b → length (element_events i us b a) + length (motions_of i us (motion_elements kind least greatest vs)) ≤ length us
+elements_few : (i : ℕ) (us : List Usage) (kind : ControlKind) (least greatest : ℤ) (b a : ControlState) (vs : List ℤ)
+    → HasRoom (head.Elements kind least greatest (length us)) b
+    → length (element_events i us b a) + length (motions_of i us (motion_elements kind least greatest vs)) ≤ length us
 elements_few i us Switch least greatest b a vs room = omega (arith, element_few i us b a)
 elements_few i us Value least greatest b a vs room = omega (arith, element_few i us b a)
 elements_few i us NullValue least greatest b a vs room = omega (arith, element_few i us b a)
-elements_few i us Relative least greatest (Moved ms) a vs room = omega (arith, motions_few i us (map (read_motion least greatest) vs))
-elements_few i us Relative least greatest Vacant a vs room = absurd room
-elements_few i us Relative least greatest (Pressed bs) a vs room = absurd room
-elements_few i us Relative least greatest (Holding bs) a vs room = absurd room
-elements_few i us Relative least greatest (RolledOver bs) a vs room = absurd room
+elements_few i us Relative least greatest (Motions ms) a vs room =
+    omega (arith, motions_few i us (map (read_motion least greatest) vs))
+elements_few i us Relative least greatest Absent a vs room = absurd room
+elements_few i us Relative least greatest (Switches bs) a vs room = absurd room
+elements_few i us Relative least greatest (Values bs) a vs room = absurd room
+elements_few i us Relative least greatest (RollOver bs) a vs room = absurd room
 
-pub told_few : (i : ℕ) (form : Form) (b a : Cell) (vs : List ℤ) → HasRoom (head_of form) b → InView form b → InView form a → length (change_events i form b a ++ motions_told i form (motion_cell form vs)) ≤ events_in form
+pub told_few : (i : ℕ) (form : Form) (b a : ControlState) (vs : List ℤ) → HasRoom (head_of form) b → InView form b
+    → InView form a → length (change_events i form b a ++ form_motions i form (motion_state form vs)) ≤ events_in form
 told_few i NoControls b a vs room ok ok' = omega arith
 told_few i (Elements kind least greatest us) b a vs room ok ok' =
     omega (arith, elements_few i us kind least greatest b a vs room, length-append (element_events i us b a) (motions_of i us (motion_elements kind least greatest vs)))
@@ -203,14 +244,15 @@ told_few i (Keys elements rolls keys) b a vs room ok ok' =
     omega (arith, change_few i (Keys elements rolls keys) b a ok ok', ap length (append-nil (key_events i (key_usages keys) b a)))
 
 -- one item of a report that is read
-pub record ReadsWell (layout : Contents) (r : ℕ) (bytes : List ℕ) (i : ℕ) (cell : Cell) : Type 0 where
-  pub room : HasRoom (head_of (form_at (items_of layout) i)) (read_by_report layout r bytes i cell)
-  pub stands : InView (form_at (items_of layout) i) (read_by_report layout r bytes i cell)
-  pub few : length (told_by_report layout r bytes i cell) ≤ events_in (form_at (items_of layout) i)
+pub record ReadsWell (layout : Contents) (r : ℕ) (bytes : List ℕ) (i : ℕ) (state : ControlState) : Type 0 where
+  pub room : HasRoom (head_of (form_at (items_of layout) i)) (state_by_report layout r bytes i state)
+  pub stands : InView (form_at (items_of layout) i) (state_by_report layout r bytes i state)
+  pub few : length (report_events_from layout r bytes i state) ≤ events_in (form_at (items_of layout) i)
 
-pub reads_well : (layout : Contents) (r : ℕ) (bytes : List ℕ) (i : ℕ) (cell : Cell) → IsLayout layout → IsInput layout r → i < length layout.items
-    → HasRoom (head_of (form_at (items_of layout) i)) cell → InView (form_at (items_of layout) i) cell → ReadsWell layout r bytes i cell
-reads_well layout r bytes i cell laid input within room ok = by_data (is_data_in r m) refl
+pub reads_well : (layout : Contents) (r : ℕ) (bytes : List ℕ) (i : ℕ) (state : ControlState) → IsLayout layout
+    → IsInput layout r → i < length layout.items
+    → HasRoom (head_of (form_at (items_of layout) i)) state → InView (form_at (items_of layout) i) state → ReadsWell layout r bytes i state
+reads_well layout r bytes i state laid input within room ok = by_data (is_data_in r m) refl
   where
     m : MainItem
     m = (got layout.items i within).0
@@ -221,123 +263,207 @@ reads_well layout r bytes i cell laid input within room ok = by_data (is_data_in
     vs : List ℤ
     vs = item_numbers layout bytes m
 
-    read_is : read_by_report layout r bytes i cell ≡ cond (is_data_in r m) (read_by_numbers layout i m cell vs) cell
-    read_is = ap (λ (o : Option MainItem). elim o as (λ _. Cell) [ None ↦ cell | Some x ↦ cond (is_data_in r x) (read_by_numbers layout i x cell (item_numbers layout bytes x)) cell ]) listed
+    read_is : state_by_report layout r bytes i state ≡ cond (is_data_in r m) (state_by_numbers layout i m state vs) state
+    read_is =
+        ap (λ (o : Option MainItem). elim o as
+        (λ _. ControlState) [
+          | None ↦ state
+          | Some x ↦
+              cond (is_data_in r x) (state_by_numbers layout i x state (item_numbers layout bytes x)) state
+        ]) listed
 
-    told_is : told_by_report layout r bytes i cell ≡ cond (is_data_in r m) (told_by_numbers layout i m cell (read_by_numbers layout i m cell vs) vs) []
-    told_is = ap (λ (o : Option MainItem). elim o as (λ _. List Event) [ None ↦ [] | Some x ↦ cond (is_data_in r x) (told_by_numbers layout i x cell (read_by_numbers layout i x cell (item_numbers layout bytes x)) (item_numbers layout bytes x)) [] ]) listed
+    told_is : report_events_from layout r bytes i state
+        ≡ cond (is_data_in r m) (number_events layout i m state (state_by_numbers layout i m state vs) vs) []
+    told_is =
+        ap (λ (o : Option MainItem). elim o as
+        (λ _. List Event) [
+          | None ↦ []
+          | Some x ↦
+              cond (is_data_in r x)
+              (number_events layout i x state (state_by_numbers layout i x state (item_numbers layout bytes x))
+              (item_numbers layout bytes x)) []
+        ]) listed
 
-    read_fits : IsData layout r i m → HasRoom (head_of (form_at (items_of layout) i)) (read_by_numbers layout i m cell vs) × InView (form_at (items_of layout) i) (read_by_numbers layout i m cell vs)
+    read_fits : IsData layout r i m
+        → HasRoom (head_of (form_at (items_of layout) i)) (state_by_numbers layout i m state vs)
+        × InView (form_at (items_of layout) i) (state_by_numbers layout i m state vs)
     read_fits d =
         let form = form_of_item layout r i m laid input d in
         let es = got layout.entries i (omega (arith, laid.entries_there)) in
         let us = list_at-is layout i es.0 es.1 in
         let some : 0 < length (list_at layout i) = omega (arith, laid.some_usage i m es.0 listed es.1 d.no_padding, ap length us) in
-        let P : Form → Type 0 = λ f. HasRoom (head_of f) cell → InView f cell → HasRoom (head_of f) (read_cell m (list_at layout i) f cell vs) × InView f (read_cell m (list_at layout i) f cell vs) in
-        subst P (sym form) (λ a b. read_cell_fits m (list_at layout i) m.shape cell vs d.no_padding some (numbers_in-length bytes (first_bit layout + m.offset) m.size (is_negative m.min) m.count) a b) room ok
+        let P : Form → Type 0 = λ f. HasRoom (head_of f) state → InView f state → HasRoom (head_of f) (read_state m (list_at layout i) f state vs) × InView f (read_state m (list_at layout i) f state vs) in
+        subst P (sym form) (λ a b. read_state_fits m (list_at layout i) m.shape state vs d.no_padding some (numbers_in-length bytes (first_bit layout + m.offset) m.size (is_negative m.min) m.count) a b) room ok
 
-    by_data : (b : Bool) → is_data_in r m ≡ b → ReadsWell layout r bytes i cell
+    by_data : (b : Bool) → is_data_in r m ≡ b → ReadsWell layout r bytes i state
     by_data false e =
-        let same : read_by_report layout r bytes i cell ≡ cell = read_is ∙ ap (λ (b : Bool). cond b (read_by_numbers layout i m cell vs) cell) e in
-        let none : told_by_report layout r bytes i cell ≡ [] = told_is ∙ ap (λ (b : Bool). cond b (told_by_numbers layout i m cell (read_by_numbers layout i m cell vs) vs) []) e in
+        let same : state_by_report layout r bytes i state ≡ state =
+        read_is ∙ ap (λ (b : Bool). cond b (state_by_numbers layout i m state vs) state) e in
+        let none : report_events_from layout r bytes i state ≡ [] =
+        told_is ∙ ap
+        (λ (b : Bool). cond b (number_events layout i m state (state_by_numbers layout i m state vs) vs) []) e in
         record {
-          room = subst (λ (c : Cell). HasRoom (head_of (form_at (items_of layout) i)) c) (sym same) room;
-          stands = subst (λ (c : Cell). InView (form_at (items_of layout) i) c) (sym same) ok;
+          room = subst (λ (c : ControlState). HasRoom (head_of (form_at (items_of layout) i)) c) (sym same) room;
+          stands = subst (λ (c : ControlState). InView (form_at (items_of layout) i) c) (sym same) ok;
           few = omega (arith, ap (λ (l : List Event). length l) none);
         }
     by_data true e =
-        let same : read_by_report layout r bytes i cell ≡ read_by_numbers layout i m cell vs = read_is ∙ ap (λ (b : Bool). cond b (read_by_numbers layout i m cell vs) cell) e in
-        let told : told_by_report layout r bytes i cell ≡ told_by_numbers layout i m cell (read_by_numbers layout i m cell vs) vs = told_is ∙ ap (λ (b : Bool). cond b (told_by_numbers layout i m cell (read_by_numbers layout i m cell vs) vs) []) e in
+        let same : state_by_report layout r bytes i state ≡ state_by_numbers layout i m state vs =
+        read_is ∙ ap (λ (b : Bool). cond b (state_by_numbers layout i m state vs) state) e in
+        let told : report_events_from layout r bytes i state
+        ≡ number_events layout i m state (state_by_numbers layout i m state vs) vs =
+        told_is ∙ ap
+        (λ (b : Bool). cond b (number_events layout i m state (state_by_numbers layout i m state vs) vs) []) e in
         let fits = read_fits (data_if layout r i m listed e) in
         record {
-          room = subst (λ (c : Cell). HasRoom (head_of (form_at (items_of layout) i)) c) (sym same) fits.0;
-          stands = subst (λ (c : Cell). InView (form_at (items_of layout) i) c) (sym same) fits.1;
-          few = omega (arith, ap (λ (l : List Event). length l) told, told_few i (form_at (items_of layout) i) cell (read_by_numbers layout i m cell vs) vs room ok fits.1);
+          room = subst (λ (c : ControlState). HasRoom (head_of (form_at (items_of layout) i)) c) (sym same) fits.0;
+          stands = subst (λ (c : ControlState). InView (form_at (items_of layout) i) c) (sym same) fits.1;
+          few = omega (
+            arith,
+            ap (λ (l : List Event). length l) told,
+            told_few i (form_at (items_of layout) i) state (state_by_numbers layout i m state vs) vs room ok fits.1,
+          );
         }
 
-well_at : (layout : Contents) (r : ℕ) (bytes : List ℕ) (view : List Cell) → IsLayout layout → IsInput layout r → Suits InView (items_of layout) view → (i : ℕ) (item : Item) (cell : Cell) → slice_get (items_of layout) i ≡ Some item → slice_get view i ≡ Some cell
-    → (form_at (items_of layout) i ≡ item.form) × ReadsWell layout r bytes i cell
-well_at layout r bytes view laid input fits i item cell h g =
+well_at : (layout : Contents) (r : ℕ) (bytes : List ℕ) (view : List ControlState) → IsLayout layout → IsInput layout r
+    → Suits InView (items_of layout) view → (i : ℕ) (item : Item) (state : ControlState)
+    → slice_get (items_of layout) i ≡ Some item → slice_get view i ≡ Some state
+    → (form_at (items_of layout) i ≡ item.form) × ReadsWell layout r bytes i state
+well_at layout r bytes view laid input fits i item state h g =
     let form = form_at-is (items_of layout) i item h in
     let within : i < length layout.items = omega (arith, slice_get_within (items_of layout) i item h, items_of-length layout laid) in
-    (form, reads_well layout r bytes i cell laid input within (subst (λ (f : Form). HasRoom (head_of f) cell) (sym form) (fits.room i item cell h g)) (subst (λ (f : Form). InView f cell) (sym form) (fits.suits i item cell h g)))
+    (form, reads_well layout r bytes i state laid input within (subst (λ (f : Form). HasRoom (head_of f) state) (sym form) (fits.room i item state h g)) (subst (λ (f : Form). InView f state) (sym form) (fits.suits i item state h g)))
 
 -- The view that is read suits the items.
-pub read_view_fits : (layout : Contents) (r : ℕ) (bytes : List ℕ) (view : List Cell) → IsLayout layout → IsInput layout r → Suits InView (items_of layout) view → Suits InView (items_of layout) (read_view layout r bytes view)
+pub read_view_fits : (layout : Contents) (r : ℕ) (bytes : List ℕ) (view : List ControlState) → IsLayout layout
+    → IsInput layout r → Suits InView (items_of layout) view
+    → Suits InView (items_of layout) (read_view layout r bytes view)
 read_view_fits layout r bytes view laid input fits = record {
-  one_each = read_from-length layout r bytes 0 view ∙ fits.one_each;
-  room = λ i item cell h g.
+  one_each = view_from_item-length layout r bytes 0 view ∙ fits.one_each;
+  room = λ i item state h g.
       let old = got view i (omega (arith, slice_get_within (items_of layout) i item h, fits.one_each)) in
       let well = well_at layout r bytes view laid input fits i item old.0 h old.1 in
-      subst (λ (c : Cell). HasRoom (head_of item.form) c) (same i old.0 cell old.1 g) (subst (λ (f : Form). HasRoom (head_of f) (read_by_report layout r bytes i old.0)) well.0 well.1.room);
-  suits = λ i item cell h g.
+      subst (λ (c : ControlState). HasRoom (head_of item.form) c) (same i old.0 state old.1 g)
+      (subst (λ (f : Form). HasRoom (head_of f) (state_by_report layout r bytes i old.0)) well.0 well.1.room);
+  suits = λ i item state h g.
       let old = got view i (omega (arith, slice_get_within (items_of layout) i item h, fits.one_each)) in
       let well = well_at layout r bytes view laid input fits i item old.0 h old.1 in
-      subst (λ (c : Cell). InView item.form c) (same i old.0 cell old.1 g) (subst (λ (f : Form). InView f (read_by_report layout r bytes i old.0)) well.0 well.1.stands);
+      subst (λ (c : ControlState). InView item.form c) (same i old.0 state old.1 g)
+      (subst (λ (f : Form). InView f (state_by_report layout r bytes i old.0)) well.0 well.1.stands);
 }
   where
-    same : (i : ℕ) (old cell : Cell) → slice_get view i ≡ Some old → slice_get (read_view layout r bytes view) i ≡ Some cell → read_by_report layout r bytes i old ≡ cell
-    same i old cell h g = let e = read_view-at layout r bytes view i old h in cc
+    same : (i : ℕ) (old state : ControlState) → slice_get view i ≡ Some old
+        → slice_get (read_view layout r bytes view) i ≡ Some state → state_by_report layout r bytes i old ≡ state
+    same i old state h g = let e = read_view-at layout r bytes view i old h in cc
 
-few_from : (layout : Contents) (r : ℕ) (bytes : List ℕ) (i : ℕ) (items : List Item) (cells : List Cell) → length cells ≡ length items
-    → ((k : ℕ) (item : Item) (cell : Cell) → slice_get items k ≡ Some item → slice_get cells k ≡ Some cell → length (told_by_report layout r bytes (i + k) cell) ≤ events_in item.form) → length (told_from layout r bytes i cells) ≤ max_events items
+few_from : (layout : Contents) (r : ℕ) (bytes : List ℕ) (i : ℕ) (items : List Item) (states : List ControlState)
+    → length states ≡ length items
+    → ((k : ℕ) (item : Item) (state : ControlState) → slice_get items k ≡ Some item → slice_get states k ≡ Some state
+    → length (report_events_from layout r bytes (i + k) state) ≤ events_in item.form)
+    → length (events_from_item layout r bytes i states) ≤ max_events items
 few_from layout r bytes i [] [] h few = omega arith
-few_from layout r bytes i [] (c ∷ cells) h few = absurd (omega arith)
+few_from layout r bytes i [] (c ∷ states) h few = absurd (omega arith)
 few_from layout r bytes i (item ∷ items) [] h few = absurd (omega arith)
-few_from layout r bytes i (item ∷ items) (c ∷ cells) h few =
+few_from layout r bytes i (item ∷ items) (c ∷ states) h few =
     let zero_ : i + 0 ≡ i = omega arith in
     let here = few 0 item c refl refl in
-    let rest = few_from layout r bytes (i + 1) items cells (omega arith) (λ k it cell g f. let n : (i + 1) + k ≡ i + suc k = omega arith in omega (arith, few (suc k) it cell g f, ap (λ (j : ℕ). length (told_by_report layout r bytes j cell)) n)) in
-    omega (arith, here, rest, ap (λ (j : ℕ). length (told_by_report layout r bytes j c)) zero_, sum_cons item items, length-append (told_by_report layout r bytes i c) (told_from layout r bytes (i + 1) cells))
+    let rest =
+    few_from layout r bytes (i + 1) items states (omega arith)
+    (λ k it state g f. let n : (i + 1) + k ≡ i + suc k =
+    omega arith in
+    omega (
+      arith,
+      few (suc k) it state g f,
+      ap (λ (j : ℕ). length (report_events_from layout r bytes j state)) n,
+    )) in
+    omega (
+      arith,
+      here,
+      rest,
+      ap (λ (j : ℕ). length (report_events_from layout r bytes j c)) zero_,
+      sum_cons item items,
+      length-append (report_events_from layout r bytes i c) (events_from_item layout r bytes (i + 1) states),
+    )
 
 -- Reading a report tells no more than the greatest number of events.
-pub read_events_few : (layout : Contents) (r : ℕ) (bytes : List ℕ) (view : List Cell) → IsLayout layout → IsInput layout r → Suits InView (items_of layout) view → length (read_events layout r bytes view) ≤ max_events (items_of layout)
+pub read_events_few : (layout : Contents) (r : ℕ) (bytes : List ℕ) (view : List ControlState) → IsLayout layout
+    → IsInput layout r → Suits InView (items_of layout) view
+    → length (read_events layout r bytes view) ≤ max_events (items_of layout)
 read_events_few layout r bytes view laid input fits =
     few_from layout r bytes 0 (items_of layout) view fits.one_each
-    (λ k item cell h g.
-    let well = well_at layout r bytes view laid input fits k item cell h g in
+    (λ k item state h g.
+    let well = well_at layout r bytes view laid input fits k item state h g in
     let zero_ : 0 + k ≡ k = omega arith in
-    omega (arith, well.1.few, ap (λ (f : Form). events_in f) well.0, ap (λ (j : ℕ). length (told_by_report layout r bytes j cell)) zero_))
+    omega (
+      arith,
+      well.1.few,
+      ap (λ (f : Form). events_in f) well.0,
+      ap (λ (j : ℕ). length (report_events_from layout r bytes j state)) zero_,
+    ))
 
 -- Reading along the plan: the items before a place are read, and the rest is as it was.
-pub record HasTaken (layout : Contents) (r : ℕ) (bytes : List ℕ) (start now : List Cell) (before told : List Event) (len room i : ℕ) : Type 0 where
-  pub cells : now ≡ take i (read_view layout r bytes start) ++ drop i start
-  pub events : told ++ told_from layout r bytes i (drop i start) ≡ before ++ read_events layout r bytes start
-  pub fits : len + length (told_from layout r bytes i (drop i start)) ≤ room
+pub record HasTaken (layout : Contents) (r : ℕ) (bytes : List ℕ) (start now : List ControlState)
+    (before told : List Event) (len room i : ℕ) : Type 0 where
+  pub states : now ≡ take i (read_view layout r bytes start) ++ drop i start
+  pub events : told ++ events_from_item layout r bytes i (drop i start) ≡ before ++ read_events layout r bytes start
+  pub fits : len + length (events_from_item layout r bytes i (drop i start)) ≤ room
 
 -- an item of another report stays, and tells nothing
-other_stays : (layout : Contents) (r : ℕ) (bytes : List ℕ) (i : ℕ) (item : MainItem) (cell : Cell) → slice_get layout.items i ≡ Some item → (item.report == r) ≡ false → read_by_report layout r bytes i cell ≡ cell
-other_stays layout r bytes i item cell listed other =
-    ap (λ (o : Option MainItem). elim o as (λ _. Cell) [ None ↦ cell | Some m ↦ cond (is_data_in r m) (read_by_numbers layout i m cell (item_numbers layout bytes m)) cell ]) listed
-    ∙ ap (λ (b : Bool). cond (b && not (is_padding item.shape)) (read_by_numbers layout i item cell (item_numbers layout bytes item)) cell) other
+other_stays : (layout : Contents) (r : ℕ) (bytes : List ℕ) (i : ℕ) (item : MainItem) (state : ControlState)
+    → slice_get layout.items i ≡ Some item → (item.report == r) ≡ false → state_by_report layout r bytes i state ≡ state
+other_stays layout r bytes i item state listed other =
+    ap (λ (o : Option MainItem). elim o as
+    (λ _. ControlState) [
+      | None ↦ state
+      | Some m ↦
+          cond (is_data_in r m) (state_by_numbers layout i m state (item_numbers layout bytes m)) state
+    ]) listed
+    ∙ ap (λ (b : Bool). cond (b && not (is_padding item.shape))
+    (state_by_numbers layout i item state (item_numbers layout bytes item)) state) other
 
-other_silent : (layout : Contents) (r : ℕ) (bytes : List ℕ) (i : ℕ) (item : MainItem) (cell : Cell) → slice_get layout.items i ≡ Some item → (item.report == r) ≡ false → told_by_report layout r bytes i cell ≡ []
-other_silent layout r bytes i item cell listed other =
+other_silent : (layout : Contents) (r : ℕ) (bytes : List ℕ) (i : ℕ) (item : MainItem) (state : ControlState)
+    → slice_get layout.items i ≡ Some item → (item.report == r) ≡ false
+    → report_events_from layout r bytes i state ≡ []
+other_silent layout r bytes i item state listed other =
     ap (λ (o : Option MainItem). elim o as (λ _. List Event) [
       | None ↦ []
-      | Some m ↦ cond (is_data_in r m) (told_by_numbers layout i m cell (read_by_numbers layout i m cell (item_numbers layout bytes m)) (item_numbers layout bytes m)) []
+      | Some m ↦
+          cond (is_data_in r m)
+          (number_events layout i m state (state_by_numbers layout i m state (item_numbers layout bytes m))
+          (item_numbers layout bytes m)) []
     ]) listed
-    ∙ ap (λ (b : Bool). cond (b && not (is_padding item.shape)) (told_by_numbers layout i item cell (read_by_numbers layout i item cell (item_numbers layout bytes item)) (item_numbers layout bytes item)) []) other
+    ∙ ap (λ (b : Bool). cond (b && not (is_padding item.shape))
+    (number_events layout i item state (state_by_numbers layout i item state (item_numbers layout bytes item))
+    (item_numbers layout bytes item)) []) other
 
-pub taking_skips : (layout : Contents) (r : ℕ) (bytes : List ℕ) (start now : List Cell) (before told : List Event) (len room : ℕ) → length start ≡ length layout.items → length now ≡ length start
+pub taking_skips : (layout : Contents) (r : ℕ) (bytes : List ℕ) (start now : List ControlState)
+    (before told : List Event) (len room : ℕ) → length start ≡ length layout.items → length now ≡ length start
     → Skips layout r (HasTaken layout r bytes start now before told len room)
 taking_skips layout r bytes start now before told len room ls ln i item listed other h =
     let within : i < length start = omega (arith, ls, slice_get_within layout.items i item listed) in
-    let cell = got now i (omega arith) in
-    let is : cell.0 ≡ get_or now i cell.0 = let e : Some cell.0 ≡ Some (get_or now i cell.0) = sym cell.1 ∙ slice_get-get_or now i cell.0 (omega arith) in cc in
-    let there = read_start layout r bytes start now i cell.0 h.cells within ln in
-    let stays : read_by_report layout r bytes i (get_or now i cell.0) ≡ get_or now i cell.0 = other_stays layout r bytes i item (get_or now i cell.0) listed other in
-    let silent : told_by_report layout r bytes i (get_or now i cell.0) ≡ [] = other_silent layout r bytes i item (get_or now i cell.0) listed other in
-    let left : told_from layout r bytes i (drop i start) ≡ told_from layout r bytes (i + 1) (drop (i + 1) start) =
-    told_from-next layout r bytes start i (get_or now i cell.0) there ∙ ap (λ (es : List Event). es ++ told_from layout r bytes (i + 1) (drop (i + 1) start)) silent
+    let state = got now i (omega arith) in
+    let is : state.0 ≡ get_or now i state.0 = let e : Some state.0 ≡ Some (get_or now i state.0) = sym state.1 ∙ slice_get-get_or now i state.0 (omega arith) in cc in
+    let there = read_start layout r bytes start now i state.0 h.states within ln in
+    let stays : state_by_report layout r bytes i (get_or now i state.0) ≡ get_or now i state.0 =
+    other_stays layout r bytes i item (get_or now i state.0) listed other in
+    let silent : report_events_from layout r bytes i (get_or now i state.0) ≡ [] =
+    other_silent layout r bytes i item (get_or now i state.0) listed other in
+    let left : events_from_item layout r bytes i (drop i start)
+    ≡ events_from_item layout r bytes (i + 1) (drop (i + 1) start) =
+    events_from_item-next layout r bytes start i (get_or now i state.0) there
+    ∙ ap (λ (es : List Event). es ++ events_from_item layout r bytes (i + 1) (drop (i + 1) start)) silent
     in
     record {
-      cells = sym (set_same now i cell.0 cell.1) ∙ read_next layout r bytes start now i cell.0 cell.0 h.cells within ln (is ∙ sym stays);
+      states = sym (set_same now i state.0 state.1) ∙ read_next layout r bytes start now i state.0 state.0 h.states within ln (is ∙ sym stays);
       events = rw (← left) h.events;
       fits = rw (← left) h.fits;
     }
 
 -- nothing is left to be told
-pub all_told : (layout : Contents) (r : ℕ) (bytes : List ℕ) (start : List Cell) (n : ℕ) (told all : List Event) → length start ≤ n → told ++ told_from layout r bytes n (drop n start) ≡ all → told ≡ all
+pub all_told : (layout : Contents) (r : ℕ) (bytes : List ℕ) (start : List ControlState) (n : ℕ)
+    (told all : List Event) → length start ≤ n → told ++ events_from_item layout r bytes n (drop n start) ≡ all
+    → told ≡ all
 all_told layout r bytes start n told all within h =
-    sym (append-nil told) ∙ ap (λ (cells : List Cell). told ++ told_from layout r bytes n cells) (sym (drop_all n start within)) ∙ h
+    sym (append-nil told)
+    ∙ ap (λ (states : List ControlState). told ++ events_from_item layout r bytes n states)
+    (sym (drop_all n start within)) ∙ h

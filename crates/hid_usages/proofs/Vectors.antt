@@ -1,45 +1,53 @@
 -- Values of the definitions, worked out by hand.
-use Rattle.std.specs.Prelude.{◌≡◌, ℕ, Bool, true, false, List, [], ◌∷◌, None, Ok, Err, pos, negsuc, refl}
+use Rattle.std.specs.Prelude.{◌≡◌, ℕ, Bool, true, false, List, [], ◌∷◌, None, Ok, Err, pos, negsuc, refl, replicate}
+use Rattle.hid_descriptor.specs.declared.report.Report.{Report}
+use Rattle.hid_descriptor.specs.declared.report.ReportKind.TheVariants.{Input}
 use Rattle.hid_layout.specs.Controls.{Item}
-use Rattle.hid_snapshots.specs.declared.cell.Cell.{Cell}
-use Rattle.hid_snapshots.specs.declared.cell.Cell.TheVariants.{Vacant, Pressed, Holding, Moved}
+use Rattle.hid_layout.specs.Layout.{Contents}
+use Rattle.hid_snapshots.specs.declared.control_state.ControlState.{ControlState}
+use Rattle.hid_snapshots.specs.declared.control_state.ControlState.TheVariants.{Absent, Switches, Values, Motions}
 use Rattle.hid_snapshots.specs.declared.change.Change.{Change}
 use Rattle.hid_snapshots.specs.declared.change.Change.TheVariants as change
 use Rattle.hid_snapshots.specs.declared.change.ChangeFault.TheVariants as fault
 use Rattle.hid_snapshots.specs.declared.event.Event.{Event}
 use Rattle.hid_snapshots.specs.declared.event.Event.TheVariants as event
-use Rattle.hid_snapshots.specs.Cells.{blank}
-use Rattle.hid_snapshots.specs.Snapshots.{OrFault, changed}
-use Rattle.hid_snapshots.specs.Parts.{blank_parts, shown, taken, is_changed}
+use Rattle.hid_snapshots.specs.ControlStates.{blank}
+use Rattle.hid_snapshots.specs.Snapshots.{OrFault, snapshot_after}
+use Rattle.hid_snapshots.specs.Parts.{blank_parts, shown_parts, without_part_motion, is_changed}
 use Rattle.hid_usages.specs.Boot.{keyboard_of, is_held, mouse_in}
+use Rattle.hid_usages.specs.Receiving.{Receiving, ends_with, packet_outcome}
+use Rattle.hid_usages.specs.declared.receiver.Arrived.TheVariants.{Part, Whole}
+use Rattle.hid_snapshots.specs.declared.fault.ReportFault.TheVariants.{Short, UnknownReport}
 use Rattle.hid_snapshots.specs.Events.{at}
-use Rattle.hid_snapshots.specs.Views.{seen, events_between}
+use Rattle.hid_snapshots.specs.Views.{view_after_part, events_between}
 use Rattle.hid_snapshots.specs.Words.{words_in}
 use Rattle.hid_snapshots.specs.Keys.{key_words}
 use Rattle.hid_snapshots.specs.Samples.{usage, keyboard, mouse, hat, wheel_and_button}
 
--- the snapshot after these changes of a blank one, one behind the other
-abbrev after : List Item → OrFault (List Cell) → List Change → OrFault (List Cell)
-after items cells [] = cells
+-- the snapshot after these changes of a blank one, one after the other
+abbrev after : List Item → OrFault (List ControlState) → List Change → OrFault (List ControlState)
+after items states [] = states
 after items (Err f) (c ∷ changes) = Err f
-after items (Ok cells) (c ∷ changes) = after items (changed items cells c) changes
+after items (Ok states) (c ∷ changes) = after items (snapshot_after items states c) changes
 
-abbrev changes_of : List Item → List Change → OrFault (List Cell)
+abbrev changes_of : List Item → List Change → OrFault (List ControlState)
 changes_of items changes = after items (Ok (blank items)) changes
 
-abbrev kept : OrFault (List Cell) → List Cell
-kept (Ok cells) = cells
+abbrev kept : OrFault (List ControlState) → List ControlState
+kept (Ok states) = states
 kept (Err f) = []
 
 -- what a report delivers in a view of blank parts, and what it leaves in the snapshot
 abbrev told : List Item → ℕ → List Change → List Event
 told items r changes =
-    let cells = kept (changes_of items changes) in
-    let parts = shown items r cells (blank_parts items) in
-    events_between items r (blank items) (seen items r (blank items) parts) parts
+    let states = kept (changes_of items changes) in
+    let parts = shown_parts items r states (blank_parts items) in
+    events_between items r (blank items) (view_after_part items r (blank items) parts) parts
 
-abbrev left : List Item → ℕ → List Change → List Cell
-left items r changes = let cells = kept (changes_of items changes) in taken items r cells (shown items r cells (blank_parts items))
+abbrev left : List Item → ℕ → List Change → List ControlState
+left items r changes = let states =
+    kept (changes_of items changes) in
+    without_part_motion items r states (shown_parts items r states (blank_parts items))
 
 abbrev due : List Item → ℕ → List Change → Bool
 due items r changes = is_changed items r (kept (changes_of items changes)) (blank_parts items)
@@ -48,7 +56,7 @@ due items r changes = is_changed items r (kept (changes_of items changes)) (blan
 one_key : told keyboard 0 (change.Press (at 4 4) ∷ []) ≡ event.Down (at 4 4) (usage 7 4) ∷ []
 one_key = refl
 
--- and one that is released before a report calls for none
+-- a key that is pressed and released before a report calls for none
 no_key : due keyboard 0 (change.Press (at 4 4) ∷ change.Release (at 4 4) ∷ []) ≡ false
 no_key = refl
 
@@ -61,7 +69,8 @@ rolled_over = refl
 far_right : told mouse 0 (change.Move (at 2 0) (pos 200) ∷ []) ≡ event.Motion (at 2 0) (usage 1 0x30) (pos 127) ∷ []
 far_right = refl
 
-rest_stays : left mouse 0 (change.Move (at 2 0) (pos 200) ∷ []) ≡ Pressed (false ∷ false ∷ false ∷ []) ∷ Vacant ∷ Moved (pos 73 ∷ pos 0 ∷ []) ∷ []
+rest_stays : left mouse 0 (change.Move (at 2 0) (pos 200) ∷ []) ≡ Switches (false ∷ false ∷ false ∷ []) ∷ Absent
+    ∷ Motions (pos 73 ∷ pos 0 ∷ []) ∷ []
 rest_stays = refl
 
 -- 200 to the left
@@ -69,7 +78,7 @@ far_left : told mouse 0 (change.Move (at 2 0) (negsuc 199) ∷ []) ≡ event.Mot
 far_left = refl
 
 -- a hat switch begins at null
-hat_is_null : blank hat ≡ Holding (None ∷ []) ∷ Vacant ∷ []
+hat_is_null : blank hat ≡ Values (None ∷ []) ∷ Absent ∷ []
 hat_is_null = refl
 
 hat_north : told hat 0 (change.Set (at 0 0) (pos 0) ∷ []) ≡ event.Value (at 0 0) (usage 1 0x39) (pos 0) ∷ []
@@ -109,7 +118,7 @@ boot_rolled_over = refl
 right_and_up : mouse_in (0x05 ∷ 0x7F ∷ 0x81 ∷ []) ≡ Ok (record { buttons = 5; x = pos 127; y = negsuc 126 })
 right_and_up = refl
 
--- the seven keys behind 07:04 are kept in two words, and 07:E1 is none of them
+-- the seven keys after 07:04 are kept in two words, and 07:E1 is none of them
 seven_keys : List Change
 seven_keys = change.Press (at 4 4) ∷ change.Press (at 4 5) ∷ change.Press (at 4 6) ∷ change.Press (at 4 7) ∷ change.Press (at 4 8) ∷ change.Press (at 4 9) ∷ change.Press (at 4 10) ∷ []
 
@@ -117,7 +126,46 @@ keys_in_words : key_words (kept (changes_of keyboard (change.Press (at 0 1) ∷ 
 unfolding words_in seven_keys
 keys_in_words = refl
 
--- a set of keys that rolls over behind another that did calls for no report
-second_set : is_changed keyboard 0 (kept (changes_of keyboard (change.Press (at 4 11) ∷ seven_keys))) (shown keyboard 0 (kept (changes_of keyboard seven_keys)) (blank_parts keyboard)) ≡ false
+-- a set of keys that rolls over after another that did calls for no report
+second_set : is_changed keyboard 0 (kept (changes_of keyboard (change.Press (at 4 11) ∷ seven_keys)))
+    (shown_parts keyboard 0 (kept (changes_of keyboard seven_keys)) (blank_parts keyboard)) ≡ false
 unfolding seven_keys
 second_set = refl
+
+-- two Input reports: 1 has 2 bytes, 2 has 100
+abbrev input : ℕ → ℕ → Report
+input id bits = record { kind = Input; id = id; bits = bits }
+
+abbrev short_and_long : Contents
+short_and_long = record {
+  reports = input 1 8 ∷ input 2 792 ∷ [];
+  numbered = true;
+  items = [];
+  entries = [];
+  paths = [];
+}
+
+abbrev got : List ℕ → Receiving
+got collected = record { layout = short_and_long; view = []; collected = collected }
+
+-- 100 bytes come in two packets, of 64 and 36
+first_of_two : packet_outcome (got []) (replicate 64 2) ≡ Ok Part
+first_of_two = refl
+
+last_of_two : packet_outcome (got (replicate 64 2)) (replicate 36 1) ≡ Ok Whole
+last_of_two = refl
+
+-- a packet of 63 bytes ends a report that should have more
+ended_early : packet_outcome (got []) (replicate 63 2) ≡ Err Short
+ended_early = refl
+
+-- a full packet ends a report that has no more
+full_and_short : packet_outcome (got []) (replicate 64 1) ≡ Ok Whole
+full_and_short = refl
+
+-- no report has the number 9: 256 bytes are awaited, and refused
+unknown_goes_on : ends_with (got (replicate 128 9)) (replicate 64 9) ≡ false
+unknown_goes_on = refl
+
+unknown_ends : packet_outcome (got (replicate 192 9)) (replicate 64 9) ≡ Err UnknownReport
+unknown_ends = refl

@@ -1,8 +1,8 @@
--- Events go behind those that are there, into reserved room (our choice).
+-- How events are appended: after those that are there, into reserved room (our choice).
 use Rattle.std.specs.Prelude.{◌≡◌, ◌+◌, ◌≤◌, ◌++◌, length, List, Vec, vec_len, vec_capacity}
 use Rattle.hid_snapshots.specs.declared.event.Event.{Event}
 
--- there is reserved room for these events
+-- the list has reserved room for these events
 abbrev pub HasSpace : {Z : Type 0} → Vec Event Z → List Event → Type 0
 HasSpace out events = vec_len out + length events ≤ vec_capacity out
 

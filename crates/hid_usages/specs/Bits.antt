@@ -5,8 +5,8 @@ use Rattle.hid_layout.specs.declared.main_item.MainItem.{MainItem}
 use Rattle.hid_descriptor.specs.declared.shape.Shape.{Shape}
 use Rattle.hid_descriptor.specs.declared.shape.Shape.TheVariants.{Padding, Variable, Array}
 use Rattle.hid_layout.specs.Controls.{element_kind}
-use Rattle.hid_snapshots.specs.declared.cell.Cell.{Cell}
-use Rattle.hid_snapshots.specs.declared.cell.Cell.TheVariants.{Vacant, Pressed, Holding, Moved, RolledOver}
+use Rattle.hid_snapshots.specs.declared.control_state.ControlState.{ControlState}
+use Rattle.hid_snapshots.specs.declared.control_state.ControlState.TheVariants.{Absent, Switches, Values, Motions, RollOver}
 use Rattle.hid_snapshots.specs.Words.{bits_in}
 
 -- an item of this shape has an element for each control
@@ -20,10 +20,10 @@ is_variable Array = false
 abbrev pub are_bits : MainItem → Bool
 are_bits item = is_variable item.shape && (item.size == 1 && (nat_le item.count 32 && is_switch (element_kind item)))
 
--- what is kept of such an item once its pattern is read
-abbrev pub read_bits : ℕ → Cell → Cell
-read_bits pattern (Pressed bs) = Pressed (bits_in (length bs) pattern)
-read_bits pattern Vacant = Vacant
-read_bits pattern (Holding vs) = Holding vs
-read_bits pattern (Moved ms) = Moved ms
-read_bits pattern (RolledOver bs) = RolledOver bs
+-- what is kept of an item of switches once the pattern of their bits is read
+abbrev pub read_bits : ℕ → ControlState → ControlState
+read_bits pattern (Switches bs) = Switches (bits_in (length bs) pattern)
+read_bits pattern Absent = Absent
+read_bits pattern (Values vs) = Values vs
+read_bits pattern (Motions ms) = Motions ms
+read_bits pattern (RollOver bs) = RollOver bs

@@ -1,5 +1,5 @@
--- The reports of the boot keyboard and the boot mouse, the layouts of their descriptors, and that both
--- tell the same (HID 1.11, appendix B).
+-- The reports of the boot keyboard and the boot mouse, the layouts of their descriptors, and that reports read along
+-- these layouts give what the reports say (HID 1.11, appendix B).
 use Rattle.std.specs.Prelude.{◌≡◌, ℕ, ◌-◌, ◌%◌, ◌≤◌, ◌==◌, ◌&&◌, not, nat_lt, nat_le, if◌then◌else◌, Bool, true, false, List, [], ◌∷◌, ◌++◌, length, map, slice_index, Some, Result, Ok, Err, ℤ, pos, negsuc, ◌≤ℤ◌}
 use Rattle.std.specs.Int.{bit_at}
 use Rattle.std.specs.List.{list_any, range_with_len}
@@ -17,17 +17,17 @@ use Rattle.hid_descriptor.specs.Usages.{Entry}
 use Rattle.hid_layout.specs.Layout.{Contents, layout_of}
 use Rattle.hid_descriptor.specs.Faults.{Accepts}
 use Rattle.hid_layout.specs.Controls.{items_of}
-use Rattle.hid_layout.specs.Finding.{shown_at}
+use Rattle.hid_layout.specs.Finding.{control_usage}
 use Rattle.hid_usages.specs.declared.boot.KeyboardReport.{KeyboardReport}
 use Rattle.hid_usages.specs.declared.boot.MouseReport.{MouseReport}
-use Rattle.hid_snapshots.specs.declared.cell.Cell.{Cell}
-use Rattle.hid_snapshots.specs.declared.cell.Cell.TheVariants.{Pressed}
+use Rattle.hid_snapshots.specs.declared.control_state.ControlState.{ControlState}
+use Rattle.hid_snapshots.specs.declared.control_state.ControlState.TheVariants.{Switches}
 use Rattle.hid_snapshots.specs.declared.fault.ReportFault.{ReportFault}
 use Rattle.hid_snapshots.specs.declared.fault.ReportFault.TheVariants.{Short}
 use Rattle.hid_snapshots.specs.Events.{at, switch_events, motion_event}
 use Rattle.hid_usages.specs.Reading.{report_named}
 use Rattle.hid_snapshots.specs.Samples.{usage}
-use Rattle.hid_snapshots.specs.Snapshots.{is_pressed, cell_at}
+use Rattle.hid_snapshots.specs.Snapshots.{is_pressed, state_at}
 use Rattle.hid_usages.specs.Taking.{read_view, read_events}
 
 -- Byte 0 has a bit for each of the modifiers 07:E0 to 07:E7, byte 1 is reserved, and bytes 2 to 7 name keys (B.1).
@@ -42,11 +42,11 @@ keyboard_in bytes = if nat_lt (length bytes) 8 then Err Short else Ok (keyboard_
 abbrev pub keyboard_bytes : KeyboardReport → List ℕ
 keyboard_bytes report = report.modifiers ∷ 0 ∷ report.keys
 
--- a key of the report is this one
+-- a key of the report has this ID
 abbrev pub names : ℕ → KeyboardReport → Bool
 names id report = list_any (λ key. key == id) report.keys
 
--- ErrorRollOver in an array tells that more keys are held than it has elements (HID 1.11, appendix C)
+-- ErrorRollOver in an array reports that more keys are held than it has elements (HID 1.11, appendix C)
 abbrev pub is_rolled : KeyboardReport → Bool
 is_rolled report = names 1 report
 
@@ -174,18 +174,18 @@ pub record GivesOnly (descriptor : List ℕ) (layout : Contents) : Type 0 where
   pub only : (before : List Spelled) → Accepts descriptor before → layout_of before ≡ layout
 
 -- The control of 07:id is held in the view that is read of these bytes exactly if the report says so.
-abbrev pub IsTold : List Cell → KeyboardReport → ℕ → Type 0
+abbrev pub IsTold : List ControlState → KeyboardReport → ℕ → Type 0
 IsTold view report id =
-    (c : ControlId) → shown_at (items_of keyboard_layout) c ≡ Some (usage 7 id)
-    → is_pressed (cell_at view c.item) c.index ≡ is_held report id
+    (c : ControlId) → control_usage (items_of keyboard_layout) c ≡ Some (usage 7 id)
+    → is_pressed (state_at view c.item) c.index ≡ is_held report id
 
 -- some control has the usage
 abbrev pub IsControl : ℕ → Type 0
-IsControl id = (c : ControlId) × (shown_at (items_of keyboard_layout) c ≡ Some (usage 7 id))
+IsControl id = (c : ControlId) × (control_usage (items_of keyboard_layout) c ≡ Some (usage 7 id))
 
--- The bytes read along the boot keyboard's layout in a view: they are of its Input report, and each
--- modifier is held where the report tells so, and so is each key where it isn't rolled over.
-pub record TellsKeys (bytes : List ℕ) (view : List Cell) : Type 0 where
+-- The bytes read along the boot keyboard's layout in a view: they are of its Input report, and each modifier is held
+-- where the report says so, and so is each key where it isn't rolled over.
+pub record TellsKeys (bytes : List ℕ) (view : List ControlState) : Type 0 where
   pub named : report_named keyboard_layout bytes ≡ Ok 0
   pub modifier_there : (id : ℕ) → 0xE0 ≤ id → id ≤ 0xE7 → IsControl id
   pub modifiers : (id : ℕ) → 0xE0 ≤ id → id ≤ 0xE7
@@ -198,13 +198,13 @@ pub record TellsKeys (bytes : List ℕ) (view : List Cell) : Type 0 where
 abbrev pub buttons_in : List ℕ → List Bool
 buttons_in bytes = map (λ n. bit_at (mouse_of bytes).buttons n == 1) (range_with_len 0 3)
 
--- The bytes read along the boot mouse's layout in a view: they are of its Input report, the buttons
--- that are held are those of the report, and what they tell is what changes at the buttons, and then
--- the motions x and y where they aren't 0.
-pub record TellsButtons (bytes : List ℕ) (view : List Cell) : Type 0 where
+-- The bytes read along the boot mouse's layout in a view: they are of its Input report, the buttons that are held are
+-- those of the report, and the events are what changes at the buttons, and then the motions x and y where they aren't
+-- 0.
+pub record TellsButtons (bytes : List ℕ) (view : List ControlState) : Type 0 where
   pub named : report_named mouse_layout bytes ≡ Ok 0
-  pub held : cell_at (read_view mouse_layout 0 bytes view) 0 ≡ Pressed (buttons_in bytes)
-  pub motions : (before : List Bool) → cell_at view 0 ≡ Pressed before
+  pub held : state_at (read_view mouse_layout 0 bytes view) 0 ≡ Switches (buttons_in bytes)
+  pub motions : (before : List Bool) → state_at view 0 ≡ Switches before
       → read_events mouse_layout 0 bytes view
       ≡ switch_events 0 (map (usage 9) (range_with_len 1 3)) before (buttons_in bytes)
       ++ (motion_event (at 2 0) (usage 0x01 0x30) (mouse_of bytes).x

@@ -1,8 +1,8 @@
--- What is passed over: elements that their numbers leave as they are, and numbers that name no key anew (our choice).
+-- What is passed over: elements that their numbers leave as they are, and numbers that name no key again (our choice).
 use Rattle.std.specs.Prelude.{◌≡◌, ℕ, ◌<◌, ◌≤◌, List, [], ◌∷◌, ◌++◌, Option, Some, None, ℤ, slice_get}
 use Rattle.hid_layout.specs.declared.main_item.MainItem.{MainItem}
 use Rattle.hid_layout.specs.Controls.{Key}
-use Rattle.hid_usages.specs.Reading.{named_from}
+use Rattle.hid_usages.specs.Reading.{named_keys_from}
 
 -- the numbers of the elements from one on, before an end, leave them as they are. Example: all elements of a report that
 -- came before
@@ -18,4 +18,5 @@ FindsKept read held numbers from end (Some place) = (from ≤ place) × (place <
 -- a number, where there is one, names no key that none of these names
 abbrev pub NamesNoneAnew : MainItem → List ℤ → List Key → Option ℤ → Type 0
 NamesNoneAnew item numbers keys None = Unit {0}
-NamesNoneAnew item numbers keys (Some v) = named_from item numbers 0 keys ≡ named_from item (numbers ++ v ∷ []) 0 keys
+NamesNoneAnew item numbers keys (Some v) =
+    named_keys_from item numbers 0 keys ≡ named_keys_from item (numbers ++ v ∷ []) 0 keys

@@ -9,10 +9,13 @@ pub mod OneReport
 pub mod Bits
 pub mod Dropping
 pub mod Keeping
+pub mod KeyArrays
+pub mod Elements
 pub mod Reader
+pub mod Receiving
 pub use Rattle.hid_snapshots.specs.Faults
 pub use Rattle.hid_snapshots.specs.Words
-pub use Rattle.hid_snapshots.specs.Cells
+pub use Rattle.hid_snapshots.specs.ControlStates
 pub use Rattle.hid_snapshots.specs.Snapshots
 pub use Rattle.hid_snapshots.specs.Parts
 pub use Rattle.hid_snapshots.specs.Samples

@@ -3,27 +3,27 @@ use Rattle.std.specs.Prelude.{ℕ, ◌<◌, ◌&&◌, nat_le, Bool, if◌then◌
 use Rattle.hid_layout.specs.Layout.{Contents}
 use Rattle.hid_layout.specs.Controls.{items_of}
 use Rattle.hid_layout.specs.Reports.{IsLayout}
-use Rattle.hid_snapshots.specs.Cells.{FitsView}
-use Rattle.hid_snapshots.specs.declared.cell.Cell.{Cell}
+use Rattle.hid_snapshots.specs.ControlStates.{FitsView}
+use Rattle.hid_snapshots.specs.declared.control_state.ControlState.{ControlState}
 use Rattle.hid_snapshots.specs.declared.event.Event.{Event}
 use Rattle.hid_usages.specs.Taking.{TakesReport}
 
 -- the layout of a device's reports, and a host's view of its controls
 pub record Seen : Type 0 where
   pub layout : Contents
-  pub view : List Cell
+  pub view : List ControlState
 
--- if a reader keeps bytes, they are an Input report that tells nothing and leaves the view, whatever was told before:
--- they needn't be read again
-abbrev pub IsStill : Contents → List Cell → List ℕ → Type 0
+-- the bytes that a reader keeps, if it keeps any, are an Input report without events that leaves the view, so that they
+-- needn't be read again
+abbrev pub IsStill : Contents → List ControlState → List ℕ → Type 0
 IsStill layout view bytes = 0 < length bytes → (out : List Event) → TakesReport layout bytes view out (Ok tt) view out
 
--- the bytes of a report that are kept: those of one that told nothing, and fit a packet
-abbrev pub kept_of : Bool → List ℕ → List ℕ
-kept_of silent bytes = if silent && nat_le (length bytes) 64 then bytes else []
+-- the bytes of a report that are kept: those of one without events that fit a packet
+abbrev pub still_bytes_of : Bool → List ℕ → List ℕ
+still_bytes_of silent bytes = if silent && nat_le (length bytes) 64 then bytes else []
 
 -- what holds of every reader, and of the bytes that it keeps
-pub record IsReader (layout : Contents) (view : List Cell) (bytes : List ℕ) : Type 0 where
+pub record IsReader (layout : Contents) (view : List ControlState) (bytes : List ℕ) : Type 0 where
   pub laid : IsLayout layout
   pub fits : FitsView (items_of layout) view
   pub still : IsStill layout view bytes

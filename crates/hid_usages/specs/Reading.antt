@@ -1,6 +1,6 @@
 -- What a report of any bytes means, by the number of each element; a number out of range is null where
 -- the control has null (HID 1.11, 5.6, 5.8, 5.10, 6.2.2.5 and appendix C).
-use Rattle.std.specs.Prelude.{◌≡◌, ℕ, ◌+◌, ◌*◌, ◌<◌, ◌≤◌, ◌==◌, nat_lt, length, position, Result, Ok, Err, Bool, true, false, ◌&&◌, if◌then◌else◌, List, [], ◌∷◌, map, slice_get, Option, Some, None, ℤ, pos, ◌+ℤ◌}
+use Rattle.std.specs.Prelude.{ℕ, ◌+◌, ◌*◌, ◌<◌, ◌≤◌, ◌==◌, nat_lt, length, position, Result, Ok, Err, Bool, true, false, ◌&&◌, if◌then◌else◌, List, [], ◌∷◌, map, slice_get, Option, Some, None, ℤ, pos, ◌+ℤ◌}
 use Rattle.std.specs.Ordering.{int_eq}
 use Rattle.std.specs.List.{list_any, zip}
 use Rattle.std.specs.Option.{option_and_then}
@@ -13,7 +13,7 @@ use Rattle.hid_descriptor.specs.declared.report.ReportKind.TheVariants.{Input}
 use Rattle.hid_descriptor.specs.Fields.{same_kind}
 use Rattle.hid_layout.specs.Layout.{Contents}
 use Rattle.hid_layout.specs.Reports.{first_bit, report_bytes}
-use Rattle.hid_snapshots.specs.Numbers.{number_at, numbers_in}
+use Rattle.hid_snapshots.specs.Numbers.{number_at}
 use Rattle.hid_snapshots.specs.declared.fault.ReportFault.{ReportFault}
 use Rattle.hid_snapshots.specs.declared.fault.ReportFault.TheVariants.{Short, UnknownReport}
 use Rattle.hid_descriptor.specs.declared.usage.Usage.{Usage}
@@ -22,12 +22,12 @@ use Rattle.hid_layout.specs.declared.control.ControlKind.TheVariants.{Switch, Va
 use Rattle.hid_layout.specs.Controls.{Form, NoControls, Elements, Keys, Key}
 use Rattle.hid_descriptor.specs.Usages.{is_rollover}
 pub use Rattle.hid_layout.specs.Controls.{array_keys}
-pub use Rattle.hid_snapshots.specs.Cells.{is_in, has_null}
+pub use Rattle.hid_snapshots.specs.ControlStates.{is_in, has_null}
 pub use Rattle.hid_layout.specs.Sent.{at_zero, place_named}
-pub use Rattle.hid_snapshots.specs.Encoding.{is_data_in}
+pub use Rattle.hid_snapshots.specs.Encoding.{is_data_in, item_numbers}
 pub use Rattle.hid_snapshots.specs.Keys.{keys_of, keys_at}
-use Rattle.hid_snapshots.specs.declared.cell.Cell.{Cell}
-use Rattle.hid_snapshots.specs.declared.cell.Cell.TheVariants.{Vacant, Pressed, Holding, Moved}
+use Rattle.hid_snapshots.specs.declared.control_state.ControlState.{ControlState}
+use Rattle.hid_snapshots.specs.declared.control_state.ControlState.TheVariants.{Absent, Switches, Values, Motions}
 
 -- a switch is released by 0, pressed by 1, and stays for another number
 abbrev pub read_switch : Bool → ℤ → Bool
@@ -60,52 +60,49 @@ abbrev pub names_key : MainItem → List ℤ → ℕ → Bool
 names_key item vs i = list_any (λ v. int_eq v (item.min +ℤ pos i)) vs
 
 -- which keys from place i on some element names
-abbrev pub named_from : MainItem → List ℤ → ℕ → List Key → List Bool
-named_from item vs i [] = []
-named_from item vs i (key ∷ keys) = (key.is_switch && names_key item vs i) ∷ named_from item vs (i + 1) keys
+abbrev pub named_keys_from : MainItem → List ℤ → ℕ → List Key → List Bool
+named_keys_from item vs i [] = []
+named_keys_from item vs i (key ∷ keys) =
+    (key.is_switch && names_key item vs i) ∷ named_keys_from item vs (i + 1) keys
 
 -- some pattern of an item's fields stands for the number
 abbrev pub FitsFields : MainItem → ℤ → Type 0
 FitsFields item v = FitsField v item.size (is_negative item.min)
 
 -- what is kept of a variable item in a view once these numbers of its elements are read
-abbrev pub read_elements : ControlKind → ℤ → ℤ → Cell → List ℤ → Cell
-read_elements kind least greatest (Pressed bs) vs = Pressed (map (λ p. read_switch p.0 p.1) (zip bs vs))
-read_elements kind least greatest (Holding bs) vs =
-    Holding (map (λ p. read_value (has_null kind) least greatest p.0 p.1) (zip bs vs))
-read_elements kind least greatest cell vs = cell
+abbrev pub read_elements : ControlKind → ℤ → ℤ → ControlState → List ℤ → ControlState
+read_elements kind least greatest (Switches bs) vs = Switches (map (λ p. read_switch p.0 p.1) (zip bs vs))
+read_elements kind least greatest (Values bs) vs =
+    Values (map (λ p. read_value (has_null kind) least greatest p.0 p.1) (zip bs vs))
+read_elements kind least greatest state vs = state
 
 -- what is kept of an array once its elements name these keys
-abbrev pub read_named : MainItem → List Key → Cell → List ℤ → Cell
-read_named item keys (Pressed bs) vs = Pressed (named_from item vs 0 keys)
-read_named item keys cell vs = cell
+abbrev pub read_named : MainItem → List Key → ControlState → List ℤ → ControlState
+read_named item keys (Switches bs) vs = Switches (named_keys_from item vs 0 keys)
+read_named item keys state vs = state
 
 -- one element that names ErrorRollOver keeps an array's keys as they were
-abbrev pub read_keys : MainItem → List Usage → List Key → Cell → List ℤ → Cell
-read_keys item us keys cell vs = if list_any (names_rollover item us) vs then cell else read_named item keys cell vs
+abbrev pub read_keys : MainItem → List Usage → List Key → ControlState → List ℤ → ControlState
+read_keys item us keys state vs = if list_any (names_rollover item us) vs then state else read_named item keys state vs
 
 -- what is kept of an item once these numbers of its elements are read
-abbrev pub read_cell : MainItem → List Usage → Form → Cell → List ℤ → Cell
-read_cell item us NoControls cell vs = cell
-read_cell item us (Elements kind least greatest usages) cell vs = read_elements kind least greatest cell vs
-read_cell item us (Keys elements rolls keys) cell vs = read_keys item us keys cell vs
-
--- the numbers of an item's elements in the bytes of its report
-abbrev pub item_numbers : Contents → List ℕ → MainItem → List ℤ
-item_numbers layout bytes m = numbers_in bytes (first_bit layout + m.offset) m.size (is_negative m.min) m.count
+abbrev pub read_state : MainItem → List Usage → Form → ControlState → List ℤ → ControlState
+read_state item us NoControls state vs = state
+read_state item us (Elements kind least greatest usages) state vs = read_elements kind least greatest state vs
+read_state item us (Keys elements rolls keys) state vs = read_keys item us keys state vs
 
 -- the motions that the elements of a relative item carry in these numbers
-abbrev pub motion_elements : ControlKind → ℤ → ℤ → List ℤ → Cell
-motion_elements Relative least greatest vs = Moved (map (read_motion least greatest) vs)
-motion_elements Switch least greatest vs = Vacant
-motion_elements Value least greatest vs = Vacant
-motion_elements NullValue least greatest vs = Vacant
+abbrev pub motion_elements : ControlKind → ℤ → ℤ → List ℤ → ControlState
+motion_elements Relative least greatest vs = Motions (map (read_motion least greatest) vs)
+motion_elements Switch least greatest vs = Absent
+motion_elements Value least greatest vs = Absent
+motion_elements NullValue least greatest vs = Absent
 
 -- the motions that an item carries in these numbers
-abbrev pub motion_cell : Form → List ℤ → Cell
-motion_cell NoControls vs = Vacant
-motion_cell (Elements kind least greatest usages) vs = motion_elements kind least greatest vs
-motion_cell (Keys elements rolls keys) vs = Vacant
+abbrev pub motion_state : Form → List ℤ → ControlState
+motion_state NoControls vs = Absent
+motion_state (Elements kind least greatest usages) vs = motion_elements kind least greatest vs
+motion_state (Keys elements rolls keys) vs = Absent
 
 -- the Input report with an ID; 0 where reports aren't numbered (HID 1.11, 5.6)
 abbrev pub is_input_with : ℕ → Report → Bool

@@ -1,19 +1,26 @@
 -- What the numbers of one listed item's elements make of a view, and what they tell (our choice; HID 1.11, 5.6 and 8).
-use Rattle.std.specs.Prelude.{◌≡◌, ℕ, ◌+◌, ◌≤◌, Bool, false, List, [], ◌∷◌, ◌++◌, length, replicate, if◌then◌else◌, Some, None, Result, Ok, Err, ℤ, slice_get}
+use Rattle.std.specs.Prelude.{◌≡◌, ℕ, ◌+◌, ◌<◌, ◌≤◌, All, Bool, false, List, [], ◌∷◌, ◌++◌, length, replicate, if◌then◌else◌, Some, None, Result, Ok, Err, ℤ, slice_get}
 use Rattle.hid_snapshots.specs.declared.fault.ReportFault.{ReportFault}
 use Rattle.hid_layout.specs.declared.main_item.MainItem.{MainItem}
 use Rattle.hid_descriptor.specs.declared.usage.Usage.{Usage}
-use Rattle.hid_descriptor.specs.Usages.{usage_list}
+use Rattle.hid_descriptor.specs.Fields.{is_padding}
+use Rattle.hid_descriptor.specs.Usages.{Entry, usage_list}
+use Rattle.hid_layout.specs.Index.{plan_of}
+use Rattle.hid_layout.specs.Reports.{IsLayout, report_bytes}
 use Rattle.hid_layout.specs.Layout.{Contents}
-use Rattle.hid_layout.specs.Controls.{Form, Key, items_of, form_at, form_of}
-use Rattle.hid_snapshots.specs.declared.cell.Cell.{Cell}
-use Rattle.hid_snapshots.specs.declared.cell.Cell.TheVariants.{Vacant, Pressed, Holding, Moved, RolledOver}
+use Rattle.hid_layout.specs.Controls.{Form, Key, items_of, form_at, form_of, head_of}
+use Rattle.hid_snapshots.specs.declared.control_state.ControlState.{ControlState}
+use Rattle.hid_snapshots.specs.declared.control_state.ControlState.TheVariants.{Absent, Switches, Values, Motions, RollOver}
 use Rattle.hid_snapshots.specs.declared.event.Event.{Event}
 use Rattle.hid_usages.specs.declared.take.Listed.{Listed}
 use Rattle.hid_usages.specs.declared.take.Carried.{Carried}
-use Rattle.hid_snapshots.specs.Events.{change_events, usages_at}
-use Rattle.hid_snapshots.specs.Views.{motions_told}
-use Rattle.hid_usages.specs.Reading.{read_cell, motion_cell, read_elements, motion_elements, keys_at, is_data_in, item_numbers, report_named}
+use Rattle.hid_usages.specs.declared.take.Received.{Received}
+use Rattle.hid_snapshots.specs.Encoding.{IsData}
+use Rattle.hid_snapshots.specs.Events.{change_events, key_events, usages_at}
+use Rattle.hid_snapshots.specs.Parts.{IsInput}
+use Rattle.hid_snapshots.specs.ControlStates.{HasRoom, blank_state}
+use Rattle.hid_snapshots.specs.Views.{form_motions}
+use Rattle.hid_usages.specs.Reading.{array_keys, read_keys, read_state, motion_state, read_elements, motion_elements, keys_at, is_data_in, item_numbers, report_named}
 
 -- the usage list of a listed item
 abbrev pub list_at : Contents → ℕ → List Usage
@@ -23,19 +30,31 @@ list_at layout i = elim (slice_get layout.entries i) [ None ↦ [] | Some es ↦
 abbrev pub IsFormOf : Contents → ℕ → MainItem → Type 0
 IsFormOf layout i m = form_at (items_of layout) i ≡ form_of m (list_at layout i) m.shape
 
+-- a control state has the room that the controls of the item at a place need
+abbrev pub HasRoomAt : Contents → ℕ → ControlState → Type 0
+HasRoomAt layout i state = HasRoom (head_of (form_at (items_of layout) i)) state
+
+-- what the item at a place tells between two control states
+abbrev pub changes_at : Contents → ℕ → ControlState → ControlState → List Event
+changes_at layout i before after = change_events i (form_at (items_of layout) i) before after
+
+-- what is kept at first of the item at a place
+abbrev pub blank_at : Contents → ℕ → ControlState
+blank_at layout i = blank_state (head_of (form_at (items_of layout) i))
+
 -- an item that is listed at a place is in report r
 abbrev pub IsInReport : Contents → ℕ → ℕ → Type 0
 IsInReport layout r i = (m : MainItem) → slice_get layout.items i ≡ Some m → m.report ≡ r
 
 -- what is kept of a listed item once these numbers of its elements are read
-abbrev pub read_by_numbers : Contents → ℕ → MainItem → Cell → List ℤ → Cell
-read_by_numbers layout i m cell vs = read_cell m (list_at layout i) (form_at (items_of layout) i) cell vs
+abbrev pub state_by_numbers : Contents → ℕ → MainItem → ControlState → List ℤ → ControlState
+state_by_numbers layout i m state vs = read_state m (list_at layout i) (form_at (items_of layout) i) state vs
 
--- what these numbers tell of a listed item: its change, and then its motions
-abbrev pub told_by_numbers : Contents → ℕ → MainItem → Cell → Cell → List ℤ → List Event
-told_by_numbers layout i m before after vs =
+-- the events of a listed item by its numbers: its change, and then its motions
+abbrev pub number_events : Contents → ℕ → MainItem → ControlState → ControlState → List ℤ → List Event
+number_events layout i m before after vs =
     change_events i (form_at (items_of layout) i) before after
-    ++ motions_told i (form_at (items_of layout) i) (motion_cell (form_at (items_of layout) i) vs)
+    ++ form_motions i (form_at (items_of layout) i) (motion_state (form_at (items_of layout) i) vs)
 
 -- the usages of the controls of a listed item
 abbrev pub usages_in : Listed → List Usage
@@ -50,80 +69,157 @@ abbrev pub form_in : Listed → Form
 form_in listed = form_at (items_of listed.layout.now) listed.place
 
 -- what is kept of a listed item once these numbers are read
-abbrev pub read_in : Listed → Cell → List ℤ → Cell
-read_in listed cell vs = read_by_numbers listed.layout.now listed.place listed.item.now cell vs
+abbrev pub state_after_numbers : Listed → ControlState → List ℤ → ControlState
+state_after_numbers listed state vs = state_by_numbers listed.layout.now listed.place listed.item.now state vs
 
--- what these numbers tell of a listed item
-abbrev pub told_in : Listed → Cell → Cell → List ℤ → List Event
-told_in listed before after vs = told_by_numbers listed.layout.now listed.place listed.item.now before after vs
+-- the events of a listed item once these numbers are read
+abbrev pub events_of_numbers : Listed → ControlState → ControlState → List ℤ → List Event
+events_of_numbers listed before after vs =
+    number_events listed.layout.now listed.place listed.item.now before after vs
 
 -- what is kept of elements once the numbers that they carry are read
-abbrev pub read_carried : Carried → Cell → Cell
-read_carried carried cell =
-    read_elements carried.kind carried.bounds.least carried.bounds.greatest cell carried.numbers.now
+abbrev pub state_of_carried : Carried → ControlState → ControlState
+state_of_carried carried state =
+    read_elements carried.kind carried.bounds.least carried.bounds.greatest state carried.numbers.now
 
 -- the motions that the numbers of elements carry
-abbrev pub motion_carried : Carried → Cell
+abbrev pub motion_carried : Carried → ControlState
 motion_carried carried = motion_elements carried.kind carried.bounds.least carried.bounds.greatest carried.numbers.now
 
 -- what is kept of the item at a place once these bytes of report r are read
-abbrev pub read_by_report : Contents → ℕ → List ℕ → ℕ → Cell → Cell
-read_by_report layout r bytes i cell =
+abbrev pub state_by_report : Contents → ℕ → List ℕ → ℕ → ControlState → ControlState
+state_by_report layout r bytes i state =
     elim (slice_get layout.items i) [
-      | None ↦ cell
+      | None ↦ state
       | Some m ↦ (if is_data_in r m
-          then read_by_numbers layout i m cell (item_numbers layout bytes m) else cell)
+          then state_by_numbers layout i m state (item_numbers layout bytes m) else state)
     ]
 
--- what these bytes of report r tell of the item at a place
-abbrev pub told_by_report : Contents → ℕ → List ℕ → ℕ → Cell → List Event
-told_by_report layout r bytes i cell =
+-- the events of the item at a place once these bytes of report r are read
+abbrev pub report_events_from : Contents → ℕ → List ℕ → ℕ → ControlState → List Event
+report_events_from layout r bytes i state =
     elim (slice_get layout.items i) [
       | None ↦ []
       | Some m ↦ (if is_data_in r m
-          then told_by_numbers layout i m cell
-          (read_by_numbers layout i m cell (item_numbers layout bytes m))
+          then number_events layout i m state
+          (state_by_numbers layout i m state (item_numbers layout bytes m))
           (item_numbers layout bytes m) else [])
     ]
 
 -- the view once these bytes of report r are read, from the item at place i on
-abbrev pub read_from : Contents → ℕ → List ℕ → ℕ → List Cell → List Cell
-read_from layout r bytes i [] = []
-read_from layout r bytes i (cell ∷ cells) =
-    read_by_report layout r bytes i cell ∷ read_from layout r bytes (i + 1) cells
+abbrev pub view_from_item : Contents → ℕ → List ℕ → ℕ → List ControlState → List ControlState
+view_from_item layout r bytes i [] = []
+view_from_item layout r bytes i (state ∷ states) =
+    state_by_report layout r bytes i state ∷ view_from_item layout r bytes (i + 1) states
 
--- what these bytes of report r tell, from the item at place i on
-abbrev pub told_from : Contents → ℕ → List ℕ → ℕ → List Cell → List Event
-told_from layout r bytes i [] = []
-told_from layout r bytes i (cell ∷ cells) =
-    told_by_report layout r bytes i cell ++ told_from layout r bytes (i + 1) cells
+-- the events once these bytes of report r are read, from the item at place i on
+abbrev pub events_from_item : Contents → ℕ → List ℕ → ℕ → List ControlState → List Event
+events_from_item layout r bytes i [] = []
+events_from_item layout r bytes i (state ∷ states) =
+    report_events_from layout r bytes i state ++ events_from_item layout r bytes (i + 1) states
 
 -- The view after a report: each item of the report by its numbers; controls of other reports stay.
-abbrev pub read_view : Contents → ℕ → List ℕ → List Cell → List Cell
-read_view layout r bytes view = read_from layout r bytes 0 view
+abbrev pub read_view : Contents → ℕ → List ℕ → List ControlState → List ControlState
+read_view layout r bytes view = view_from_item layout r bytes 0 view
 
--- What reading a report tells, in layout order.
-abbrev pub read_events : Contents → ℕ → List ℕ → List Cell → List Event
-read_events layout r bytes view = told_from layout r bytes 0 view
+-- The events of a report that is read, in layout order.
+abbrev pub read_events : Contents → ℕ → List ℕ → List ControlState → List Event
+read_events layout r bytes view = events_from_item layout r bytes 0 view
 
--- how many places of a cell can be pressed
-abbrev pub flag_places : Cell → ℕ
-flag_places (Pressed ps) = length ps
-flag_places (RolledOver ps) = length ps
-flag_places (Holding vs) = 0
-flag_places (Moved ms) = 0
-flag_places Vacant = 0
+-- how many places of a control state can be pressed
+abbrev pub flag_places : ControlState → ℕ
+flag_places (Switches ps) = length ps
+flag_places (RollOver ps) = length ps
+flag_places (Values vs) = 0
+flag_places (Motions ms) = 0
+flag_places Absent = 0
 
--- no flag of these is set, and there is one for each place of a cell that can be pressed
-pub record NamesNone (cells : List Cell) (named : List Bool) : Type 0 where
+-- no flag of a list is set, and the list has one for each place of a control state that can be pressed
+pub record NamesNone (states : List ControlState) (named : List Bool) : Type 0 where
   pub none : named ≡ replicate (length named) false
-  pub each : (i : ℕ) (cell : Cell) → slice_get cells i ≡ Some cell → flag_places cell ≤ length named
+  pub each : (i : ℕ) (state : ControlState) → slice_get states i ≡ Some state → flag_places state ≤ length named
+
+-- what the bytes make of a view
+abbrev pub view_received : Received → List ControlState → List ControlState
+view_received received view = read_view received.layout.now received.report received.bytes.now view
+
+-- what the bytes tell
+abbrev pub events_received : Received → List ControlState → List Event
+events_received received view = read_events received.layout.now received.report received.bytes.now view
+
+-- what the bytes make of the item at a place
+abbrev pub state_received : Received → ℕ → ControlState → ControlState
+state_received received i state = state_by_report received.layout.now received.report received.bytes.now i state
+
+-- what the bytes tell of the item at a place
+abbrev pub item_events_received : Received → ℕ → ControlState → List Event
+item_events_received received i state = report_events_from received.layout.now received.report received.bytes.now i state
+
+-- the report is an Input report of the layout, and the bytes fill it
+pub record IsReceived (received : Received) : Type 0 where
+  pub input : IsInput received.layout.now received.report
+  pub whole : report_bytes received.layout.now received.report ≤ length received.bytes.now
+
+-- the places of the report's items, which are listed, as all items of the layout are
+pub record ArePlacesOf (received : Received) (places : List ℕ) : Type 0 where
+  pub plan : places ≡ plan_of received.layout.now received.report
+  pub within : All (λ place. place < length received.layout.now.items) places
+  pub all : length (items_of received.layout.now) ≡ length received.layout.now.items
+
+-- the numbers of a listed item's elements in these bytes of its report
+abbrev pub numbers_of_bytes : Listed → List ℕ → List ℤ
+numbers_of_bytes listed bytes = item_numbers listed.layout.now bytes listed.item.now
+
+-- what is kept of a listed item once these bytes of its report are read
+abbrev pub state_after_bytes : Listed → ControlState → List ℕ → ControlState
+state_after_bytes listed state bytes = state_after_numbers listed state (numbers_of_bytes listed bytes)
+
+-- what these numbers tell of a listed item, by what is kept of it before
+abbrev pub events_by_numbers : Listed → ControlState → List ℤ → List Event
+events_by_numbers listed state vs = events_of_numbers listed state (state_after_numbers listed state vs) vs
+
+-- what these bytes of its report tell of a listed item, by what is kept of it before
+abbrev pub events_by_bytes : Listed → ControlState → List ℕ → List Event
+events_by_bytes listed state bytes = events_by_numbers listed state (numbers_of_bytes listed bytes)
+
+-- a listed item has data, and its controls are those of its form
+pub record HasData (listed : Listed) : Type 0 where
+  pub layout : IsLayout listed.layout.now
+  pub there : slice_get listed.layout.now.items listed.place ≡ Some listed.item.now
+  pub input : IsFormOf listed.layout.now listed.place listed.item.now
+  pub no_padding : is_padding listed.item.now.shape ≡ false
+
+-- a listed item has data in its report, which these bytes fill, and its controls are those of its form
+pub record IsFilled (listed : Listed) (bytes : List ℕ) : Type 0 where
+  pub layout : IsLayout listed.layout.now
+  pub input : IsFormOf listed.layout.now listed.place listed.item.now
+  pub with_data : IsData listed.layout.now listed.item.now.report listed.place listed.item.now
+  pub whole : report_bytes listed.layout.now listed.item.now.report ≤ length bytes
+
+-- the item at a place is an array with at most 64 ranges of usages, and each of its keys has a usage
+pub record IsArrayAt (layout : Contents) (i : ℕ) (item : MainItem) (entries : List Entry) : Type 0 where
+  pub few : length entries ≤ 64
+  pub keys : keys_at layout i ≡ array_keys item (usage_list entries)
+  pub usages : length (usages_at layout i) ≡ length (keys_at layout i)
+
+-- what is kept of an array with these ranges of usages once these numbers are read
+abbrev pub keys_by_entries : Listed → List Entry → ControlState → List ℤ → ControlState
+keys_by_entries listed entries state vs = read_keys listed.item.now (usage_list entries) (keys_in listed) state vs
+
+-- what a listed array tells between two control states
+abbrev pub key_events_in : Listed → ControlState → ControlState → List Event
+key_events_in listed before after = key_events listed.place (usages_in listed) before after
+
+-- no flag of these is set, and there is one for each place of this control state that can be pressed
+pub record NamesNoneOf (state : ControlState) (named : List Bool) : Type 0 where
+  pub places : flag_places state ≤ length named
+  pub none : named ≡ replicate (length named) false
 
 -- Taking a report: each item of the report is read by its numbers, controls of other reports stay, and the events
 -- follow; or the report is refused and nothing changes. Example: 07:04 and 07:05 held, then 00 00 07 06 05: 04 up, 06
 -- and 07 down
-abbrev pub TakesReport : Contents → List ℕ → List Cell → List Event → Result (Unit {0}) ReportFault
-    → List Cell → List Event → Type 0
+abbrev pub TakesReport : Contents → List ℕ → List ControlState → List Event → Result (Unit {0}) ReportFault
+    → List ControlState → List Event → Type 0
 TakesReport layout bytes view out (Ok _) view' out' =
     (r : ℕ) × (report_named layout bytes ≡ Ok r) × (view' ≡ read_view layout r bytes view)
     × (out' ≡ out ++ read_events layout r bytes view)

@@ -8,7 +8,7 @@ ghost use Rattle.hid_usages.specs.Appending.{HasSpace, Appends};
 ghost use Rattle.hid_snapshots.specs.Events.{usages_at, switch_events};
 ghost use Rattle.hid_usages.specs.Bits.{are_bits};
 
-use crate::differences::tell_switch;
+use crate::differences::push_switch_event;
 use hid_layout::{Layout, MainItem, Shape};
 use hid_snapshots::{Event, Flags};
 
@@ -31,7 +31,7 @@ fn is_bit(pattern: u32, index: usize) -> bool
 }
 
 /// Tells the switches that aren't held as their bits have them, by rising index.
-fn tell_bits(layout: &Layout, item: usize, pattern: u32, held: &Flags, out: &mut Vec<Event>)
+fn push_bits(layout: &Layout, item: usize, pattern: u32, held: &Flags, out: &mut Vec<Event>)
     requires held { length held.now ≡ length (usages_at layout.now item) }
     requires few { length held.now ≤ 32 }
     requires fits { pattern < 2 ^ length held.now }
@@ -43,7 +43,7 @@ fn tell_bits(layout: &Layout, item: usize, pattern: u32, held: &Flags, out: &mut
     let mut from = 0;
     while let Some(index) = held.first_unlike(0, u64::from(pattern), from) {
         let is_pressed = is_bit(pattern, index);
-        tell_switch(layout, item, index, !is_pressed, is_pressed, out);
+        push_switch_event(layout, item, index, !is_pressed, is_pressed, out);
         from = index + 1;
     }
 }
@@ -65,6 +65,6 @@ pub(crate) fn take_bits(
     ensures told { Appends out.old (switch_events item (usages_at layout.now item) held.old
         (bits_in (length held.old) pattern)) out.new }
 {
-    tell_bits(layout, item, pattern, held, out);
+    push_bits(layout, item, pattern, held, out);
     held.set_word(u64::from(pattern));
 }

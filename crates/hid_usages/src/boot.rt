@@ -4,9 +4,9 @@ ghost use Rattle.std.specs.Prelude.{◌≡◌, ◌≤◌, ℕ, List, length};
 ghost use Rattle.hid_fields.specs.Value.{pattern_for};
 ghost use Rattle.hid_layout.specs.Controls.{items_of};
 ghost use Rattle.hid_usages.specs.Boot.{keyboard_in, keyboard_bytes, is_rolled, is_held, mouse_in, mouse_bytes, motion_in, keyboard_layout, mouse_layout, GivesOnly, TellsKeys, TellsButtons, KeyboardReadsBack, MouseReadsBack};
-ghost use Rattle.hid_snapshots.specs.Cells.{FitsView};
+ghost use Rattle.hid_snapshots.specs.ControlStates.{FitsView};
 ghost use Rattle.hid_snapshots.specs.Encoding.{AreBytes};
-ghost use Rattle.hid_snapshots.specs.declared.cell.Cell.{Cell};
+ghost use Rattle.hid_snapshots.specs.declared.control_state.ControlState.{ControlState};
 
 use hid_fields::{to_pattern, to_value};
 pub use hid_layout::boot::{KEYBOARD, MOUSE};
@@ -131,10 +131,11 @@ pub fn laws()
     ensures mouse { GivesOnly MOUSE mouse_layout }
 
     // What is told of any bytes, whatever was held before.
-    ensures keys { (bytes : List ℕ) (view : List Cell) → AreBytes bytes → 8 ≤ length bytes
+    ensures keys { (bytes : List ℕ) (view : List ControlState) → AreBytes bytes → 8 ≤ length bytes
         → FitsView (items_of keyboard_layout) view
         → TellsKeys bytes view }
-    ensures buttons { (bytes : List ℕ) (view : List Cell) → AreBytes bytes → 3 ≤ length bytes
+    ensures buttons { (bytes : List ℕ) (view : List ControlState) → AreBytes bytes
+        → 3 ≤ length bytes
         → FitsView (items_of mouse_layout) view
         → TellsButtons bytes view }
 

@@ -1,16 +1,17 @@
 //! What changed from one view to another, in events.
 
-ghost use Rattle.std.specs.Prelude.{◌≡◌, ◌<◌, ◌≤◌, ◌++◌, ℕ, false, length, slice_get, map, Some, IfSome};
+ghost use Rattle.std.specs.Prelude.{◌≡◌, ◌<◌, ◌≤◌, length, slice_get, map, Some, IfSome};
 ghost use Rattle.hid_descriptor.specs.declared.usage.Usage.{Usage as UsageValue};
 ghost use Rattle.hid_descriptor.specs.Usages.{usage_list};
 ghost use Rattle.hid_layout.specs.Reports.{usage_of};
-ghost use Rattle.hid_layout.specs.Controls.{items_of, form_at, head_of};
-ghost use Rattle.hid_snapshots.specs.Cells.{HasRoom, FitsView};
-ghost use Rattle.hid_snapshots.specs.Words.{is_on};
+ghost use Rattle.hid_layout.specs.Controls.{items_of};
+ghost use Rattle.hid_snapshots.specs.ControlStates.{FitsView};
 ghost use Rattle.hid_usages.specs.Appending.{HasSpace, Appends};
 ghost use Rattle.hid_snapshots.specs.Views.{changes_between};
-ghost use Rattle.hid_snapshots.specs.Events.{element_events, key_events, change_events, HasPlaces, at, usages_at, usage_place, switch_event, value_event, motion_event, switch_events, value_events, motion_events, ups, downs};
+ghost use Rattle.hid_snapshots.specs.Events.{element_events, key_events, HasPlaces, at, usages_at, usage_place, switch_event, value_event, motion_event, switch_events, value_events, motion_events, ups, downs};
+ghost use Rattle.hid_usages.specs.KeyArrays.{AreOffFrom, flag_events};
 ghost use Rattle.hid_usages.specs.Reading.{read_motion};
+ghost use Rattle.hid_usages.specs.Taking.{HasRoomAt, changes_at};
 
 use crate::bounds::Bounds;
 use hid_descriptor::entry_count;
@@ -18,10 +19,10 @@ use hid_fields::FieldCodec;
 use hid_layout::{
     ControlId, Controls, Layout, MainItem, Shape, Usage, usage_at as usage_in, usage_count,
 };
-use hid_snapshots::{Cell, Event, FieldRun, Flags, Values, cell_at, item_at, item_count};
+use hid_snapshots::{ControlState, Event, FieldRun, Flags, Values, item_at, item_count, state_at};
 
 /// The place in an item's usage list that has the usage of an element, or of a place of an array's list: an element
-/// behind the last usage has that one.
+/// after the last usage has that one.
 fn usage_place(item: &MainItem, entries: &[(Usage, Usage)], index: usize) -> usize
     requires entries { length entries.now ≤ 64 }
     requires some { 0 < length (usage_list entries.now) }
@@ -46,7 +47,7 @@ fn listed_usage(layout: &Layout, item: usize, place: usize) -> Option<Usage>
     }
 }
 
-/// The usage of an element behind the last usage.
+/// The usage of an element after the last usage.
 #[inline(never)]
 fn usage_past(layout: &Layout, item: usize, index: usize) -> Usage
     requires { index < length (usages_at layout.now item) }
@@ -77,13 +78,12 @@ fn first_usage(entries: &[(Usage, Usage)], place: usize) -> Option<Usage>
     }
 }
 
-/// The usage of an element, or of a place of an array's usage list, behind the first range.
+/// The usage of an element, or of a place of an array's usage list, after the first range.
 #[inline(never)]
-fn usage_behind(layout: &Layout, item: usize, index: usize) -> Usage
+fn usage_at_place(layout: &Layout, item: usize, index: usize) -> Usage
     requires { index < length (usages_at layout.now item) }
     ensures { slice_get (usages_at layout.now item) index ≡ Some result }
 {
-    let _ = item_count(layout);
     match listed_usage(layout, item, index) {
         Some(usage) => usage,
         None => usage_past(layout, item, index),
@@ -96,10 +96,9 @@ pub(crate) fn usage_at(layout: &Layout, item: usize, index: usize) -> Usage
     requires { index < length (usages_at layout.now item) }
     ensures { slice_get (usages_at layout.now item) index ≡ Some result }
 {
-    let _ = item_count(layout);
     match first_usage(layout.entries(item), index) {
         Some(usage) => usage,
-        None => usage_behind(layout, item, index),
+        None => usage_at_place(layout, item, index),
     }
 }
 
@@ -114,8 +113,8 @@ fn switch_event(control: ControlId, usage: Usage, before: bool, after: bool, out
     }
 }
 
-/// The same, of the switch at an index of an item: its usage is looked up only where the switch changes.
-pub(crate) fn tell_switch(
+/// Pushes the event of the switch at an index of an item: its usage is looked up only where the switch changes.
+pub(crate) fn push_switch_event(
     layout: &Layout,
     item: usize,
     index: usize,
@@ -165,8 +164,8 @@ fn value_event(
     }
 }
 
-/// The same, of the value at an index of an item.
-pub(crate) fn tell_value(
+/// Pushes the event of the value at an index of an item.
+pub(crate) fn push_value_event(
     layout: &Layout,
     item: usize,
     index: usize,
@@ -195,8 +194,8 @@ fn motion_event(control: ControlId, usage: Usage, by: i64, out: &mut Vec<Event>)
     }
 }
 
-/// The same, of the motion at an index of an item.
-fn tell_motion(layout: &Layout, item: usize, index: usize, by: i64, out: &mut Vec<Event>)
+/// Pushes the event of the motion at an index of an item.
+fn push_motion_event(layout: &Layout, item: usize, index: usize, by: i64, out: &mut Vec<Event>)
     requires index { index < length (usages_at layout.now item) }
     requires room { (usage : UsageValue) → slice_get (usages_at layout.now item) index ≡ Some usage
         → HasSpace out.old (motion_event (at item index) usage by) }
@@ -225,7 +224,7 @@ pub(crate) fn switch_changes(
         out.new }
 {
     for index in 0..before.len() {
-        tell_switch(
+        push_switch_event(
             layout,
             item,
             index,
@@ -252,7 +251,7 @@ pub(crate) fn value_changes(
         out.new }
 {
     for index in 0..before.len() {
-        tell_value(
+        push_value_event(
             layout,
             item,
             index,
@@ -295,8 +294,7 @@ pub(crate) fn presses(
 )
     requires before { length before.now ≡ length (usages_at layout.now item) }
     requires after { length (usages_at layout.now item) ≤ length after.now }
-    requires behind { (i : ℕ) → length (usages_at layout.now item) ≤ i
-        → is_on after.now i ≡ false }
+    requires behind { AreOffFrom (length (usages_at layout.now item)) after.now }
     requires room { HasSpace out.old (downs item (usages_at layout.now item) before.now after.now) }
     ensures { Appends out.old (downs item (usages_at layout.now item) before.now after.now)
         out.new }
@@ -353,7 +351,7 @@ pub(crate) fn motions<C: FieldCodec>(
     }
 }
 
-/// The same, one by one.
+/// The motions that these numbers carry, one by one. Inlined twice: numbers of a byte each need no shifts.
 #[inline(always)]
 fn each_motion<C: FieldCodec>(
     layout: &Layout,
@@ -369,7 +367,7 @@ fn each_motion<C: FieldCodec>(
         (map (read_motion bounds.now.least bounds.now.greatest) numbers.now)) out.new }
 {
     for index in 0..numbers.len() {
-        tell_motion(
+        push_motion_event(
             layout,
             item,
             index,
@@ -383,8 +381,8 @@ fn each_motion<C: FieldCodec>(
 pub(crate) fn element_changes(
     layout: &Layout,
     item: usize,
-    before: &Cell,
-    after: &Cell,
+    before: &ControlState,
+    after: &ControlState,
     out: &mut Vec<Event>,
 )
     requires before { HasPlaces before.now (length (usages_at layout.now item)) }
@@ -395,15 +393,21 @@ pub(crate) fn element_changes(
         out.new }
 {
     match before {
-        Cell::Pressed(old) => match after {
-            Cell::Pressed(new) => switch_changes(layout, item, old, new, out),
-            Cell::Vacant | Cell::Holding(_) | Cell::Moved(_) | Cell::RolledOver(_) => {}
+        ControlState::Switches(old) => match after {
+            ControlState::Switches(new) => switch_changes(layout, item, old, new, out),
+            ControlState::Absent
+            | ControlState::Values(_)
+            | ControlState::Motions(_)
+            | ControlState::RollOver(_) => {}
         },
-        Cell::Holding(old) => match after {
-            Cell::Holding(new) => value_changes(layout, item, old, new, out),
-            Cell::Vacant | Cell::Pressed(_) | Cell::Moved(_) | Cell::RolledOver(_) => {}
+        ControlState::Values(old) => match after {
+            ControlState::Values(new) => value_changes(layout, item, old, new, out),
+            ControlState::Absent
+            | ControlState::Switches(_)
+            | ControlState::Motions(_)
+            | ControlState::RollOver(_) => {}
         },
-        Cell::Vacant | Cell::Moved(_) | Cell::RolledOver(_) => {}
+        ControlState::Absent | ControlState::Motions(_) | ControlState::RollOver(_) => {}
     }
 }
 
@@ -412,8 +416,8 @@ pub(crate) fn element_changes(
 pub(crate) fn key_changes(
     layout: &Layout,
     item: usize,
-    before: &Cell,
-    after: &Cell,
+    before: &ControlState,
+    after: &ControlState,
     out: &mut Vec<Event>,
 )
     requires before { HasPlaces before.now (length (usages_at layout.now item)) }
@@ -424,15 +428,21 @@ pub(crate) fn key_changes(
         out.new }
 {
     match before {
-        Cell::Pressed(old) => match after {
-            Cell::Pressed(new) => flag_changes(layout, item, old, new, out),
-            Cell::Vacant | Cell::Holding(_) | Cell::Moved(_) | Cell::RolledOver(_) => {}
+        ControlState::Switches(old) => match after {
+            ControlState::Switches(new) => flag_changes(layout, item, old, new, out),
+            ControlState::Absent
+            | ControlState::Values(_)
+            | ControlState::Motions(_)
+            | ControlState::RollOver(_) => {}
         },
-        Cell::Vacant | Cell::Holding(_) | Cell::Moved(_) | Cell::RolledOver(_) => {}
+        ControlState::Absent
+        | ControlState::Values(_)
+        | ControlState::Motions(_)
+        | ControlState::RollOver(_) => {}
     }
 }
 
-/// The same, of the keys before and the flags after, which may be more.
+/// The events of the keys of an array, of the keys before and the flags after, which may be more.
 pub(crate) fn flag_changes(
     layout: &Layout,
     item: usize,
@@ -442,12 +452,11 @@ pub(crate) fn flag_changes(
 )
     requires before { length before.now ≡ length (usages_at layout.now item) }
     requires after { length (usages_at layout.now item) ≤ length after.now }
-    requires behind { (i : ℕ) → length (usages_at layout.now item) ≤ i
-        → is_on after.now i ≡ false }
-    requires room { HasSpace out.old (ups item (usages_at layout.now item) before.now after.now
-        ++ downs item (usages_at layout.now item) before.now after.now) }
-    ensures { Appends out.old (ups item (usages_at layout.now item) before.now after.now
-        ++ downs item (usages_at layout.now item) before.now after.now) out.new }
+    requires behind { AreOffFrom (length (usages_at layout.now item)) after.now }
+    requires room { HasSpace out.old
+        (flag_events item (usages_at layout.now item) before.now after.now) }
+    ensures { Appends out.old (flag_events item (usages_at layout.now item) before.now after.now)
+        out.new }
 {
     releases(layout, item, before, after, out);
     presses(layout, item, before, after, out);
@@ -458,17 +467,15 @@ pub(crate) fn flag_changes(
 pub(crate) fn item_changes(
     layout: &Layout,
     item: usize,
-    before: &Cell,
-    after: &Cell,
+    before: &ControlState,
+    after: &ControlState,
     out: &mut Vec<Event>,
 )
     requires listed { item < length layout.now.items }
-    requires before { HasRoom (head_of (form_at (items_of layout.now) item)) before.now }
-    requires after { HasRoom (head_of (form_at (items_of layout.now) item)) after.now }
-    requires room { HasSpace out.old (change_events item
-        (form_at (items_of layout.now) item) before.now after.now) }
-    ensures { Appends out.old (change_events item (form_at
-        (items_of layout.now) item) before.now after.now) out.new }
+    requires before { HasRoomAt layout.now item before.now }
+    requires after { HasRoomAt layout.now item after.now }
+    requires room { HasSpace out.old (changes_at layout.now item before.now after.now) }
+    ensures { Appends out.old (changes_at layout.now item before.now after.now) out.new }
 {
     match layout.controls(item) {
         Controls::None => {}
@@ -478,13 +485,18 @@ pub(crate) fn item_changes(
 }
 
 /// The events between two views, item by item.
-pub(crate) fn all_changes(layout: &Layout, before: &[Cell], after: &[Cell], out: &mut Vec<Event>)
+pub(crate) fn all_changes(
+    layout: &Layout,
+    before: &[ControlState],
+    after: &[ControlState],
+    out: &mut Vec<Event>,
+)
     requires before { FitsView (items_of layout.now) before.now }
     requires after { FitsView (items_of layout.now) after.now }
     requires room { HasSpace out.old (changes_between (items_of layout.now) before.now after.now) }
     ensures { Appends out.old (changes_between (items_of layout.now) before.now after.now) out.new }
 {
     for i in 0..item_count(layout) {
-        item_changes(layout, i, cell_at(before, i), cell_at(after, i), out);
+        item_changes(layout, i, state_at(before, i), state_at(after, i), out);
     }
 }

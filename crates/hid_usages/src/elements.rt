@@ -1,17 +1,16 @@
 //! The elements of a variable item, as the numbers of a report leave them, one by one, and what they tell.
 
-ghost use Rattle.std.specs.Prelude.{◌≡◌, ◌+◌, ◌*◌, ◌^◌, ◌<◌, ◌≤◌, min, Bool, false, Option, List, ℤ, map, length, slice_get, slice_set, Some, IfSome};
+ghost use Rattle.std.specs.Prelude.{◌≡◌, ◌+◌, ◌*◌, ◌^◌, ◌<◌, ◌≤◌, min, List, ℤ, length, IfSome};
 ghost use Rattle.std.specs.Bool.{OnTrue};
-ghost use Rattle.std.specs.List.{zip};
-ghost use Rattle.hid_descriptor.specs.declared.usage.Usage.{Usage as UsageValue};
-ghost use Rattle.hid_snapshots.specs.Events.{at, usages_at, switch_event, switch_events, value_event, value_events};
-ghost use Rattle.hid_usages.specs.Appending.{HasSpace, Appends};
-ghost use Rattle.hid_usages.specs.Reading.{read_switch, read_value};
-ghost use Rattle.hid_usages.specs.Keeping.{FindsKept};
+ghost use Rattle.hid_snapshots.specs.Events.{at, usages_at, switch_event, value_event};
 ghost use Rattle.hid_snapshots.specs.Numbers.{IsWordOf};
+ghost use Rattle.hid_usages.specs.Appending.{HasSpace, Appends};
+ghost use Rattle.hid_usages.specs.Elements.{switch_by_number, value_by_number, read_all, switches_told, values_told, OfElement, BecomesAt};
+ghost use Rattle.hid_usages.specs.Keeping.{FindsKept};
+ghost use Rattle.hid_usages.specs.Reading.{read_switch, read_value};
 
 use crate::bounds::Bounds;
-use crate::differences::{tell_switch, tell_value};
+use crate::differences::{push_switch_event, push_value_event};
 use hid_fields::FieldCodec;
 use hid_layout::Layout;
 use hid_snapshots::{Event, FieldRun, Flags, Values};
@@ -35,10 +34,9 @@ fn next_by_word(held: &Flags, index: usize, word: u64, from: usize) -> Option<us
     requires high { from < 64 * index + 64 }
     requires within { 64 * index < length held.now }
     ensures { (numbers : List ℤ) → IsWordOf numbers index word → length numbers ≡ length held.now
-        → FindsKept (λ p. read_switch p.0 p.1) held.now numbers from
+        → FindsKept switch_by_number held.now numbers from
         (min (64 * index + 64) (length held.now)) result }
 {
-    let _count = held.len(); // a place is a number of the machine
     match held.first_unlike(index, word, from - 64 * index) {
         Some(bit) => Some(64 * index + bit),
         None => None,
@@ -54,7 +52,7 @@ fn next_by_number<C: FieldCodec>(
 ) -> Option<usize>
     requires numbers { length numbers.now ≡ length held.now }
     requires end { end ≤ length held.now }
-    ensures { FindsKept (λ p. read_switch p.0 p.1) held.now numbers.now from end result }
+    ensures { FindsKept switch_by_number held.now numbers.now from end result }
 {
     for index in from..end {
         let number = numbers.number::<C>(index);
@@ -77,7 +75,7 @@ fn next_of_64<C: FieldCodec>(
     requires low { 64 * index ≤ from }
     requires high { from < 64 * index + 64 }
     requires within { 64 * index < length held.now }
-    ensures { FindsKept (λ p. read_switch p.0 p.1) held.now numbers.now from
+    ensures { FindsKept switch_by_number held.now numbers.now from
         (min (64 * index + 64) (length held.now)) result }
 {
     match numbers.word::<C>(index) {
@@ -92,7 +90,7 @@ fn next_of_64<C: FieldCodec>(
 /// The first switch from one on that its number changes.
 fn next_switch<C: FieldCodec>(held: &Flags, numbers: &FieldRun<'_>, from: usize) -> Option<usize>
     requires numbers { length numbers.now ≡ length held.now }
-    ensures found { FindsKept (λ p. read_switch p.0 p.1) held.now numbers.now from
+    ensures found { FindsKept switch_by_number held.now numbers.now from
         (length held.now) result }
     ensures behind { IfSome result (λ place. place + 1 < 2 ^ 64) }
 {
@@ -116,20 +114,15 @@ fn take_switch(
 )
     requires index { index < length (usages_at layout.now item) }
     requires held { length held.old ≡ length (usages_at layout.now item) }
-    requires room { (usage : UsageValue) (before : Bool)
-        → slice_get (usages_at layout.now item) index ≡ Some usage
-        → slice_get held.old index ≡ Some before → HasSpace out.old
-        (switch_event (at item index) usage before (read_switch before number.now)) }
-    ensures held { (before : Bool) → slice_get held.old index ≡ Some before
-        → held.new ≡ slice_set held.old index (read_switch before number.now) }
-    ensures told { (usage : UsageValue) (before : Bool)
-        → slice_get (usages_at layout.now item) index ≡ Some usage
-        → slice_get held.old index ≡ Some before → Appends out.old
-        (switch_event (at item index) usage before (read_switch before number.now)) out.new }
+    requires room { OfElement layout.now item index held.old (λ usage before. HasSpace out.old
+        (switch_event (at item index) usage before (read_switch before number.now))) }
+    ensures held { BecomesAt index (λ before. read_switch before number.now) held.old held.new }
+    ensures told { OfElement layout.now item index held.old (λ usage before. Appends out.old
+        (switch_event (at item index) usage before (read_switch before number.now)) out.new) }
 {
     let before = held.get(index);
     let after = read_switch(before, number);
-    tell_switch(layout, item, index, before, after, out);
+    push_switch_event(layout, item, index, before, after, out);
     held.set(index, after);
 }
 
@@ -143,12 +136,10 @@ pub(crate) fn take_switches<C: FieldCodec>(
 )
     requires numbers { length numbers.now ≡ length (usages_at layout.now item) }
     requires held { length held.old ≡ length (usages_at layout.now item) }
-    requires room { HasSpace out.old (switch_events item (usages_at layout.now item) held.old
-        (map (λ p. read_switch p.0 p.1) (zip held.old numbers.now))) }
-    ensures held { held.new ≡ map (λ p. read_switch p.0 p.1) (zip held.old numbers.now) }
+    requires room { HasSpace out.old (switches_told layout.now item held.old numbers.now) }
+    ensures held { held.new ≡ read_all switch_by_number held.old numbers.now }
     ensures len { length held.new ≡ length held.old }
-    ensures told { Appends out.old (switch_events item (usages_at layout.now item) held.old
-        (map (λ p. read_switch p.0 p.1) (zip held.old numbers.now))) out.new }
+    ensures told { Appends out.old (switches_told layout.now item held.old numbers.now) out.new }
 {
     let mut from = 0;
     while let Some(index) = next_switch::<C>(held, numbers, from) {
@@ -182,8 +173,7 @@ pub(crate) struct Carriable {
 /// Whether a value is as an element's number leaves it. One that is the number is held against its range only where it can
 /// be null.
 fn is_kept(before: Option<i64>, carriable: &Carriable, number: &i64) -> bool
-    ensures { OnTrue result (read_value carriable.now.has_null carriable.now.bounds.least
-        carriable.now.bounds.greatest before number.now ≡ before) }
+    ensures { OnTrue result (value_by_number carriable.now (before, number.now) ≡ before) }
 {
     if !carriable.has_null && before == Some(*number) {
         true
@@ -201,8 +191,8 @@ fn next_value<C: FieldCodec>(
     from: usize,
 ) -> Option<usize>
     requires numbers { length numbers.now ≡ length held.now }
-    ensures found { FindsKept (λ p. read_value carriable.now.has_null carriable.now.bounds.least
-        carriable.now.bounds.greatest p.0 p.1) held.now numbers.now from (length held.now) result }
+    ensures found { FindsKept (value_by_number carriable.now) held.now numbers.now from
+        (length held.now) result }
     ensures behind { IfSome result (λ place. place + 1 < 2 ^ 64) }
 {
     let carriable = *carriable;
@@ -227,23 +217,18 @@ fn take_value(
 )
     requires index { index < length (usages_at layout.now item) }
     requires held { length held.old ≡ length (usages_at layout.now item) }
-    requires room { (usage : UsageValue) (before : Option ℤ)
-        → slice_get (usages_at layout.now item) index ≡ Some usage
-        → slice_get held.old index ≡ Some before → HasSpace out.old
-        (value_event (at item index) usage before (read_value carriable.now.has_null
-        carriable.now.bounds.least carriable.now.bounds.greatest before number.now)) }
-    ensures held { (before : Option ℤ) → slice_get held.old index ≡ Some before
-        → held.new ≡ slice_set held.old index (read_value carriable.now.has_null
-        carriable.now.bounds.least carriable.now.bounds.greatest before number.now) }
-    ensures told { (usage : UsageValue) (before : Option ℤ)
-        → slice_get (usages_at layout.now item) index ≡ Some usage
-        → slice_get held.old index ≡ Some before → Appends out.old
-        (value_event (at item index) usage before (read_value carriable.now.has_null
-        carriable.now.bounds.least carriable.now.bounds.greatest before number.now)) out.new }
+    requires room { OfElement layout.now item index held.old (λ usage before. HasSpace out.old
+        (value_event (at item index) usage before
+        (value_by_number carriable.now (before, number.now)))) }
+    ensures held { BecomesAt index (λ before. value_by_number carriable.now (before, number.now))
+        held.old held.new }
+    ensures told { OfElement layout.now item index held.old (λ usage before. Appends out.old
+        (value_event (at item index) usage before
+        (value_by_number carriable.now (before, number.now))) out.new) }
 {
     let before = held.get(index);
     let after = read_value(before, carriable.has_null, &carriable.bounds, number);
-    tell_value(layout, item, index, before, after, out);
+    push_value_event(layout, item, index, before, after, out);
     held.set(index, after);
 }
 
@@ -258,16 +243,12 @@ pub(crate) fn take_values<C: FieldCodec>(
 )
     requires numbers { length numbers.now ≡ length (usages_at layout.now item) }
     requires held { length held.old ≡ length (usages_at layout.now item) }
-    requires room { HasSpace out.old (value_events item (usages_at layout.now item) held.old
-        (map (λ p. read_value carriable.now.has_null carriable.now.bounds.least
-        carriable.now.bounds.greatest p.0 p.1) (zip held.old numbers.now))) }
-    ensures held { held.new ≡ map (λ p. read_value carriable.now.has_null
-        carriable.now.bounds.least carriable.now.bounds.greatest p.0 p.1)
-        (zip held.old numbers.now) }
+    requires room { HasSpace out.old
+        (values_told layout.now item carriable.now held.old numbers.now) }
+    ensures held { held.new ≡ read_all (value_by_number carriable.now) held.old numbers.now }
     ensures len { length held.new ≡ length held.old }
-    ensures told { Appends out.old (value_events item (usages_at layout.now item) held.old
-        (map (λ p. read_value carriable.now.has_null carriable.now.bounds.least
-        carriable.now.bounds.greatest p.0 p.1) (zip held.old numbers.now))) out.new }
+    ensures told { Appends out.old
+        (values_told layout.now item carriable.now held.old numbers.now) out.new }
 {
     match numbers.bytes(false) {
         Some(bytes) => {
@@ -278,7 +259,7 @@ pub(crate) fn take_values<C: FieldCodec>(
     }
 }
 
-/// The same, one by one.
+/// Values, as these numbers leave them, one by one. Inlined twice: numbers of a byte each need no shifts.
 #[inline(always)]
 fn take_each_value<C: FieldCodec>(
     layout: &Layout,
@@ -290,16 +271,12 @@ fn take_each_value<C: FieldCodec>(
 )
     requires numbers { length numbers.now ≡ length (usages_at layout.now item) }
     requires held { length held.old ≡ length (usages_at layout.now item) }
-    requires room { HasSpace out.old (value_events item (usages_at layout.now item) held.old
-        (map (λ p. read_value carriable.now.has_null carriable.now.bounds.least
-        carriable.now.bounds.greatest p.0 p.1) (zip held.old numbers.now))) }
-    ensures held { held.new ≡ map (λ p. read_value carriable.now.has_null
-        carriable.now.bounds.least carriable.now.bounds.greatest p.0 p.1)
-        (zip held.old numbers.now) }
+    requires room { HasSpace out.old
+        (values_told layout.now item carriable.now held.old numbers.now) }
+    ensures held { held.new ≡ read_all (value_by_number carriable.now) held.old numbers.now }
     ensures len { length held.new ≡ length held.old }
-    ensures told { Appends out.old (value_events item (usages_at layout.now item) held.old
-        (map (λ p. read_value carriable.now.has_null carriable.now.bounds.least
-        carriable.now.bounds.greatest p.0 p.1) (zip held.old numbers.now))) out.new }
+    ensures told { Appends out.old
+        (values_told layout.now item carriable.now held.old numbers.now) out.new }
 {
     let mut from = 0;
     while let Some(index) = next_value::<C>(held, carriable, numbers, from) {

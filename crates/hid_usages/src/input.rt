@@ -82,7 +82,9 @@ pub fn bytes_awaited(layout: &Layout, bytes: &[u8]) -> usize
     ensures awaited { result ≡ bytes_awaited layout.now bytes.now }
     ensures short { result ≤ MAX_REPORT_BYTES }
 {
-    let _items = layout.items(); // with what holds of every layout, as that its reports are short
+    // For the prover: what holds of every layout, as that its reports are short.
+    let _ = layout.items();
+
     match report_begun(layout, bytes) {
         None => MAX_REPORT_BYTES as usize,
         Some(report) => layout.report_bytes(report),
@@ -98,7 +100,9 @@ pub fn element_value<C: FieldCodec>(layout: &Layout, bytes: &[u8], item: usize, 
     ensures { IfSome (element_of layout.now item j) (λ element. result
         ≡ element_number layout.now bytes.now element) }
 {
-    let _items = layout.items(); // with what holds of every layout, as that its reports are short
+    // For the prover: what holds of every layout, as that its reports are short.
+    let _ = layout.items();
+
     match layout.element(item, j) {
         Some(element) => element_number::<C>(layout, bytes, &element),
         None => 0,

@@ -1,7 +1,7 @@
 //! Laws of the definitions that contracts cite.
 
 ghost use Rattle.std.specs.Prelude.{◌≡◌, ℤ, List, map};
-ghost use Rattle.hid_snapshots.specs.Cells.{are_motions};
+ghost use Rattle.hid_snapshots.specs.ControlStates.{are_motions};
 ghost use Rattle.hid_usages.specs.Crossing.{PartsAreReadBack, PartsAreTaken, SeenIsView};
 ghost use Rattle.hid_usages.specs.Law.{ReadsBack};
 ghost use Rattle.hid_usages.specs.OneReport.{SeesOneReport, TellsOneReport, ShowsOneReport};

@@ -8,14 +8,15 @@
 //!   an element of 07:01 in an array    the keys of that array stay as they were
 //!   a number out of its range          null where the control has null, else nothing changes
 //! ```
-//! A [`Snapshot`], a [`Shown`] and a [`View`] each have one cell for each listed item of their layout, so a control's ID
+//! A [`Snapshot`], a [`Shown`] and a [`View`] each have one control state for each listed item of their layout, so a control's ID
 //! addresses its state.
 //!
 //! The rule to know: a call with a layout requires the one with which its other values were made, by the conditions
 //! `FitsSnapshot`, `FitsShown` and `FitsView`; `blank` and `initial` make them, and every call keeps them.
 //!
 //! Pressed and held keys are words of 64 bits: `key_words` of a [`Snapshot`] and of a [`View`]. A [`Reader`] owns a layout with
-//! its view; it doesn't decode a report again that equals the last one, if that gave no events and has at most 64 bytes.
+//! its view; it doesn't decode a report again that equals the last one, if that gave no events and has at most 64 bytes. A
+//! [`Receiver`] reads reports out of the packets in which they come.
 //!
 //! The promise: any bytes give one view and one list of events (`taken` on [`View::take_report`]). The reports of the boot
 //! keyboard and mouse give the same without a layout ([`boot::laws`]). No call takes memory but `Snapshot::blank`,
@@ -33,6 +34,7 @@ mod input;
 pub mod laws;
 mod read;
 mod reader;
+mod receiver;
 mod take;
 mod view;
 
@@ -42,4 +44,5 @@ pub use hid_snapshots::{
 };
 pub use input::{bytes_awaited, element_value, input_report};
 pub use reader::Reader;
+pub use receiver::{Arrived, FULL_PACKET, Receiver};
 pub use view::{View, changes, changes_and_drops};

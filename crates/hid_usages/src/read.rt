@@ -1,18 +1,16 @@
 //! The keys of an array that its elements name.
 
-ghost use Rattle.std.specs.Prelude.{All, ◌≡◌, ◌<◌, ℕ, false, length, replicate, take, slice_get, Some, ◌≢◌, ◌≤◌, ◌*◌, ◌+ℤ◌, pos, ◌++◌, [], ◌∷◌, ℤ, List, MatchOption, IfSome, not, true, ◌&&◌, int_le};
-ghost use Rattle.std.specs.List.{list_any};
-ghost use Rattle.hid_descriptor.specs.Usages.{usage_list, is_rollover};
+ghost use Rattle.std.specs.Prelude.{All, ◌≡◌, ◌<◌, ℕ, false, length, slice_get, Some, ◌≢◌, ◌≤◌, ◌*◌, ◌+ℤ◌, pos, MatchOption, IfSome, not, true, ◌&&◌, int_le};
+ghost use Rattle.hid_descriptor.specs.Usages.{is_rollover};
 ghost use Rattle.hid_layout.specs.Controls.{is_key};
-ghost use Rattle.hid_snapshots.specs.Words.{is_on};
-ghost use Rattle.hid_usages.specs.Reading.{array_keys, FitsFields, named_from, names_rollover};
-ghost use Rattle.hid_usages.specs.Keeping.{NamesNoneAnew};
+ghost use Rattle.hid_usages.specs.Reading.{FitsFields};
+ghost use Rattle.hid_usages.specs.KeyArrays.{usages_of_array, tells_rollover, CountsUsages, CanAdd, AddsKey, AddsNextKey, StaysBehind, AreClear, ReadsNumbers};
 
 use hid_fields::FieldCodec;
 use hid_layout::{MAX_KEYS, MainItem, Usage, usage_at, usage_count};
 use hid_snapshots::{FieldRun, Flags};
 
-/// The place that an element of this number names, of so many.
+/// The place that an element of this number names, if it is below `count`.
 fn place_of(item: &MainItem, number: &i64, count: usize) -> Option<usize>
     requires { count ≤ 64 * 65536 }
     ensures { MatchOption result ((p : ℕ) → p < count
@@ -48,23 +46,12 @@ pub(crate) struct KeyArray<'a> {
 }
 
 /// Adds the key with this usage at the place that an element of this number names.
-fn press(array: &KeyArray<'_>, number: &i64, place: usize, usage: &Usage, after: &mut Flags)
-    requires fits { FitsFields array.now.item.now number.now }
+fn set_key(array: &KeyArray<'_>, number: &i64, place: usize, usage: &Usage, after: &mut Flags)
+    requires can { CanAdd array.now number.now after.old }
     requires number { number.now ≡ array.now.item.now.min +ℤ pos place }
-    requires usage { slice_get (usage_list array.now.entries.now) place ≡ Some usage.now }
-    requires after { length (array_keys array.now.item.now (usage_list array.now.entries.now))
-        ≤ length after.old }
-    ensures keys { (numbers : List ℤ)
-        → take (length (array_keys array.now.item.now (usage_list array.now.entries.now))) after.old
-        ≡ named_from array.now.item.now numbers 0
-        (array_keys array.now.item.now (usage_list array.now.entries.now))
-        → take (length (array_keys array.now.item.now (usage_list array.now.entries.now))) after.new
-        ≡ named_from array.now.item.now (numbers ++ number.now
-        ∷ []) 0 (array_keys array.now.item.now (usage_list array.now.entries.now)) }
-    ensures behind { (i : ℕ)
-        → length (array_keys array.now.item.now (usage_list array.now.entries.now)) ≤ i
-        → is_on after.new i ≡ is_on after.old i }
-    ensures len { length after.new ≡ length after.old }
+    requires usage { slice_get (usages_of_array array.now) place ≡ Some usage.now }
+    ensures keys { AddsKey array.now number.now after.old after.new }
+    ensures behind { StaysBehind array.now after.old after.new }
 {
     if is_pressable(array.item, number, place, usage) {
         after.set(place, true);
@@ -72,7 +59,7 @@ fn press(array: &KeyArray<'_>, number: &i64, place: usize, usage: &Usage, after:
 }
 
 /// Whether an element of this number, which names this usage, tells ErrorRollOver.
-fn tells_rollover(item: &MainItem, number: &i64, usage: &Usage) -> bool
+fn reports_rollover(item: &MainItem, number: &i64, usage: &Usage) -> bool
     ensures { result ≡ (int_le number.now item.now.max && is_rollover usage.now) }
 {
     *number <= item.max && usage.is_rollover()
@@ -80,34 +67,21 @@ fn tells_rollover(item: &MainItem, number: &i64, usage: &Usage) -> bool
 
 /// Adds the key that an element of this number names; false where it names ErrorRollOver.
 fn add_key(array: &KeyArray<'_>, count: usize, number: &i64, after: &mut Flags) -> bool
-    requires count { count ≡ length (usage_list array.now.entries.now) }
-    requires few { count ≤ 64 * 65536 }
-    requires fits { FitsFields array.now.item.now number.now }
-    requires after { length (array_keys array.now.item.now (usage_list array.now.entries.now))
-        ≤ length after.old }
-    ensures rolls { result
-        ≡ not (names_rollover array.now.item.now (usage_list array.now.entries.now) number.now) }
-    ensures keys { (numbers : List ℤ) → result ≡ true
-        → take (length (array_keys array.now.item.now (usage_list array.now.entries.now))) after.old
-        ≡ named_from array.now.item.now numbers 0
-        (array_keys array.now.item.now (usage_list array.now.entries.now))
-        → take (length (array_keys array.now.item.now (usage_list array.now.entries.now))) after.new
-        ≡ named_from array.now.item.now (numbers ++ number.now
-        ∷ []) 0 (array_keys array.now.item.now (usage_list array.now.entries.now)) }
-    ensures behind { (i : ℕ)
-        → length (array_keys array.now.item.now (usage_list array.now.entries.now)) ≤ i
-        → is_on after.new i ≡ is_on after.old i }
-    ensures len { length after.new ≡ length after.old }
+    requires count { CountsUsages array.now count }
+    requires can { CanAdd array.now number.now after.old }
+    ensures rolls { result ≡ not (tells_rollover array.now number.now) }
+    ensures keys { result ≡ true → AddsKey array.now number.now after.old after.new }
+    ensures behind { StaysBehind array.now after.old after.new }
 {
     match place_of(array.item, number, count) {
         None => true,
         Some(place) => match usage_at(array.entries, place) {
             None => true,
             Some(usage) => {
-                if tells_rollover(array.item, number, &usage) {
+                if reports_rollover(array.item, number, &usage) {
                     false
                 } else {
-                    press(array, number, place, &usage, after);
+                    set_key(array, number, place, &usage, after);
                     true
                 }
             }
@@ -115,7 +89,7 @@ fn add_key(array: &KeyArray<'_>, count: usize, number: &i64, after: &mut Flags) 
     }
 }
 
-/// The same, of the number behind another one, which names no key anew where it is the same.
+/// Adds the key that the next element's number names, unless it is the number before.
 fn add_next_key(
     array: &KeyArray<'_>,
     count: usize,
@@ -123,28 +97,12 @@ fn add_next_key(
     number: &i64,
     after: &mut Flags,
 ) -> bool
-    requires count { count ≡ length (usage_list array.now.entries.now) }
-    requires few { count ≤ 64 * 65536 }
-    requires fits { FitsFields array.now.item.now number.now }
-    requires after { length (array_keys array.now.item.now (usage_list array.now.entries.now))
-        ≤ length after.old }
-    requires before { IfSome before (λ v. names_rollover array.now.item.now
-        (usage_list array.now.entries.now) v ≡ false) }
-    ensures rolls { result
-        ≡ not (names_rollover array.now.item.now (usage_list array.now.entries.now) number.now) }
-    ensures keys { (numbers : List ℤ) → result ≡ true
-        → NamesNoneAnew array.now.item.now numbers (array_keys array.now.item.now
-        (usage_list array.now.entries.now)) before
-        → take (length (array_keys array.now.item.now (usage_list array.now.entries.now))) after.old
-        ≡ named_from array.now.item.now numbers 0
-        (array_keys array.now.item.now (usage_list array.now.entries.now))
-        → take (length (array_keys array.now.item.now (usage_list array.now.entries.now))) after.new
-        ≡ named_from array.now.item.now (numbers ++ number.now
-        ∷ []) 0 (array_keys array.now.item.now (usage_list array.now.entries.now)) }
-    ensures behind { (i : ℕ)
-        → length (array_keys array.now.item.now (usage_list array.now.entries.now)) ≤ i
-        → is_on after.new i ≡ is_on after.old i }
-    ensures len { length after.new ≡ length after.old }
+    requires count { CountsUsages array.now count }
+    requires can { CanAdd array.now number.now after.old }
+    requires before { IfSome before (λ v. tells_rollover array.now v ≡ false) }
+    ensures rolls { result ≡ not (tells_rollover array.now number.now) }
+    ensures keys { result ≡ true → AddsNextKey array.now before number.now after.old after.new }
+    ensures behind { StaysBehind array.now after.old after.new }
 {
     if before == Some(*number) {
         true
@@ -162,20 +120,8 @@ pub(crate) fn read_keys<C: FieldCodec>(
 ) -> bool
     requires entries { length array.now.entries.now ≤ 64 }
     requires fits { All (FitsFields array.now.item.now) numbers.now }
-    requires after { length (array_keys array.now.item.now (usage_list array.now.entries.now))
-        ≤ length after.old }
-    requires none { after.old ≡ replicate (length after.old) false }
-    ensures rolls { result
-        ≡ not (list_any (names_rollover array.now.item.now (usage_list array.now.entries.now))
-        numbers.now) }
-    ensures keys { result ≡ true
-        → take (length (array_keys array.now.item.now (usage_list array.now.entries.now))) after.new
-        ≡ named_from array.now.item.now numbers.now 0
-        (array_keys array.now.item.now (usage_list array.now.entries.now)) }
-    ensures behind { (i : ℕ)
-        → length (array_keys array.now.item.now (usage_list array.now.entries.now)) ≤ i
-        → is_on after.new i ≡ false }
-    ensures len { length after.new ≡ length after.old }
+    requires clear { AreClear array.now after.old }
+    ensures { ReadsNumbers array.now numbers.now result after.old after.new }
 {
     match numbers.bytes(false) {
         Some(bytes) => read_each_key::<C>(array, &FieldRun::of_bytes(bytes, false), after),
@@ -183,7 +129,7 @@ pub(crate) fn read_keys<C: FieldCodec>(
     }
 }
 
-/// The same, one by one.
+/// Sets the keys that these numbers name, one by one. Inlined twice: numbers of a byte each need no shifts.
 #[inline(always)]
 fn read_each_key<C: FieldCodec>(
     array: &KeyArray<'_>,
@@ -192,20 +138,8 @@ fn read_each_key<C: FieldCodec>(
 ) -> bool
     requires entries { length array.now.entries.now ≤ 64 }
     requires fits { All (FitsFields array.now.item.now) numbers.now }
-    requires after { length (array_keys array.now.item.now (usage_list array.now.entries.now))
-        ≤ length after.old }
-    requires none { after.old ≡ replicate (length after.old) false }
-    ensures rolls { result
-        ≡ not (list_any (names_rollover array.now.item.now (usage_list array.now.entries.now))
-        numbers.now) }
-    ensures keys { result ≡ true
-        → take (length (array_keys array.now.item.now (usage_list array.now.entries.now))) after.new
-        ≡ named_from array.now.item.now numbers.now 0
-        (array_keys array.now.item.now (usage_list array.now.entries.now)) }
-    ensures behind { (i : ℕ)
-        → length (array_keys array.now.item.now (usage_list array.now.entries.now)) ≤ i
-        → is_on after.new i ≡ false }
-    ensures len { length after.new ≡ length after.old }
+    requires clear { AreClear array.now after.old }
+    ensures { ReadsNumbers array.now numbers.now result after.old after.new }
 {
     let count = usage_count(array.entries);
     let mut last = None;

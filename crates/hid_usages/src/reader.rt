@@ -1,12 +1,12 @@
-//! The Input reports of one device, read one behind the other.
+//! The Input reports of one device, read one after the other.
 
 ghost use Rattle.std.specs.Prelude.{◌≡◌, ◌<◌, ◌≤◌, ◌+◌, length, vec_len, vec_capacity};
 ghost use Rattle.std.specs.Bool.{OnTrue};
 ghost use Rattle.hid_layout.specs.Controls.{items_of, max_events};
 ghost use Rattle.hid_layout.specs.Reports.{IsLayout};
-ghost use Rattle.hid_snapshots.specs.Cells.{FitsView};
+ghost use Rattle.hid_snapshots.specs.ControlStates.{FitsView};
 ghost use Rattle.hid_usages.specs.Taking.{TakesReport};
-ghost use Rattle.hid_usages.specs.Reader.{kept_of};
+ghost use Rattle.hid_usages.specs.Reader.{still_bytes_of};
 
 use crate::view::View;
 use arrayvec::ArrayVec;
@@ -44,10 +44,10 @@ fn is_kept(still: &[u8], bytes: &[u8]) -> bool
     !still.is_empty() && still == bytes
 }
 
-/// Keeps the bytes of a report that told nothing. Each of the two cases clears by itself: that costs a report that told
-/// something less.
+/// Keeps the bytes of a report that told nothing. Each branch clears by itself, so that a
+/// report that gave events pays less.
 fn keep(still: &mut ArrayVec<u8, 64>, bytes: &[u8], is_silent: bool)
-    ensures { still.new.items ≡ kept_of is_silent bytes.now }
+    ensures { still.new.items ≡ still_bytes_of is_silent bytes.now }
 {
     if is_silent {
         still.clear();
@@ -63,7 +63,9 @@ impl Reader {
         requires { FitsView (items_of layout) view }
         ensures { result ≡ record { layout = layout; view = view } }
     {
-        let _items = layout.items(); // with what holds of every layout
+        // For the prover: what holds of every layout.
+        let _ = layout.items();
+
         Reader {
             layout,
             view,
@@ -104,7 +106,7 @@ impl Reader {
             self.new.view out.new.items }
         ensures layout { self.new.layout ≡ self.old.layout }
         ensures fits { FitsView (items_of self.new.layout) self.new.view }
-        // At most so many events, in the room that was there.
+        // At most `max_events` events, in the room that was there.
         ensures few { vec_len out.new ≤ vec_len out.old + max_events (items_of self.old.layout) }
         ensures room { vec_capacity out.new ≡ vec_capacity out.old }
     {

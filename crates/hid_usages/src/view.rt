@@ -2,11 +2,11 @@
 
 ghost use Rattle.std.specs.Prelude.{◌≡◌, ◌≤◌, ◌+◌, ◌++◌, ℕ, true, length, slice_get, Some, IfOk, vec_len, vec_capacity};
 ghost use Rattle.hid_layout.specs.Controls.{items_of, max_events};
-ghost use Rattle.hid_snapshots.specs.declared.cell.Cell.{Cell as CellValue};
+ghost use Rattle.hid_snapshots.specs.declared.control_state.ControlState.{ControlState as StateValue};
 ghost use Rattle.hid_snapshots.specs.Full.{IsFull};
-ghost use Rattle.hid_snapshots.specs.Cells.{blank, FitsShown, FitsView};
+ghost use Rattle.hid_snapshots.specs.ControlStates.{blank, FitsShown, FitsView};
 ghost use Rattle.hid_snapshots.specs.Parts.{IsInput};
-ghost use Rattle.hid_snapshots.specs.Snapshots.{is_pressed, cell_at};
+ghost use Rattle.hid_snapshots.specs.Snapshots.{is_pressed, state_at};
 ghost use Rattle.hid_snapshots.specs.Keys.{keys_at, has_keys_at, key_words, AreKeyWords};
 ghost use Rattle.hid_usages.specs.Taking.{TakesReport, flag_places};
 ghost use Rattle.hid_snapshots.specs.Views.{value_in, changes_between, drops_between};
@@ -19,8 +19,8 @@ use crate::take::{Received, take_items};
 use hid_fields::FieldCodec;
 use hid_layout::{ControlId, Layout};
 use hid_snapshots::{
-    Cell, Event, Flags, MemoryFault, ReportFault, Shown, blank_cells, cell_at as cell_in,
-    key_words, plan_of,
+    ControlState, Event, Flags, MemoryFault, ReportFault, Shown, blank_states, key_words, plan_of,
+    state_at as state_in,
 };
 use std::alloc::Global;
 use std::marker::Model;
@@ -29,39 +29,39 @@ use std::marker::Model;
 /// the one with which the view was made.
 #[derive(Drop)]
 pub struct View {
-    cells: Vec<Cell>,
+    states: Vec<ControlState>,
     /// Flags for the keys that a report names, as many as the most switches or keys of one item. Between two calls none is
     /// set.
     named: Flags,
-    // There is room for these cells alone.
-    ghost full: { IsFull cells },
+    // There is room for these control states alone.
+    ghost full: { IsFull states },
 }
 
 impl Model for View {
     ghost use Rattle.std.specs.Prelude.{List};
-    ghost use Rattle.hid_snapshots.specs.declared.cell.Cell.{Cell};
+    ghost use Rattle.hid_snapshots.specs.declared.control_state.ControlState.{ControlState};
 
-    ghost Value = { List Cell };
+    ghost Value = { List ControlState };
 
-    ghost view = { λ v. v.cells.items };
+    ghost view = { λ v. v.states.items };
 
     ghost use Rattle.hid_usages.specs.Taking.{NamesNone};
 
-    ghost invariant = { λ v. NamesNone v.cells.items v.named };
+    ghost invariant = { λ v. NamesNone v.states.items v.named };
 }
 
 impl View {
     /// What a host holds before the first report: nothing is held; values are those of a blank snapshot.
     ///
     /// # Errors
-    /// [`MemoryFault`], U10, for want of memory.
+    /// [`MemoryFault`], U10, for lack of memory.
     pub fn initial(alloc: Global, layout: &Layout) -> Result<Self, MemoryFault>
         ensures initial { IfOk result (λ view. view ≡ blank (items_of layout.now)) }
         ensures fits { IfOk result (λ view. FitsView (items_of layout.now) view) }
     {
-        match blank_cells(alloc, layout) {
-            Ok(cells) => match Flags::clear(alloc, most_places(&cells)) {
-                Ok(named) => Ok(View { cells, named }),
+        match blank_states(alloc, layout) {
+            Ok(states) => match Flags::clear(alloc, most_places(&states)) {
+                Ok(named) => Ok(View { states, named }),
                 Err(_) => Err(MemoryFault),
             },
             Err(_) => Err(MemoryFault),
@@ -86,7 +86,7 @@ impl View {
         ensures taken { TakesReport layout.now bytes.now self.old out.old.items result self.new
             out.new.items }
         ensures fits { FitsView (items_of layout.now) self.new }
-        // At most so many events, in the room that was there.
+        // At most `max_events` events, in the room that was there.
         ensures few { vec_len out.new ≤ vec_len out.old + max_events (items_of layout.now) }
         ensures room { vec_capacity out.new ≡ vec_capacity out.old }
     {
@@ -98,7 +98,7 @@ impl View {
                     report,
                     bytes,
                 };
-                take_items::<C>(&received, places, &mut self.cells, &mut self.named, out);
+                take_items::<C>(&received, places, &mut self.states, &mut self.named, out);
                 Ok(())
             }
             Err(fault) => Err(fault),
@@ -116,7 +116,7 @@ impl View {
         ensures few { vec_len out.new ≤ vec_len out.old + max_events (items_of layout.now) }
         ensures room { vec_capacity out.new ≡ vec_capacity out.old }
     {
-        all_changes_back(layout, &self.cells, &self.named, out);
+        all_changes_back(layout, &self.states, &self.named, out);
     }
 
     /// Appends what [`View::changes_back`] does, and the motion of an Input report's part as dropped, as
@@ -143,15 +143,15 @@ impl View {
             report,
             shown,
         };
-        all_changes_back_and_drops(&dropped, &self.cells, &self.named, out);
+        all_changes_back_and_drops(&dropped, &self.states, &self.named, out);
     }
 
     /// Whether a switch is held; false for another kind.
     pub fn held(&self, control: ControlId) -> bool
-        ensures { result ≡ is_pressed (cell_at self.now control.item) control.index }
+        ensures { result ≡ is_pressed (state_at self.now control.item) control.index }
     {
-        match self.cells.get(control.item) {
-            Some(Cell::Pressed(flags)) => flags.get_or_false(control.index),
+        match self.states.get(control.item) {
+            Some(ControlState::Switches(flags)) => flags.get_or_false(control.index),
             _ => false,
         }
     }
@@ -164,48 +164,48 @@ impl View {
         requires array { has_keys_at (items_of layout.now) item ≡ true }
         ensures words { result.now ≡ key_words self.now item }
         ensures keys { AreKeyWords (length (keys_at layout.now item))
-            (is_pressed (cell_at self.now item)) result.now }
+            (is_pressed (state_at self.now item)) result.now }
     {
-        key_words(&self.cells, item)
+        key_words(&self.states, item)
     }
 
     /// The value of an absolute control; none where it is null, and for another kind.
     pub fn value(&self, control: ControlId) -> Option<i64>
-        ensures { result ≡ value_in (cell_at self.now control.item) control.index }
+        ensures { result ≡ value_in (state_at self.now control.item) control.index }
     {
-        match self.cells.get(control.item) {
-            Some(Cell::Holding(values)) => values.get_or_none(control.index),
+        match self.states.get(control.item) {
+            Some(ControlState::Values(values)) => values.get_or_none(control.index),
             _ => None,
         }
     }
 }
 
-/// How many places of a cell can be pressed.
-fn flag_places(cell: &Cell) -> usize
-    ensures { result ≡ flag_places cell.now }
+/// How many places of a control state can be pressed.
+fn flag_places(state: &ControlState) -> usize
+    ensures { result ≡ flag_places state.now }
 {
-    match cell {
-        Cell::Pressed(flags) | Cell::RolledOver(flags) => flags.len(),
-        Cell::Vacant | Cell::Holding(_) | Cell::Moved(_) => 0,
+    match state {
+        ControlState::Switches(flags) | ControlState::RollOver(flags) => flags.len(),
+        ControlState::Absent | ControlState::Values(_) | ControlState::Motions(_) => 0,
     }
 }
 
-/// The greater of a number and of how many places of a cell can be pressed.
-fn more_places(most: usize, cell: &Cell) -> usize
+/// The greater of a number and of how many places of a control state can be pressed.
+fn more_places(most: usize, state: &ControlState) -> usize
     ensures most { most ≤ result }
-    ensures places { flag_places cell.now ≤ result }
+    ensures places { flag_places state.now ≤ result }
 {
-    most.max(flag_places(cell))
+    most.max(flag_places(state))
 }
 
-/// The greatest number of places of one cell that can be pressed, or more.
-fn most_places(cells: &[Cell]) -> usize
-    ensures { (i : ℕ) (cell : CellValue) → slice_get cells.now i ≡ Some cell
-        → flag_places cell ≤ result }
+/// The greatest number of places of one control state that can be pressed, or more.
+fn most_places(states: &[ControlState]) -> usize
+    ensures { (i : ℕ) (state : StateValue) → slice_get states.now i ≡ Some state
+        → flag_places state ≤ result }
 {
     let mut most = 0;
-    for i in 0..cells.len() {
-        most = more_places(most, cell_in(cells, i));
+    for i in 0..states.len() {
+        most = more_places(most, state_in(states, i));
     }
     most
 }
@@ -220,11 +220,11 @@ pub fn changes(layout: &Layout, before: &View, after: &View, out: &mut Vec<Event
     requires room { vec_len out.old + max_events (items_of layout.now) ≤ vec_capacity out.old }
     ensures events { out.new.items
         ≡ out.old.items ++ changes_between (items_of layout.now) before.now after.now }
-    // At most so many events, in the room that was there.
+    // At most `max_events` events, in the room that was there.
     ensures few { vec_len out.new ≤ vec_len out.old + max_events (items_of layout.now) }
     ensures room { vec_capacity out.new ≡ vec_capacity out.old }
 {
-    all_changes(layout, &before.cells, &after.cells, out);
+    all_changes(layout, &before.states, &after.states, out);
 }
 
 /// Appends what [`changes`] does, and the motion of an Input report's part as dropped: what a host tells that forgets its
@@ -246,7 +246,7 @@ pub fn changes_and_drops(
     requires room { vec_len out.old + max_events (items_of layout.now) ≤ vec_capacity out.old }
     ensures events { out.new.items ≡ out.old.items
         ++ drops_between (items_of layout.now) report before.now after.now shown.now }
-    // At most so many events, in the room that was there.
+    // At most `max_events` events, in the room that was there.
     ensures few { vec_len out.new ≤ vec_len out.old + max_events (items_of layout.now) }
     ensures room { vec_capacity out.new ≡ vec_capacity out.old }
 {
@@ -255,5 +255,5 @@ pub fn changes_and_drops(
         report,
         shown,
     };
-    all_changes_and_drops(&dropped, &before.cells, &after.cells, out);
+    all_changes_and_drops(&dropped, &before.states, &after.states, out);
 }

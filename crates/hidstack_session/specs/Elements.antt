@@ -25,11 +25,11 @@ abbrev pub usage_or_zero : Option Usage → Usage
 usage_or_zero None = record { page = 0; id = 0 }
 usage_or_zero (Some usage) = usage
 
--- what is told as the usage of an element: its own, and 00:00 of an array
-abbrev pub usage_told : Shape → List Usage → ℕ → Usage
-usage_told Variable usages j = usage_or_zero (usage_of_element usages j)
-usage_told Padding usages j = usage_or_zero None
-usage_told Array usages j = usage_or_zero None
+-- what is reported as the usage of an element: its own, and 00:00 of an array
+abbrev pub usage_number : Shape → List Usage → ℕ → Usage
+usage_number Variable usages j = usage_or_zero (usage_of_element usages j)
+usage_number Padding usages j = usage_or_zero None
+usage_number Array usages j = usage_or_zero None
 
 -- a Boolean as a number: 1 for true
 abbrev pub one_of : Bool → ℕ
@@ -37,10 +37,10 @@ one_of true = 1
 one_of false = 0
 
 -- 1 of an array
-abbrev pub array_told : Shape → ℕ
-array_told Array = 1
-array_told Padding = 0
-array_told Variable = 0
+abbrev pub array_number : Shape → ℕ
+array_number Array = 1
+array_number Padding = 0
+array_number Variable = 0
 
 -- the kind of the report at a place: 0 Input, 1 Output, 2 Feature
 abbrev pub kind_at : Contents → ℕ → ℕ
@@ -55,8 +55,8 @@ abbrev pub depth_at : Contents → ℕ → ℕ
 depth_at layout i = elim (slice_get layout.paths i) [ None ↦ 0 | Some path ↦ length path ]
 
 -- the record of a data element of the listed item at a place
-abbrev pub told_element : Contents → ℕ → ℕ → MainItem → Element → HidElement
-told_element layout i j item element = record {
+abbrev pub element_record : Contents → ℕ → ℕ → MainItem → Element → HidElement
+element_record layout i j item element = record {
   min = element.min;
   max = element.max;
   item = i;
@@ -65,25 +65,25 @@ told_element layout i j item element = record {
   bit = first_bit layout + element.bit;
   width = element.width;
   usages = length (usages_at layout i);
-  page = (usage_told item.shape (usages_at layout i) j).page;
-  id = (usage_told item.shape (usages_at layout i) j).id;
+  page = (usage_number item.shape (usages_at layout i) j).page;
+  id = (usage_number item.shape (usages_at layout i) j).id;
   flags = item.flags.0;
   kind = kind_at layout item.report;
   report = report_id layout item.report;
   is_signed = one_of element.signed;
-  is_array = array_told item.shape;
+  is_array = array_number item.shape;
   spare = 0;
 }
 
 -- the record of a data element that may be there, of a listed item that may be there
-abbrev pub told_if : Contents → ℕ → ℕ → Option MainItem → Option Element → Option HidElement
-told_if layout i j (Some item) (Some element) = Some (told_element layout i j item element)
-told_if layout i j _ _ = None
+abbrev pub element_record_if : Contents → ℕ → ℕ → Option MainItem → Option Element → Option HidElement
+element_record_if layout i j (Some item) (Some element) = Some (element_record layout i j item element)
+element_record_if layout i j _ _ = None
 
 -- the record of the data element at a place of the listed item at a place: where it lies, its range, flags and usage.
 -- Example: Y of the boot mouse has bit 16, 8 bits, -127 to 127
 abbrev pub element_at : Contents → ℕ → ℕ → Option HidElement
-element_at layout i j = told_if layout i j (slice_get layout.items i) (element_of layout i j)
+element_at layout i j = element_record_if layout i j (slice_get layout.items i) (element_of layout i j)
 
 -- an element has 1 to 32 bits, which lie in the bytes
 abbrev pub LiesIn : HidElement → List ℕ → Type 0

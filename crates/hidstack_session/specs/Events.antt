@@ -8,15 +8,15 @@ use Rattle.hidstack_session.specs.declared.event.HidEvent.{HidEvent}
 use Rattle.hidstack_session.specs.declared.event.TheConstants.{UP, DOWN, VALUE, NULL, MOTION, DROPPED}
 
 -- a record of this kind, of a control with its usage, and of a number
-abbrev pub told_as : ℕ → ControlId → Usage → ℤ → HidEvent
-told_as kind control usage value =
+abbrev pub event_record : ℕ → ControlId → Usage → ℤ → HidEvent
+event_record kind control usage value =
     record { value = value; item = control.item; index = control.index; page = usage.page; id = usage.id; kind = kind }
 
 -- the record of an event: its kind as a number, its control, usage and value. Example: the kind of Up is 0
 abbrev pub event_of : Event → HidEvent
-event_of (Up control usage) = told_as UP control usage (pos 0)
-event_of (Down control usage) = told_as DOWN control usage (pos 1)
-event_of (Value control usage value) = told_as VALUE control usage value
-event_of (Null control usage) = told_as NULL control usage (pos 0)
-event_of (Motion control usage by) = told_as MOTION control usage by
-event_of (Dropped control usage by) = told_as DROPPED control usage by
+event_of (Up control usage) = event_record UP control usage (pos 0)
+event_of (Down control usage) = event_record DOWN control usage (pos 1)
+event_of (Value control usage value) = event_record VALUE control usage value
+event_of (Null control usage) = event_record NULL control usage (pos 0)
+event_of (Motion control usage by) = event_record MOTION control usage by
+event_of (Dropped control usage by) = event_record DROPPED control usage by

@@ -5,7 +5,7 @@ use Rattle.hid_descriptor.specs.Faults.{Accepts}
 use Rattle.hid_descriptor.specs.declared.fault.LayoutFault.{LayoutFault}
 use Rattle.hid_layout.specs.Layout.{Contents, layout_of}
 use Rattle.hid_layout.specs.Controls.{items_of, max_events}
-use Rattle.hid_snapshots.specs.Cells.{blank}
+use Rattle.hid_snapshots.specs.ControlStates.{blank}
 use Rattle.hid_usages.specs.Reading.{report_named}
 use Rattle.hid_usages.specs.Taking.{read_view, read_events}
 use Rattle.hidstack_session.specs.declared.event.HidEvent.{HidEvent}
@@ -25,7 +25,7 @@ abbrev pub IsFirstOf : Result Contents LayoutFault → State → Type 0
 IsFirstOf (Ok layout) s = (s.layout ≡ layout) × (s.view ≡ blank (items_of layout))
 IsFirstOf (Err fault) s = ⊥
 
--- the most events that a report of the device tells
+-- the most events that a report of the device has
 abbrev pub room_of : State → ℕ
 room_of s = max_events (items_of s.layout)
 

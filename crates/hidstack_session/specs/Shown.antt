@@ -14,13 +14,13 @@ use Rattle.hidstack_session.specs.declared.shown.HidCollection.{HidCollection}
 use Rattle.hidstack_session.specs.declared.shown.HidUsage.{HidUsage}
 
 -- the record of the report at a place
-abbrev pub told_report : Contents → ℕ → Report → HidReport
-told_report layout r report =
+abbrev pub report_record : Contents → ℕ → Report → HidReport
+report_record layout r report =
     record { bytes = report_bytes layout r; bits = report.bits; kind = rank report.kind; id = report.id; spare = 0 }
 
 -- the record of the report at a place, if there is one
 abbrev pub report_at : Contents → ℕ → Option HidReport
-report_at layout r = option_map (told_report layout r) (slice_get layout.reports r)
+report_at layout r = option_map (report_record layout r) (slice_get layout.reports r)
 
 -- the record of a collection with this kind and usage
 abbrev pub collection_with : ℕ → Option Usage → HidCollection
@@ -28,12 +28,12 @@ collection_with kind None = record { kind = kind; has_usage = 0; page = 0; id = 
 collection_with kind (Some usage) = record { kind = kind; has_usage = 1; page = usage.page; id = usage.id }
 
 -- the record of a collection
-abbrev pub told_collection : Collection → HidCollection
-told_collection collection = collection_with collection.kind collection.usage
+abbrev pub collection_record : Collection → HidCollection
+collection_record collection = collection_with collection.kind collection.usage
 
 -- the record of a collection at a place of those that are open round an item that may be there
 abbrev pub collection_in : Option MainItem → Option (List Collection) → ℕ → Option HidCollection
-collection_in (Some item) (Some path) level = option_map told_collection (slice_get path level)
+collection_in (Some item) (Some path) level = option_map collection_record (slice_get path level)
 collection_in _ _ level = None
 
 -- the record of a collection that is open round the listed item at a place, from 0 for the outermost one
@@ -41,9 +41,9 @@ abbrev pub collection_at : Contents → ℕ → ℕ → Option HidCollection
 collection_at layout i level = collection_in (slice_get layout.items i) (slice_get layout.paths i) level
 
 -- the record of a usage
-abbrev pub told_usage : Usage → HidUsage
-told_usage usage = record { page = usage.page; id = usage.id }
+abbrev pub usage_record : Usage → HidUsage
+usage_record usage = record { page = usage.page; id = usage.id }
 
 -- the record of the usage at a place of the listed item's usage list
 abbrev pub usage_at : Contents → ℕ → ℕ → Option HidUsage
-usage_at layout i index = option_map told_usage (usage_of layout i index)
+usage_at layout i index = option_map usage_record (usage_of layout i index)

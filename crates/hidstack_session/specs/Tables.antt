@@ -10,17 +10,17 @@ abbrev pub one_or_none : Option HidElement → List HidElement
 one_or_none None = []
 one_or_none (Some element) = element ∷ []
 
--- the data elements at the first places of the listed item at a place
+-- the records of the data elements at the first places of the listed item at a place
 abbrev pub elements_below : Contents → ℕ → ℕ → List HidElement
 elements_below layout i zero = []
 elements_below layout i (suc n) = elements_below layout i n ++ one_or_none (element_at layout i n)
 
--- those of a listed item that may be there
+-- the records of the data elements of a listed item that may be there
 abbrev pub elements_in : Contents → ℕ → Option MainItem → List HidElement
 elements_in layout i None = []
 elements_in layout i (Some item) = elements_below layout i item.count
 
--- those of the listed item at a place
+-- the records of the data elements of the listed item at a place
 unfoldable pub elements_of_item : Contents → ℕ → List HidElement
 elements_of_item layout i = elements_in layout i (slice_get layout.items i)
 

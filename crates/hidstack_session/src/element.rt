@@ -4,7 +4,7 @@ ghost use Rattle.std.specs.Prelude.{◌≡◌, ◌≤◌, ◌<◌, ◌*◌, leng
 ghost use Rattle.hid_descriptor.specs.Kinds.{rank};
 ghost use Rattle.hid_descriptor.specs.Usages.{usage_list};
 ghost use Rattle.hid_layout.specs.Reports.{report_id, IsLayout};
-ghost use Rattle.hidstack_session.specs.Elements.{usage_of_element, usage_told, element_at, kind_at, told_element, one_of, HoldsNumber};
+ghost use Rattle.hidstack_session.specs.Elements.{usage_of_element, usage_number, element_at, kind_at, element_record, one_of, HoldsNumber};
 
 use hid_fields::{FieldCodec, MAX_WIDTH, WordCodec, to_value};
 use hid_layout::{
@@ -100,9 +100,9 @@ fn usage_of_element(entries: &[(Usage, Usage)], j: usize) -> Option<Usage>
 }
 
 /// The usage that is told of an element.
-fn usage_told(entries: &[(Usage, Usage)], shape: Shape, j: usize) -> Usage
+fn usage_number(entries: &[(Usage, Usage)], shape: Shape, j: usize) -> Usage
     requires { length entries.now ≤ MAX_ENTRIES }
-    ensures { result ≡ usage_told shape (usage_list entries.now) j }
+    ensures { result ≡ usage_number shape (usage_list entries.now) j }
 {
     let none = Usage { page: 0, id: 0 };
     match shape {
@@ -116,7 +116,7 @@ fn usage_told(entries: &[(Usage, Usage)], shape: Shape, j: usize) -> Usage
 }
 
 /// The record of a data element.
-fn told_element(
+fn element_record(
     layout: &Layout,
     item: usize,
     j: usize,
@@ -126,10 +126,10 @@ fn told_element(
     requires layout { IsLayout layout.now }
     requires listed { item < length layout.now.items }
     requires short { element.now.bit ≤ 8 * MAX_REPORT_BYTES }
-    ensures { result ≡ told_element layout.now item j main.now element.now }
+    ensures { result ≡ element_record layout.now item j main.now element.now }
 {
     let entries = layout.entries(item);
-    let usage = usage_told(entries, main.shape, j);
+    let usage = usage_number(entries, main.shape, j);
     let (kind, report) = report_of(layout, main.report);
     let first = if layout.numbered() { 8 } else { 0 };
     HidElement {
@@ -163,13 +163,17 @@ pub fn element_at(layout: &Layout, item: usize, j: usize) -> Option<HidElement>
         return None;
     };
     match layout.element(item, j) {
-        Some(element) => Some(told_element(layout, item, j, main, &element)),
+        Some(element) => Some(element_record(layout, item, j, main, &element)),
         None => None,
     }
 }
 
 /// The number of an element in the bytes of a report (HID 1.11, 5.8). Bytes of another Report ID are not its report's,
 /// and a field of 0 or over 32 bits lies in no bytes.
+///
+/// # Errors
+/// [`ReportFault::Short`] where the element doesn't lie in the bytes, or has no width from 1 to 32; then
+/// [`ReportFault::UnknownReport`] where the first byte is another Report ID.
 pub fn number_in(element: &HidElement, bytes: &[u8]) -> Result<i64, ReportFault>
     ensures { HoldsNumber element.now bytes.now result }
 {

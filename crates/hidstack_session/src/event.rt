@@ -1,7 +1,7 @@
 //! Events as records.
 
 ghost use Rattle.std.specs.Prelude.{◌≡◌, ◌≤◌, ◌++◌, length, map, drop};
-ghost use Rattle.hidstack_session.specs.Events.{told_as, event_of};
+ghost use Rattle.hidstack_session.specs.Events.{event_record, event_of};
 
 use hid_layout::{ControlId, Usage};
 use hid_usages::Event;
@@ -21,7 +21,7 @@ pub const NULL: u32 = 3;
 /// A relative control moved.
 pub const MOTION: u32 = 4;
 
-/// A motion that a reset, a halt or its end let go.
+/// A motion that a reset, a halt or a clear dropped.
 pub const DROPPED: u32 = 5;
 
 /// An event of a report.
@@ -42,8 +42,8 @@ pub struct HidEvent {
     pub kind: u32,
 }
 
-fn told_as(kind: u32, control: ControlId, usage: Usage, value: i64) -> HidEvent
-    ensures { result ≡ told_as kind control usage value }
+fn event_record(kind: u32, control: ControlId, usage: Usage, value: i64) -> HidEvent
+    ensures { result ≡ event_record kind control usage value }
 {
     HidEvent {
         value,
@@ -60,16 +60,16 @@ pub fn event_of(event: &Event) -> HidEvent
     ensures { result ≡ event_of event.now }
 {
     match *event {
-        Event::Up { control, usage } => told_as(UP, control, usage, 0),
-        Event::Down { control, usage } => told_as(DOWN, control, usage, 1),
+        Event::Up { control, usage } => event_record(UP, control, usage, 0),
+        Event::Down { control, usage } => event_record(DOWN, control, usage, 1),
         Event::Value {
             control,
             usage,
             value,
-        } => told_as(VALUE, control, usage, value),
-        Event::Null { control, usage } => told_as(NULL, control, usage, 0),
-        Event::Motion { control, usage, by } => told_as(MOTION, control, usage, by),
-        Event::Dropped { control, usage, by } => told_as(DROPPED, control, usage, by),
+        } => event_record(VALUE, control, usage, value),
+        Event::Null { control, usage } => event_record(NULL, control, usage, 0),
+        Event::Motion { control, usage, by } => event_record(MOTION, control, usage, by),
+        Event::Dropped { control, usage, by } => event_record(DROPPED, control, usage, by),
     }
 }
 

@@ -4,9 +4,8 @@ ghost use Rattle.std.specs.Prelude.{◌≡◌, ◌≤◌, Ok, Err, IfOk, IfErr, 
 ghost use Rattle.hid_descriptor.specs.Faults.{Explains};
 ghost use Rattle.hid_layout.specs.Layout.{Contents};
 ghost use Rattle.hid_layout.specs.Controls.{items_of, max_events};
-ghost use Rattle.hid_layout.specs.Reports.{IsLayout};
-ghost use Rattle.hid_snapshots.specs.Cells.{FitsView, blank};
-ghost use Rattle.hid_snapshots.specs.Snapshots.{is_pressed, cell_at};
+ghost use Rattle.hid_snapshots.specs.ControlStates.{FitsView, blank};
+ghost use Rattle.hid_snapshots.specs.Snapshots.{is_pressed, state_at};
 ghost use Rattle.hid_snapshots.specs.Views.{value_in};
 ghost use Rattle.hidstack_session.specs.Sessions.{IsFirst, IsFirstOf, Feeds};
 
@@ -46,8 +45,8 @@ impl Model for Session {
     ghost invariant = { λ s. max_events (items_of s.reader.layout) ≤ vec_capacity s.events };
 }
 
-/// Want of memory, where a descriptor is read.
-fn want() -> LayoutFault
+/// Out of memory, where a descriptor is read.
+fn no_memory() -> LayoutFault
     ensures { result ≡ record { cause = Cause.Memory; at = 0 } }
 {
     LayoutFault {
@@ -57,13 +56,11 @@ fn want() -> LayoutFault
 }
 
 /// A blank view of a layout, and room for the events of a report.
-fn blank(alloc: Global, layout: &Layout) -> Option<(View, Vec<Event>)>
-    ensures layout { IsLayout layout.now }
+fn first_view(alloc: Global, layout: &Layout) -> Option<(View, Vec<Event>)>
     ensures view { IfSome result (λ made. (made.0 ≡ blank (items_of layout.now))
         × FitsView (items_of layout.now) made.0) }
     ensures room { IfSome result (λ made. max_events (items_of layout.now) ≤ vec_capacity made.1) }
 {
-    let _ = layout.items();
     let view = View::initial(alloc, layout).ok()?;
     let events = Vec::with_capacity(alloc, layout.max_events()).ok()?;
     Some((view, events))
@@ -71,9 +68,12 @@ fn blank(alloc: Global, layout: &Layout) -> Option<(View, Vec<Event>)>
 
 impl Session {
     /// Reads a report descriptor. Nothing is held, and values are those of a blank snapshot.
+    ///
+    /// # Errors
+    /// The cause and place of [`Layout::parse`], or [`Cause::Memory`] at 0 where the session finds no memory.
     pub fn open(alloc: Global, descriptor: &[u8]) -> Result<Session, LayoutFault>
         ensures ok { IfOk result (λ session. IsFirst descriptor.now session) }
-        // Memory was wanting, or this is the one refusal.
+        // Memory ran out, or this is the one refusal.
         ensures err { IfErr result (λ f. Explains descriptor.now f.cause f.at) }
     {
         Session::of_layout(alloc, Layout::parse(alloc, descriptor))
@@ -86,12 +86,12 @@ impl Session {
         ensures memory { (c : Contents) → laid ≡ Ok c → IfErr result (λ f. f ≡ record { cause = Cause.Memory; at = 0 }) }
     {
         let layout = laid?;
-        match blank(alloc, &layout) {
+        match first_view(alloc, &layout) {
             Some((view, events)) => Ok(Session {
                 reader: Reader::new(layout, view),
                 events,
             }),
-            None => Err(want()),
+            None => Err(no_memory()),
         }
     }
 
@@ -103,6 +103,10 @@ impl Session {
     }
 
     /// Reads a report, and writes its events over the first places of the table. No memory is taken.
+    ///
+    /// # Errors
+    /// [`FeedFault::NoRoom`] where the table has fewer places than [`Session::room`]; then [`FeedFault::Refused`] (U8,
+    /// U9) where the bytes are no Input report. Table and session stay as they were.
     pub fn feed(&mut self, report: &[u8], out: &mut [HidEvent]) -> Result<usize, FeedFault>
         ensures { Feeds self.old report.now out.old result self.new out.new }
     {
@@ -131,14 +135,14 @@ impl Session {
 
     /// Whether a switch or a key is held; false for another control, and where there is none.
     pub fn held(&self, control: ControlId) -> bool
-        ensures { result ≡ is_pressed (cell_at self.now.view control.item) control.index }
+        ensures { result ≡ is_pressed (state_at self.now.view control.item) control.index }
     {
         self.reader.view().held(control)
     }
 
     /// The value of an absolute control; none where it is null, for another control, and where there is none.
     pub fn value(&self, control: ControlId) -> Option<i64>
-        ensures { result ≡ value_in (cell_at self.now.view control.item) control.index }
+        ensures { result ≡ value_in (state_at self.now.view control.item) control.index }
     {
         self.reader.view().value(control)
     }

@@ -1,7 +1,7 @@
 //! Reports, collections and usages as records (HID 1.11, 5.6, 6.2.2.6 and 6.2.2.8).
 
 ghost use Rattle.std.specs.Prelude.{◌≡◌};
-ghost use Rattle.hidstack_session.specs.Shown.{report_at, collection_at, told_collection, usage_at};
+ghost use Rattle.hidstack_session.specs.Shown.{report_at, collection_at, collection_record, usage_at};
 
 use crate::element::{kind_number, one_of};
 use hid_layout::{Collection, Layout, Usage};
@@ -62,8 +62,8 @@ pub fn report_at(layout: &Layout, r: usize) -> Option<HidReport>
     })
 }
 
-fn told_collection(collection: &Collection) -> HidCollection
-    ensures { result ≡ told_collection collection.now }
+fn collection_record(collection: &Collection) -> HidCollection
+    ensures { result ≡ collection_record collection.now }
 {
     let usage = match collection.usage {
         Some(usage) => usage,
@@ -86,7 +86,7 @@ pub fn collection_at(layout: &Layout, item: usize, level: usize) -> Option<HidCo
         return None;
     }
     match layout.path(item).get(level) {
-        Some(collection) => Some(told_collection(collection)),
+        Some(collection) => Some(collection_record(collection)),
         None => None,
     }
 }

@@ -53,6 +53,9 @@ fn list_item(table: &mut Vec<HidElement>, layout: &Layout, item: usize) -> Resul
 }
 
 /// The records of a layout's data elements, item by item.
+///
+/// # Errors
+/// Out of memory.
 pub fn list_elements(alloc: Global, layout: &Layout) -> Result<Vec<HidElement>, AllocError>
     ensures { IfOk result (λ table. table.items ≡ elements_of layout.now (length layout.now.items)) }
 {

@@ -6,20 +6,26 @@ use Rattle.hid_host.proofs.conclusions.conclude.Goals as goal
 
 pub returns-in-Config-clause-makes : goal.returns-in-Config-clause-makes
 returns-in-Config-clause-makes c =
-    subst (λ (request : Request). OnOk c.described.result (Makes c.args.addr request c.args.phase.now c.args.bytes.now (Ok c.described.new.phase))) (sym c.in-Config.is)
-    (c.described.ensures.makes c.args.addr)
+    subst (λ (request : Request). OnOk c.conclude_config.result
+    (Makes c.args.addr request c.args.phase.now c.args.bytes.now (Ok c.conclude_config.new.phase)))
+    (sym c.in-Config.is)
+    (c.conclude_config.ensures.makes c.args.addr)
 
 pub returns-in-Config-clause-refused : goal.returns-in-Config-clause-refused
 returns-in-Config-clause-refused c =
-    subst (λ (request : Request). IfErr c.described.result (λ fault. Makes c.args.addr request c.args.phase.now c.args.bytes.now (Err fault))) (sym c.in-Config.is)
-    (c.described.ensures.refused c.args.addr)
+    subst (λ (request : Request). IfErr c.conclude_config.result
+    (λ fault. Makes c.args.addr request c.args.phase.now c.args.bytes.now (Err fault))) (sym c.in-Config.is)
+    (c.conclude_config.ensures.refused c.args.addr)
 
 pub returns-in-Report-clause-makes : goal.returns-in-Report-clause-makes
 returns-in-Report-clause-makes c =
-    subst (λ (request : Request). OnOk c.parsed.result (Makes c.args.addr request c.args.phase.now c.args.bytes.now (Ok c.parsed.new.phase))) (sym c.in-Report.is)
-    (c.parsed.ensures.makes c.args.addr)
+    subst (λ (request : Request). OnOk c.conclude_report.result
+    (Makes c.args.addr request c.args.phase.now c.args.bytes.now (Ok c.conclude_report.new.phase)))
+    (sym c.in-Report.is)
+    (c.conclude_report.ensures.makes c.args.addr)
 
 pub returns-in-Report-clause-refused : goal.returns-in-Report-clause-refused
 returns-in-Report-clause-refused c =
-    subst (λ (request : Request). IfErr c.parsed.result (λ fault. Makes c.args.addr request c.args.phase.now c.args.bytes.now (Err fault))) (sym c.in-Report.is)
-    (c.parsed.ensures.refused c.args.addr)
+    subst (λ (request : Request). IfErr c.conclude_report.result
+    (λ fault. Makes c.args.addr request c.args.phase.now c.args.bytes.now (Err fault))) (sym c.in-Report.is)
+    (c.conclude_report.ensures.refused c.args.addr)

@@ -5,8 +5,8 @@ use Rattle.hid_snapshots.proofs.blank.blank_parts.Given as goal
 
 abbrev pub invariant-loop-i : goal.invariant-loop-i
 invariant-loop-i l = record {
-  cells : l.cells.items ≡ blank_parts (take l.i (items_of l.layout));
+  states : l.states.items ≡ blank_parts (take l.i (items_of l.layout));
   count_is : l.count ≡ length (items_of l.layout);
-  long : length l.cells.items ≡ l.i;
-  room : vec_capacity l.cells ≡ l.count;
+  long : length l.states.items ≡ l.i;
+  room : vec_capacity l.states ≡ l.count;
 }

@@ -13,22 +13,22 @@ send_array-requires-clause-codes c =
     c.codes.ensures c.args.item.now c.entries-entries.result.now c.requires.listed c.entries-entries.ensures (ap is_padding c.in-Array.is)
 
 pub send_elements-requires-clause-can : goal.send_elements-requires-clause-can
-send_elements-requires-clause-can c = subst (CanSend c.args.item.now) (sent_there c.args.layout.now c.args.i c.args.item.now c.entries-entries.result.now c.args.cell.now _ c.requires.listed c.entries-entries.ensures c.in-Variable.is) c.requires.can
+send_elements-requires-clause-can c = subst (CanSend c.args.item.now) (sent_there c.args.layout.now c.args.i c.args.item.now c.entries-entries.result.now c.args.state.now _ c.requires.listed c.entries-entries.ensures c.in-Variable.is) c.requires.can
 
 pub send_array-requires-clause-few_entries : goal.send_array-requires-clause-few_entries
 send_array-requires-clause-few_entries c = c.requires.layout.few_entries c.args.i c.entries-entries.result.now c.entries-entries.ensures
 
 pub send_array-requires-clause-can : goal.send_array-requires-clause-can
-send_array-requires-clause-can c = subst (CanSend c.args.item.now) (sent_there c.args.layout.now c.args.i c.args.item.now c.entries-entries.result.now c.args.cell.now _ c.requires.listed c.entries-entries.ensures c.in-Array.is) c.requires.can
+send_array-requires-clause-can c = subst (CanSend c.args.item.now) (sent_there c.args.layout.now c.args.i c.args.item.now c.entries-entries.result.now c.args.state.now _ c.requires.listed c.entries-entries.ensures c.in-Array.is) c.requires.can
 
 pub returns-in-Padding : goal.returns-in-Padding
-returns-in-Padding c = c.none.ensures ∙ sym (sent_there c.args.layout.now c.args.i c.args.item.now c.entries-entries.result.now c.args.cell.now _ c.requires.listed c.entries-entries.ensures c.in-Padding.is)
+returns-in-Padding c = c.none.ensures ∙ sym (sent_there c.args.layout.now c.args.i c.args.item.now c.entries-entries.result.now c.args.state.now _ c.requires.listed c.entries-entries.ensures c.in-Padding.is)
 
 pub returns-in-Variable : goal.returns-in-Variable
-returns-in-Variable c = c.send_elements.ensures ∙ sym (sent_there c.args.layout.now c.args.i c.args.item.now c.entries-entries.result.now c.args.cell.now _ c.requires.listed c.entries-entries.ensures c.in-Variable.is)
+returns-in-Variable c = c.send_elements.ensures ∙ sym (sent_there c.args.layout.now c.args.i c.args.item.now c.entries-entries.result.now c.args.state.now _ c.requires.listed c.entries-entries.ensures c.in-Variable.is)
 
 pub returns-in-Array : goal.returns-in-Array
-returns-in-Array c = c.send_array.ensures ∙ sym (sent_there c.args.layout.now c.args.i c.args.item.now c.entries-entries.result.now c.args.cell.now _ c.requires.listed c.entries-entries.ensures c.in-Array.is)
+returns-in-Array c = c.send_array.ensures ∙ sym (sent_there c.args.layout.now c.args.i c.args.item.now c.entries-entries.result.now c.args.state.now _ c.requires.listed c.entries-entries.ensures c.in-Array.is)
 
 pub entries-entries-requires : goal.entries-entries-requires
 entries-entries-requires c = slice_get_within c.args.layout.now.items c.args.i c.args.item.now c.requires.listed

@@ -1,6 +1,6 @@
 use Rattle.std.proofs.Common.{◌∙◌, sym, arith}
 use Rattle.hid_snapshots.specs.Encoding.{IsData, part_numbers}
-use Rattle.hid_snapshots.proofs.EncodingLemmas.{data_if, no_data_if, place_inside, shows_passed, shows_next, cell_numbers}
+use Rattle.hid_snapshots.proofs.EncodingLemmas.{data_if, no_data_if, place_inside, shows_passed, shows_next, state_numbers}
 use Rattle.hid_snapshots.proofs.ReportLemmas.{are_bytes}
 use Rattle.hid_snapshots.proofs.encode.show_item.Goals as goal
 
@@ -12,7 +12,7 @@ write_item-requires-clause-elements g c =
 pub write_item-requires-clause-can : goal.write_item-requires-clause-can
 write_item-requires-clause-can g c =
     let d : IsData c.args.layout.now c.args.report c.args.i c.item_at-item.result.now = data_if c.args.layout.now c.args.report c.args.i c.item_at-item.result.now c.item_at-item.ensures.item (sym c.is_data.ensures ∙ c.if-is_data.true) in
-    rw (← cell_numbers c.args.layout.now c.args.shown.now c.args.i c.cell_at.result.now c.cell_at.ensures) (c.requires.part.each_item c.args.i c.item_at-item.result.now d)
+    rw (← state_numbers c.args.layout.now c.args.shown.now c.args.i c.state_at.result.now c.state_at.ensures) (c.requires.part.each_item c.args.i c.item_at-item.result.now d)
 
 pub write_item-requires-clause-room : goal.write_item-requires-clause-room
 write_item-requires-clause-room g c =
@@ -23,7 +23,7 @@ pub returns-then-is_data-clause-shows : goal.returns-then-is_data-clause-shows
 returns-then-is_data-clause-shows g c = λ before s.
     let d : IsData c.args.layout.now c.args.report c.args.i c.item_at-item.result.now = data_if c.args.layout.now c.args.report c.args.i c.item_at-item.result.now c.item_at-item.ensures.item (sym c.is_data.ensures ∙ c.if-is_data.true) in
     shows_next c.args.layout.now c.args.report (part_numbers c.args.layout.now c.args.shown.now) c.args.i c.item_at-item.result.now before c.args.bytes.now c.write_item.new.bytes c.requires.layout d
-    (c.write_item.ensures.written ∙ sym (cell_numbers c.args.layout.now c.args.shown.now c.args.i c.cell_at.result.now c.cell_at.ensures))
+    (c.write_item.ensures.written ∙ sym (state_numbers c.args.layout.now c.args.shown.now c.args.i c.state_at.result.now c.state_at.ensures))
     c.write_item.ensures.others s
 
 pub returns-else-is_data-clause-shows : goal.returns-else-is_data-clause-shows
@@ -31,14 +31,14 @@ returns-else-is_data-clause-shows g c = λ before s.
     shows_passed c.args.layout.now c.args.report (part_numbers c.args.layout.now c.args.shown.now) c.args.i before c.args.bytes.now
     (no_data_if c.args.layout.now c.args.report c.args.i c.item_at-item.result.now c.item_at-item.ensures.item (sym c.is_data.ensures ∙ c.if-is_data.false)) s
 
-pub cell_at-requires : goal.cell_at-requires
-cell_at-requires g c = omega (arith, c.requires.part.all_there, c.requires.listed)
+pub state_at-requires : goal.state_at-requires
+state_at-requires g c = omega (arith, c.requires.part.all_there, c.requires.listed)
 
 pub write_item-requires-clause-listed : goal.write_item-requires-clause-listed
 write_item-requires-clause-listed g c = c.item_at-item.ensures.item
 
 pub write_item-requires-clause-places : goal.write_item-requires-clause-places
-write_item-requires-clause-places g c = c.requires.part.few_places c.args.i c.cell_at.result.now c.cell_at.ensures
+write_item-requires-clause-places g c = c.requires.part.few_places c.args.i c.state_at.result.now c.state_at.ensures
 
 pub item_at-item-requires : goal.item_at-item-requires
 item_at-item-requires g c = c.requires.listed

@@ -2,13 +2,15 @@ use Rattle.std.proofs.Common.{◌+◌, ◌*◌, ℕ, ap, ◌∙◌, length, sym,
 use Rattle.hid_fields.specs.Field.{IsOutside}
 use Rattle.hid_fields.specs.Value.{is_negative}
 use Rattle.hid_snapshots.specs.Numbers.{numbers_in}
-use Rattle.hid_snapshots.specs.Encoding.{sent_at}
+use Rattle.hid_snapshots.specs.Encoding.{numbers_at}
 use Rattle.hid_snapshots.proofs.EncodingLemmas.{each_fits}
 use Rattle.hid_snapshots.proofs.encode.write_item.Goals as goal
 
 pub put_all-requires-clause-fits : goal.put_all-requires-clause-fits
 put_all-requires-clause-fits g c =
-    rw c.send_item-numbers.ensures (each_fits c.args.item.now (sent_at c.args.layout.now c.args.i c.args.cell.now) c.requires.elements c.requires.can)
+    rw c.send_item-numbers.ensures
+    (each_fits c.args.item.now
+    (numbers_at c.args.layout.now c.args.i c.args.state.now) c.requires.elements c.requires.can)
 
 pub returns-clause-written : goal.returns-clause-written
 returns-clause-written g c =

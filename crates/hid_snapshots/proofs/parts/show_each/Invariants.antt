@@ -5,4 +5,4 @@ use Rattle.hid_snapshots.proofs.PlanLemmas.{IsAlong}
 use Rattle.hid_snapshots.proofs.parts.show_each.Given as goal
 
 abbrev pub invariant-loop-place : goal.invariant-loop-place
-invariant-loop-place l = IsAlong l.layout l.report l.place-index (λ i. l.parts ≡ take i (by_item (part_shown l.still l.report) (items_of l.layout) l.cells l.fn.parts) ++ drop i l.fn.parts)
+invariant-loop-place l = IsAlong l.layout l.report l.place-index (λ i. l.parts ≡ take i (by_item (part_shown l.still l.report) (items_of l.layout) l.states l.fn.parts) ++ drop i l.fn.parts)

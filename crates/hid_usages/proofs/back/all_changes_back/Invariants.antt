@@ -1,6 +1,6 @@
 use Rattle.std.proofs.Common.{◌≡◌, ◌≤◌, ◌+◌, ◌++◌, length, drop, vec_len, vec_capacity}
 use Rattle.hid_layout.specs.Controls.{items_of}
-use Rattle.hid_snapshots.specs.Cells.{blank}
+use Rattle.hid_snapshots.specs.ControlStates.{blank}
 use Rattle.hid_snapshots.specs.Views.{changes_from, changes_between}
 use Rattle.hid_usages.proofs.back.all_changes_back.Given as goal
 

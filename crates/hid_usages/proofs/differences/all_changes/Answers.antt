@@ -7,19 +7,19 @@ use Rattle.hid_usages.proofs.ViewLemmas.{changes_from-next, room_at}
 use Rattle.hid_usages.proofs.differences.all_changes.Goals as goal
 
 pub item_changes-requires-clause-before : goal.item_changes-requires-clause-before
-item_changes-requires-clause-before c = room_at _ _ _ c.loop-i.i c.cell_at.result.now c.requires.before (omega arith) c.cell_at.ensures
+item_changes-requires-clause-before c = room_at _ _ _ c.loop-i.i c.state_at.result.now c.requires.before (omega arith) c.state_at.ensures
 
 pub item_changes-requires-clause-after : goal.item_changes-requires-clause-after
-item_changes-requires-clause-after c = room_at _ _ _ c.loop-i.i c.cell_at-in-loop-i.result.now c.requires.after (omega arith) c.cell_at-in-loop-i.ensures
+item_changes-requires-clause-after c = room_at _ _ _ c.loop-i.i c.state_at-in-loop-i.result.now c.requires.after (omega arith) c.state_at-in-loop-i.ensures
 
 pub item_changes-requires-clause-room : goal.item_changes-requires-clause-room
 item_changes-requires-clause-room c =
-    let step = changes_from-next (items_of c.args.layout.now) c.args.before.now c.args.after.now c.loop-i.i c.cell_at.result.now c.cell_at-in-loop-i.result.now (omega arith) c.cell_at.ensures c.cell_at-in-loop-i.ensures in
+    let step = changes_from-next (items_of c.args.layout.now) c.args.before.now c.args.after.now c.loop-i.i c.state_at.result.now c.state_at-in-loop-i.result.now (omega arith) c.state_at.ensures c.state_at-in-loop-i.ensures in
     room_for _ _ _ _ _ step c.loop-i.invariant.room
 
 pub loop-i-preserved : goal.loop-i-preserved
 loop-i-preserved c =
-    let step = changes_from-next (items_of c.args.layout.now) c.args.before.now c.args.after.now c.loop-i.i c.cell_at.result.now c.cell_at-in-loop-i.result.now (omega arith) c.cell_at.ensures c.cell_at-in-loop-i.ensures in
+    let step = changes_from-next (items_of c.args.layout.now) c.args.before.now c.args.after.now c.loop-i.i c.state_at.result.now c.state_at-in-loop-i.result.now (omega arith) c.state_at.ensures c.state_at-in-loop-i.ensures in
     record {
       events = told _ _ _ _ _ _ step c.loop-i.invariant.events c.item_changes.ensures.items;
       room = room_left _ _ _ _ _ _ _ step c.loop-i.invariant.room c.item_changes.ensures.len c.item_changes.ensures.room;

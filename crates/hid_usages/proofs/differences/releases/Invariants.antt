@@ -1,12 +1,14 @@
 use Rattle.std.proofs.Common.{◌≡◌, ◌≤◌, ◌+◌, ◌-◌, ◌++◌, length, drop, vec_len, vec_capacity}
 use Rattle.std.specs.List.{zip}
-use Rattle.hid_snapshots.specs.Events.{usages_at, at, up_event, ups, each}
+use Rattle.hid_snapshots.specs.Events.{usages_at, at, up_event, ups, element_list_events}
 use Rattle.hid_usages.proofs.differences.releases.Given as goal
 
 abbrev pub invariant-loop-index : goal.invariant-loop-index
 invariant-loop-index l =
     let us = usages_at l.layout l.item in
-    let left = each (λ j u p. up_event (at l.item j) u p.0 p.1) l.from (drop l.from us) (drop l.from (zip l.before l.after)) in
+    let left =
+    element_list_events (λ j u p. up_event (at l.item j) u p.0 p.1) l.from (drop l.from us)
+    (drop l.from (zip l.before l.after)) in
     record {
       within : l.from ≤ length us;
       events : l.out.items ++ left ≡ l.fn.out.items ++ ups l.item us l.before l.after;

@@ -14,5 +14,10 @@ returns-clause-held c = λ before there.
 pub returns-clause-told : goal.returns-clause-told
 returns-clause-told c = λ usage before here there.
     let was : c.get-before.result ≡ before = let e = sym c.get-before.ensures ∙ there in cc in
-    let told = subst (λ (after : Bool). Appends c.args.out.now (switch_event (at c.args.item c.args.index) usage c.get-before.result after) c.tell_switch.new.out) c.read_switch-after.ensures (c.tell_switch.ensures usage here) in
-    subst (λ (b : Bool). Appends c.args.out.now (switch_event (at c.args.item c.args.index) usage b (read_switch b c.args.number.now)) c.tell_switch.new.out) was told
+    let told =
+    subst (λ (after : Bool). Appends c.args.out.now
+    (switch_event
+    (at c.args.item c.args.index) usage c.get-before.result after) c.push_switch_event.new.out) c.read_switch-after.ensures (c.push_switch_event.ensures usage here) in
+    subst (λ (b : Bool). Appends c.args.out.now
+    (switch_event (at c.args.item c.args.index) usage b
+    (read_switch b c.args.number.now)) c.push_switch_event.new.out) was told

@@ -14,5 +14,10 @@ returns-clause-held c = λ before there.
 pub returns-clause-told : goal.returns-clause-told
 returns-clause-told c = λ usage before here there.
     let was : c.get-before.result ≡ before = let e = sym c.get-before.ensures ∙ there in cc in
-    let told = subst (λ (after : Option ℤ). Appends c.args.out.now (value_event (at c.args.item c.args.index) usage c.get-before.result after) c.tell_value.new.out) c.read_value-after.ensures (c.tell_value.ensures usage here) in
-    subst (λ (b : Option ℤ). Appends c.args.out.now (value_event (at c.args.item c.args.index) usage b (read_value c.args.carriable.now.has_null c.args.carriable.now.bounds.least c.args.carriable.now.bounds.greatest b c.args.number.now)) c.tell_value.new.out) was told
+    let told =
+    subst (λ (after : Option ℤ). Appends c.args.out.now
+    (value_event
+    (at c.args.item c.args.index) usage c.get-before.result after) c.push_value_event.new.out) c.read_value-after.ensures (c.push_value_event.ensures usage here) in
+    subst (λ (b : Option ℤ). Appends c.args.out.now
+    (value_event (at c.args.item c.args.index) usage b
+    (read_value c.args.carriable.now.has_null c.args.carriable.now.bounds.least c.args.carriable.now.bounds.greatest b c.args.number.now)) c.push_value_event.new.out) was told

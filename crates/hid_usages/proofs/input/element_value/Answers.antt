@@ -11,7 +11,7 @@ element_number-requires-clause-inside g c = subst (λ (o : Option Element). IsSo
 
 -- an element begins in its report, which is short
 pub element_number-requires-clause-short : goal.element_number-requires-clause-short
-element_number-requires-clause-short g c = bit_short c.args.layout.now c.args.item c.args.j c.in-Some.element c.items-items.ensures.layout (sym c.element.ensures ∙ c.in-Some.is)
+element_number-requires-clause-short g c = bit_short c.args.layout.now c.args.item c.args.j c.in-Some.element c.items.ensures.layout (sym c.element.ensures ∙ c.in-Some.is)
 
 pub returns-in-Some : goal.returns-in-Some
 returns-in-Some g c =

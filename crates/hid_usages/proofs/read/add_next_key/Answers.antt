@@ -1,14 +1,14 @@
 use Rattle.std.proofs.Common.{◌≡◌, ◌∙◌, Bool, false, not, Option, Some, IfSome, ℤ, to_z, of_z, w64, sym, ap, subst, rules}
 use Rattle.std.proofs.lemmas.Int.{to_z-of_z}
-use Rattle.hid_descriptor.specs.Usages.{usage_list}
 use Rattle.hid_usages.specs.Keeping.{NamesNoneAnew}
-use Rattle.hid_usages.specs.Reading.{array_keys, names_rollover}
+use Rattle.hid_usages.specs.Reading.{names_rollover}
+use Rattle.hid_usages.specs.KeyArrays.{keys_of_array, usages_of_array}
 use Rattle.hid_usages.proofs.ElementLemmas.{same_option}
 use Rattle.hid_usages.proofs.read.add_next_key.Goals as goal
 
 pub returns-then-eq-clause-rolls : goal.returns-then-eq-clause-rolls
 returns-then-eq-clause-rolls c =
-    let us = usage_list c.args.array.now.entries.now in
+    let us = usages_of_array c.args.array.now in
     let n = to_z w64 (of_z w64 c.args.number.now) in
     let there : n ≡ c.args.number.now = search (rules, to_z-of_z) in
     let is : c.args.before ≡ Some c.args.number.now = same_option c.args.before (Some n) (ap (λ (b : Bool). not b) (sym c.eq.ensures ∙ c.if-eq.true)) ∙ ap (λ (v : ℤ). Some v) there in
@@ -16,12 +16,12 @@ returns-then-eq-clause-rolls c =
     sym (ap (λ (b : Bool). not b) off)
 
 pub returns-then-eq-clause-keys : goal.returns-then-eq-clause-keys
-returns-then-eq-clause-keys c = λ numbers on none so_far.
-    let us = usage_list c.args.array.now.entries.now in
+returns-then-eq-clause-keys c = λ on numbers none so_far.
+    let us = usages_of_array c.args.array.now in
     let n = to_z w64 (of_z w64 c.args.number.now) in
     let there : n ≡ c.args.number.now = search (rules, to_z-of_z) in
     let is : c.args.before ≡ Some c.args.number.now = same_option c.args.before (Some n) (ap (λ (b : Bool). not b) (sym c.eq.ensures ∙ c.if-eq.true)) ∙ ap (λ (v : ℤ). Some v) there in
-    so_far ∙ subst (λ (o : Option ℤ). NamesNoneAnew c.args.array.now.item.now numbers (array_keys c.args.array.now.item.now us) o) is none
+    so_far ∙ subst (λ (o : Option ℤ). NamesNoneAnew c.args.array.now.item.now numbers (keys_of_array c.args.array.now) o) is none
 
 pub returns-else-eq-clause-keys : goal.returns-else-eq-clause-keys
-returns-else-eq-clause-keys c = λ numbers on none so_far. c.add_key.ensures.keys numbers on so_far
+returns-else-eq-clause-keys c = λ on numbers none so_far. c.add_key.ensures.keys on numbers so_far

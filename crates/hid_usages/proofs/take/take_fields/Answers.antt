@@ -1,10 +1,10 @@
 use Rattle.std.proofs.Common.{◌≡◌, ◌*◌, ◌^◌, ◌<◌, ◌∙◌, ℕ, ℤ, true, List, All, ap, sym, subst, length, arith, rules}
-use Rattle.hid_snapshots.specs.declared.cell.Cell.{Cell}
+use Rattle.hid_snapshots.specs.declared.control_state.ControlState.{ControlState}
 use Rattle.hid_snapshots.specs.declared.event.Event.{Event}
 use Rattle.hid_usages.specs.Appending.{HasSpace, Appends}
 use Rattle.hid_snapshots.specs.Events.{usages_at, element_events}
 use Rattle.hid_usages.specs.Reading.{FitsFields, item_numbers}
-use Rattle.hid_usages.specs.Taking.{read_by_numbers, told_by_numbers}
+use Rattle.hid_usages.specs.Taking.{state_by_numbers, number_events}
 use Rattle.hid_usages.specs.Bits.{are_bits, read_bits}
 use Rattle.hid_usages.proofs.BoundLemmas.{numbers_fit}
 use Rattle.hid_usages.proofs.BitLemmas.{pattern_in, has_bits, reads_as_bits}
@@ -13,23 +13,31 @@ use Rattle.hid_snapshots.proofs.NumberLemmas.{numbers_in-length}
 use Rattle.hid_usages.proofs.take.take_fields.Goals as goal
 
 pub are_bits-requires : goal.are_bits-requires
-are_bits-requires g c = c.requires.layout.elements c.args.listed.now.place c.args.listed.now.item.now c.requires.data.listed c.requires.data.no_padding
+are_bits-requires g c = c.requires.listed.layout.elements c.args.listed.now.place c.args.listed.now.item.now c.requires.listed.with_data.listed c.requires.listed.with_data.no_padding
 
 pub overflow_add-at : goal.overflow_add-at
 overflow_add-at g c =
-    let inside = place_inside c.args.listed.now.layout.now c.args.listed.now.item.now.report c.args.listed.now.place c.args.listed.now.item.now c.requires.layout c.requires.data in
-    omega (arith, c.first_bit.ensures.value, c.requires.layout.short c.args.listed.now.item.now.report)
+    let inside = place_inside c.args.listed.now.layout.now c.args.listed.now.item.now.report c.args.listed.now.place c.args.listed.now.item.now c.requires.listed.layout c.requires.listed.with_data in
+    omega (arith, c.first_bit.ensures.value, c.requires.listed.layout.short c.args.listed.now.item.now.report)
 
 pub new-numbers-requires : goal.new-numbers-requires
 new-numbers-requires g c =
-    let elements = c.requires.layout.elements c.args.listed.now.place c.args.listed.now.item.now c.requires.data.listed c.requires.data.no_padding in
-    let inside = place_inside c.args.listed.now.layout.now c.args.listed.now.item.now.report c.args.listed.now.place c.args.listed.now.item.now c.requires.layout c.requires.data in
+    let elements = c.requires.listed.layout.elements c.args.listed.now.place c.args.listed.now.item.now c.requires.listed.with_data.listed c.requires.listed.with_data.no_padding in
+    let inside = place_inside c.args.listed.now.layout.now c.args.listed.now.item.now.report c.args.listed.now.place c.args.listed.now.item.now c.requires.listed.layout c.requires.listed.with_data in
     record {
       some = elements.some_bits;
       narrow = elements.narrow;
-      inside = omega (arith, c.first_bit.ensures.value, c.requires.whole);
-      short = omega (arith, c.first_bit.ensures.value, c.requires.layout.short c.args.listed.now.item.now.report);
+      inside = omega (arith, c.first_bit.ensures.value, c.requires.listed.whole);
+      short = omega (arith, c.first_bit.ensures.value, c.requires.listed.layout.short c.args.listed.now.item.now.report);
     }
+
+pub take_numbers-requires-clause-listed : goal.take_numbers-requires-clause-listed
+take_numbers-requires-clause-listed g c = record {
+  layout = c.requires.listed.layout;
+  there = c.requires.listed.with_data.listed;
+  input = c.requires.listed.input;
+  no_padding = c.requires.listed.with_data.no_padding;
+}
 
 pub take_numbers-requires-clause-numbers : goal.take_numbers-requires-clause-numbers
 take_numbers-requires-clause-numbers g c =
@@ -38,7 +46,7 @@ take_numbers-requires-clause-numbers g c =
 pub take_numbers-requires-clause-fits : goal.take_numbers-requires-clause-fits
 take_numbers-requires-clause-fits g c =
     let item = c.args.listed.now.item.now in
-    let elements = c.requires.layout.elements c.args.listed.now.place item c.requires.data.listed c.requires.data.no_padding in
+    let elements = c.requires.listed.layout.elements c.args.listed.now.place item c.requires.listed.with_data.listed c.requires.listed.with_data.no_padding in
     let numbers : c.new-numbers.result ≡ item_numbers c.args.listed.now.layout.now c.args.bytes.now item = search rules in
     subst (All (FitsFields item)) (sym numbers) (numbers_fit c.args.bytes.now _ item.size _ item.count elements.some_bits)
 
@@ -48,24 +56,27 @@ take_numbers-requires-clause-room g c =
     let place = c.args.listed.now.place in
     let item = c.args.listed.now.item.now in
     let numbers : c.new-numbers.result ≡ item_numbers layout c.args.bytes.now item = search rules in
-    subst (λ (ns : List ℤ). HasSpace c.args.out.now (told_by_numbers layout place item c.args.cell.now (read_by_numbers layout place item c.args.cell.now ns) ns)) (sym numbers) c.requires.room
+    subst (λ (ns : List ℤ). HasSpace c.args.out.now
+    (number_events layout place item c.args.state.now (state_by_numbers layout place item c.args.state.now ns) ns))
+    (sym numbers) c.requires.room
 
-pub returns-else-are_bits-clause-cell : goal.returns-else-are_bits-clause-cell
-returns-else-are_bits-clause-cell g c =
+pub returns-else-are_bits-clause-state : goal.returns-else-are_bits-clause-state
+returns-else-are_bits-clause-state g c =
     let layout = c.args.listed.now.layout.now in
     let item = c.args.listed.now.item.now in
     let numbers : c.new-numbers.result ≡ item_numbers layout c.args.bytes.now item = search rules in
-    c.take_numbers.ensures.cell ∙ ap (read_by_numbers layout c.args.listed.now.place item c.args.cell.now) numbers
+    c.take_numbers.ensures.state ∙ ap (state_by_numbers layout c.args.listed.now.place item c.args.state.now) numbers
 
 pub returns-else-are_bits-clause-told : goal.returns-else-are_bits-clause-told
 returns-else-are_bits-clause-told g c =
     let layout = c.args.listed.now.layout.now in
     let item = c.args.listed.now.item.now in
     let numbers : c.new-numbers.result ≡ item_numbers layout c.args.bytes.now item = search rules in
-    subst (λ (ns : List ℤ). Appends c.args.out.now (told_by_numbers layout c.args.listed.now.place item c.args.cell.now c.take_numbers.new.cell ns) c.take_numbers.new.out) numbers c.take_numbers.ensures.told
+    subst (λ (ns : List ℤ). Appends c.args.out.now
+    (number_events layout c.args.listed.now.place item c.args.state.now c.take_numbers.new.state ns) c.take_numbers.new.out) numbers c.take_numbers.ensures.told
 
 pub get-requires-clause-some : goal.get-requires-clause-some
-get-requires-clause-some g c = (c.requires.layout.elements c.args.listed.now.place c.args.listed.now.item.now c.requires.data.listed c.requires.data.no_padding).some
+get-requires-clause-some g c = (c.requires.listed.layout.elements c.args.listed.now.place c.args.listed.now.item.now c.requires.listed.with_data.listed c.requires.listed.with_data.no_padding).some
 
 pub get-requires-clause-width : goal.get-requires-clause-width
 get-requires-clause-width g c =
@@ -77,46 +88,50 @@ pub get-requires-clause-inside : goal.get-requires-clause-inside
 get-requires-clause-inside g c =
     let on : are_bits c.args.listed.now.item.now ≡ true = search rules in
     let size = (has_bits c.args.listed.now.item.now on).size in
-    let inside = place_inside c.args.listed.now.layout.now c.args.listed.now.item.now.report c.args.listed.now.place c.args.listed.now.item.now c.requires.layout c.requires.data in
+    let inside = place_inside c.args.listed.now.layout.now c.args.listed.now.item.now.report c.args.listed.now.place c.args.listed.now.item.now c.requires.listed.layout c.requires.listed.with_data in
     let product : c.args.listed.now.item.now.size * c.args.listed.now.item.now.count ≡ 1 * c.args.listed.now.item.now.count = ap (λ (n : ℕ). n * c.args.listed.now.item.now.count) size in
-    omega (arith, c.first_bit.ensures.value, c.requires.whole)
+    omega (arith, c.first_bit.ensures.value, c.requires.listed.whole)
 
 pub take_pattern-requires-clause-held : goal.take_pattern-requires-clause-held
 take_pattern-requires-clause-held g c =
     let on : are_bits c.args.listed.now.item.now ≡ true = search rules in
-    (reads_as_bits c.args.listed.now.layout.now c.args.bytes.now c.args.listed.now.place c.args.listed.now.item.now c.args.cell.now c.requires.layout c.requires.data.listed c.requires.input (has_bits c.args.listed.now.item.now on) c.requires.held).room
+    (reads_as_bits c.args.listed.now.layout.now c.args.bytes.now c.args.listed.now.place c.args.listed.now.item.now c.args.state.now c.requires.listed.layout c.requires.listed.with_data.listed c.requires.listed.input (has_bits c.args.listed.now.item.now on) c.requires.held).room
 
 pub take_pattern-requires-clause-few : goal.take_pattern-requires-clause-few
 take_pattern-requires-clause-few g c =
     let on : are_bits c.args.listed.now.item.now ≡ true = search rules in
     let bits = has_bits c.args.listed.now.item.now on in
-    let reads = reads_as_bits c.args.listed.now.layout.now c.args.bytes.now c.args.listed.now.place c.args.listed.now.item.now c.args.cell.now c.requires.layout c.requires.data.listed c.requires.input bits c.requires.held in
+    let reads = reads_as_bits c.args.listed.now.layout.now c.args.bytes.now c.args.listed.now.place c.args.listed.now.item.now c.args.state.now c.requires.listed.layout c.requires.listed.with_data.listed c.requires.listed.input bits c.requires.held in
     omega (arith, reads.places, bits.few)
 
 pub take_pattern-requires-clause-fits : goal.take_pattern-requires-clause-fits
 take_pattern-requires-clause-fits g c =
     let on : are_bits c.args.listed.now.item.now ≡ true = search rules in
-    let reads = reads_as_bits c.args.listed.now.layout.now c.args.bytes.now c.args.listed.now.place c.args.listed.now.item.now c.args.cell.now c.requires.layout c.requires.data.listed c.requires.input (has_bits c.args.listed.now.item.now on) c.requires.held in
+    let reads = reads_as_bits c.args.listed.now.layout.now c.args.bytes.now c.args.listed.now.place c.args.listed.now.item.now c.args.state.now c.requires.listed.layout c.requires.listed.with_data.listed c.requires.listed.input (has_bits c.args.listed.now.item.now on) c.requires.held in
     subst (λ (n : ℕ). c.get.result < 2 ^ n) (sym reads.places) c.get.ensures.fits
 
 pub take_pattern-requires-clause-room : goal.take_pattern-requires-clause-room
 take_pattern-requires-clause-room g c =
     let on : are_bits c.args.listed.now.item.now ≡ true = search rules in
-    let reads = reads_as_bits c.args.listed.now.layout.now c.args.bytes.now c.args.listed.now.place c.args.listed.now.item.now c.args.cell.now c.requires.layout c.requires.data.listed c.requires.input (has_bits c.args.listed.now.item.now on) c.requires.held in
+    let reads = reads_as_bits c.args.listed.now.layout.now c.args.bytes.now c.args.listed.now.place c.args.listed.now.item.now c.args.state.now c.requires.listed.layout c.requires.listed.with_data.listed c.requires.listed.input (has_bits c.args.listed.now.item.now on) c.requires.held in
     let pattern : c.get.result ≡ pattern_in c.args.listed.now.layout.now c.args.bytes.now c.args.listed.now.item.now = search rules in
-    let read = ap (λ (p : ℕ). read_bits p c.args.cell.now) pattern ∙ reads.read in
-    let told = ap (λ (a : Cell). element_events c.args.listed.now.place (usages_at c.args.listed.now.layout.now c.args.listed.now.place) c.args.cell.now a) read ∙ reads.told (read_by_numbers c.args.listed.now.layout.now c.args.listed.now.place c.args.listed.now.item.now c.args.cell.now (item_numbers c.args.listed.now.layout.now c.args.bytes.now c.args.listed.now.item.now)) in
+    let read = ap (λ (p : ℕ). read_bits p c.args.state.now) pattern ∙ reads.read in
+    let told =
+    ap (λ (a : ControlState). element_events c.args.listed.now.place
+    (usages_at c.args.listed.now.layout.now c.args.listed.now.place) c.args.state.now a) read
+    ∙ reads.told
+    (state_by_numbers c.args.listed.now.layout.now c.args.listed.now.place c.args.listed.now.item.now c.args.state.now (item_numbers c.args.listed.now.layout.now c.args.bytes.now c.args.listed.now.item.now)) in
     omega (arith, ap (λ (es : List Event). length es) told, c.requires.room)
 
-pub returns-then-are_bits-clause-cell : goal.returns-then-are_bits-clause-cell
-returns-then-are_bits-clause-cell g c =
+pub returns-then-are_bits-clause-state : goal.returns-then-are_bits-clause-state
+returns-then-are_bits-clause-state g c =
     let on : are_bits c.args.listed.now.item.now ≡ true = search rules in
-    let reads = reads_as_bits c.args.listed.now.layout.now c.args.bytes.now c.args.listed.now.place c.args.listed.now.item.now c.args.cell.now c.requires.layout c.requires.data.listed c.requires.input (has_bits c.args.listed.now.item.now on) c.requires.held in
+    let reads = reads_as_bits c.args.listed.now.layout.now c.args.bytes.now c.args.listed.now.place c.args.listed.now.item.now c.args.state.now c.requires.listed.layout c.requires.listed.with_data.listed c.requires.listed.input (has_bits c.args.listed.now.item.now on) c.requires.held in
     let pattern : c.get.result ≡ pattern_in c.args.listed.now.layout.now c.args.bytes.now c.args.listed.now.item.now = search rules in
-    c.take_pattern.ensures.cell ∙ ap (λ (p : ℕ). read_bits p c.args.cell.now) pattern ∙ reads.read
+    c.take_pattern.ensures.state ∙ ap (λ (p : ℕ). read_bits p c.args.state.now) pattern ∙ reads.read
 
 pub returns-then-are_bits-clause-told : goal.returns-then-are_bits-clause-told
 returns-then-are_bits-clause-told g c =
     let on : are_bits c.args.listed.now.item.now ≡ true = search rules in
-    let reads = reads_as_bits c.args.listed.now.layout.now c.args.bytes.now c.args.listed.now.place c.args.listed.now.item.now c.args.cell.now c.requires.layout c.requires.data.listed c.requires.input (has_bits c.args.listed.now.item.now on) c.requires.held in
-    subst (λ (es : List Event). Appends c.args.out.now es c.take_pattern.new.out) (reads.told c.take_pattern.new.cell) c.take_pattern.ensures.told
+    let reads = reads_as_bits c.args.listed.now.layout.now c.args.bytes.now c.args.listed.now.place c.args.listed.now.item.now c.args.state.now c.requires.listed.layout c.requires.listed.with_data.listed c.requires.listed.input (has_bits c.args.listed.now.item.now on) c.requires.held in
+    subst (λ (es : List Event). Appends c.args.out.now es c.take_pattern.new.out) (reads.told c.take_pattern.new.state) c.take_pattern.ensures.told

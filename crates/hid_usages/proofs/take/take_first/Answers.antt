@@ -3,7 +3,7 @@ use Rattle.std.specs.Bool.{beq}
 use Rattle.std.specs.Cmp.{booleans_Decides}
 use Rattle.std.specs.Cmp.Lexicographic.{pointwise}
 use Rattle.std.proofs.lemmas.Slice.Eq.{slice_eq-Decides}
-use Rattle.hid_snapshots.specs.declared.cell.Cell.TheVariants.{Pressed}
+use Rattle.hid_snapshots.specs.declared.control_state.ControlState.TheVariants.{Switches}
 use Rattle.hid_snapshots.specs.Events.{usages_at, ups, downs}
 use Rattle.hid_usages.proofs.EventLemmas.{nothing_appended}
 use Rattle.hid_usages.proofs.ViewLemmas.{same_keys}
@@ -22,5 +22,8 @@ returns-else-not-is_first_of-clause-told c =
     let us = usages_at c.args.layout.now c.args.place in
     let first : c.args.held.now ≡ take (length c.args.held.now) c.args.named.now = same c.args.held.now (take (length c.args.held.now) c.args.named.now) c.is_first_of.result c.is_first_of.ensures (search rules) in
     let told = first_told c.args.place us c.args.held.now c.args.named.now (length c.args.held.now) (omega arith) in
-    let none = sym told ∙ ap (λ (xs : List Bool). ups c.args.place us c.args.held.now xs ++ downs c.args.place us c.args.held.now xs) (sym first) ∙ same_keys c.args.place us (Pressed c.args.held.now) in
+    let none =
+    sym told ∙ ap
+    (λ (xs : List Bool). ups c.args.place us c.args.held.now xs ++ downs c.args.place us c.args.held.now xs)
+    (sym first) ∙ same_keys c.args.place us (Switches c.args.held.now) in
     nothing_appended c.args.out.now _ none

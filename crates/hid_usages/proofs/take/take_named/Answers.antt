@@ -1,30 +1,33 @@
 use Rattle.std.proofs.Common.{◌≡◌, ◌∙◌, ◌++◌, ℕ, true, false, Bool, List, ap, sym, subst, take, length, arith, rules}
 use Rattle.std.specs.List.{list_any}
-use Rattle.hid_snapshots.specs.declared.cell.Cell.{Cell}
-use Rattle.hid_snapshots.specs.declared.cell.Cell.TheVariants.{Pressed}
+use Rattle.hid_snapshots.specs.declared.control_state.ControlState.{ControlState}
+use Rattle.hid_snapshots.specs.declared.control_state.ControlState.TheVariants.{Switches}
 use Rattle.hid_snapshots.specs.declared.event.Event.{Event}
 use Rattle.hid_descriptor.specs.Usages.{usage_list}
 use Rattle.hid_layout.specs.Controls.{Key}
 use Rattle.hid_snapshots.specs.Events.{usages_at, key_events, ups, downs}
 use Rattle.hid_usages.specs.Appending.{Appends}
-use Rattle.hid_usages.specs.Reading.{array_keys, keys_at, named_from, names_rollover, read_keys}
+use Rattle.hid_usages.specs.Reading.{array_keys, keys_at, named_keys_from, names_rollover, read_keys}
 use Rattle.hid_usages.proofs.EventLemmas.{nothing_appended}
 use Rattle.hid_usages.proofs.ViewLemmas.{same_keys}
 use Rattle.hid_usages.proofs.PressLemmas.{keys_stay, keys_named, is_not, is_so}
 use Rattle.hid_usages.proofs.RoomLemmas.{first_told}
 use Rattle.hid_usages.proofs.take.take_named.Goals as goal
 
-pub read_keys-requires-clause-after : goal.read_keys-requires-clause-after
-read_keys-requires-clause-after g c = omega (arith, c.requires.places, c.requires.held, ap length c.requires.keys)
+pub read_keys-requires-clause-clear : goal.read_keys-requires-clause-clear
+read_keys-requires-clause-clear g c = record {
+  after = omega (arith, c.requires.named.places, c.requires.held, ap length c.requires.array.keys);
+  none = c.requires.named.none;
+}
 
 pub take_first-requires-clause-held : goal.take_first-requires-clause-held
-take_first-requires-clause-held g c = omega (arith, c.requires.held, c.requires.usages)
+take_first-requires-clause-held g c = omega (arith, c.requires.held, c.requires.array.usages)
 
 pub take_first-requires-clause-places : goal.take_first-requires-clause-places
-take_first-requires-clause-places g c = omega (arith, c.requires.places, c.read_keys.ensures.len)
+take_first-requires-clause-places g c = omega (arith, c.requires.named.places, c.read_keys.ensures.len)
 
 pub take_first-requires-clause-behind : goal.take_first-requires-clause-behind
-take_first-requires-clause-behind g c = λ i h. c.read_keys.ensures.behind i (omega (arith, h, c.requires.held, ap length c.requires.keys))
+take_first-requires-clause-behind g c = λ i h. c.read_keys.ensures.behind i (omega (arith, h, c.requires.held, ap length c.requires.array.keys))
 
 pub take_first-requires-clause-room : goal.take_first-requires-clause-room
 take_first-requires-clause-room g c =
@@ -32,13 +35,22 @@ take_first-requires-clause-room g c =
     let item = c.args.array.now.item.now in
     let keys = keys_at c.args.layout.now c.args.place in
     let off : list_any (names_rollover item us) c.args.numbers.now ≡ false = is_not (list_any (names_rollover item us) c.args.numbers.now) c.read_keys.result c.read_keys.ensures.rolls (search rules) in
-    let long : length c.args.held.now ≡ length (array_keys item us) = c.requires.held ∙ ap length c.requires.keys in
-    let named : take (length c.args.held.now) c.read_keys.new.after ≡ named_from item c.args.numbers.now 0 keys =
-    ap (λ (n : ℕ). take n c.read_keys.new.after) long ∙ c.read_keys.ensures.keys (search rules) ∙ ap (λ (ks : List Key). named_from item c.args.numbers.now 0 ks) (sym c.requires.keys)
+    let long : length c.args.held.now ≡ length (array_keys item us) = c.requires.held ∙ ap length c.requires.array.keys in
+    let named : take (length c.args.held.now) c.read_keys.new.after ≡ named_keys_from item c.args.numbers.now 0 keys =
+    ap (λ (n : ℕ). take n c.read_keys.new.after) long ∙ c.read_keys.ensures.keys (search rules)
+    ∙ ap (λ (ks : List Key). named_keys_from item c.args.numbers.now 0 ks) (sym c.requires.array.keys)
     in
-    let read : read_keys item us keys (Pressed c.args.held.now) c.args.numbers.now ≡ Pressed (take (length c.args.held.now) c.read_keys.new.after) = keys_named item us keys c.args.held.now c.args.numbers.now off ∙ ap Pressed (sym named) in
+    let read : read_keys item us keys (Switches c.args.held.now) c.args.numbers.now
+    ≡ Switches (take (length c.args.held.now) c.read_keys.new.after) =
+    keys_named item us keys c.args.held.now c.args.numbers.now off ∙ ap Switches (sym named) in
     let told = first_told c.args.place (usages_at c.args.layout.now c.args.place) c.args.held.now c.read_keys.new.after (length c.args.held.now) (omega arith) in
-    omega (arith, c.requires.room, ap (λ (cell : Cell). length (key_events c.args.place (usages_at c.args.layout.now c.args.place) (Pressed c.args.held.now) cell)) read, ap (λ (es : List Event). length es) told)
+    omega (
+      arith,
+      c.requires.room,
+      ap (λ (state : ControlState). length
+          (key_events c.args.place (usages_at c.args.layout.now c.args.place) (Switches c.args.held.now) state)) read,
+      ap (λ (es : List Event). length es) told,
+    )
 
 pub returns-then-read_keys-clause-held : goal.returns-then-read_keys-clause-held
 returns-then-read_keys-clause-held g c =
@@ -46,15 +58,18 @@ returns-then-read_keys-clause-held g c =
     let item = c.args.array.now.item.now in
     let keys = keys_at c.args.layout.now c.args.place in
     let off : list_any (names_rollover item us) c.args.numbers.now ≡ false = is_not (list_any (names_rollover item us) c.args.numbers.now) c.read_keys.result c.read_keys.ensures.rolls (search rules) in
-    let long : length c.args.held.now ≡ length (array_keys item us) = c.requires.held ∙ ap length c.requires.keys in
-    let named : take (length c.args.held.now) c.read_keys.new.after ≡ named_from item c.args.numbers.now 0 keys =
-    ap (λ (n : ℕ). take n c.read_keys.new.after) long ∙ c.read_keys.ensures.keys (search rules) ∙ ap (λ (ks : List Key). named_from item c.args.numbers.now 0 ks) (sym c.requires.keys)
+    let long : length c.args.held.now ≡ length (array_keys item us) = c.requires.held ∙ ap length c.requires.array.keys in
+    let named : take (length c.args.held.now) c.read_keys.new.after ≡ named_keys_from item c.args.numbers.now 0 keys =
+    ap (λ (n : ℕ). take n c.read_keys.new.after) long ∙ c.read_keys.ensures.keys (search rules)
+    ∙ ap (λ (ks : List Key). named_keys_from item c.args.numbers.now 0 ks) (sym c.requires.array.keys)
     in
-    let read : read_keys item us keys (Pressed c.args.held.now) c.args.numbers.now ≡ Pressed (take (length c.args.held.now) c.read_keys.new.after) = keys_named item us keys c.args.held.now c.args.numbers.now off ∙ ap Pressed (sym named) in
-    ap Pressed c.take_first.ensures.held ∙ sym read
+    let read : read_keys item us keys (Switches c.args.held.now) c.args.numbers.now
+    ≡ Switches (take (length c.args.held.now) c.read_keys.new.after) =
+    keys_named item us keys c.args.held.now c.args.numbers.now off ∙ ap Switches (sym named) in
+    ap Switches c.take_first.ensures.held ∙ sym read
 
 pub returns-then-read_keys-clause-behind : goal.returns-then-read_keys-clause-behind
-returns-then-read_keys-clause-behind g c = λ i h. c.read_keys.ensures.behind i (omega (arith, h, c.requires.held, ap length c.requires.keys))
+returns-then-read_keys-clause-behind g c = λ i h. c.read_keys.ensures.behind i (omega (arith, h, c.requires.held, ap length c.requires.array.keys))
 
 pub returns-then-read_keys-clause-told : goal.returns-then-read_keys-clause-told
 returns-then-read_keys-clause-told g c =
@@ -71,7 +86,9 @@ returns-else-read_keys-clause-held g c =
     sym (keys_stay item us (keys_at c.args.layout.now c.args.place) c.args.held.now c.args.numbers.now on)
 
 pub returns-else-read_keys-clause-behind : goal.returns-else-read_keys-clause-behind
-returns-else-read_keys-clause-behind g c = λ i h. c.read_keys.ensures.behind i (omega (arith, h, c.requires.held, ap length c.requires.keys))
+returns-else-read_keys-clause-behind g c = λ i h. c.read_keys.ensures.behind i (omega (arith, h, c.requires.held, ap length c.requires.array.keys))
 
 pub returns-else-read_keys-clause-told : goal.returns-else-read_keys-clause-told
-returns-else-read_keys-clause-told g c = nothing_appended c.args.out.now _ (same_keys c.args.place (usages_at c.args.layout.now c.args.place) (Pressed c.args.held.now))
+returns-else-read_keys-clause-told g c =
+    nothing_appended c.args.out.now _
+    (same_keys c.args.place (usages_at c.args.layout.now c.args.place) (Switches c.args.held.now))

@@ -1,15 +1,16 @@
 use Rattle.std.proofs.Common.{List, sym, ◌∙◌, subst, arith}
 use Rattle.hid_layout.specs.Controls.{items_of}
-use Rattle.hid_snapshots.specs.declared.cell.Cell.{Cell}
-use Rattle.hid_snapshots.specs.Cells.{InPart, Suits}
+use Rattle.hid_snapshots.specs.declared.control_state.ControlState.{ControlState}
+use Rattle.hid_snapshots.specs.ControlStates.{InPart, Suits}
 use Rattle.hid_snapshots.proofs.ShownLemmas.{blank_parts_fit}
 use Rattle.hid_snapshots.proofs.SnapshotLemmas.{written_back}
 use Rattle.hid_snapshots.proofs.shown.Shown.reset.Goals as goal
 
 pub returns-clause-blank : goal.returns-clause-blank
-returns-clause-blank c = written_back c.reset_parts.new.parts c.self.inside.cells.items c.self.inside.cells.len (omega arith) ∙ c.reset_parts.ensures.blank
+returns-clause-blank c = written_back c.reset_parts.new.parts c.self.inside.states.items c.self.inside.states.len (omega arith) ∙ c.reset_parts.ensures.blank
 
 pub returns-clause-fits : goal.returns-clause-fits
 returns-clause-fits c =
-    let is = written_back c.reset_parts.new.parts c.self.inside.cells.items c.self.inside.cells.len (omega arith) ∙ c.reset_parts.ensures.blank in
-    subst (λ (cells : List Cell). Suits InPart (items_of c.args.layout.now) cells) (sym is) (blank_parts_fit c.args.layout.now c.reset_parts.ensures.layout)
+    let is = written_back c.reset_parts.new.parts c.self.inside.states.items c.self.inside.states.len (omega arith) ∙ c.reset_parts.ensures.blank in
+    subst (λ (states : List ControlState). Suits InPart (items_of c.args.layout.now) states) (sym is)
+    (blank_parts_fit c.args.layout.now c.reset_parts.ensures.layout)

@@ -1,14 +1,14 @@
 use Rattle.std.proofs.Common.{ℕ, ◌+◌, ◌≤◌, List, Ok, Err, refl, sym, ap, subst, rules, arith}
 use Rattle.std.specs.Vec.{vec_len, vec_capacity}
 use Rattle.hid_layout.specs.Controls.{items_of, max_events}
-use Rattle.hid_snapshots.specs.declared.cell.Cell.{Cell}
-use Rattle.hid_snapshots.specs.Cells.{FitsView}
+use Rattle.hid_snapshots.specs.declared.control_state.ControlState.{ControlState}
+use Rattle.hid_snapshots.specs.ControlStates.{FitsView}
 use Rattle.hid_usages.specs.Taking.{TakesReport}
 use Rattle.hid_usages.specs.Reader.{Seen, IsReader}
 use Rattle.hid_usages.proofs.ReaderLemmas.{still_taken, reader_after}
 use Rattle.hid_usages.proofs.reader.Reader.take_report.Goals as goal
 
--- no event more is at most so many more
+-- no event more is at most n more
 none_more : (n most : ℕ) → n ≤ n + most
 none_more n most = omega arith
 
@@ -55,7 +55,9 @@ pub returns-in-Err-clause-few : goal.returns-in-Err-clause-few
 returns-in-Err-clause-few g c = subst (λ (seen : Seen). vec_len c.take_report.new.out ≤ vec_len c.args.out.now + max_events (items_of seen.layout)) c.self.view_is c.in-Err.ensures.few
 
 pub invariant_of-self-in-Err : goal.invariant_of-self-in-Err
-invariant_of-self-in-Err g c = subst (λ (view : List Cell). IsReader c.self.inside.layout view c.self.inside.still.items) (sym c.in-Err.ensures.taken.1) c.self.invariant
+invariant_of-self-in-Err g c =
+    subst (λ (view : List ControlState). IsReader c.self.inside.layout view c.self.inside.still.items)
+    (sym c.in-Err.ensures.taken.1) c.self.invariant
 
 pub returns-then-is_kept-clause-layout : goal.returns-then-is_kept-clause-layout
 returns-then-is_kept-clause-layout g c = refl

@@ -1,7 +1,7 @@
 use Rattle.std.proofs.Common.{◌∙◌, List, ◌++◌, sym, ap, subst, arith}
 use Rattle.hid_layout.specs.Controls.{items_of}
-use Rattle.hid_snapshots.specs.declared.cell.Cell.{Cell}
-use Rattle.hid_snapshots.specs.Cells.{FitsView, blank}
+use Rattle.hid_snapshots.specs.declared.control_state.ControlState.{ControlState}
+use Rattle.hid_snapshots.specs.ControlStates.{FitsView, blank}
 use Rattle.hid_snapshots.specs.Views.{changes_between}
 use Rattle.hid_usages.specs.Taking.{NamesNone}
 use Rattle.hid_usages.proofs.BackLemmas.{changes_back_few}
@@ -11,7 +11,9 @@ pub all_changes_back-requires-clause-before : goal.all_changes_back-requires-cla
 all_changes_back-requires-clause-before c = subst (FitsView (items_of c.args.layout.now)) (sym (c.deref.ensures.value ∙ c.self.view_is)) c.requires.fits
 
 pub all_changes_back-requires-clause-none : goal.all_changes_back-requires-clause-none
-all_changes_back-requires-clause-none c = subst (λ (cells : List Cell). NamesNone cells c.self.inside.named) (sym c.deref.ensures.value) c.self.invariant
+all_changes_back-requires-clause-none c =
+    subst (λ (states : List ControlState). NamesNone states c.self.inside.named)
+    (sym c.deref.ensures.value) c.self.invariant
 
 pub all_changes_back-requires-clause-room : goal.all_changes_back-requires-clause-room
 all_changes_back-requires-clause-room c =
@@ -21,4 +23,6 @@ all_changes_back-requires-clause-room c =
 pub returns-clause-events : goal.returns-clause-events
 returns-clause-events c =
     c.all_changes_back.ensures.items
-    ∙ ap (λ (cells : List Cell). c.args.out.now.items ++ changes_between (items_of c.args.layout.now) cells (blank (items_of c.args.layout.now))) (c.deref.ensures.value ∙ c.self.view_is)
+    ∙ ap (λ (states : List ControlState). c.args.out.now.items
+    ++ changes_between (items_of c.args.layout.now) states (blank (items_of c.args.layout.now)))
+    (c.deref.ensures.value ∙ c.self.view_is)

@@ -1,8 +1,8 @@
 use Rattle.std.proofs.Common.{◌∙◌, List, ◌++◌, sym, ap, subst, arith}
 use Rattle.hid_layout.specs.Controls.{items_of}
-use Rattle.hid_snapshots.specs.declared.cell.Cell.{Cell}
+use Rattle.hid_snapshots.specs.declared.control_state.ControlState.{ControlState}
 use Rattle.hid_snapshots.specs.declared.event.Event.{Event}
-use Rattle.hid_snapshots.specs.Cells.{FitsView, blank}
+use Rattle.hid_snapshots.specs.ControlStates.{FitsView, blank}
 use Rattle.hid_usages.specs.Dropping.{drops_from}
 use Rattle.hid_usages.specs.Taking.{NamesNone}
 use Rattle.hid_usages.proofs.BackLemmas.{drops_back_few}
@@ -13,7 +13,9 @@ pub all_changes_back_and_drops-requires-clause-before : goal.all_changes_back_an
 all_changes_back_and_drops-requires-clause-before c = subst (FitsView (items_of c.args.layout.now)) (sym (c.deref.ensures.value ∙ c.self.view_is)) c.requires.fits
 
 pub all_changes_back_and_drops-requires-clause-none : goal.all_changes_back_and_drops-requires-clause-none
-all_changes_back_and_drops-requires-clause-none c = subst (λ (cells : List Cell). NamesNone cells c.self.inside.named) (sym c.deref.ensures.value) c.self.invariant
+all_changes_back_and_drops-requires-clause-none c =
+    subst (λ (states : List ControlState). NamesNone states c.self.inside.named)
+    (sym c.deref.ensures.value) c.self.invariant
 
 pub all_changes_back_and_drops-requires-clause-room : goal.all_changes_back_and_drops-requires-clause-room
 all_changes_back_and_drops-requires-clause-room c =
@@ -23,7 +25,10 @@ all_changes_back_and_drops-requires-clause-room c =
 pub returns-clause-events : goal.returns-clause-events
 returns-clause-events c =
     let items = items_of c.args.layout.now in
-    let told = ap (λ (cells : List Cell). drops_from 0 c.args.report items cells (blank items) c.args.shown.now) (c.deref.ensures.value ∙ c.self.view_is) ∙ sym (drops_are items c.args.report c.args.self.now (blank items) c.args.shown.now) in
+    let told =
+    ap (λ (states : List ControlState). drops_from 0 c.args.report items states (blank items) c.args.shown.now)
+    (c.deref.ensures.value ∙ c.self.view_is)
+    ∙ sym (drops_are items c.args.report c.args.self.now (blank items) c.args.shown.now) in
     c.all_changes_back_and_drops.ensures.items ∙ ap (λ (es : List Event). c.args.out.now.items ++ es) told
 
 pub returns-clause-few : goal.returns-clause-few
