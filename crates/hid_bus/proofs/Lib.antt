@@ -1,4 +1,5 @@
-pub mod LifeLemmas
+pub mod HistoryLemmas
+pub mod HistoryEventLemmas
 pub mod PieceLemmas
 pub mod ScheduleLemmas
 pub mod ItemMotionLemmas

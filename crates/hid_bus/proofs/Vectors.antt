@@ -1,21 +1,22 @@
--- Worked schedules of known devices, their rounds, their events and their stations: each is worked out by hand, and a wrong one fails the check.
+-- Worked schedules of known devices, their rounds, their events and their link states: each is worked out by hand,
+-- and a wrong one fails the check.
 use Rattle.std.specs.Prelude.{◌≡◌, ℕ, Bool, true, false, List, [], ◌∷◌, ◌++◌, map, length, replicate, Some, None, ℤ, pos, negsuc, refl}
 use Rattle.hid_layout.specs.Controls.{Item}
-use Rattle.hid_snapshots.specs.declared.cell.Cell.TheVariants.{Vacant, Pressed, Moved}
+use Rattle.hid_snapshots.specs.declared.control_state.ControlState.TheVariants.{Absent, Switches, Motions}
 use Rattle.hid_snapshots.specs.declared.change.Change.TheVariants as change
 use Rattle.hid_snapshots.specs.declared.event.Event.{Event}
 use Rattle.hid_snapshots.specs.declared.event.Event.TheVariants as event
 use Rattle.usb_transact.specs.declared.transaction.Fate.TheVariants.{Clean, TokenLost, ReplyLost, AckLost}
-use Rattle.hid_snapshots.specs.Cells.{blank}
+use Rattle.hid_snapshots.specs.ControlStates.{blank}
 use Rattle.hid_snapshots.specs.Events.{at}
 use Rattle.hid_snapshots.specs.Parts.{blank_parts}
 use Rattle.hid_snapshots.specs.Samples.{usage, keyboard, mouse, hat, wheel_and_button}
-use Rattle.hid_bus.specs.Standing.{configured, first_due, after_frame}
-use Rattle.hid_bus.specs.Rounds.{OwnStep, Changes, Frame, Polls, Course, has_crossed, has_closed, after_steps, fresh_course, rounds, crossed_rounds, events_of_epoch}
-use Rattle.hid_bus.specs.Lives.{flips}
-use Rattle.hid_bus.specs.Stations.{expected}
-use Rattle.hid_bus.specs.Motion.{moved_motion, given_motion, station_motion}
-use Rattle.hid_bus.specs.Rows.{press, release, move, set, key_down, motion_x, stands_after}
+use Rattle.hid_bus.specs.ReportState.{initial_reports, first_due, after_frame}
+use Rattle.hid_bus.specs.Rounds.{OwnStep, Changes, Frame, Polls, RoundHistory, has_crossed, has_closed, history_after_steps, initial_history, rounds, crossed_rounds, events_of_epoch}
+use Rattle.hid_bus.specs.DeviceHistory.{flipped_toggle}
+use Rattle.hid_bus.specs.LinkState.{expected_toggle}
+use Rattle.hid_bus.specs.Motion.{motion_of_steps, motion_of_events, link_motion}
+use Rattle.hid_bus.specs.HistoryRows.{press, release, move, set, key_down, motion_x, state_after_own_steps}
 
 abbrev null : ℕ → ℕ → OwnStep
 null i j = Changes (change.Null (at i j))
@@ -24,14 +25,15 @@ null i j = Changes (change.Null (at i j))
 abbrev told : List Item → ℕ → List OwnStep → List Event
 told items reports steps = events_of_epoch items (blank items) (replicate reports 0) steps
 
--- and how it stands then
-abbrev then : List Item → ℕ → List OwnStep → Course
-then items reports steps = after_steps items steps (fresh_course items (blank items) (replicate reports 0))
+-- the history of that device after these steps
+abbrev then : List Item → ℕ → List OwnStep → RoundHistory
+then items reports steps = history_after_steps items steps (initial_history items (blank items) (replicate reports 0))
 
 -- for each round whether it crossed and whether it closed
 abbrev kinds : List Item → ℕ → List OwnStep → List (Bool × Bool)
 kinds items reports steps =
-    map (λ round. (has_crossed round, has_closed round)) (rounds items steps (fresh_course items (blank items) (replicate reports 0)))
+    map (λ round. (has_crossed round, has_closed round))
+    (rounds items steps (initial_history items (blank items) (replicate reports 0)))
 
 -- a key that is pressed is told at the poll
 one_key : told keyboard 1 (press 4 4 ∷ Polls Clean ∷ []) ≡ key_down 4 ∷ []
@@ -108,7 +110,7 @@ two_reports = refl
 no_round_yet : kinds wheel_and_button 2 (press 1 0 ∷ Polls TokenLost ∷ []) ≡ []
 no_round_yet = refl
 
-button_is_second : first_due wheel_and_button (then wheel_and_button 2 (press 1 0 ∷ [])).standing ≡ Some 1
+button_is_second : first_due wheel_and_button (then wheel_and_button 2 (press 1 0 ∷ [])).reports ≡ Some 1
 button_is_second = refl
 
 -- an idle time of four frames: the report goes again once they passed, and tells nothing new (HID 1.11, 7.2.4)
@@ -127,12 +129,12 @@ three_frames_are_few = refl
 four_frames_are_enough : idle_rounds (press 4 4 ∷ Polls Clean ∷ replicate 4 Frame ++ Polls Clean ∷ []) ≡ 2
 four_frames_are_enough = refl
 
--- frames are counted anew where a round opens, and up to 1,020
-counted_anew : idle_rounds (replicate 4 Frame ++ Polls Clean ∷ Polls Clean ∷ []) ≡ 1
-counted_anew = refl
+-- frames are counted again where a round opens, and up to 1,020
+counted_again : idle_rounds (replicate 4 Frame ++ Polls Clean ∷ Polls Clean ∷ []) ≡ 1
+counted_again = refl
 
 abbrev after_frames : ℕ → List ℕ
-after_frames n = (after_frame (record { snapshot = []; fixed = []; frames = n ∷ 0 ∷ []; idle = 0 ∷ 0 ∷ []; cut = false ∷ false ∷ [] })).frames
+after_frames n = (after_frame (record { snapshot = []; fixed = []; frames = n ∷ 0 ∷ []; idle = 0 ∷ 0 ∷ []; aborted = false ∷ false ∷ [] })).frames
 
 counted_up : after_frames 1019 ≡ 1020 ∷ 1 ∷ []
 counted_up = refl
@@ -141,41 +143,45 @@ counted_out : after_frames 1020 ≡ 1020 ∷ 1 ∷ []
 counted_out = refl
 
 -- a configuration forgets the parts and the counts, and keeps the snapshot and the idle times
-kept_over : configured hat (blank hat) (7 ∷ []) ≡ record { snapshot = blank hat; fixed = blank_parts hat; frames = 0 ∷ []; idle = 7 ∷ []; cut = false ∷ [] }
+kept_over : initial_reports hat (blank hat) (7 ∷ [])
+    ≡ record { snapshot = blank hat; fixed = blank_parts hat; frames = 0 ∷ []; idle = 7 ∷ []; aborted = false ∷ [] }
 kept_over = refl
 
 -- what is pressed before a configuration is told after it
-pressed_before : events_of_epoch mouse (Pressed (true ∷ false ∷ false ∷ []) ∷ Vacant ∷ Moved (pos 0 ∷ pos 0 ∷ []) ∷ []) (0 ∷ []) (Polls Clean ∷ [])
+pressed_before : events_of_epoch mouse
+    (Switches (true ∷ false ∷ false ∷ []) ∷ Absent ∷ Motions (pos 0 ∷ pos 0 ∷ []) ∷ []) (0 ∷ []) (Polls Clean ∷ [])
     ≡ event.Down (at 0 0) (usage 9 1) ∷ []
 pressed_before = refl
 
 -- the motion to the right that is given, and the one that changes add
-given_so_far : given_motion (at 2 0) (told mouse 1 (move 2 0 (pos 200) ∷ Polls Clean ∷ Polls Clean ∷ [])) ≡ pos 200
+given_so_far : motion_of_events (at 2 0) (told mouse 1 (move 2 0 (pos 200) ∷ Polls Clean ∷ Polls Clean ∷ []))
+    ≡ pos 200
 given_so_far = refl
 
-moved_so_far : moved_motion (at 2 0) (move 2 0 (pos 200) ∷ move 2 1 (pos 9) ∷ press 0 0 ∷ move 2 0 (negsuc 4) ∷ []) ≡ pos 195
+moved_so_far : motion_of_steps (at 2 0) (move 2 0 (pos 200) ∷ move 2 1 (pos 9) ∷ press 0 0 ∷ move 2 0 (negsuc 4) ∷ [])
+    ≡ pos 195
 moved_so_far = refl
 
 -- once it is acknowledged both ends are at DATA1 and no round is open
-host_at_data1 : expected (stands_after keyboard (press 4 4 ∷ Polls AckLost ∷ Polls Clean ∷ [])) ≡ true
+host_at_data1 : expected_toggle (state_after_own_steps keyboard (press 4 4 ∷ Polls AckLost ∷ Polls Clean ∷ [])) ≡ true
 host_at_data1 = refl
 
-device_at_data1 : (stands_after keyboard (press 4 4 ∷ Polls AckLost ∷ Polls Clean ∷ [])).odd ≡ true
+device_at_data1 : (state_after_own_steps keyboard (press 4 4 ∷ Polls AckLost ∷ Polls Clean ∷ [])).toggle ≡ true
 device_at_data1 = refl
 
-no_round_is_open : (stands_after keyboard (press 4 4 ∷ Polls AckLost ∷ Polls Clean ∷ [])).current ≡ None
+no_round_is_open : (state_after_own_steps keyboard (press 4 4 ∷ Polls AckLost ∷ Polls Clean ∷ [])).current ≡ None
 no_round_is_open = refl
 
--- a toggle that begins at DATA0 is at DATA1 behind three changes, and back behind four
-three_changes : flips 3 false ≡ true
+-- a toggle that begins at DATA0 is at DATA1 after three changes, and back after four
+three_changes : flipped_toggle 3 false ≡ true
 three_changes = refl
 
-four_changes : flips 4 false ≡ false
+four_changes : flipped_toggle 4 false ≡ false
 four_changes = refl
 
 -- what a mouse still has of 200 to the right: all of it until its report crossed, then what the report couldn't carry
 abbrev kept_x : List OwnStep → ℤ
-kept_x steps = station_motion mouse (stands_after mouse steps) (at 2 0)
+kept_x steps = link_motion mouse (state_after_own_steps mouse steps) (at 2 0)
 
 in_snapshot_alone : kept_x (move 2 0 (pos 200) ∷ []) ≡ pos 200
 in_snapshot_alone = refl

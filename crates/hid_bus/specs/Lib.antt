@@ -1,9 +1,9 @@
-pub mod Standing
+pub mod ReportState
 pub mod Rounds
-pub mod Stations
-pub mod Lives
-pub mod Following
-pub mod Halting
+pub mod LinkState
+pub mod DeviceHistory
+pub mod HistoryState
+pub mod AbortedRounds
 pub mod Motion
-pub mod Rows
+pub mod HistoryRows
 pub mod Delivered

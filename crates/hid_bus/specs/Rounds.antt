@@ -4,17 +4,17 @@ use Rattle.std.specs.Prelude.{ℕ, ◌+◌, Bool, true, false, nat_le, if◌then
 use Rattle.std.specs.List.{filter}
 use Rattle.std.specs.Option.{option_map}
 use Rattle.hid_layout.specs.Controls.{Item}
-use Rattle.hid_snapshots.specs.declared.cell.Cell.{Cell}
+use Rattle.hid_snapshots.specs.declared.control_state.ControlState.{ControlState}
 use Rattle.hid_snapshots.specs.declared.change.Change.{Change}
 use Rattle.hid_snapshots.specs.declared.event.Event.{Event}
-use Rattle.hid_snapshots.specs.Cells.{blank}
+use Rattle.hid_snapshots.specs.ControlStates.{blank}
 use Rattle.hid_snapshots.specs.Pieces.{pieces_of}
-use Rattle.hid_snapshots.specs.Views.{seen, events_between}
+use Rattle.hid_snapshots.specs.Views.{view_after_part, events_between}
 use Rattle.usb_transact.specs.declared.transaction.Fate.{Fate}
 use Rattle.usb_transact.specs.declared.transaction.Fate.TheVariants.{Clean, TokenLost, ReplyLost, AckLost}
-use Rattle.hid_bus.specs.Standing.{Standing, configured, due_where, after_change, after_frame, after_opening}
+use Rattle.hid_bus.specs.ReportState.{ReportState, initial_reports, due_where, after_change, after_frame, after_opening}
 
--- What happens at one device: a control changes, a frame passes, or the host polls it and this fate befalls the poll.
+-- What happens at one device: a control changes, a frame passes, or the host polls it and the poll has this fate.
 pub data OwnStep : Type 0 where
   Changes : Change → OwnStep
   Frame : OwnStep
@@ -26,7 +26,7 @@ pub data OwnStep : Type 0 where
 pub record Round : Type 0 where
   pub report : ℕ
   pub pieces : ℕ
-  pub parts : List Cell
+  pub parts : List ControlState
   pub polls : List Fate
 
 -- the device's reply reaches the host
@@ -43,36 +43,36 @@ is_clean TokenLost = false
 is_clean ReplyLost = false
 is_clean AckLost = false
 
--- A piece closes at its first poll of which nothing is lost: these polls closed so many, one behind the other.
-abbrev pub closed_in : List Fate → ℕ
-closed_in [] = 0
-closed_in (fate ∷ polls) = (if is_clean fate then 1 else 0) + closed_in polls
+-- How many pieces these polls closed, one after the other: a piece closes at its first poll of which nothing is lost.
+abbrev pub closed_count : List Fate → ℕ
+closed_count [] = 0
+closed_count (fate ∷ polls) = (if is_clean fate then 1 else 0) + closed_count polls
 
--- A piece crosses at its first poll that reaches the host: whether the piece at hand has, once one more poll came.
--- Where that closed one, the next is at hand.
-abbrev pub ahead_after : Bool → Fate → Bool
-ahead_after ahead Clean = false
-ahead_after ahead TokenLost = ahead
-ahead_after ahead ReplyLost = ahead
-ahead_after ahead AckLost = true
+-- Whether the current piece has crossed after one more poll: it crosses at its first poll that reaches the host. A poll
+-- of which nothing is lost closes it, and the next piece is current.
+abbrev pub has_crossed_after : Bool → Fate → Bool
+has_crossed_after ahead Clean = false
+has_crossed_after ahead TokenLost = ahead
+has_crossed_after ahead ReplyLost = ahead
+has_crossed_after ahead AckLost = true
 
--- whether the piece at hand has crossed, once these polls came
-abbrev pub ahead_in : Bool → List Fate → Bool
-ahead_in ahead [] = ahead
-ahead_in ahead (fate ∷ polls) = ahead_in (ahead_after ahead fate) polls
+-- whether the current piece has crossed after a list of polls
+abbrev pub has_crossed_after_all : Bool → List Fate → Bool
+has_crossed_after_all ahead [] = ahead
+has_crossed_after_all ahead (fate ∷ polls) = has_crossed_after_all (has_crossed_after ahead fate) polls
 
--- the pieces that crossed, where so many closed, and the one at hand has crossed or not
-abbrev pub crossed_with : ℕ → Bool → ℕ
-crossed_with closed ahead = if ahead then closed + 1 else closed
+-- how many pieces crossed, by how many closed and by whether the current one has crossed
+abbrev pub crossed_count : ℕ → Bool → ℕ
+crossed_count closed ahead = if ahead then closed + 1 else closed
 
 -- how many pieces of a round closed: each at its first poll of which nothing is lost
 abbrev pub pieces_closed : Round → ℕ
-pieces_closed round = closed_in round.polls
+pieces_closed round = closed_count round.polls
 
 -- how many pieces of a round crossed: each at its first poll that reaches the host. Example: of two pieces a clean poll
 -- and a lost ACK: two crossed, one closed
 abbrev pub pieces_crossed : Round → ℕ
-pieces_crossed round = crossed_with (pieces_closed round) (ahead_in false round.polls)
+pieces_crossed round = crossed_count (pieces_closed round) (has_crossed_after_all false round.polls)
 
 -- A round crosses with its last piece.
 abbrev pub has_crossed : Round → Bool
@@ -82,9 +82,9 @@ has_crossed round = nat_le round.pieces (pieces_crossed round)
 abbrev pub has_closed : Round → Bool
 has_closed round = nat_le round.pieces (pieces_closed round)
 
--- the course of a device: how it stands, the round that is open, where one is, and whether its endpoint is halted
-pub record Course : Type 0 where
-  pub standing : Standing
+-- the round history of a device: its reports, the open round, if one is open, and whether its endpoint is halted
+pub record RoundHistory : Type 0 where
+  pub reports : ReportState
   pub current : Option Round
   pub halted : Bool
 
@@ -92,103 +92,112 @@ pub record Course : Type 0 where
 abbrev pub round_report : Option Round → Option ℕ
 round_report current = option_map (λ round. round.report) current
 
--- the round that a device opened as it came to stand so
-abbrev pub new_round : List Item → ℕ → Standing → Round
+-- a round of a report that just opened: it has the parts that were fixed last, and no polls
+abbrev pub new_round : List Item → ℕ → ReportState → Round
 new_round items r d = record { report = r; pieces = pieces_of items r; parts = d.fixed; polls = [] }
 
--- where some report is due, a round of it opens
-abbrev pub opened_if : List Item → Course → Option ℕ → Course
-opened_if items c None = c
-opened_if items c (Some r) = record c {
-  standing = after_opening items r c.standing;
-  current = Some (new_round items r (after_opening items r c.standing));
+-- the round history once a round of a report opens, if one does
+abbrev pub with_opened_round : List Item → RoundHistory → Option ℕ → RoundHistory
+with_opened_round items c None = c
+with_opened_round items c (Some r) = record c {
+  reports = after_opening items r c.reports;
+  current = Some (new_round items r (after_opening items r c.reports));
 }
 
--- a token that arrives opens a round where none is open, the endpoint isn't halted and some report is due
-abbrev pub opening : List Item → Course → Course
-opening items c = elim c.current [ Some round ↦ c | None ↦ opened_if items c (due_where items c.halted c.standing) ]
+-- the round history once a token arrived: it opens a round where none is open, the endpoint isn't halted and some
+-- report is due
+abbrev pub history_at_token : List Item → RoundHistory → RoundHistory
+history_at_token items c =
+    elim c.current [ Some round ↦ c | None ↦ with_opened_round items c (due_where items c.halted c.reports) ]
 
--- the course of a device at a poll, before its answer: the token arrives, or is lost
-abbrev pub at_arrival : List Item → Course → Fate → Course
-at_arrival items c TokenLost = c
-at_arrival items c Clean = opening items c
-at_arrival items c ReplyLost = opening items c
-at_arrival items c AckLost = opening items c
+-- the round history of a device at a poll, before its answer: the token arrives, or is lost
+abbrev pub history_before_answer : List Item → RoundHistory → Fate → RoundHistory
+history_before_answer items c TokenLost = c
+history_before_answer items c Clean = history_at_token items c
+history_before_answer items c ReplyLost = history_at_token items c
+history_before_answer items c AckLost = history_at_token items c
 
 -- a round with one more poll
-abbrev pub polled : Round → Fate → Round
-polled round fate =
+abbrev pub with_poll : Round → Fate → Round
+with_poll round fate =
     record { report = round.report; pieces = round.pieces; parts = round.parts; polls = round.polls ++ fate ∷ [] }
 
 -- the round that is open after a poll, which may close its last piece
-abbrev pub open_after : Option Round → Fate → Option Round
-open_after None fate = None
-open_after (Some round) fate = if has_closed (polled round fate) then None else Some (polled round fate)
+abbrev pub open_round_after : Option Round → Fate → Option Round
+open_round_after None fate = None
+open_round_after (Some round) fate =
+    if has_closed (with_poll round fate) then None else Some (with_poll round fate)
 
 -- the round that a poll closes, if it closes one
-abbrev pub closed_by_poll : Option Round → Fate → List Round
-closed_by_poll None fate = []
-closed_by_poll (Some round) fate = if has_closed (polled round fate) then polled round fate ∷ [] else []
+abbrev pub rounds_closed_by_poll : Option Round → Fate → List Round
+rounds_closed_by_poll None fate = []
+rounds_closed_by_poll (Some round) fate =
+    if has_closed (with_poll round fate) then with_poll round fate ∷ [] else []
 
--- a poll leaves the device as it stands, and its round open or not
-abbrev pub after_poll : Course → Fate → Course
-after_poll c fate = record c { current = open_after c.current fate }
+-- the round history after the answer to a poll, which may close the open round
+abbrev pub history_after_poll : RoundHistory → Fate → RoundHistory
+history_after_poll c fate = record c { current = open_round_after c.current fate }
 
--- The course after a step, and the round that the step closes.
-abbrev pub after_step : List Item → Course → OwnStep → Course
-after_step items c (Changes change) = record c { standing = after_change items c.standing change }
-after_step items c Frame = record c { standing = after_frame c.standing }
-after_step items c (Polls fate) = after_poll (at_arrival items c fate) fate
+-- The round history after one own step: a change, a frame or a poll.
+abbrev pub history_after_step : List Item → RoundHistory → OwnStep → RoundHistory
+history_after_step items c (Changes change) = record c { reports = after_change items c.reports change }
+history_after_step items c Frame = record c { reports = after_frame c.reports }
+history_after_step items c (Polls fate) = history_after_poll (history_before_answer items c fate) fate
 
--- changes and frames close no round
-abbrev pub closed_by : List Item → Course → OwnStep → List Round
-closed_by items c (Changes change) = []
-closed_by items c Frame = []
-closed_by items c (Polls fate) = closed_by_poll (at_arrival items c fate).current fate
+-- the round that a step closes, if it closes one: changes and frames close none
+abbrev pub rounds_closed_by_step : List Item → RoundHistory → OwnStep → List Round
+rounds_closed_by_step items c (Changes change) = []
+rounds_closed_by_step items c Frame = []
+rounds_closed_by_step items c (Polls fate) =
+    rounds_closed_by_poll (history_before_answer items c fate).current fate
 
--- the course of a device after a list of steps, one after another
-abbrev pub after_steps : List Item → List OwnStep → Course → Course
-after_steps items [] c = c
-after_steps items (s ∷ steps) c = after_steps items steps (after_step items c s)
+-- the round history of a device after a list of steps, one after another
+abbrev pub history_after_steps : List Item → List OwnStep → RoundHistory → RoundHistory
+history_after_steps items [] c = c
+history_after_steps items (s ∷ steps) c = history_after_steps items steps (history_after_step items c s)
 
 -- the round that is open, as a list
-abbrev pub still_open : Option Round → List Round
-still_open None = []
-still_open (Some round) = round ∷ []
+abbrev pub open_rounds : Option Round → List Round
+open_rounds None = []
+open_rounds (Some round) = round ∷ []
 
 -- The rounds of a schedule, in order: those that it closes, and the one that is open at its end. A schedule of changes,
--- frames and polls is cut where polls open and close rounds; no toggle is kept.
-abbrev pub rounds : List Item → List OwnStep → Course → List Round
-rounds items [] c = still_open c.current
-rounds items (s ∷ steps) c = closed_by items c s ++ rounds items steps (after_step items c s)
+-- frames and polls is divided where polls open and close rounds; no toggle is kept.
+abbrev pub rounds : List Item → List OwnStep → RoundHistory → List Round
+rounds items [] c = open_rounds c.current
+rounds items (s ∷ steps) c =
+    rounds_closed_by_step items c s ++ rounds items steps (history_after_step items c s)
 
--- what a view tells where it takes the part of a report
-abbrev pub part_events : List Item → ℕ → List Cell → List Cell → List Event
-part_events items r view parts = events_between items r view (seen items r view parts) parts
+-- the events of a view that takes the part of a report
+abbrev pub part_events : List Item → ℕ → List ControlState → List ControlState → List Event
+part_events items r view parts = events_between items r view (view_after_part items r view parts) parts
 
--- The events of rounds from a view on: the view takes each round's part, and what changes and moves is told.
-abbrev pub events_of : List Item → List Cell → List Round → List Event
-events_of items view [] = []
-events_of items view (round ∷ rest) =
+-- The events of rounds from a view on: the view takes each round's part, and what changes and moves is reported.
+abbrev pub events_of_rounds : List Item → List ControlState → List Round → List Event
+events_of_rounds items view [] = []
+events_of_rounds items view (round ∷ rest) =
     part_events items round.report view round.parts
-    ++ events_of items (seen items round.report view round.parts) rest
+    ++ events_of_rounds items (view_after_part items round.report view round.parts) rest
 
 -- the view once it took the parts of rounds
-abbrev pub view_of : List Item → List Cell → List Round → List Cell
-view_of items view [] = view
-view_of items view (round ∷ rest) = view_of items (seen items round.report view round.parts) rest
+abbrev pub view_after_rounds : List Item → List ControlState → List Round → List ControlState
+view_after_rounds items view [] = view
+view_after_rounds items view (round ∷ rest) =
+    view_after_rounds items (view_after_part items round.report view round.parts) rest
 
--- the course of a device that was just configured, with this snapshot and these idle times: no round is open, and no
--- halt stands
-abbrev pub fresh_course : List Item → List Cell → List ℕ → Course
-fresh_course items snapshot idle =
-    record { standing = configured items snapshot idle; current = None; halted = false }
+-- the round history of a device that was just configured, with this snapshot and these idle times: no round is open,
+-- and the endpoint isn't halted
+abbrev pub initial_history : List Item → List ControlState → List ℕ → RoundHistory
+initial_history items snapshot idle =
+    record { reports = initial_reports items snapshot idle; current = None; halted = false }
 
 -- the rounds that crossed since the configuration
-abbrev pub crossed_rounds : List Item → List Cell → List ℕ → List OwnStep → List Round
-crossed_rounds items snapshot idle steps = filter has_crossed (rounds items steps (fresh_course items snapshot idle))
+abbrev pub crossed_rounds : List Item → List ControlState → List ℕ → List OwnStep → List Round
+crossed_rounds items snapshot idle steps =
+    filter has_crossed (rounds items steps (initial_history items snapshot idle))
 
 -- The events of a schedule since the configuration: the changes between the parts that crossed, from the initial view
 -- on. Example: press, lost ACK, press, two clean polls: down 07:04, down 07:05
-abbrev pub events_of_epoch : List Item → List Cell → List ℕ → List OwnStep → List Event
-events_of_epoch items snapshot idle steps = events_of items (blank items) (crossed_rounds items snapshot idle steps)
+abbrev pub events_of_epoch : List Item → List ControlState → List ℕ → List OwnStep → List Event
+events_of_epoch items snapshot idle steps =
+    events_of_rounds items (blank items) (crossed_rounds items snapshot idle steps)

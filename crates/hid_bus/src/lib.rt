@@ -12,24 +12,25 @@
 //!   press, frame, poll, idle times,     a round ended, both ends       down 07:04
 //!   configuration, halt, clear, reset       begin again                    ^
 //!          |                                ^        |                   |
-//!          +--- Course: standing, round ----+        +--- told_from -----+
+//!          +--- RoundHistory: round --------+        +-events_of_outcomes+
 //!          |        no toggle, no view                                   |
-//!          +--- Station: standing, open round, toggle, view --- told_in -+
+//!          +--- LinkState: round, toggle, view ------ events_of_history -+
 //! ```
 //! Devices are numbered from 1, and each step but a frame names its device. `hid_stack` says what steps make of a bus, and
 //! `hid_text` prints them without knowing the bus.
 //!
-//! A course keeps whole rounds, with the fates of their polls. A station keeps what both ends know, and no more.
+//! A round history keeps whole rounds, with the fates of their polls. A link state keeps what both ends know, and no more.
 //!
 //! The rule to know: a round's part is the one that was fixed when the round opened, and it gives its events where it crossed,
 //! once. A report of over 64 bytes goes in pieces, each with its own toggle, and its round crosses with the last one. A halt
 //! and a clear abort the open round: its report is due again, and motion that hadn't crossed is dropped.
 //!
-//! The promise, for every list of deeds:
-//! - The station delivers the outcomes of the course, and its state follows from them: [`laws::lives_are_told`].
+//! The promise, for every list of bus events:
+//! - The link state delivers the outcomes of the round history, and its state follows from them:
+//! [`laws::histories_give_events`].
 //! - Motion is neither lost nor doubled: [`laws::motion_is_kept`].
 //! - A report whose round was aborted is due until one opens: [`laws::halts_lose_nothing`].
-//! - A report is delivered whole or not at all: [`laws::reports_are_told_whole`].
+//! - A report is delivered whole or not at all: [`laws::reports_cross_whole`].
 //! - Two lists, one after the other, deliver of a device what the first delivers, and then what the second does.
 #![tactic(auto)]
 

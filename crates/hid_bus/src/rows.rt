@@ -1,334 +1,377 @@
-//! Worked lives: each row is worked out by hand, and a wrong one fails the check.
+//! Worked histories: each row is worked out by hand, and a wrong one fails the check.
 
 ghost use Rattle.std.specs.Prelude.{◌≡◌, [], ◌∷◌, ◌++◌, replicate, true, false, Some, None, pos};
 ghost use Rattle.hid_snapshots.specs.Events.{at};
 ghost use Rattle.hid_snapshots.specs.Samples.{keyboard, mouse, wheel_and_button, byte_values, byte_motions};
 ghost use Rattle.usb_transact.specs.declared.transaction.Fate.TheVariants as fate;
-ghost use Rattle.hid_bus.specs.Lives.{Clears, Configures, Halts, Idles, Resets, owns};
-ghost use Rattle.hid_bus.specs.Motion.{station_motion};
+ghost use Rattle.hid_bus.specs.DeviceHistory.{Clears, Configures, Halts, Idles, Resets, steps_as_events};
+ghost use Rattle.hid_bus.specs.Motion.{link_motion};
 ghost use Rattle.hid_bus.specs.Rounds.{Frame as AFrame, Polls};
-ghost use Rattle.hid_bus.specs.Rows.{LifeTells, behind, counted, press, release, move, set, key_down, key_up, button_down, button_up, motion_x, drop_x, value_x, first_motion_x, first_drop_x, open_at, stands_after};
-ghost use Rattle.hid_bus.specs.Standing.{after_frame, cut_at, due_where, first_due, with_idle};
-ghost use Rattle.hid_bus.specs.Stations.{expected};
+ghost use Rattle.hid_bus.specs.HistoryRows.{HistoryGives, state_after_events, with_frames, press, release, move, set, key_down, key_up, button_down, button_up, motion_x, drop_x, value_x, first_motion_x, first_drop_x, open_at, state_after_own_steps};
+ghost use Rattle.hid_bus.specs.ReportState.{after_frame, due_where, first_due, with_abort, with_idle};
+ghost use Rattle.hid_bus.specs.LinkState.{expected_toggle};
 
 /// A lost acknowledgement: the report goes once more, and is told once.
 pub fn acknowledgement_is_lost()
-    ensures told_once { LifeTells keyboard 0
-        (owns (press 4 4 ∷ Polls fate.AckLost ∷ press 4 5 ∷ Polls fate.Clean ∷ Polls fate.Clean
+    ensures told_once { HistoryGives keyboard 0
+        (steps_as_events
+        (press 4 4 ∷ Polls fate.AckLost ∷ press 4 5 ∷ Polls fate.Clean ∷ Polls fate.Clean
         ∷ []))
         (key_down 4 ∷ key_down 5 ∷ []) }
-    ensures host_is_ahead { expected (stands_after keyboard (press 4 4 ∷ Polls fate.AckLost ∷ []))
+    ensures host_is_ahead { expected_toggle
+        (state_after_own_steps keyboard (press 4 4 ∷ Polls fate.AckLost ∷ []))
         ≡ true }
-    ensures device_is_not { (stands_after keyboard (press 4 4 ∷ Polls fate.AckLost ∷ [])).odd
+    ensures device_is_not { (state_after_own_steps keyboard (press 4 4 ∷ Polls fate.AckLost ∷ [])).toggle
         ≡ false }
 {}
 
-/// A second configuration: both ends begin anew, so what is pressed is told again, and what was let go is told no more.
+/// A second configuration: both ends start again, so what is pressed is told again, and what was let go is told no
+/// more.
 pub fn device_is_configured_again()
-    ensures pressed_still { LifeTells keyboard 0
-        (owns (press 4 4 ∷ Polls fate.Clean ∷ []) ++ Configures ∷ owns (Polls fate.Clean ∷ []))
+    ensures pressed_still { HistoryGives keyboard 0
+        (steps_as_events (press 4 4 ∷ Polls fate.Clean ∷ []) ++ Configures
+        ∷ steps_as_events (Polls fate.Clean ∷ []))
         (key_down 4 ∷ key_down 4 ∷ []) }
-    ensures let_go_meanwhile { LifeTells keyboard 0
-        (owns (press 4 4 ∷ Polls fate.Clean ∷ release 4 4 ∷ []) ++ Configures
-        ∷ owns (Polls fate.Clean ∷ press 4 5 ∷ Polls fate.Clean ∷ []))
+    ensures let_go_meanwhile { HistoryGives keyboard 0
+        (steps_as_events (press 4 4 ∷ Polls fate.Clean ∷ release 4 4 ∷ []) ++ Configures
+        ∷ steps_as_events (Polls fate.Clean ∷ press 4 5 ∷ Polls fate.Clean ∷ []))
         (key_down 4 ∷ key_down 5 ∷ []) }
-    ensures odd_before { (stands_after keyboard (press 4 4 ∷ Polls fate.Clean ∷ [])).odd ≡ true }
-    ensures even_behind { (behind keyboard 0
-        (owns (press 4 4 ∷ Polls fate.Clean ∷ []) ++ Configures ∷ [])).odd ≡ false }
+    ensures odd_before { (state_after_own_steps keyboard (press 4 4 ∷ Polls fate.Clean ∷ [])).toggle
+        ≡ true }
+    ensures even_after { (state_after_events keyboard 0
+        (steps_as_events (press 4 4 ∷ Polls fate.Clean ∷ []) ++ Configures ∷ [])).toggle ≡ false }
 {}
 
 /// A configuration ends the round that is open: its part is told where it crossed, and only there.
 pub fn device_is_configured_in_a_round()
-    ensures crossed { LifeTells mouse 0
-        (owns (press 0 0 ∷ move 2 0 (pos 5) ∷ Polls fate.AckLost ∷ []) ++ Configures
-        ∷ owns (Polls fate.Clean ∷ []))
+    ensures crossed { HistoryGives mouse 0
+        (steps_as_events (press 0 0 ∷ move 2 0 (pos 5) ∷ Polls fate.AckLost ∷ []) ++ Configures
+        ∷ steps_as_events (Polls fate.Clean ∷ []))
         (button_down ∷ motion_x (pos 5) ∷ button_down
         ∷ []) }
-    ensures its_motion_is_lost { LifeTells mouse 0
-        (owns (press 0 0 ∷ move 2 0 (pos 5) ∷ Polls fate.ReplyLost ∷ []) ++ Configures
-        ∷ owns (Polls fate.Clean ∷ []))
+    ensures its_motion_is_lost { HistoryGives mouse 0
+        (steps_as_events (press 0 0 ∷ move 2 0 (pos 5) ∷ Polls fate.ReplyLost ∷ []) ++ Configures
+        ∷ steps_as_events (Polls fate.Clean ∷ []))
         (button_down ∷ []) }
-    ensures nothing_is_left { station_motion mouse (behind mouse 0
-        (owns (move 2 0 (pos 5) ∷ Polls fate.ReplyLost ∷ []) ++ Configures ∷ [])) (at 2 0) ≡ pos 0 }
-    ensures no_round_is_open { (behind mouse 0
-        (owns (move 2 0 (pos 5) ∷ Polls fate.ReplyLost ∷ []) ++ Configures ∷ [])).current ≡ None }
-    ensures motion_between_rounds_stays { LifeTells mouse 0
-        (owns (move 2 0 (pos 5) ∷ []) ++ Configures ∷ owns (Polls fate.Clean ∷ []))
+    ensures nothing_is_left { link_motion mouse (state_after_events mouse 0
+        (steps_as_events (move 2 0 (pos 5) ∷ Polls fate.ReplyLost ∷ []) ++ Configures ∷ []))
+        (at 2 0) ≡ pos 0 }
+    ensures no_round_is_open { (state_after_events mouse 0
+        (steps_as_events (move 2 0 (pos 5) ∷ Polls fate.ReplyLost ∷ []) ++ Configures ∷ [])).current
+        ≡ None }
+    ensures motion_between_rounds_stays { HistoryGives mouse 0
+        (steps_as_events (move 2 0 (pos 5) ∷ []) ++ Configures
+        ∷ steps_as_events (Polls fate.Clean ∷ []))
         (motion_x (pos 5) ∷ []) }
 {}
 
-/// The bus is reset: what is pressed goes up at the host and is told again behind the next configuration, and motion of a
-/// round is told once, or dropped once where the round hadn't crossed; what no round carried stays. No idle time and no
-/// odd toggle is left, and a second reset tells nothing.
+/// The bus is reset: what is pressed goes up at the host and is told again after the next configuration, and motion
+/// of a round is told once, or dropped once where the round hadn't crossed; what no round carried stays. No idle time
+/// and no odd toggle is left, and a second reset tells nothing.
 pub fn bus_is_reset()
-    ensures crossed { LifeTells mouse 0
-        (owns (press 0 0 ∷ move 2 0 (pos 5) ∷ Polls fate.AckLost ∷ []) ++ Resets ∷ Configures
-        ∷ owns (Polls fate.Clean ∷ []))
+    ensures crossed { HistoryGives mouse 0
+        (steps_as_events (press 0 0 ∷ move 2 0 (pos 5) ∷ Polls fate.AckLost ∷ []) ++ Resets
+        ∷ Configures
+        ∷ steps_as_events (Polls fate.Clean ∷ []))
         (button_down ∷ motion_x (pos 5) ∷ button_up ∷ button_down ∷ []) }
-    ensures not_crossed { LifeTells mouse 0
-        (owns (move 2 0 (pos 5) ∷ Polls fate.ReplyLost ∷ []) ++ Resets ∷ []) (drop_x (pos 5) ∷ []) }
-    ensures rest_stays { LifeTells mouse 0
-        (owns (press 0 0 ∷ Polls fate.Clean ∷ move 2 0 (pos 200) ∷ Polls fate.ReplyLost ∷ [])
-        ++ Resets ∷ Configures ∷ owns (Polls fate.Clean ∷ []))
+    ensures not_crossed { HistoryGives mouse 0
+        (steps_as_events (move 2 0 (pos 5) ∷ Polls fate.ReplyLost ∷ []) ++ Resets ∷ [])
+        (drop_x (pos 5) ∷ []) }
+    ensures rest_stays { HistoryGives mouse 0
+        (steps_as_events
+        (press 0 0 ∷ Polls fate.Clean ∷ move 2 0 (pos 200) ∷ Polls fate.ReplyLost ∷ [])
+        ++ Resets ∷ Configures ∷ steps_as_events (Polls fate.Clean ∷ []))
         (button_down ∷ button_up ∷ drop_x (pos 127) ∷ button_down ∷ motion_x (pos 73) ∷ []) }
-    ensures nothing_is_left { station_motion mouse (behind mouse 0
-        (owns (move 2 0 (pos 5) ∷ Polls fate.ReplyLost ∷ []) ++ Resets ∷ [])) (at 2 0) ≡ pos 0 }
-    ensures never_goes_again { (behind keyboard 1
-        (owns (press 4 4 ∷ []) ++ Resets ∷ Configures
-        ∷ owns (Polls fate.Clean ∷ replicate 4 AFrame ++ Polls fate.Clean ∷ []))).odd ≡ true }
-    ensures host_is_even { expected (behind keyboard 0
-        (owns (press 4 4 ∷ Polls fate.AckLost ∷ []) ++ Resets ∷ [])) ≡ false }
-    ensures nothing_twice { LifeTells keyboard 0
-        (owns (press 4 4 ∷ Polls fate.Clean ∷ []) ++ Resets ∷ Resets ∷ [])
+    ensures nothing_is_left { link_motion mouse (state_after_events mouse 0
+        (steps_as_events (move 2 0 (pos 5) ∷ Polls fate.ReplyLost ∷ []) ++ Resets ∷ [])) (at 2 0)
+        ≡ pos 0 }
+    ensures never_goes_again { (state_after_events keyboard 1
+        (steps_as_events (press 4 4 ∷ []) ++ Resets ∷ Configures
+        ∷ steps_as_events (Polls fate.Clean ∷ replicate 4 AFrame ++ Polls fate.Clean ∷ []))).toggle
+        ≡ true }
+    ensures host_is_even { expected_toggle (state_after_events keyboard 0
+        (steps_as_events (press 4 4 ∷ Polls fate.AckLost ∷ []) ++ Resets ∷ [])) ≡ false }
+    ensures nothing_twice { HistoryGives keyboard 0
+        (steps_as_events (press 4 4 ∷ Polls fate.Clean ∷ []) ++ Resets ∷ Resets ∷ [])
         (key_down 4 ∷ key_up 4 ∷ []) }
 {}
 
 /// The endpoint is halted in a round: its motion is dropped where the round hadn't crossed, and told once where it had. What
-/// is pressed is told behind the clear, a key that was let go meanwhile goes up, and one that never crossed is never told.
+/// is pressed is told after the clear, a key that was let go meanwhile goes up, and one that never crossed is never
+/// told.
 pub fn endpoint_is_halted_in_a_round()
-    ensures not_crossed { LifeTells mouse 0
-        (owns (press 0 0 ∷ move 2 0 (pos 5) ∷ Polls fate.ReplyLost ∷ []) ++ Halts
-        ∷ owns (Polls fate.Clean ∷ []) ++ Clears ∷ owns (Polls fate.Clean ∷ []))
+    ensures not_crossed { HistoryGives mouse 0
+        (steps_as_events (press 0 0 ∷ move 2 0 (pos 5) ∷ Polls fate.ReplyLost ∷ []) ++ Halts
+        ∷ steps_as_events (Polls fate.Clean ∷ []) ++ Clears
+        ∷ steps_as_events (Polls fate.Clean ∷ []))
         (drop_x (pos 5) ∷ button_down ∷ []) }
-    ensures crossed { LifeTells mouse 0
-        (owns (move 2 0 (pos 5) ∷ Polls fate.AckLost ∷ []) ++ Halts ∷ Clears
-        ∷ owns (Polls fate.Clean ∷ []))
+    ensures crossed { HistoryGives mouse 0
+        (steps_as_events (move 2 0 (pos 5) ∷ Polls fate.AckLost ∷ []) ++ Halts ∷ Clears
+        ∷ steps_as_events (Polls fate.Clean ∷ []))
         (motion_x (pos 5) ∷ []) }
-    ensures no_key_is_lost { LifeTells keyboard 0
-        (owns (press 4 4 ∷ Polls fate.Clean ∷ press 4 5 ∷ Polls fate.ReplyLost ∷ []) ++ Halts
-        ∷ owns (release 4 4 ∷ Polls fate.Clean ∷ []) ++ Clears ∷ owns (Polls fate.Clean ∷ []))
+    ensures no_key_is_lost { HistoryGives keyboard 0
+        (steps_as_events (press 4 4 ∷ Polls fate.Clean ∷ press 4 5 ∷ Polls fate.ReplyLost ∷ [])
+        ++ Halts
+        ∷ steps_as_events (release 4 4 ∷ Polls fate.Clean ∷ []) ++ Clears
+        ∷ steps_as_events (Polls fate.Clean ∷ []))
         (key_down 4 ∷ key_up 4 ∷ key_down 5 ∷ []) }
-    ensures never_seen { LifeTells keyboard 0
-        (owns (press 4 4 ∷ Polls fate.ReplyLost ∷ []) ++ Halts
-        ∷ owns (release 4 4 ∷ []) ++ Clears ∷ owns (Polls fate.Clean ∷ [])) [] }
-    ensures rest_goes_on { LifeTells mouse 0
-        (owns (move 2 0 (pos 200) ∷ Polls fate.ReplyLost ∷ []) ++ Halts ∷ Clears
-        ∷ owns (Polls fate.Clean ∷ []))
+    ensures never_seen { HistoryGives keyboard 0
+        (steps_as_events (press 4 4 ∷ Polls fate.ReplyLost ∷ []) ++ Halts
+        ∷ steps_as_events (release 4 4 ∷ []) ++ Clears
+        ∷ steps_as_events (Polls fate.Clean ∷ [])) [] }
+    ensures rest_goes_on { HistoryGives mouse 0
+        (steps_as_events (move 2 0 (pos 200) ∷ Polls fate.ReplyLost ∷ []) ++ Halts ∷ Clears
+        ∷ steps_as_events (Polls fate.Clean ∷ []))
         (drop_x (pos 127) ∷ motion_x (pos 73) ∷ []) }
-    ensures nothing_twice { LifeTells mouse 0
-        (owns (move 2 0 (pos 5) ∷ Polls fate.ReplyLost ∷ []) ++ Halts ∷ Halts ∷ Clears ∷ [])
+    ensures nothing_twice { HistoryGives mouse 0
+        (steps_as_events (move 2 0 (pos 5) ∷ Polls fate.ReplyLost ∷ []) ++ Halts ∷ Halts ∷ Clears
+        ∷ [])
         (drop_x (pos 5) ∷ []) }
-    ensures nothing_is_left { station_motion mouse (behind mouse 0
-        (owns (move 2 0 (pos 5) ∷ Polls fate.ReplyLost ∷ []) ++ Halts ∷ [])) (at 2 0) ≡ pos 0 }
+    ensures nothing_is_left { link_motion mouse (state_after_events mouse 0
+        (steps_as_events (move 2 0 (pos 5) ∷ Polls fate.ReplyLost ∷ []) ++ Halts ∷ [])) (at 2 0)
+        ≡ pos 0 }
 {}
 
 /// A halted endpoint opens no round, whatever is due, until it is cleared, configured or reset; a configuration's first poll
 /// then tells what is pressed.
 pub fn halted_endpoint_is_silent()
-    ensures no_round_opens { (behind keyboard 0
-        (Halts ∷ owns (press 4 4 ∷ Polls fate.AckLost ∷ []))).current ≡ None }
-    ensures key_is_due { first_due keyboard (behind keyboard 0
-        (Halts ∷ owns (press 4 4 ∷ Polls fate.Clean ∷ []))).standing ≡ Some 0 }
-    ensures none_goes { due_where keyboard true (behind keyboard 0
-        (Halts ∷ owns (press 4 4 ∷ []))).standing ≡ None }
-    ensures nothing_is_told { LifeTells keyboard 0
-        (Halts ∷ owns (press 4 4 ∷ Polls fate.Clean ∷ Polls fate.AckLost ∷ [])) [] }
-    ensures cleared { LifeTells keyboard 0
-        (Halts ∷ owns (press 4 4 ∷ Polls fate.Clean ∷ []) ++ Clears ∷ owns (Polls fate.Clean ∷ []))
+    ensures no_round_opens { (state_after_events keyboard 0
+        (Halts ∷ steps_as_events (press 4 4 ∷ Polls fate.AckLost ∷ []))).current ≡ None }
+    ensures key_is_due { first_due keyboard (state_after_events keyboard 0
+        (Halts ∷ steps_as_events (press 4 4 ∷ Polls fate.Clean ∷ []))).reports ≡ Some 0 }
+    ensures none_goes { due_where keyboard true (state_after_events keyboard 0
+        (Halts ∷ steps_as_events (press 4 4 ∷ []))).reports ≡ None }
+    ensures nothing_is_told { HistoryGives keyboard 0
+        (Halts ∷ steps_as_events (press 4 4 ∷ Polls fate.Clean ∷ Polls fate.AckLost ∷ [])) [] }
+    ensures cleared { HistoryGives keyboard 0
+        (Halts ∷ steps_as_events (press 4 4 ∷ Polls fate.Clean ∷ []) ++ Clears
+        ∷ steps_as_events (Polls fate.Clean ∷ []))
         (key_down 4 ∷ []) }
-    ensures configured { LifeTells keyboard 0
-        (Halts ∷ owns (press 4 4 ∷ []) ++ Configures ∷ owns (Polls fate.Clean ∷ []))
+    ensures configured { HistoryGives keyboard 0
+        (Halts ∷ steps_as_events (press 4 4 ∷ []) ++ Configures
+        ∷ steps_as_events (Polls fate.Clean ∷ []))
         (key_down 4 ∷ []) }
-    ensures reset { (behind keyboard 0 (Halts ∷ Resets ∷ [])).halted ≡ false }
-    ensures frames_count { (behind keyboard 0
-        (Halts ∷ owns (replicate 3 AFrame))).standing.frames ≡ 3 ∷ [] }
+    ensures reset { (state_after_events keyboard 0 (Halts ∷ Resets ∷ [])).halted ≡ false }
+    ensures frames_count { (state_after_events keyboard 0
+        (Halts ∷ steps_as_events (replicate 3 AFrame))).reports.frames ≡ 3 ∷ [] }
 {}
 
-/// The report whose round was cut is due, though nothing of it changed: one round of it opens behind a clear, which may tell
-/// nothing, and then it is due no more. A configuration and a reset forget it.
-pub fn cut_round_is_due()
-    ensures due { first_due mouse (behind mouse 0
-        (owns (move 2 0 (pos 5) ∷ Polls fate.AckLost ∷ []) ++ Halts ∷ [])).standing ≡ Some 0 }
-    ensures one_round_more { (behind mouse 0
-        (owns (move 2 0 (pos 5) ∷ Polls fate.AckLost ∷ []) ++ Halts ∷ Clears
-        ∷ owns (Polls fate.Clean ∷ Polls fate.Clean ∷ []))).odd ≡ true }
-    ensures due_no_more { first_due mouse (behind mouse 0
-        (owns (move 2 0 (pos 5) ∷ Polls fate.AckLost ∷ []) ++ Clears
-        ∷ owns (Polls fate.ReplyLost ∷ []))).standing ≡ None }
-    ensures configuration_forgets { first_due mouse (behind mouse 0
-        (owns (move 2 0 (pos 5) ∷ Polls fate.AckLost ∷ []) ++ Halts ∷ Configures ∷ [])).standing
+/// The report whose round was aborted is due, though nothing of it changed: one round of it opens after a clear,
+/// which may tell nothing, and then it is due no more. A configuration and a reset forget it.
+pub fn aborted_round_is_due()
+    ensures due { first_due mouse (state_after_events mouse 0
+        (steps_as_events (move 2 0 (pos 5) ∷ Polls fate.AckLost ∷ []) ++ Halts ∷ [])).reports
+        ≡ Some 0 }
+    ensures one_round_more { (state_after_events mouse 0
+        (steps_as_events (move 2 0 (pos 5) ∷ Polls fate.AckLost ∷ []) ++ Halts ∷ Clears
+        ∷ steps_as_events (Polls fate.Clean ∷ Polls fate.Clean ∷ []))).toggle ≡ true }
+    ensures due_no_more { first_due mouse (state_after_events mouse 0
+        (steps_as_events (move 2 0 (pos 5) ∷ Polls fate.AckLost ∷ []) ++ Clears
+        ∷ steps_as_events (Polls fate.ReplyLost ∷ []))).reports ≡ None }
+    ensures configuration_forgets { first_due mouse (state_after_events mouse 0
+        (steps_as_events (move 2 0 (pos 5) ∷ Polls fate.AckLost ∷ []) ++ Halts ∷ Configures
+        ∷ [])).reports
         ≡ None }
-    ensures reset_forgets { first_due mouse (behind mouse 0
-        (owns (move 2 0 (pos 5) ∷ Polls fate.AckLost ∷ []) ++ Halts ∷ Resets ∷ [])).standing ≡ None }
+    ensures reset_forgets { first_due mouse (state_after_events mouse 0
+        (steps_as_events (move 2 0 (pos 5) ∷ Polls fate.AckLost ∷ []) ++ Halts ∷ Resets
+        ∷ [])).reports ≡ None }
     ensures of_the_second_report_alone { first_due wheel_and_button
-        (cut_at (Some 1) (counted wheel_and_button (0 ∷ 0 ∷ []))) ≡ Some 1 }
-    ensures nothing_was_open { first_due mouse (behind mouse 0 (Halts ∷ Clears ∷ [])).standing ≡ None }
+        (with_abort (Some 1) (with_frames wheel_and_button (0 ∷ 0 ∷ []))) ≡ Some 1 }
+    ensures nothing_was_open { first_due mouse
+        (state_after_events mouse 0 (Halts ∷ Clears ∷ [])).reports ≡ None }
 {}
 
 /// A halt leaves the device's toggle, and a clear begins both ends at DATA0, also where nothing was halted; rounds are counted
 /// from there.
-pub fn toggles_begin_anew_at_a_clear()
-    ensures halt_leaves_it { (behind keyboard 0
-        (owns (press 4 4 ∷ Polls fate.Clean ∷ press 4 5 ∷ Polls fate.AckLost ∷ []) ++ Halts
-        ∷ [])).odd ≡ true }
-    ensures clear_is_even { (behind keyboard 0
-        (owns (press 4 4 ∷ Polls fate.Clean ∷ []) ++ Halts ∷ Clears ∷ [])).odd ≡ false }
-    ensures host_is_even { expected (behind keyboard 0
-        (owns (press 4 4 ∷ Polls fate.AckLost ∷ []) ++ Clears ∷ [])) ≡ false }
-    ensures counted_anew { (behind mouse 0
-        (owns (move 2 0 (pos 1) ∷ Polls fate.Clean ∷ []) ++ Clears
-        ∷ owns (move 2 0 (pos 2) ∷ Polls fate.Clean ∷ []))).odd ≡ true }
-    ensures both_are_told { LifeTells mouse 0
-        (owns (move 2 0 (pos 1) ∷ Polls fate.Clean ∷ []) ++ Clears
-        ∷ owns (move 2 0 (pos 2) ∷ Polls fate.Clean ∷ []))
+pub fn toggles_restart_at_a_clear()
+    ensures halt_leaves_it { (state_after_events keyboard 0
+        (steps_as_events (press 4 4 ∷ Polls fate.Clean ∷ press 4 5 ∷ Polls fate.AckLost ∷ [])
+        ++ Halts
+        ∷ [])).toggle ≡ true }
+    ensures clear_is_even { (state_after_events keyboard 0
+        (steps_as_events (press 4 4 ∷ Polls fate.Clean ∷ []) ++ Halts ∷ Clears ∷ [])).toggle
+        ≡ false }
+    ensures host_is_even { expected_toggle (state_after_events keyboard 0
+        (steps_as_events (press 4 4 ∷ Polls fate.AckLost ∷ []) ++ Clears ∷ [])) ≡ false }
+    ensures counted_again { (state_after_events mouse 0
+        (steps_as_events (move 2 0 (pos 1) ∷ Polls fate.Clean ∷ []) ++ Clears
+        ∷ steps_as_events (move 2 0 (pos 2) ∷ Polls fate.Clean ∷ []))).toggle ≡ true }
+    ensures both_are_told { HistoryGives mouse 0
+        (steps_as_events (move 2 0 (pos 1) ∷ Polls fate.Clean ∷ []) ++ Clears
+        ∷ steps_as_events (move 2 0 (pos 2) ∷ Polls fate.Clean ∷ []))
         (motion_x (pos 1) ∷ motion_x (pos 2) ∷ []) }
 {}
 
-/// A report of a hundred bytes goes in two pieces, of 64 bytes and of 36: it is told once, with its last piece, whatever is
-/// lost on the way, and as it was when its round opened; what is set meanwhile goes into the next round.
+/// A report of a hundred bytes goes in two pieces, of 64 bytes and of 36: it is reported once, with its last piece,
+/// whatever is lost on the way, and as it was when its round opened; what is set meanwhile goes into the next round.
 pub fn report_goes_in_pieces()
-    ensures as_it_was { LifeTells (byte_values 100) 0
-        (owns (set 0 0 (pos 7) ∷ Polls fate.AckLost ∷ set 0 0 (pos 9) ∷ Polls fate.Clean
+    ensures as_it_was { HistoryGives (byte_values 100) 0
+        (steps_as_events (set 0 0 (pos 7) ∷ Polls fate.AckLost ∷ set 0 0 (pos 9) ∷ Polls fate.Clean
         ∷ Polls fate.Clean ∷ []))
         (value_x (pos 7) ∷ []) }
-    ensures next_round { LifeTells (byte_values 100) 0
-        (owns (set 0 0 (pos 7) ∷ Polls fate.AckLost ∷ set 0 0 (pos 9) ∷ Polls fate.Clean
+    ensures next_round { HistoryGives (byte_values 100) 0
+        (steps_as_events (set 0 0 (pos 7) ∷ Polls fate.AckLost ∷ set 0 0 (pos 9) ∷ Polls fate.Clean
         ∷ replicate 4 (Polls fate.Clean)))
         (value_x (pos 7) ∷ value_x (pos 9) ∷ []) }
-    ensures nothing_before_the_last { LifeTells (byte_values 100) 0
-        (owns (set 0 0 (pos 7) ∷ Polls fate.Clean ∷ Polls fate.ReplyLost ∷ [])) [] }
-    ensures last_piece_twice { LifeTells (byte_values 100) 0
-        (owns (set 0 0 (pos 7) ∷ Polls fate.Clean ∷ Polls fate.AckLost ∷ Polls fate.AckLost
+    ensures nothing_before_the_last { HistoryGives (byte_values 100) 0
+        (steps_as_events (set 0 0 (pos 7) ∷ Polls fate.Clean ∷ Polls fate.ReplyLost ∷ [])) [] }
+    ensures last_piece_twice { HistoryGives (byte_values 100) 0
+        (steps_as_events
+        (set 0 0 (pos 7) ∷ Polls fate.Clean ∷ Polls fate.AckLost ∷ Polls fate.AckLost
         ∷ Polls fate.Clean ∷ []))
         (value_x (pos 7) ∷ []) }
-    ensures motion_once { LifeTells (byte_motions 100) 0
-        (owns (move 0 0 (pos 200) ∷ Polls fate.AckLost ∷ replicate 3 (Polls fate.Clean)))
+    ensures motion_once { HistoryGives (byte_motions 100) 0
+        (steps_as_events (move 0 0 (pos 200) ∷ Polls fate.AckLost ∷ replicate 3 (Polls fate.Clean)))
         (first_motion_x (pos 127) ∷ []) }
 {}
 
 /// Each piece crosses and closes by itself, and changes the toggles of both ends.
 pub fn each_piece_changes_the_toggle()
-    ensures second_is_at_hand { (stands_after (byte_values 100)
+    ensures second_is_at_hand { (state_after_own_steps (byte_values 100)
         (set 0 0 (pos 7) ∷ Polls fate.Clean ∷ [])).current ≡ Some (open_at 2 1 false) }
-    ensures first_has_crossed { (stands_after (byte_values 100)
+    ensures first_has_crossed { (state_after_own_steps (byte_values 100)
         (set 0 0 (pos 7) ∷ Polls fate.AckLost ∷ [])).current ≡ Some (open_at 2 0 true) }
-    ensures device_at_data1 { (stands_after (byte_values 100)
-        (set 0 0 (pos 7) ∷ Polls fate.Clean ∷ [])).odd ≡ true }
-    ensures host_is_ahead { expected (stands_after (byte_values 100)
+    ensures device_at_data1 { (state_after_own_steps (byte_values 100)
+        (set 0 0 (pos 7) ∷ Polls fate.Clean ∷ [])).toggle ≡ true }
+    ensures host_is_ahead { expected_toggle (state_after_own_steps (byte_values 100)
         (set 0 0 (pos 7) ∷ Polls fate.AckLost ∷ [])) ≡ true }
-    ensures host_at_data0 { expected (stands_after (byte_values 100)
+    ensures host_at_data0 { expected_toggle (state_after_own_steps (byte_values 100)
         (set 0 0 (pos 7) ∷ Polls fate.Clean ∷ Polls fate.AckLost ∷ [])) ≡ false }
-    ensures even_behind_two { (stands_after (byte_values 100)
-        (set 0 0 (pos 7) ∷ Polls fate.Clean ∷ Polls fate.Clean ∷ [])).odd ≡ false }
-    ensures odd_behind_three { (stands_after (byte_values 129)
-        (set 0 0 (pos 7) ∷ replicate 3 (Polls fate.Clean))).odd ≡ true }
-    ensures closed_behind_three { (stands_after (byte_values 129)
+    ensures even_after_two { (state_after_own_steps (byte_values 100)
+        (set 0 0 (pos 7) ∷ Polls fate.Clean ∷ Polls fate.Clean ∷ [])).toggle ≡ false }
+    ensures odd_after_three { (state_after_own_steps (byte_values 129)
+        (set 0 0 (pos 7) ∷ replicate 3 (Polls fate.Clean))).toggle ≡ true }
+    ensures closed_after_three { (state_after_own_steps (byte_values 129)
         (set 0 0 (pos 7) ∷ replicate 3 (Polls fate.Clean))).current ≡ None }
 {}
 
 /// A report of 64 bytes is one piece, and one of 65 bytes two; the longest one has four.
 pub fn full_packet_is_one_piece()
-    ensures one_piece { LifeTells (byte_values 64) 0
-        (owns (set 0 0 (pos 7) ∷ Polls fate.Clean ∷ set 0 0 (pos 9) ∷ Polls fate.Clean ∷ []))
+    ensures one_piece { HistoryGives (byte_values 64) 0
+        (steps_as_events
+        (set 0 0 (pos 7) ∷ Polls fate.Clean ∷ set 0 0 (pos 9) ∷ Polls fate.Clean ∷ []))
         (value_x (pos 7) ∷ value_x (pos 9) ∷ []) }
-    ensures two_pieces { LifeTells (byte_values 65) 0
-        (owns (set 0 0 (pos 7) ∷ Polls fate.Clean ∷ [])) [] }
-    ensures three_of_four { LifeTells (byte_values 256) 0
-        (owns (set 0 0 (pos 7) ∷ replicate 3 (Polls fate.Clean))) [] }
-    ensures four_of_four { LifeTells (byte_values 256) 0
-        (owns (set 0 0 (pos 7) ∷ replicate 4 (Polls fate.Clean)))
+    ensures two_pieces { HistoryGives (byte_values 65) 0
+        (steps_as_events (set 0 0 (pos 7) ∷ Polls fate.Clean ∷ [])) [] }
+    ensures three_of_four { HistoryGives (byte_values 256) 0
+        (steps_as_events (set 0 0 (pos 7) ∷ replicate 3 (Polls fate.Clean))) [] }
+    ensures four_of_four { HistoryGives (byte_values 256) 0
+        (steps_as_events (set 0 0 (pos 7) ∷ replicate 4 (Polls fate.Clean)))
         (value_x (pos 7) ∷ []) }
 {}
 
 /// A reset, a halt and a clear between the pieces of a report: its motion is dropped, also where each piece so far had
-/// crossed, and what was to come with its last piece is never told. Behind a clear the report goes again from its first
+/// crossed, and what was to come with its last piece is never told. After a clear the report goes again from its first
 /// piece, so that no report is made of two rounds.
 pub fn round_ends_between_its_pieces()
-    ensures reset { LifeTells (byte_motions 100) 0
-        (owns (move 0 0 (pos 5) ∷ Polls fate.Clean ∷ []) ++ Resets ∷ [])
+    ensures reset { HistoryGives (byte_motions 100) 0
+        (steps_as_events (move 0 0 (pos 5) ∷ Polls fate.Clean ∷ []) ++ Resets ∷ [])
         (first_drop_x (pos 5) ∷ []) }
-    ensures reset_behind_the_last { LifeTells (byte_motions 100) 0
-        (owns (move 0 0 (pos 5) ∷ Polls fate.Clean ∷ Polls fate.AckLost ∷ []) ++ Resets ∷ [])
+    ensures reset_after_the_last { HistoryGives (byte_motions 100) 0
+        (steps_as_events (move 0 0 (pos 5) ∷ Polls fate.Clean ∷ Polls fate.AckLost ∷ []) ++ Resets
+        ∷ [])
         (first_motion_x (pos 5) ∷ []) }
-    ensures halted { LifeTells (byte_motions 100) 0
-        (owns (move 0 0 (pos 5) ∷ Polls fate.AckLost ∷ []) ++ Halts ∷ Clears
-        ∷ owns (Polls fate.Clean ∷ Polls fate.Clean ∷ []))
+    ensures halted { HistoryGives (byte_motions 100) 0
+        (steps_as_events (move 0 0 (pos 5) ∷ Polls fate.AckLost ∷ []) ++ Halts ∷ Clears
+        ∷ steps_as_events (Polls fate.Clean ∷ Polls fate.Clean ∷ []))
         (first_drop_x (pos 5) ∷ []) }
-    ensures from_its_first_piece { LifeTells (byte_values 100) 0
-        (owns (set 0 0 (pos 7) ∷ Polls fate.Clean ∷ []) ++ Clears
-        ∷ owns (set 0 0 (pos 9) ∷ Polls fate.Clean ∷ [])) [] }
-    ensures as_it_is_then { LifeTells (byte_values 100) 0
-        (owns (set 0 0 (pos 7) ∷ Polls fate.Clean ∷ []) ++ Clears
-        ∷ owns (set 0 0 (pos 9) ∷ Polls fate.Clean ∷ Polls fate.Clean ∷ []))
+    ensures from_its_first_piece { HistoryGives (byte_values 100) 0
+        (steps_as_events (set 0 0 (pos 7) ∷ Polls fate.Clean ∷ []) ++ Clears
+        ∷ steps_as_events (set 0 0 (pos 9) ∷ Polls fate.Clean ∷ [])) [] }
+    ensures as_it_is_then { HistoryGives (byte_values 100) 0
+        (steps_as_events (set 0 0 (pos 7) ∷ Polls fate.Clean ∷ []) ++ Clears
+        ∷ steps_as_events (set 0 0 (pos 9) ∷ Polls fate.Clean ∷ Polls fate.Clean ∷ []))
         (value_x (pos 9) ∷ []) }
-    ensures counted_anew { (behind (byte_values 100) 0
-        (owns (set 0 0 (pos 7) ∷ Polls fate.Clean ∷ []) ++ Clears ∷ [])).odd ≡ false }
-    ensures its_motion_is_kept_till_then { station_motion (byte_motions 100) (behind (byte_motions 100) 0
-        (owns (move 0 0 (pos 200) ∷ Polls fate.Clean ∷ []))) (at 0 0) ≡ pos 200 }
-    ensures rest_stays { station_motion (byte_motions 100) (behind (byte_motions 100) 0
-        (owns (move 0 0 (pos 200) ∷ Polls fate.Clean ∷ []) ++ Halts ∷ [])) (at 0 0) ≡ pos 73 }
-    ensures configured { LifeTells (byte_values 100) 0
-        (owns (set 0 0 (pos 7) ∷ Polls fate.Clean ∷ []) ++ Configures
-        ∷ owns (Polls fate.Clean ∷ Polls fate.Clean ∷ []))
+    ensures counted_again { (state_after_events (byte_values 100) 0
+        (steps_as_events (set 0 0 (pos 7) ∷ Polls fate.Clean ∷ []) ++ Clears ∷ [])).toggle ≡ false }
+    ensures its_motion_is_kept_till_then { link_motion (byte_motions 100)
+        (state_after_events (byte_motions 100) 0
+        (steps_as_events (move 0 0 (pos 200) ∷ Polls fate.Clean ∷ []))) (at 0 0) ≡ pos 200 }
+    ensures rest_stays { link_motion (byte_motions 100) (state_after_events (byte_motions 100) 0
+        (steps_as_events (move 0 0 (pos 200) ∷ Polls fate.Clean ∷ []) ++ Halts ∷ [])) (at 0 0)
+        ≡ pos 73 }
+    ensures configured { HistoryGives (byte_values 100) 0
+        (steps_as_events (set 0 0 (pos 7) ∷ Polls fate.Clean ∷ []) ++ Configures
+        ∷ steps_as_events (Polls fate.Clean ∷ Polls fate.Clean ∷ []))
         (value_x (pos 7) ∷ []) }
 {}
 
-/// A configuration keeps the idle time: four frames behind a report it goes again, and tells nothing new. Two rounds closed
-/// since then, and one where the idle time is forgotten.
+/// A configuration keeps the idle time: four frames after a report it goes again, and tells nothing new. Two rounds
+/// closed since then, and one where the idle time is forgotten.
 pub fn idle_time_outlives_a_configuration()
-    ensures nothing_new { LifeTells keyboard 1
-        (owns (press 4 4 ∷ Polls fate.Clean ∷ []) ++ Configures
-        ∷ owns (Polls fate.Clean ∷ replicate 4 AFrame ++ Polls fate.Clean ∷ []))
+    ensures nothing_new { HistoryGives keyboard 1
+        (steps_as_events (press 4 4 ∷ Polls fate.Clean ∷ []) ++ Configures
+        ∷ steps_as_events (Polls fate.Clean ∷ replicate 4 AFrame ++ Polls fate.Clean ∷ []))
         (key_down 4 ∷ key_down 4 ∷ []) }
-    ensures goes_again { (behind keyboard 1
-        (owns (press 4 4 ∷ Polls fate.Clean ∷ []) ++ Configures
-        ∷ owns (Polls fate.Clean ∷ replicate 4 AFrame ++ Polls fate.Clean ∷ []))).odd ≡ false }
-    ensures once_without { (behind keyboard 0
-        (owns (press 4 4 ∷ Polls fate.Clean ∷ []) ++ Configures
-        ∷ owns (Polls fate.Clean ∷ replicate 4 AFrame ++ Polls fate.Clean ∷ []))).odd ≡ true }
+    ensures goes_again { (state_after_events keyboard 1
+        (steps_as_events (press 4 4 ∷ Polls fate.Clean ∷ []) ++ Configures
+        ∷ steps_as_events (Polls fate.Clean ∷ replicate 4 AFrame ++ Polls fate.Clean ∷ []))).toggle
+        ≡ false }
+    ensures once_without { (state_after_events keyboard 0
+        (steps_as_events (press 4 4 ∷ Polls fate.Clean ∷ []) ++ Configures
+        ∷ steps_as_events (Polls fate.Clean ∷ replicate 4 AFrame ++ Polls fate.Clean ∷ []))).toggle
+        ≡ true }
 {}
 
 /// An idle time of four frames is set: four frames after its round opened the report goes again, and tells nothing new.
 pub fn idle_time_is_set()
-    ensures nothing_new { LifeTells keyboard 0
-        (Idles (1 ∷ []) ∷ owns (press 4 4 ∷ Polls fate.Clean
+    ensures nothing_new { HistoryGives keyboard 0
+        (Idles (1 ∷ []) ∷ steps_as_events (press 4 4 ∷ Polls fate.Clean
         ∷ replicate 3 AFrame ++ Polls fate.Clean ∷ AFrame ∷ Polls fate.Clean ∷ []))
         (key_down 4 ∷ []) }
-    ensures three_frames_are_few { (behind keyboard 0
-        (Idles (1 ∷ []) ∷ owns (press 4 4 ∷ Polls fate.Clean
-        ∷ replicate 3 AFrame ++ Polls fate.Clean ∷ []))).odd ≡ true }
-    ensures four_are_enough { (behind keyboard 0
-        (Idles (1 ∷ []) ∷ owns (press 4 4 ∷ Polls fate.Clean
-        ∷ replicate 3 AFrame ++ Polls fate.Clean ∷ AFrame ∷ Polls fate.Clean ∷ []))).odd ≡ false }
+    ensures three_frames_are_few { (state_after_events keyboard 0
+        (Idles (1 ∷ []) ∷ steps_as_events (press 4 4 ∷ Polls fate.Clean
+        ∷ replicate 3 AFrame ++ Polls fate.Clean ∷ []))).toggle ≡ true }
+    ensures four_are_enough { (state_after_events keyboard 0
+        (Idles (1 ∷ []) ∷ steps_as_events (press 4 4 ∷ Polls fate.Clean
+        ∷ replicate 3 AFrame ++ Polls fate.Clean ∷ AFrame ∷ Polls fate.Clean ∷ []))).toggle
+        ≡ false }
     ensures of_the_second_report_alone { first_due wheel_and_button
-        (after_frame (with_idle (0 ∷ 1 ∷ []) (counted wheel_and_button (3 ∷ 3 ∷ [])))) ≡ Some 1 }
-    ensures ended_by_none { (behind keyboard 1
-        (owns (replicate 4 AFrame) ++ Idles (0 ∷ []) ∷ owns (Polls fate.Clean ∷ []))).odd ≡ false }
+        (after_frame (with_idle (0 ∷ 1 ∷ []) (with_frames wheel_and_button (3 ∷ 3 ∷ []))))
+        ≡ Some 1 }
+    ensures ended_by_none { (state_after_events keyboard 1
+        (steps_as_events (replicate 4 AFrame) ++ Idles (0 ∷ [])
+        ∷ steps_as_events (Polls fate.Clean ∷ []))).toggle ≡ false }
 {}
 
 /// An idle time is set while a round is open: its part and its motion stay, and its report goes once more where the
 /// time since the round opened is over.
 pub fn idle_time_is_set_in_a_round()
-    ensures crossed { LifeTells mouse 0
-        (owns (press 0 0 ∷ move 2 0 (pos 5) ∷ Polls fate.AckLost ∷ []) ++ Idles (1 ∷ [])
-        ∷ owns (move 2 0 (pos 3) ∷ Polls fate.Clean ∷ Polls fate.Clean ∷ []))
+    ensures crossed { HistoryGives mouse 0
+        (steps_as_events (press 0 0 ∷ move 2 0 (pos 5) ∷ Polls fate.AckLost ∷ []) ++ Idles (1 ∷ [])
+        ∷ steps_as_events (move 2 0 (pos 3) ∷ Polls fate.Clean ∷ Polls fate.Clean ∷ []))
         (button_down ∷ motion_x (pos 5) ∷ motion_x (pos 3) ∷ []) }
-    ensures not_crossed { LifeTells mouse 0
-        (owns (move 2 0 (pos 5) ∷ Polls fate.ReplyLost ∷ []) ++ Idles (1 ∷ [])
-        ∷ owns (move 2 0 (pos 3) ∷ Polls fate.Clean ∷ []))
+    ensures not_crossed { HistoryGives mouse 0
+        (steps_as_events (move 2 0 (pos 5) ∷ Polls fate.ReplyLost ∷ []) ++ Idles (1 ∷ [])
+        ∷ steps_as_events (move 2 0 (pos 3) ∷ Polls fate.Clean ∷ []))
         (motion_x (pos 5) ∷ []) }
-    ensures its_motion_is_kept { station_motion mouse (behind mouse 0
-        (owns (move 2 0 (pos 5) ∷ Polls fate.ReplyLost ∷ []) ++ Idles (1 ∷ []) ∷ [])) (at 2 0) ≡ pos 5 }
-    ensures goes_again { (behind keyboard 0
-        (owns (press 4 4 ∷ Polls fate.AckLost ∷ []) ++ Idles (1 ∷ [])
-        ∷ owns (replicate 4 AFrame ++ Polls fate.Clean ∷ Polls fate.Clean ∷ []))).odd ≡ false }
-    ensures nothing_new { LifeTells keyboard 0
-        (owns (press 4 4 ∷ Polls fate.AckLost ∷ []) ++ Idles (1 ∷ [])
-        ∷ owns (replicate 4 AFrame ++ Polls fate.Clean ∷ Polls fate.Clean ∷ []))
+    ensures its_motion_is_kept { link_motion mouse (state_after_events mouse 0
+        (steps_as_events (move 2 0 (pos 5) ∷ Polls fate.ReplyLost ∷ []) ++ Idles (1 ∷ []) ∷ []))
+        (at 2 0) ≡ pos 5 }
+    ensures goes_again { (state_after_events keyboard 0
+        (steps_as_events (press 4 4 ∷ Polls fate.AckLost ∷ []) ++ Idles (1 ∷ [])
+        ∷ steps_as_events (replicate 4 AFrame ++ Polls fate.Clean ∷ Polls fate.Clean ∷ []))).toggle
+        ≡ false }
+    ensures nothing_new { HistoryGives keyboard 0
+        (steps_as_events (press 4 4 ∷ Polls fate.AckLost ∷ []) ++ Idles (1 ∷ [])
+        ∷ steps_as_events (replicate 4 AFrame ++ Polls fate.Clean ∷ Polls fate.Clean ∷ []))
         (key_down 4 ∷ []) }
 {}
 
 /// Frames are counted on where an idle time is set, so that it may be over at once, and up to 1,020, where the longest
 /// is over.
 pub fn frames_are_counted_on()
-    ensures over_at_once { (behind keyboard 0
-        (owns (replicate 8 AFrame) ++ Idles (2 ∷ []) ∷ owns (Polls fate.Clean ∷ []))).odd ≡ true }
-    ensures not_yet { (behind keyboard 0
-        (owns (replicate 7 AFrame) ++ Idles (2 ∷ []) ∷ owns (Polls fate.Clean ∷ []))).odd ≡ false }
-    ensures counted_out { (behind keyboard 0 (owns (replicate 1030 AFrame))).standing.frames ≡ 1020 ∷ [] }
-    ensures longest_is_over { (behind keyboard 0
-        (owns (replicate 1030 AFrame) ++ Idles (255 ∷ [])
-        ∷ owns (Polls fate.Clean ∷ Polls fate.Clean ∷ []))).odd ≡ true }
-    ensures a_frame_short { (behind keyboard 255
-        (owns (replicate 1019 AFrame ++ Polls fate.Clean ∷ []))).odd ≡ false }
+    ensures over_at_once { (state_after_events keyboard 0
+        (steps_as_events (replicate 8 AFrame) ++ Idles (2 ∷ [])
+        ∷ steps_as_events (Polls fate.Clean ∷ []))).toggle ≡ true }
+    ensures not_yet { (state_after_events keyboard 0
+        (steps_as_events (replicate 7 AFrame) ++ Idles (2 ∷ [])
+        ∷ steps_as_events (Polls fate.Clean ∷ []))).toggle ≡ false }
+    ensures counted_out { (state_after_events keyboard 0 (steps_as_events (replicate 1030 AFrame))).reports.frames
+        ≡ 1020 ∷ [] }
+    ensures longest_is_over { (state_after_events keyboard 0
+        (steps_as_events (replicate 1030 AFrame) ++ Idles (255 ∷ [])
+        ∷ steps_as_events (Polls fate.Clean ∷ Polls fate.Clean ∷ []))).toggle ≡ true }
+    ensures a_frame_short { (state_after_events keyboard 255
+        (steps_as_events (replicate 1019 AFrame ++ Polls fate.Clean ∷ []))).toggle ≡ false }
 {}

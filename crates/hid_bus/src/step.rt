@@ -52,7 +52,7 @@ pub enum Step {
     },
 }
 
-/// What a step tells.
+/// The result of a step.
 #[derive(Debug, Drop, PartialEq, Eq)]
 pub enum Told {
     /// Nothing: no packet was sent.

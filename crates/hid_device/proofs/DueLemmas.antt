@@ -4,7 +4,7 @@ use Rattle.std.specs.Prelude.{nat_eq, ◌||◌}
 use Rattle.std.specs.List.{find, range_with_len}
 use Rattle.hid_layout.specs.Controls.{Item}
 use Rattle.hid_snapshots.specs.Parts.{is_changed}
-use Rattle.hid_device.specs.Standing.{Standing, is_due, due_where, first_due}
+use Rattle.hid_device.specs.ReportState.{ReportState, is_due, due_where, first_due}
 use Rattle.std.proofs.lemmas.Grind.{common_steps}
 
 pub find_next : (p : ℕ → Bool) (n i : ℕ) → i < n → p i ≡ false → find p (range_with_len i (n - i)) ≡ find p (range_with_len (i + 1) (n - (i + 1)))
@@ -16,7 +16,7 @@ find_here p n i within hit = let e : n - i ≡ suc (n - (i + 1)) = omega arith i
 pub find_past : (p : ℕ → Bool) (n i : ℕ) → n ≤ i → find p (range_with_len i (n - i)) ≡ None
 find_past p n i past = let e : n - i ≡ 0 = omega arith in rw e refl
 
--- one that fails, and those behind it
+-- one that fails, and those after it
 behind : (p : ℕ → Bool) (n i r : ℕ) → ((r : ℕ) → find p (range_with_len (i + 1) n) ≡ None → i + 1 ≤ r → r < i + 1 + n → p r ≡ false)
     → (b : Bool) → p i ≡ b → find p (range_with_len i (suc n)) ≡ None → i ≤ r → r < i + suc n → p r ≡ false
 behind p n i r rest true e none low high = let hit : find p (range_with_len i (suc n)) ≡ Some i = rw e refl in absurd (let one : Some i ≡ None = sym hit ∙ none in cc)
@@ -39,11 +39,13 @@ neither true b c none = none
 neither false b c none = refl
 
 -- where no report is due and no halt hides it, none's controls call for it
-pub none_changed : (items : List Item) (d : Standing) (halted : Bool) (r : ℕ) → due_where items halted d ≡ None → halted ≡ false → r < length d.frames → is_changed items r d.snapshot d.fixed ≡ false
+pub none_changed : (items : List Item) (d : ReportState) (halted : Bool) (r : ℕ) → due_where items halted d ≡ None
+    → halted ≡ false → r < length d.frames → is_changed items r d.snapshot d.fixed ≡ false
 none_changed items d true r none going within = absurd (cc)
 none_changed items d false r none going within = neither _ _ _ (none_found (is_due items d) (length d.frames) 0 r none (omega arith) (omega (arith, within)))
 
 -- what is found first is what a token opens, where no halt hides it
-pub due_is : (items : List Item) (d : Standing) (halted : Bool) (found : Option ℕ) → halted ≡ false → first_due items d ≡ found → found ≡ due_where items halted d
+pub due_is : (items : List Item) (d : ReportState) (halted : Bool) (found : Option ℕ) → halted ≡ false
+    → first_due items d ≡ found → found ≡ due_where items halted d
 due_is items d true found going is = absurd (cc)
 due_is items d false found going is = sym is

@@ -13,7 +13,7 @@ use Rattle.hid_layout.specs.Layout.{Contents}
 use Rattle.hid_descriptor.specs.Reporting.{report_if_any, reports_of_kind, reports_of}
 use Rattle.hid_device.specs.Core.{CoreState, IsSound}
 use Rattle.hid_device.specs.Inputs.{input_count, AreInputsFirst}
-use Rattle.hid_device.specs.Making.{Lays}
+use Rattle.hid_device.specs.Creation.{ParsesTo}
 
 -- each report is an Input report, or none is
 abbrev AreAll : Bool → List Report → Type 0
@@ -73,15 +73,19 @@ reports_split fs =
     let zs = flat_map (report_if_any fs Feature) (upward 0 256) in
     subst AreInputsFirst (sym (append_assoc xs ys zs)) (first_of_two xs (ys ++ zs) (of_kind fs Input (upward 0 256)) (all_appended false ys zs (of_kind fs Output (upward 0 256)) (of_kind fs Feature (upward 0 256))))
 
-pub inputs_first : (descriptor : List ℕ) (layout : Contents) → Lays descriptor layout → AreInputsFirst layout.reports
+pub inputs_first : (descriptor : List ℕ) (layout : Contents) → ParsesTo descriptor layout
+    → AreInputsFirst layout.reports
 inputs_first descriptor layout lays =
     subst (λ (l : Contents). AreInputsFirst l.reports) (sym lays.laid) (reports_split (fields lays.items))
 
 -- a report whose frames are counted has a number below that of the Input reports
-pub counted : (inside core : CoreState) (r : ℕ) → IsSound inside → inside ≡ core → r < length core.standing.frames → r < input_count inside.layout.reports
+pub counted : (inside core : CoreState) (r : ℕ) → IsSound inside → inside ≡ core → r < length core.reports.frames
+    → r < input_count inside.layout.reports
 counted inside core r sound same within =
-    subst (λ (n : ℕ). r < n) sound.each_frames (subst (λ (c : CoreState). r < length c.standing.frames) (sym same) within)
+    subst (λ (n : ℕ). r < n) sound.each_frames
+    (subst (λ (c : CoreState). r < length c.reports.frames) (sym same) within)
 
--- and is one of them
-pub counted_input : (inside core : CoreState) (r : ℕ) → IsSound inside → inside ≡ core → r < length core.standing.frames → is_input inside.layout.reports r ≡ true
+-- a report whose frames are counted is an Input report
+pub counted_input : (inside core : CoreState) (r : ℕ) → IsSound inside → inside ≡ core
+    → r < length core.reports.frames → is_input inside.layout.reports r ≡ true
 counted_input inside core r sound same within = sound.inputs_first.first r (counted inside core r sound same within)

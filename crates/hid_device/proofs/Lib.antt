@@ -1,5 +1,5 @@
 pub mod AckLemmas
-pub mod ApartLemmas
+pub mod EndpointLemmas
 pub mod DeviceLemmas
 pub mod DueLemmas
 pub mod InputLemmas

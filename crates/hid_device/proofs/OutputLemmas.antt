@@ -20,10 +20,10 @@ use Rattle.hid_snapshots.specs.Encoding.{bare_report}
 use Rattle.usb_control.specs.declared.device.TheConstants.{MAX_WRITE}
 use Rattle.hid_requests.specs.declared.class.Protocol.{Protocol}
 use Rattle.hid_device.specs.Core.{CoreState, IsSound}
-use Rattle.hid_device.specs.Deciding.{idle_set}
+use Rattle.hid_device.specs.RequestTable.{with_idle_time}
 use Rattle.hid_device.specs.Inputs.{input_count}
-use Rattle.hid_device.specs.Outputs.{AreOutputs, bare_outputs, in_place_of, is_named, kept, kept_bytes, kept_reports, number_of}
-use Rattle.hid_device.specs.Standing.{Standing, with_idle}
+use Rattle.hid_device.specs.Outputs.{AreOutputs, bare_outputs, in_place_of, is_named, kept_bytes, kept_reports, number_of, with_report}
+use Rattle.hid_device.specs.ReportState.{ReportState, with_idle}
 
 bare_length : (layout : Contents) (r : ℕ) → length (bare_report layout r) ≡ report_bytes layout r
 bare_length layout r = by_ids layout.numbered refl
@@ -32,7 +32,7 @@ bare_length layout r = by_ids layout.numbered refl
     by_ids true ids = rw ids (omega (arith, length-replicate {A = ℕ}))
     by_ids false none = rw none (omega (arith, length-replicate {A = ℕ}))
 
--- an element of numbers one behind the other is the first and its place
+-- an element of numbers one after the other is the first and its place
 number_at : (first count i n : ℕ) → slice_get (range_with_len first count) i ≡ Some n → n ≡ first + i
 number_at first zero i n at = absurd (cc)
 number_at first (suc count) zero n at = let e : first ≡ n = cc in omega (arith, e)
@@ -62,7 +62,7 @@ range_at first (suc count) (suc i) within = range_at (first + 1) count i (omega 
 pub kept_count : (layout : Contents) → length (bare_outputs layout) ≡ length (kept_reports layout.reports)
 kept_count layout = (bare_are layout).each
 
--- one report more is made anew
+-- one report more is made again
 pub bare_next : (layout : Contents) (start now : List (List ℕ)) (report : ℕ) (new : List ℕ) → length start ≡ length (kept_reports layout.reports)
     → input_count layout.reports ≤ report → report < length layout.reports
     → now ≡ take (report - input_count layout.reports) (bare_outputs layout) ++ drop (report - input_count layout.reports) start → new ≡ bare_report layout report
@@ -87,7 +87,8 @@ same_length output bytes = by_test (length bytes == length output) refl
     by_test true e = rw e (grind (arith, nat_tests, e))
     by_test false e = rw e refl
 
-pub kept_are : (layout : Contents) (outputs : List (List ℕ)) (i : ℕ) (bytes : List ℕ) → AreOutputs layout outputs → AreOutputs layout (kept outputs i bytes)
+pub kept_are : (layout : Contents) (outputs : List (List ℕ)) (i : ℕ) (bytes : List ℕ) → AreOutputs layout outputs
+    → AreOutputs layout (with_report outputs i bytes)
 kept_are layout outputs i bytes are = by_place (slice_get outputs i) refl
   where
     by_place : (o : Option (List ℕ)) → slice_get outputs i ≡ o
@@ -113,7 +114,7 @@ kept_are layout outputs i bytes are = by_place (slice_get outputs i) refl
             are.whole k other (sym (set_there outputs i k (in_place_of output bytes) (λ same. absurd (grind (arith, nat_tests, e, same)))) ∙ there)
 
 pub kept_is : (outputs : List (List ℕ)) (i : ℕ) (bytes output new : List ℕ) → slice_get outputs i ≡ Some output → new ≡ in_place_of output bytes
-    → slice_set outputs i new ≡ kept outputs i bytes
+    → slice_set outputs i new ≡ with_report outputs i bytes
 kept_is outputs i bytes output new at is = ap (λ (x : List ℕ). slice_set outputs i x) is ∙ by_place (slice_get outputs i) at
   where
     by_place : (o : Option (List ℕ)) → o ≡ Some output
@@ -133,7 +134,14 @@ named_input reports id r found =
 -- A device stays sound with other idle times, as many, and with other reports of the same lengths.
 pub sound_with : (core : CoreState) (is_configured : Bool) (idle : List ℕ) (protocol : Protocol) (outputs : List (List ℕ)) → IsSound core
     → length idle ≡ input_count core.layout.reports → AreOutputs core.layout outputs
-    → IsSound (record core { is_configured = is_configured; standing = with_idle idle core.standing; protocol = protocol; outputs = outputs })
+    → IsSound
+    (record core {
+      is_configured = is_configured;
+      reports = with_idle idle core.reports;
+      protocol =
+          protocol;
+      outputs = outputs;
+    })
 sound_with core is_configured idle protocol outputs before long are = record {
   lays = before.lays;
   empty_codes = before.empty_codes;
@@ -151,9 +159,9 @@ sound_with core is_configured idle protocol outputs before long are = record {
   outputs = are;
 }
 
--- and with other counts of frames, as many
+-- a device stays sound with other counts of frames, as many
 pub sound_framed : (core : CoreState) (frames : List ℕ) → IsSound core → length frames ≡ input_count core.layout.reports
-    → IsSound (let d : Standing = record core.standing { frames = frames } in record core { standing = d })
+    → IsSound (let d : ReportState = record core.reports { frames = frames } in record core { reports = d })
 sound_framed core frames before long = record {
   lays = before.lays;
   empty_codes = before.empty_codes;
@@ -171,7 +179,8 @@ sound_framed core frames before long = record {
   outputs = before.outputs;
 }
 
-pub idle_length : (idle : List ℕ) (report : Option ℕ) (time : ℕ) → length (idle_set idle report time) ≡ length idle
+pub idle_length : (idle : List ℕ) (report : Option ℕ) (time : ℕ)
+    → length (with_idle_time idle report time) ≡ length idle
 idle_length idle None time = length-replicate (length idle) time
 idle_length idle (Some r) time = length-set idle r time
 

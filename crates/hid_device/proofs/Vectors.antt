@@ -6,14 +6,14 @@ use Rattle.hid_descriptor.specs.declared.report.ReportKind.TheVariants.{Input, O
 use Rattle.hid_layout.specs.declared.boot.TheConstants.{KEYBOARD, MOUSE}
 use Rattle.hid_device.specs.Config.{is_config}
 use Rattle.hid_device.specs.Inputs.{input_count}
-use Rattle.hid_device.specs.Outputs.{kept, kept_place, number_of}
-use Rattle.hid_device.specs.Deciding.{config_info, configuration_number, endpoint_status, idle_set}
-use Rattle.hid_device.specs.Decisions.{Refuses, Reads, reads_if}
+use Rattle.hid_device.specs.Outputs.{kept_place, number_of, with_report}
+use Rattle.hid_device.specs.RequestTable.{config_info, configuration_number, endpoint_status, with_idle_time}
+use Rattle.hid_device.specs.RequestDecisions.{Refuses, Reads, reads_if}
 use Rattle.hid_requests.specs.Descriptors.{configuration_bytes}
 use Rattle.hid_requests.specs.declared.boot.Boot.TheVariants as boot
 use Rattle.hid_requests.specs.declared.boot.Boot.{Boot}
 
--- the wheel and the button are two Input reports; an Output report behind them is none
+-- the wheel and the button are two Input reports; an Output report after them is none
 abbrev report : ReportKind → ℕ → Report
 report kind id = record { kind = kind; id = id; bits = 8 }
 
@@ -36,7 +36,7 @@ no_address = refl
 address_of_eight_bits : boot_mouse 128 MOUSE ≡ false
 address_of_eight_bits = refl
 
--- what a host reads of a device of this kind whose report descriptor has so many bytes (HID 1.11, 4.2, 4.3 and appendix E)
+-- what a host reads of a device of this kind whose report descriptor has n bytes (HID 1.11, 4.2, 4.3 and appendix E)
 abbrev configuration : Boot → ℕ → List ℕ
 configuration kind len = configuration_bytes (config_info (record { vendor = 0xFFFF; product = 1; interval = 10; boot = kind }) len) 10
 
@@ -82,16 +82,16 @@ read_after : reads_if true (0 ∷ []) ≡ Reads (0 ∷ [])
 read_after = refl
 
 -- a report is set whole: two bytes are none of three, and there is no second one
-kept_whole : kept ((1 ∷ 0 ∷ 0 ∷ []) ∷ []) 0 (1 ∷ 0xAB ∷ 0xCD ∷ []) ≡ (1 ∷ 0xAB ∷ 0xCD ∷ []) ∷ []
+kept_whole : with_report ((1 ∷ 0 ∷ 0 ∷ []) ∷ []) 0 (1 ∷ 0xAB ∷ 0xCD ∷ []) ≡ (1 ∷ 0xAB ∷ 0xCD ∷ []) ∷ []
 kept_whole = refl
 
-none_of_two : kept ((1 ∷ 0 ∷ 0 ∷ []) ∷ []) 0 (1 ∷ 0xAB ∷ []) ≡ (1 ∷ 0 ∷ 0 ∷ []) ∷ []
+none_of_two : with_report ((1 ∷ 0 ∷ 0 ∷ []) ∷ []) 0 (1 ∷ 0xAB ∷ []) ≡ (1 ∷ 0 ∷ 0 ∷ []) ∷ []
 none_of_two = refl
 
-no_second : kept ((1 ∷ 0 ∷ 0 ∷ []) ∷ []) 1 (1 ∷ 0xAB ∷ 0xCD ∷ []) ≡ (1 ∷ 0 ∷ 0 ∷ []) ∷ []
+no_second : with_report ((1 ∷ 0 ∷ 0 ∷ []) ∷ []) 1 (1 ∷ 0xAB ∷ 0xCD ∷ []) ≡ (1 ∷ 0 ∷ 0 ∷ []) ∷ []
 no_second = refl
 
--- behind two Input reports, those of an Output report of ID 1 and a Feature report of ID 2 are kept
+-- after two Input reports, those of an Output report of ID 1 and a Feature report of ID 2 are kept
 abbrev reports : List Report
 reports = report Input 1 ∷ report Input 3 ∷ report Output 1 ∷ report Feature 2 ∷ []
 
@@ -108,8 +108,8 @@ no_input_kept : kept_place reports Input 1 ≡ None
 no_input_kept = refl
 
 -- an idle time of the second of two Input reports, and of both (HID 1.11, 7.2.4)
-idle_of_one : idle_set (0 ∷ 0 ∷ []) (Some 1) 5 ≡ 0 ∷ 5 ∷ []
+idle_of_one : with_idle_time (0 ∷ 0 ∷ []) (Some 1) 5 ≡ 0 ∷ 5 ∷ []
 idle_of_one = refl
 
-idle_of_all : idle_set (0 ∷ 5 ∷ []) None 7 ≡ 7 ∷ 7 ∷ []
+idle_of_all : with_idle_time (0 ∷ 5 ∷ []) None 7 ≡ 7 ∷ 7 ∷ []
 idle_of_all = refl

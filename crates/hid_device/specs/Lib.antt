@@ -1,11 +1,11 @@
-pub use Rattle.hid_bus.specs.Standing
+pub use Rattle.hid_bus.specs.ReportState
 pub mod Config
 pub mod Inputs
 pub mod Outputs
-pub mod Decisions
+pub mod RequestDecisions
 pub mod Core
-pub mod Deciding
-pub mod DecidingLaws
+pub mod RequestTable
+pub mod RequestTableLaws
 pub mod Device
-pub mod Apart
-pub mod Making
+pub mod EndpointIndependence
+pub mod Creation

@@ -17,19 +17,19 @@ is_named kind id report = same_kind report.kind kind && (report.id == id)
 abbrev pub number_of : List Report → ReportKind → ℕ → Option ℕ
 number_of reports kind id = position (is_named kind id) reports
 
--- the reports that a host sets, Output and Feature: they stand behind the Input reports
+-- the reports that a host sets, Output and Feature: they stand after the Input reports
 abbrev pub kept_reports : List Report → List Report
 kept_reports reports = drop (input_count reports) reports
 
--- the place of the one of this kind and ID among them
+-- the place of the report of this kind and ID among the Output and Feature reports, if one is there
 abbrev pub kept_place : List Report → ReportKind → ℕ → Option ℕ
 kept_place reports kind id = position (is_named kind id) (kept_reports reports)
 
--- in bytes, the report at a place among them
+-- how many bytes the report at a place among the Output and Feature reports has
 abbrev pub kept_bytes : Contents → ℕ → ℕ
 kept_bytes layout i = report_bytes layout (input_count layout.reports + i)
 
--- At first each is zeros, behind its ID where there are IDs (our choice).
+-- The Output and Feature reports at first: each is zeros, after its ID where there are IDs (our choice).
 abbrev pub bare_outputs : Contents → List (List ℕ)
 bare_outputs layout =
     map (bare_report layout)
@@ -39,12 +39,13 @@ bare_outputs layout =
 abbrev pub in_place_of : List ℕ → List ℕ → List ℕ
 in_place_of output bytes = if length bytes == length output then bytes else output
 
--- The report at a place is set to these bytes, whatever they are, where they are as many as it has.
-abbrev pub kept : List (List ℕ) → ℕ → List ℕ → List (List ℕ)
-kept outputs i bytes =
+-- The Output and Feature reports once the one at a place is set to these bytes, whatever they are, where they are as
+-- many as it has.
+abbrev pub with_report : List (List ℕ) → ℕ → List ℕ → List (List ℕ)
+with_report outputs i bytes =
     elim (slice_get outputs i) [ None ↦ outputs | Some output ↦ slice_set outputs i (in_place_of output bytes) ]
 
--- what is kept: of each of these reports as many bytes as it has
+-- what is kept of the Output and Feature reports: of each as many bytes as it has
 pub record AreOutputs (layout : Contents) (outputs : List (List ℕ)) : Type 0 where
   pub each : length outputs ≡ length (kept_reports layout.reports)
   pub whole : (i : ℕ) (output : List ℕ) → slice_get outputs i ≡ Some output → length output ≡ kept_bytes layout i

@@ -2,7 +2,7 @@
 
 ghost use Rattle.std.specs.Prelude.{◌≡◌};
 ghost use Rattle.hid_device.specs.Config.{is_config, suits_boot};
-ghost use Rattle.hid_device.specs.Deciding.{config_info, device_info};
+ghost use Rattle.hid_device.specs.RequestTable.{config_info, device_info};
 
 use hid_layout::boot::{KEYBOARD, MOUSE};
 use hid_requests::{Boot, REPORT_ENDPOINT};

@@ -12,7 +12,7 @@ pub enum Answer {
 
 /// What is carried out when the status of a write is asked for.
 #[derive(Clone, Copy)]
-pub enum Pending {
+pub enum PendingWrite {
     /// Nothing: the last request was a read, or was refused.
     Nothing,
     /// SET_CONFIGURATION takes effect.

@@ -4,12 +4,12 @@ ghost use Rattle.std.specs.Prelude.{◌≡◌, true, IfSome};
 ghost use Rattle.std.specs.Option.{option_copied};
 ghost use Rattle.hid_layout.specs.Controls.{items_of};
 ghost use Rattle.hid_snapshots.specs.Snapshots.{Changes};
-ghost use Rattle.usb_packet.specs.Lent.{owned, IsShort};
+ghost use Rattle.usb_packet.specs.PacketRef.{to_owned, IsShort};
 ghost use Rattle.usb_packet.specs.Spelling.{Fits};
-ghost use Rattle.hid_device.specs.Core.{IsSound, armed_of, opening_of, piece_at, poll_answer, round_of};
-ghost use Rattle.hid_device.specs.Device.{is_poll, device_after, device_answer, configured_device, halted_device, controlled, core_of, changed_device, effect_of, framed_device, passed, polled_device, reset_device};
-ghost use Rattle.hid_device.specs.Deciding.{output_of};
-ghost use Rattle.hid_device.specs.Making.{MakesDevice};
+ghost use Rattle.hid_device.specs.Core.{IsSound, armed_bytes, core_at_poll, piece_at, poll_response, round_of};
+ghost use Rattle.hid_device.specs.Device.{is_poll, device_after, device_answer, configured_device, halted_device, device_after_effect, core_of, changed_device, effect_of, framed_device, after_ignored_packet, device_after_poll, reset_device};
+ghost use Rattle.hid_device.specs.RequestTable.{output_of};
+ghost use Rattle.hid_device.specs.Creation.{MakesDevice};
 
 use crate::config::{Config, is_config};
 use crate::state::Core;
@@ -20,17 +20,17 @@ use std::alloc::Global;
 use std::marker::Model;
 use std::mem;
 use usb_control::DevControl;
-use usb_packet::{LentPacket, Packet, TokenKind};
+use usb_packet::{Packet, PacketRef, TokenKind};
 use usb_transact::DevPipe;
 
-/// A virtual device. A contract sees it as `addr`, `control` and `waits`. It stands round its endpoint 0 and its [`Core`],
-/// which is what the device itself is: which packets reach it, and which ACK counts, is the bus's side of it.
+/// A virtual device. A contract sees it as `addr`, `control` and `awaits_ack`. [`Core`] is its state; this type decides
+/// which packets reach it and which ACK counts.
 #[derive(Drop)]
 pub struct Device {
     addr: u8,
     control: DevControl<Core>,
     /// Whether the last packet was a poll that was answered with data, so that an ACK is its own.
-    waits: bool,
+    awaits_ack: bool,
 }
 
 impl Model for Device {
@@ -38,7 +38,7 @@ impl Model for Device {
 
     ghost Value = { DeviceState };
 
-    ghost view = { λ d. record { addr = d.addr; control = d.control; waits = d.waits } };
+    ghost view = { λ d. record { addr = d.addr; control = d.control; awaits_ack = d.awaits_ack } };
 }
 
 impl Device {
@@ -73,7 +73,7 @@ impl Device {
         Ok(Device {
             addr,
             control: DevControl::new(core),
-            waits: false,
+            awaits_ack: false,
         })
     }
 
@@ -83,7 +83,7 @@ impl Device {
         ensures { self.new ≡ configured_device self.old }
     {
         self.control.requests_mut().configure();
-        self.waits = false;
+        self.awaits_ack = false;
     }
 
     /// Halts the endpoint of its Input reports, as SET_FEATURE of ENDPOINT_HALT does (USB 2.0, 9.4.5 and 9.4.9): a poll is
@@ -94,7 +94,7 @@ impl Device {
     {
         if self.control.requests().is_configured() {
             self.control.requests_mut().halt();
-            self.waits = false;
+            self.awaits_ack = false;
         }
     }
 
@@ -107,7 +107,7 @@ impl Device {
     {
         self.control.requests_mut().reset();
         self.control.reset();
-        self.waits = false;
+        self.awaits_ack = false;
     }
 
     /// Changes a control.
@@ -117,9 +117,10 @@ impl Device {
     pub fn change(&mut self, change: Change) -> Result<(), ChangeFault>
         // It is done exactly where no fault stands, else it is refused for the first fault that stands.
         ensures changes { Changes
-            (items_of (core_of self.old).layout) (core_of self.old).standing.snapshot change result
-            (core_of self.new).standing.snapshot }
+            (items_of (core_of self.old).layout) (core_of self.old).reports.snapshot change result
+            (core_of self.new).reports.snapshot }
         ensures device { self.new ≡ changed_device self.old change }
+        ensures sound { IsSound (core_of self.new) }
     {
         self.control.requests_mut().change(change)
     }
@@ -134,10 +135,10 @@ impl Device {
     /// Endpoint 0, to be given packets, or the control of a host's transfer. A wait of the pipe for an ACK ends.
     pub fn control(&mut self) -> &mut DevControl<Core>
         ensures* lends { sem 𝓛 (Lends device_row (control_row core_row) self.entry result
-            (λ w. record { addr = self.old.addr; control = w; waits = false })) }
+            (λ w. record { addr = self.old.addr; control = w; awaits_ack = false })) }
         ensures now { result.now ≡ self.old.control }
     {
-        self.waits = false; // an ACK is endpoint 0's from now on
+        self.awaits_ack = false; // an ACK is endpoint 0's from now on
         &mut self.control
     }
 
@@ -145,81 +146,81 @@ impl Device {
     /// it is configured, and its endpoint 0 answers as a control transfer goes; nothing else is answered (USB 2.0,
     /// 8.4.6.1, 8.5.3 and 8.5.4).
     ///
-    /// | packet | who hears it |
+    /// | packet | who receives it |
     /// |---|---|
     /// | a token to its address and endpoint 0 | endpoint 0 |
     /// | IN to its address and [`REPORT_ENDPOINT`], once it is configured | the pipe: a poll |
     /// | data | endpoint 0, which looks whether its token stands before it |
-    /// | ACK directly behind the data of a poll | the pipe: the piece is closed, and with the last one its round |
+    /// | ACK directly after the data of a poll | the pipe: the piece is closed, and with the last one its round |
     /// | another ACK | endpoint 0 |
     /// | all else | none; it ends what either waits for |
     pub fn on_packet(&mut self, packet: &Packet) -> Option<Packet>
-        // A poll opens a round where none is open and some report is due; an ACK directly behind its data closes the piece
-        // that they are.
+        // A poll opens a round where none is open and some report is due; an ACK directly after its data closes the
+        // piece that they are.
         ensures device { self.new ≡ device_after self.old packet.now }
         ensures answer { result ≡ device_answer self.old packet.now }
 
-        // An answer has a spelling, and can be read back.
+        // An answer has an encoding, and can be read back.
         ensures fits { IfSome result (λ answer. Fits answer) }
         ensures sound { IfSome result (λ _. IsSound (core_of self.new)) }
     {
-        let waited = mem::replace(&mut self.waits, false);
+        let waited = mem::replace(&mut self.awaits_ack, false);
         match packet {
-            Packet::Token { addr, endp, .. } if *addr == self.addr && *endp == 0 => self.hear(
+            Packet::Token { addr, endp, .. } if *addr == self.addr && *endp == 0 => self.receive(
                 packet,
             ),
             Packet::Token {
                 kind: TokenKind::In,
                 addr,
                 endp,
-            } if self.is_polled(*addr, *endp) => Some(self.poll()),
+            } if self.is_poll_token(*addr, *endp) => Some(self.poll()),
             Packet::Ack if waited => {
-                self.pass();
+                self.ignore_packet();
                 self.control.requests_mut().acknowledged();
                 None
             }
-            Packet::Data { .. } | Packet::Ack => self.hear(packet),
+            Packet::Data { .. } | Packet::Ack => self.receive(packet),
             Packet::Token { .. } | Packet::Nak | Packet::Stall => {
-                self.pass();
+                self.ignore_packet();
                 None
             }
         }
     }
 
     /// Whether a packet that arrives is a poll.
-    pub fn is_polled_by(&self, packet: LentPacket) -> bool
-        ensures { result ≡ is_poll self.now (owned packet.entry) }
+    pub fn is_poll(&self, packet: PacketRef) -> bool
+        ensures { result ≡ is_poll self.now (to_owned packet.entry) }
     {
         match packet {
-            LentPacket::Token {
+            PacketRef::Token {
                 kind: TokenKind::In,
                 addr,
                 endp,
-            } => self.is_polled(addr, endp),
+            } => self.is_poll_token(addr, endp),
             _ => false,
         }
     }
 
-    /// A poll has arrived, which [`Device::is_polled_by`] tells: a round is opened where none is open and some report is due.
-    /// What [`Device::on_packet`] makes of it but for its answer, which is [`Device::poll_answer`].
-    pub fn hear_poll(&mut self)
+    /// A poll has arrived, which [`Device::is_poll`] tells: a round is opened where none is open and some report is due.
+    /// What [`Device::on_packet`] makes of it but for its answer, which is [`Device::poll_response`].
+    pub fn receive_poll(&mut self)
         requires configured { (core_of self.old).is_configured ≡ true }
-        ensures device { self.new ≡ polled_device self.old (opening_of (core_of self.old)) }
+        ensures device { self.new ≡ device_after_poll self.old (core_at_poll (core_of self.old)) }
     {
-        self.pass();
+        self.ignore_packet();
         self.control.requests_mut().open_if_due();
-        self.waits = self.control.requests().open_round().is_some();
+        self.awaits_ack = self.control.requests().open_round().is_some();
     }
 
     /// The answer to a poll that was heard, with its payload where it stands.
-    pub fn poll_answer(&self) -> LentPacket<'_>
+    pub fn poll_response(&self) -> PacketRef<'_>
         requires configured { (core_of self.now).is_configured ≡ true }
-        ensures answer { owned result ≡ poll_answer (core_of self.now) }
-        ensures fits { Fits (owned result) }
+        ensures answer { to_owned result ≡ poll_response (core_of self.now) }
+        ensures fits { Fits (to_owned result) }
         ensures short { IsShort result }
         ensures sound { IsSound (core_of self.now) }
     {
-        self.control.requests().poll_answer()
+        self.control.requests().poll_response()
     }
 
     /// The layout of its reports.
@@ -246,13 +247,13 @@ impl Device {
 
     /// The parts that were fixed last, blank where none was since the configuration.
     pub fn fixed(&self) -> &Shown
-        ensures { result.now ≡ (core_of self.now).standing.fixed }
+        ensures { result.now ≡ (core_of self.now).reports.fixed }
     {
         self.control.requests().fixed()
     }
 
     /// The Output or Feature report of this kind and ID, as SET_REPORT set it last, its ID first where it has one; at first
-    /// zeros behind the ID. None where there is no such report.
+    /// zeros after the ID. None where there is no such report.
     pub fn outputs(&self, kind: ReportKind, id: u8) -> Option<&[u8]>
         ensures { option_copied result ≡ output_of (core_of self.now) kind id }
     {
@@ -264,7 +265,7 @@ impl Device {
     pub fn pipe(&self) -> &DevPipe
         ensures toggle { result.now.toggle ≡ (core_of self.now).toggle }
         ensures halted { result.now.halted ≡ (core_of self.now).halted }
-        ensures armed { result.now.armed ≡ armed_of (core_of self.now) }
+        ensures armed { result.now.armed ≡ armed_bytes (core_of self.now) }
     {
         self.control.requests().pipe()
     }
@@ -274,44 +275,46 @@ impl Device {
     ghost use Rattle.std.specs.Prelude.{false};
     ghost use Rattle.usb_packet.specs.declared.packet.Packet.TheVariants.{Token};
     ghost use Rattle.usb_packet.specs.declared.packet.TokenKind.TheVariants.{In};
-    ghost use Rattle.usb_control.specs.Computed.{answer_to};
+    ghost use Rattle.usb_control.specs.TryFunctions.{answer_to};
 
     /// Whether an IN token to this endpoint polls the device.
-    fn is_polled(&self, addr: u8, endp: u8) -> bool
+    fn is_poll_token(&self, addr: u8, endp: u8) -> bool
         ensures { result ≡ is_poll self.now (Token In addr endp) }
     {
         self.control.requests().is_configured() && (addr == self.addr && endp == REPORT_ENDPOINT)
     }
 
     /// Endpoint 0 hears a packet.
-    fn hear(&mut self, packet: &Packet) -> Option<Packet>
-        requires { self.old.waits ≡ false }
-        ensures device { self.new ≡ controlled self.old (effect_of self.old packet.now) }
+    fn receive(&mut self, packet: &Packet) -> Option<Packet>
+        requires { self.old.awaits_ack ≡ false }
+        ensures device { self.new ≡ device_after_effect self.old (effect_of self.old packet.now) }
         ensures answer { result ≡ answer_to (effect_of self.old packet.now) }
         ensures fits { IfSome result Fits }
         ensures sound { IsSound (core_of self.new) }
     {
         let answer = self.control.on_packet(packet);
-        self.control.requests().is_sound();
+        // For the prover: what holds of every device.
+        let _ = self.control.requests().layout();
+
         answer
     }
 
     /// A packet that isn't endpoint 0's passes: what endpoint 0 heard before it counts no more.
-    fn pass(&mut self)
-        ensures { self.new ≡ passed self.old (core_of self.old) self.old.waits }
+    fn ignore_packet(&mut self)
+        ensures { self.new ≡ after_ignored_packet self.old (core_of self.old) self.old.awaits_ack }
     {
-        self.control.pass();
+        self.control.ignore_packet();
     }
 
     /// The answer to a poll, once a round was opened for it.
     fn poll(&mut self) -> Packet
         requires configured { (core_of self.old).is_configured ≡ true }
-        ensures device { self.new ≡ polled_device self.old (opening_of (core_of self.old)) }
-        ensures answer { result ≡ poll_answer (opening_of (core_of self.old)) }
+        ensures device { self.new ≡ device_after_poll self.old (core_at_poll (core_of self.old)) }
+        ensures answer { result ≡ poll_response (core_at_poll (core_of self.old)) }
         ensures fits { Fits result }
         ensures sound { IsSound (core_of self.new) }
     {
-        self.hear_poll();
-        self.poll_answer().owned()
+        self.receive_poll();
+        self.poll_response().to_owned()
     }
 }

@@ -1,13 +1,13 @@
 //! Frames between two rounds of a report, and its idle time (HID 1.11, 7.2.3 and 7.2.4).
 
 ghost use Rattle.std.specs.Prelude.{◌≡◌, ◌+◌, map, min};
-ghost use Rattle.hid_device.specs.Deciding.{idle_set};
-ghost use Rattle.hid_device.specs.Standing.{is_idle_over, most_frames};
+ghost use Rattle.hid_device.specs.RequestTable.{with_idle_time};
+ghost use Rattle.hid_device.specs.ReportState.{is_idle_over, most_frames};
 
 /// Frames are counted up to the longest idle time, 255 units of four frames (HID 1.11, 7.2.4).
 pub(crate) const MAX_FRAMES: u16 = 1020;
 
-/// Whether an idle time, in units of four frames, is over after so many frames; 0 is none.
+/// Whether an idle time, in units of four frames, is over after n frames; 0 is none.
 pub(crate) fn is_idle_over(idle: u8, frames: u16) -> bool
     ensures { result ≡ is_idle_over idle frames }
 {
@@ -25,7 +25,7 @@ pub(crate) fn count_frame(frames: &mut [u16])
 
 /// Sets the idle time of an Input report, by its number, or of all.
 pub(crate) fn set_idle(idle: &mut [u8], report: Option<usize>, time: u8)
-    ensures { idle.new ≡ idle_set idle.old report time }
+    ensures { idle.new ≡ with_idle_time idle.old report time }
 {
     match report {
         None => idle.fill(time),

@@ -2,29 +2,32 @@
 ghost use Rattle.std.specs.Prelude.{◌≡◌, true, false};
 ghost use Rattle.hid_snapshots.specs.declared.change.Change.{Change};
 ghost use Rattle.usb_packet.specs.declared.packet.Packet.{Packet};
-ghost use Rattle.usb_control.specs.Computed.{control_after};
+ghost use Rattle.usb_control.specs.TryFunctions.{control_after};
 ghost use Rattle.usb_control.specs.Device.{Effect};
-ghost use Rattle.hid_device.specs.Apart.{LeavesEndpoint, LeavesRounds, LeavesWaits, carries_out, cut_core, cuts, with_halt};
+ghost use Rattle.hid_device.specs.EndpointIndependence.{LeavesEndpoint, LeavesRounds, LeavesWaits, core_after_abort, effect_aborts_round, effect_sets_configuration, with_halt};
 ghost use Rattle.hid_device.specs.Core.{CoreState, IsSound, configured_core};
-ghost use Rattle.hid_device.specs.Deciding.{core_table};
+ghost use Rattle.hid_device.specs.RequestTable.{core_table};
 ghost use Rattle.hid_device.specs.Device.{DeviceState, changed_device, core_of, device_after, framed_device, halted_device, is_control, reset_device};
-ghost use Rattle.hid_device.specs.Making.{new_device_with};
+ghost use Rattle.hid_device.specs.Creation.{new_device_with};
 
 /// The endpoints of a device are apart. Whatever endpoint 0 is brought to by a packet, by itself or in a host's transfer, the
 /// snapshot stays, and polls go on as they did unless a configuration, a halt or its end takes effect. A packet that isn't
 /// endpoint 0's, a change, a frame and a halt of the device leave endpoint 0: the packet and the halt but for what was waited
-/// for, the others that too; and behind the halt it is the halted one that endpoint 0 tells of.
+/// for, the others that too; and after the halt it is the halted one that endpoint 0 tells of.
 pub fn ends_are_apart()
     ensures snapshot { (effect : Effect) (core : CoreState)
-        → (control_after core_table effect core).requests.standing.snapshot
-        ≡ core.standing.snapshot }
-    ensures rounds { (effect : Effect) (core : CoreState) → carries_out effect core.pending ≡ false
-        → cuts effect core.pending ≡ false
+        → (control_after core_table effect core).requests.reports.snapshot
+        ≡ core.reports.snapshot }
+    ensures rounds { (effect : Effect) (core : CoreState)
+        → effect_sets_configuration effect core.pending ≡ false
+        → effect_aborts_round effect core.pending ≡ false
         → LeavesRounds core (control_after core_table effect core).requests }
-    ensures configures { (effect : Effect) (core : CoreState) → carries_out effect core.pending ≡ true
+    ensures configures { (effect : Effect) (core : CoreState)
+        → effect_sets_configuration effect core.pending ≡ true
         → (control_after core_table effect core).requests ≡ configured_core core }
-    ensures cuts { (effect : Effect) (core : CoreState) → cuts effect core.pending ≡ true
-        → (control_after core_table effect core).requests ≡ cut_core core core.pending }
+    ensures aborts { (effect : Effect) (core : CoreState)
+        → effect_aborts_round effect core.pending ≡ true
+        → (control_after core_table effect core).requests ≡ core_after_abort core core.pending }
 
     ensures polls { (device : DeviceState) (packet : Packet) → is_control device packet ≡ false
         → LeavesEndpoint device (device_after device packet) }
@@ -35,9 +38,9 @@ pub fn ends_are_apart()
         (with_halt device (core_of (halted_device device)).halted) (halted_device device) }
 {}
 
-/// Behind a reset of the bus a device is a new one, but that its controls are as they were.
+/// After a reset of the bus a device is a new one, except that its controls stay as they were.
 pub fn resets_make_new()
     ensures { (device : DeviceState) → IsSound (core_of device)
         → reset_device device ≡ new_device_with device.addr (core_of device).config
-        (core_of device).descriptor (core_of device).layout (core_of device).standing.snapshot }
+        (core_of device).descriptor (core_of device).layout (core_of device).reports.snapshot }
 {}

@@ -1,13 +1,13 @@
 //! A virtual human interface device at the far end of the bus (USB 2.0, 8.4.6.1, 8.5.3, 8.5.4, 8.6
 //! and 9.4; HID 1.11, 5 to 8).
 //! ```text
-//!   host                 Device::on_packet, or hear_poll and poll_answer    Core
+//!   host                 Device::on_packet, or receive_poll and poll_response  Core
 //!   IN 69 81 00 ------>  no round open: the lowest due report? -------->  Snapshot::due, idle times
 //!                            its part is fixed                             Snapshot::shown -> fixed
 //!                            its motion is taken out                       Snapshot::take_motion
 //!                            its frames are counted from 0                 frames
 //!                            its bytes are kept, and the first 64 armed    write_report -> DevPipe::arm
-//!              <-------  what is armed under the toggle, else NAK          DevPipe::lent_answer; STALL while it is halted
+//!              <-------  what is armed under the toggle, else NAK          DevPipe::answer_ref; STALL while it is halted
 //!   ACK 0xD2 --------->  directly after data: the next 64 bytes are        DevPipe::acknowledged, DevPipe::arm
 //!                            armed, and after the last the round is closed
 //!

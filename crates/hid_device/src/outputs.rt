@@ -54,12 +54,14 @@ impl KeptReport {
     }
 }
 
-/// A report of a layout as it is at first: zeros, behind its ID where it has one.
+/// A report of a layout as it is at first: zeros, after its ID where it has one.
 fn bare(layout: &Layout, report: usize) -> KeptReport
     requires { report < length layout.now.reports }
     ensures { result ≡ bare_report layout.now report }
 {
-    let _items = layout.items(); // with what holds of every layout, as that a report has at most 256 bytes
+    // For the prover: what holds of every layout, as that a report has at most 256 bytes.
+    let _ = layout.items();
+
     let mut bytes = ArrayVec::new();
     bare_report(layout, report, &mut bytes);
     KeptReport { bytes }

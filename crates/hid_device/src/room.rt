@@ -3,9 +3,9 @@
 ghost use Rattle.std.specs.Prelude.{◌≡◌, replicate, false, IfOk, IfErr};
 ghost use Rattle.hid_layout.specs.Controls.{items_of};
 ghost use Rattle.hid_snapshots.specs.Full.{IsFull};
-ghost use Rattle.hid_snapshots.specs.Cells.{blank, FitsSnapshot, FitsShown};
+ghost use Rattle.hid_snapshots.specs.ControlStates.{blank, FitsSnapshot, FitsShown};
 ghost use Rattle.hid_snapshots.specs.Parts.{blank_parts};
-ghost use Rattle.hid_device.specs.Making.{no_memory, IsRoom};
+ghost use Rattle.hid_device.specs.Creation.{no_memory, IsRoom};
 
 use crate::inputs::input_count;
 use crate::outputs::{KeptReport, bare_outputs};
@@ -46,21 +46,25 @@ impl Controls {
 pub(crate) struct Counts {
     pub(crate) frames: Vec<u16>,
     pub(crate) idle: Vec<u8>,
-    pub(crate) cut: Vec<bool>,
+    pub(crate) aborted: Vec<bool>,
 }
 
 impl Counts {
     fn zeros(alloc: Global, count: usize) -> Result<Counts, AllocError>
         ensures frames { IfOk result (λ made. made.frames.items ≡ replicate count 0) }
         ensures idle { IfOk result (λ made. made.idle.items ≡ replicate count 0) }
-        ensures cut { IfOk result (λ made. made.cut.items ≡ replicate count false) }
+        ensures aborted { IfOk result (λ made. made.aborted.items ≡ replicate count false) }
         ensures full { IfOk result
-            (λ made. (IsFull made.frames) × (IsFull made.idle) × IsFull made.cut) }
+            (λ made. (IsFull made.frames) × (IsFull made.idle) × IsFull made.aborted) }
     {
         let frames = full_of(alloc, 0, count)?;
         let idle = full_of(alloc, 0, count)?;
-        let cut = full_of(alloc, false, count)?;
-        Ok(Counts { frames, idle, cut })
+        let aborted = full_of(alloc, false, count)?;
+        Ok(Counts {
+            frames,
+            idle,
+            aborted,
+        })
     }
 }
 
@@ -76,7 +80,7 @@ pub(crate) struct Room {
 impl Room {
     pub(crate) fn of(alloc: Global, layout: &Layout, descriptor: &[u8]) -> Result<Room, DeviceFault>
         ensures made { IfOk result (λ room. IsRoom descriptor.now layout.now room) }
-        ensures wanting { IfErr result (λ fault. fault ≡ no_memory) }
+        ensures memory { IfErr result (λ fault. fault ≡ no_memory) }
     {
         let descriptor = full_from(alloc, descriptor)?;
         let outputs = bare_outputs(alloc, layout)?;

@@ -1,25 +1,24 @@
-//! The inside of a device: all that endpoint 0 reads and writes, and the pipe of its Input reports.
+//! The core of a device: all that endpoint 0 reads and writes, and the pipe of its Input reports.
 
 ghost use Rattle.std.specs.Prelude.{◌≡◌, ◌<◌, ◌≤◌, false, length, slice_get, None, IfSome, IfOk, IfErr};
 ghost use Rattle.std.specs.Option.{option_copied};
 ghost use Rattle.hid_layout.specs.Controls.{items_of};
 ghost use Rattle.hid_snapshots.specs.Full.{IsFull};
-ghost use Rattle.hid_snapshots.specs.Cells.{FitsSnapshot};
-ghost use Rattle.hid_snapshots.specs.Encoding.{AreBytes};
+ghost use Rattle.hid_snapshots.specs.ControlStates.{FitsSnapshot};
 ghost use Rattle.hid_snapshots.specs.Parts.{is_changed};
 ghost use Rattle.hid_snapshots.specs.Snapshots.{Changes};
-ghost use Rattle.usb_packet.specs.Lent.{owned, IsShort};
+ghost use Rattle.usb_packet.specs.PacketRef.{to_owned, IsShort};
 ghost use Rattle.usb_packet.specs.Spelling.{Fits};
-ghost use Rattle.hid_device.specs.Standing.{cut_at, is_due, due_where};
-ghost use Rattle.hid_device.specs.Core.{IsSound, armed_of, opened_core, opening_of, closed_core, configured_core, halted_core, cleared_core, piece_at, poll_answer, reset_core, changed_core, framed_core, next_of, round_of};
-ghost use Rattle.hid_device.specs.declared.decisions.Pending.TheVariants.{Keep, Nothing};
-ghost use Rattle.hid_device.specs.Decisions.{Reads, Refuses, Writes, reads_if, writes_if};
-ghost use Rattle.hid_device.specs.Deciding.{Decides, decided_row, effected, idle_told, keeps, output_of, reads_any, report_now, sets_idle, still_bytes};
+ghost use Rattle.hid_device.specs.ReportState.{with_abort, is_due, due_where};
+ghost use Rattle.hid_device.specs.Core.{IsSound, armed_bytes, core_with_round, core_at_poll, core_after_ack, configured_core, halted_core, cleared_core, piece_at, poll_response, reset_core, changed_core, framed_core, next_piece_of, round_of};
+ghost use Rattle.hid_device.specs.declared.decisions.PendingWrite.TheVariants.{Keep, Nothing};
+ghost use Rattle.hid_device.specs.RequestDecisions.{Reads, Refuses, Writes, reads_if, writes_if};
+ghost use Rattle.hid_device.specs.RequestTable.{Decides, core_after_write, idle_time_of, keeps, output_of, reads_any, report_now, row_decision, sets_idle, still_bytes};
 ghost use Rattle.hid_device.specs.Outputs.{kept_place};
-ghost use Rattle.hid_device.specs.Making.{no_memory, new_core, CanServe, RefusesDescriptor, MakesCore};
+ghost use Rattle.hid_device.specs.Creation.{no_memory, new_core, CanServe, RefusesDescriptor, MakesCore};
 
 use crate::config::Config;
-use crate::decisions::{Answer, Pending};
+use crate::decisions::{Answer, PendingWrite};
 use crate::frames::{count_frame, is_idle_over, set_idle};
 use crate::outputs::{KeptReport, input_with, kept_place, reset_outputs};
 use crate::room::Room;
@@ -27,8 +26,8 @@ use arrayvec::ArrayVec;
 use hid_fields::WordCodec;
 use hid_layout::{Layout, ReportKind};
 use hid_requests::{
-    Asked, DeviceCause, DeviceFault, Protocol, configuration, device_descriptor, hid_descriptor,
-    what_is_asked,
+    DeviceCause, DeviceFault, Protocol, RequestKind, configuration, device_descriptor,
+    hid_descriptor, request_kind,
 };
 use hid_snapshots::{
     Change, ChangeFault, Shown, Snapshot, has_empty_codes, has_zeros, piece_of, pieces_of,
@@ -37,10 +36,10 @@ use hid_snapshots::{
 use std::alloc::Global;
 use std::marker::Model;
 use usb_control::{Requests, Setup};
-use usb_packet::LentPacket;
+use usb_packet::PacketRef;
 use usb_transact::DevPipe;
 
-/// The inside of a device, which answers the requests of its endpoint 0. A contract sees it as a `CoreState`.
+/// The core of a device, which answers the requests of its endpoint 0. A contract sees it as a `CoreState`.
 #[derive(Drop)]
 pub struct Core {
     layout: Layout,
@@ -56,8 +55,8 @@ pub struct Core {
     frames: Vec<u16>,
     /// For each Input report, its idle time in units of four frames; 0 is none.
     idle: Vec<u8>,
-    /// For each Input report, whether a halt or its end has cut its last round short, and none was opened since.
-    cut: Vec<bool>,
+    /// For each Input report, whether a halt or a clear aborted its last round, and none was opened since.
+    aborted: Vec<bool>,
     pipe: DevPipe,
     /// The report of the open round.
     current: Option<usize>,
@@ -66,7 +65,7 @@ pub struct Core {
     /// Which of them is armed, from 0; 0 where no round is open.
     piece: usize,
     /// Whether it was seen that no report's controls call for it, and nothing was changed, fixed or configured since.
-    is_calm: bool,
+    nothing_due: bool,
     /// In which form a boot device sends its reports.
     protocol: Protocol,
     /// The Output and Feature reports, in the order of the layout, as they were set last.
@@ -78,15 +77,15 @@ pub struct Core {
     /// Its bytes, where they aren't those of the report descriptor.
     written: ArrayVec<u8, 256>,
     /// What its status brings about.
-    pending: Pending,
+    pending: PendingWrite,
     // Each list has room for its items alone.
-    ghost full: { (IsFull descriptor) × (IsFull frames) × (IsFull idle) × (IsFull cut) × IsFull outputs },
+    ghost full: { (IsFull descriptor) × (IsFull frames) × (IsFull idle) × (IsFull aborted) × IsFull outputs },
 }
 
 impl Model for Core {
     ghost use Rattle.std.specs.Prelude.{option_map};
     ghost use Rattle.hid_device.specs.Core.{CoreState, IsCore};
-    ghost use Rattle.hid_device.specs.Decisions.{answer_bytes};
+    ghost use Rattle.hid_device.specs.RequestDecisions.{answer_bytes};
 
     ghost Value = { CoreState };
 
@@ -95,12 +94,12 @@ impl Model for Core {
       config = c.config;
       descriptor = c.descriptor.items;
       is_configured = c.is_configured;
-      standing = record {
+      reports = record {
         snapshot = c.snapshot;
         fixed = c.fixed;
         frames = c.frames.items;
         idle = c.idle.items;
-        cut = c.cut.items;
+        aborted = c.aborted.items;
       };
       current = c.current;
       piece = c.piece;
@@ -113,27 +112,7 @@ impl Model for Core {
     } };
 
     // What is armed is a piece of the part that was fixed, exactly while a round is open; there is room for a still part.
-    ghost invariant = { λ c. IsCore (record {
-      layout = c.layout;
-      config = c.config;
-      descriptor = c.descriptor.items;
-      is_configured = c.is_configured;
-      standing = record {
-        snapshot = c.snapshot;
-        fixed = c.fixed;
-        frames = c.frames.items;
-        idle = c.idle.items;
-        cut = c.cut.items;
-      };
-      current = c.current;
-      piece = c.piece;
-      toggle = c.pipe.toggle;
-      halted = c.pipe.halted;
-      protocol = c.protocol;
-      outputs = c.outputs.items;
-      answer = option_map (answer_bytes c.descriptor.items c.written.items) c.answer;
-      pending = c.pending;
-    }) c.is_calm c.pipe.armed c.round.items c.still };
+    ghost invariant = { λ c. IsCore (view c) c.nothing_due c.pipe.armed c.round.items c.still };
 }
 
 /// The layout of a descriptor, of which a device can send every report.
@@ -164,7 +143,7 @@ fn served_layout(alloc: Global, descriptor: &[u8]) -> Result<Layout, DeviceFault
 }
 
 impl Core {
-    /// The inside of a device with this layout that isn't configured yet. All room is made here.
+    /// The core of a device with this layout that isn't configured yet. All room is made here.
     #[tactic(auto, using(crate::proofs::InputLemmas::inputs_first))]
     fn with_layout(
         alloc: Global,
@@ -174,7 +153,7 @@ impl Core {
     ) -> Result<Core, DeviceFault>
         requires { CanServe descriptor.now layout }
         ensures made { IfOk result (λ core. core ≡ new_core config.now descriptor.now layout) }
-        ensures wanting { IfErr result (λ fault. fault ≡ no_memory) }
+        ensures memory { IfErr result (λ fault. fault ≡ no_memory) }
     {
         let Room {
             descriptor,
@@ -197,22 +176,22 @@ impl Core {
             fixed: controls.fixed,
             frames: counts.frames,
             idle: counts.idle,
-            cut: counts.cut,
+            aborted: counts.aborted,
             pipe: DevPipe::new(),
             current: None,
             round: ArrayVec::new(),
             piece: 0,
-            is_calm: false,
+            nothing_due: false,
             protocol: Protocol::Report,
             outputs,
             still: controls.still,
             answer: None,
             written: ArrayVec::new(),
-            pending: Pending::Nothing,
+            pending: PendingWrite::Nothing,
         })
     }
 
-    /// The inside of a device that isn't configured yet.
+    /// The core of a device that isn't configured yet.
     pub(crate) fn new(
         alloc: Global,
         config: &Config,
@@ -226,13 +205,6 @@ impl Core {
         }
     }
 
-    // What holds of every device holds of this one.
-    pub(crate) fn is_sound(&self)
-        ensures { IsSound self.now }
-    {
-        let _layout = &self.layout;
-    }
-
     pub(crate) fn layout(&self) -> &Layout
         ensures layout { result.now ≡ self.now.layout }
         ensures sound { IsSound self.now }
@@ -241,7 +213,7 @@ impl Core {
     }
 
     pub(crate) fn fixed(&self) -> &Shown
-        ensures { result.now ≡ self.now.standing.fixed }
+        ensures { result.now ≡ self.now.reports.fixed }
     {
         &self.fixed
     }
@@ -249,7 +221,7 @@ impl Core {
     pub(crate) fn pipe(&self) -> &DevPipe
         ensures toggle { result.now.toggle ≡ self.now.toggle }
         ensures halted { result.now.halted ≡ self.now.halted }
-        ensures armed { result.now.armed ≡ armed_of self.now }
+        ensures armed { result.now.armed ≡ armed_bytes self.now }
     {
         &self.pipe
     }
@@ -283,11 +255,12 @@ impl Core {
     /// Changes a control.
     pub(crate) fn change(&mut self, change: Change) -> Result<(), ChangeFault>
         ensures changes { Changes
-            (items_of self.old.layout) self.old.standing.snapshot change result
-            self.new.standing.snapshot }
+            (items_of self.old.layout) self.old.reports.snapshot change result
+            self.new.reports.snapshot }
         ensures core { self.new ≡ changed_core self.old change }
+        ensures sound { IsSound self.new }
     {
-        self.is_calm = false; // the control may call for its report
+        self.nothing_due = false; // the control may call for its report
         change_snapshot(&mut self.snapshot, &self.layout, change)
     }
 
@@ -303,10 +276,10 @@ impl Core {
         ensures { self.new ≡ configured_core self.old }
     {
         self.is_configured = true;
-        self.is_calm = false; // no part is fixed any more
+        self.nothing_due = false; // no part is fixed any more
         self.fixed.reset(&self.layout);
         self.frames.fill(0);
-        self.cut.fill(false);
+        self.aborted.fill(false);
         self.pipe.restart(); // a halt ends with it
         self.current = None;
         self.piece = 0;
@@ -316,20 +289,20 @@ impl Core {
     pub(crate) fn halt(&mut self)
         ensures { self.new ≡ halted_core self.old }
     {
-        self.cut_round();
+        self.abort_round();
         self.pipe.halt();
         self.current = None;
         self.piece = 0;
     }
 
     /// The report of the round that is open, where one is, is due until a round of it opens.
-    fn cut_round(&mut self)
+    fn abort_round(&mut self)
         ensures { self.new
-            ≡ record self.old { standing = cut_at self.old.current self.old.standing } }
+            ≡ record self.old { reports = with_abort self.old.current self.old.reports } }
     {
         match self.current {
             Some(report) => {
-                self.cut[report] = true;
+                self.aborted[report] = true;
             }
             None => {}
         }
@@ -347,7 +320,7 @@ impl Core {
     pub(crate) fn reset(&mut self)
         ensures { self.new ≡ reset_core self.old }
     {
-        self.configure(); // its rounds begin anew
+        self.configure(); // its rounds start again
         self.forget_request();
         self.is_configured = false;
         self.idle.fill(0);
@@ -360,47 +333,47 @@ impl Core {
         ensures { self.new ≡ record self.old { answer = None; pending = Nothing } }
     {
         self.answer = None;
-        self.pending = Pending::Nothing;
+        self.pending = PendingWrite::Nothing;
     }
 
     /// Opens a round where none is open, the endpoint isn't halted and some report is due.
     pub(crate) fn open_if_due(&mut self)
-        ensures { self.new ≡ opening_of self.old }
+        ensures { self.new ≡ core_at_poll self.old }
     {
         if self.current.is_none() {
             match self.first_due() {
                 Some(report) => self.open(report),
-                None => self.keep_calm(),
+                None => self.note_nothing_due(),
             }
         }
     }
 
-    /// No report is due. Unless a halt hides it, none's controls call for it then, until something is changed: polls behind
-    /// this one needn't look at them.
-    fn keep_calm(&mut self)
-        requires { due_where (items_of self.old.layout) self.old.halted self.old.standing ≡ None }
+    /// No report is due. Unless a halt hides it, none's controls call for it then, until something is changed: polls
+    /// after this one needn't look at them.
+    fn note_nothing_due(&mut self)
+        requires { due_where (items_of self.old.layout) self.old.halted self.old.reports ≡ None }
         ensures { self.new ≡ self.old }
     {
         if !self.pipe.halted() {
-            self.is_calm = true;
+            self.nothing_due = true;
         }
     }
 
     /// The answer to a poll: STALL while the endpoint is halted, else what is armed under the toggle, else NAK (USB 2.0,
     /// 8.4.6.1).
-    pub(crate) fn poll_answer(&self) -> LentPacket<'_>
-        ensures answer { owned result ≡ poll_answer self.now }
-        ensures fits { Fits (owned result) }
+    pub(crate) fn poll_response(&self) -> PacketRef<'_>
+        ensures answer { to_owned result ≡ poll_response self.now }
+        ensures fits { Fits (to_owned result) }
         ensures short { IsShort result }
         ensures sound { IsSound self.now }
     {
-        self.pipe.lent_answer()
+        self.pipe.answer_ref()
     }
 
-    /// An acknowledgement has arrived: the piece is closed (USB 2.0, 8.6.2). The next one is armed, and behind the last one
-    /// the round is closed.
+    /// An acknowledgement has arrived: the piece is closed (USB 2.0, 8.6.2). The next one is armed, and after the
+    /// last one the round is closed.
     pub(crate) fn acknowledged(&mut self)
-        ensures { self.new ≡ closed_core self.old }
+        ensures { self.new ≡ core_after_ack self.old }
     {
         let next = self.next_piece();
         self.pipe.acknowledged();
@@ -416,9 +389,9 @@ impl Core {
         }
     }
 
-    /// The piece behind the one that goes out, where there is one.
+    /// The piece after the one that goes out, where there is one.
     fn next_piece(&self) -> Option<usize>
-        ensures { result ≡ next_of self.now }
+        ensures { result ≡ next_piece_of self.now }
     {
         match self.current {
             Some(report) => {
@@ -433,29 +406,30 @@ impl Core {
         }
     }
 
-    /// Whether a report is due: its controls call for it, its idle time is over, or its last round was cut short.
+    /// Whether a report is due: its controls call for it, its idle time is over, or its last round was aborted short.
     fn is_due(&self, report: usize) -> bool
-        requires { report < length self.now.standing.frames }
-        ensures { result ≡ is_due (items_of self.now.layout) self.now.standing report }
+        requires { report < length self.now.reports.frames }
+        ensures { result ≡ is_due (items_of self.now.layout) self.now.reports report }
     {
         self.calls_for(report)
             || is_idle_over(self.idle[report], self.frames[report])
-            || self.cut[report]
+            || self.aborted[report]
     }
 
     /// Whether a report's controls call for it.
     fn calls_for(&self, report: usize) -> bool
-        requires { report < length self.now.standing.frames }
-        ensures { result ≡ is_changed (items_of self.now.layout) report self.now.standing.snapshot
-            self.now.standing.fixed }
+        requires { report < length self.now.reports.frames }
+        ensures { result ≡ is_changed (items_of self.now.layout) report self.now.reports.snapshot
+            self.now.reports.fixed }
     {
-        !self.is_calm && self.snapshot.due(&self.layout, report, &self.fixed)
+        !self.nothing_due && self.snapshot.due(&self.layout, report, &self.fixed)
     }
 
     /// The report whose round a poll opens: the due one of the lowest number, and none while the endpoint is halted.
     fn first_due(&self) -> Option<usize>
-        ensures due { result ≡ due_where (items_of self.now.layout) self.now.halted self.now.standing }
-        ensures input { IfSome result (λ report. report < length self.now.standing.frames) }
+        ensures due { result
+            ≡ due_where (items_of self.now.layout) self.now.halted self.now.reports }
+        ensures input { IfSome result (λ report. report < length self.now.reports.frames) }
         ensures going { IfSome result (λ _. self.now.halted ≡ false) }
     {
         if self.pipe.halted() {
@@ -469,21 +443,20 @@ impl Core {
         None
     }
 
-    /// Opens a round of a report: fixes its part, takes the part's motion out of the snapshot, counts its frames anew, and
-    /// arms the first piece of its bytes. The report isn't cut any more.
+    /// Opens a round of a report: fixes its part, takes the part's motion out of the snapshot, counts its frames
+    /// again, and arms the first piece of its bytes. The report's abort flag is cleared.
     fn open(&mut self, report: usize)
-        requires input { report < length self.old.standing.frames }
+        requires input { report < length self.old.reports.frames }
         requires none { self.old.current ≡ None }
         requires going { self.old.halted ≡ false }
-        ensures { self.new ≡ opened_core self.old report }
+        ensures { self.new ≡ core_with_round self.old report }
     {
-        self.is_calm = false; // it was seen of the parts before
+        self.nothing_due = false; // it was seen of the parts before
         self.snapshot.shown(&self.layout, report, &mut self.fixed);
         self.snapshot.take_motion(&self.layout, report, &self.fixed);
         self.frames[report] = 0;
-        self.cut[report] = false;
+        self.aborted[report] = false;
         write_report::<WordCodec>(&self.layout, report, &self.fixed, &mut self.round);
-        are_bytes(&self.round);
         self.pipe.arm(piece_of(&self.round, 0));
         self.current = Some(report);
         self.piece = 0;
@@ -538,7 +511,7 @@ impl Core {
         true
     }
 
-    /// The same where something holds; else it is refused.
+    /// A read of these bytes where something holds; else it is refused.
     fn read_if(&mut self, holds: bool, bytes: &[u8]) -> bool
         requires { length bytes.now ≤ 256 }
         ensures { Decides self.old (reads_if holds bytes.now) result self.new }
@@ -551,7 +524,7 @@ impl Core {
     }
 
     /// A write is to bring this about.
-    fn write(&mut self, pending: Pending) -> bool
+    fn write(&mut self, pending: PendingWrite) -> bool
         ensures { Decides self.old (Writes pending) result self.new }
     {
         self.forget_request();
@@ -559,8 +532,8 @@ impl Core {
         true
     }
 
-    /// The same where something holds; else it is refused.
-    fn write_if(&mut self, holds: bool, pending: Pending) -> bool
+    /// A write that brings this about where something holds; else it is refused.
+    fn write_if(&mut self, holds: bool, pending: PendingWrite) -> bool
         ensures { Decides self.old (writes_if holds pending) result self.new }
     {
         if holds {
@@ -572,7 +545,7 @@ impl Core {
 
     /// A read has the bytes of an Input report as it is now, with every motion 0, as its answer.
     fn read_input(&mut self, report: usize) -> bool
-        requires { report < length self.old.standing.frames }
+        requires { report < length self.old.reports.frames }
         ensures { Decides self.old (Reads (still_bytes self.old report)) result self.new }
     {
         self.forget_request();
@@ -622,7 +595,7 @@ impl Core {
 
     /// The idle time that GET_IDLE tells (HID 1.11, 7.2.3): of the Input report with this ID, or for 0 of the first.
     fn idle_time(&self, id: u8) -> Option<u8>
-        ensures { result ≡ idle_told self.now id }
+        ensures { result ≡ idle_time_of self.now id }
     {
         if id == 0 {
             self.idle.first().copied()
@@ -642,7 +615,7 @@ impl Core {
         match kept_place(&self.layout, kind, id) {
             Some(place) => {
                 let suits = usize::from(length) == self.outputs[place].len();
-                self.write_if(suits, Pending::Keep { place })
+                self.write_if(suits, PendingWrite::Keep { place })
             }
             None => self.refuse(),
         }
@@ -653,10 +626,10 @@ impl Core {
         ensures { Decides self.old (sets_idle self.old id time) result self.new }
     {
         if id == 0 {
-            return self.write(Pending::Idle { report: None, time });
+            return self.write(PendingWrite::Idle { report: None, time });
         }
         match input_with(&self.layout, id) {
-            Some(report) => self.write(Pending::Idle {
+            Some(report) => self.write(PendingWrite::Idle {
                 report: Some(report),
                 time,
             }),
@@ -666,7 +639,7 @@ impl Core {
 
     /// SET_REPORT takes effect: the Output or Feature report at this place is set, where it has as many bytes.
     fn keep(&mut self, place: usize, bytes: &[u8])
-        ensures { self.new ≡ effected self.old bytes.now (Keep place) }
+        ensures { self.new ≡ core_after_write self.old bytes.now (Keep place) }
     {
         if place < self.outputs.len() {
             self.outputs[place].keep(bytes);
@@ -674,56 +647,56 @@ impl Core {
     }
 
     /// A request is decided on by its row (USB 2.0, 9.4; HID 1.11, 7.1 and 7.2): whether it is accepted.
-    fn decide(&mut self, asked: Asked) -> bool
-        ensures { Decides self.old (decided_row self.old asked) result self.new }
+    fn decide(&mut self, asked: RequestKind) -> bool
+        ensures { Decides self.old (row_decision self.old asked) result self.new }
     {
         let Config { interval, boot, .. } = self.config;
         let (length, is_configured) = (self.report_length(), self.is_configured);
         match asked {
-            Asked::Status | Asked::ControlStatus => self.read(&[0, 0]),
-            Asked::InterfaceStatus => self.read_if(is_configured, &[0, 0]),
-            Asked::ReportStatus => {
+            RequestKind::Status | RequestKind::ControlStatus => self.read(&[0, 0]),
+            RequestKind::InterfaceStatus => self.read_if(is_configured, &[0, 0]),
+            RequestKind::ReportStatus => {
                 let halted = self.pipe.halted();
                 self.read_if(is_configured, &[u8::from(halted), 0])
             }
-            Asked::DeviceDescriptor => {
+            RequestKind::DeviceDescriptor => {
                 let info = self.config.device_info();
                 self.read(&device_descriptor(&info))
             }
-            Asked::Configuration => {
+            RequestKind::Configuration => {
                 let info = self.config.config_info(length);
                 self.read(&configuration(&info, interval))
             }
-            Asked::HidDescriptor => self.read(&hid_descriptor(length)),
-            Asked::ReportDescriptor => self.read_descriptor(),
-            Asked::GetConfiguration => self.read(&[u8::from(is_configured)]),
-            Asked::GetInterface => self.read_if(is_configured, &[0]),
-            Asked::SetConfiguration => self.write(Pending::Configure),
-            Asked::ClearFeature => self.write_if(is_configured, Pending::Clear),
-            Asked::SetFeature => self.write_if(is_configured, Pending::Halt),
-            Asked::GetReport { kind, id } => self.get_report(kind, id),
-            Asked::GetIdle { id } => match self.idle_time(id) {
+            RequestKind::HidDescriptor => self.read(&hid_descriptor(length)),
+            RequestKind::ReportDescriptor => self.read_descriptor(),
+            RequestKind::GetConfiguration => self.read(&[u8::from(is_configured)]),
+            RequestKind::GetInterface => self.read_if(is_configured, &[0]),
+            RequestKind::SetConfiguration => self.write(PendingWrite::Configure),
+            RequestKind::ClearFeature => self.write_if(is_configured, PendingWrite::Clear),
+            RequestKind::SetFeature => self.write_if(is_configured, PendingWrite::Halt),
+            RequestKind::GetReport { kind, id } => self.get_report(kind, id),
+            RequestKind::GetIdle { id } => match self.idle_time(id) {
                 Some(time) => self.read(&[time]),
                 None => self.refuse(),
             },
-            Asked::GetProtocol => {
+            RequestKind::GetProtocol => {
                 let number = self.protocol.number();
                 self.read_if(boot.is_boot(), &[number])
             }
-            Asked::SetReport { kind, id, length } => self.set_report(kind, id, length),
-            Asked::SetIdle { id, time } => self.set_idle(id, time),
-            Asked::SetProtocol { protocol } => {
+            RequestKind::SetReport { kind, id, length } => self.set_report(kind, id, length),
+            RequestKind::SetIdle { id, time } => self.set_idle(id, time),
+            RequestKind::SetProtocol { protocol } => {
                 let holds = boot.is_boot() && !is_configured;
-                self.write_if(holds, Pending::Protocol(protocol))
+                self.write_if(holds, PendingWrite::Protocol(protocol))
             }
         }
     }
 }
 
 impl Requests for Core {
-    ghost use Rattle.usb_control.specs.Computed.{AppliesBy, PreparesBy};
-    ghost use Rattle.hid_device.specs.Deciding.{core_table};
-    ghost use Rattle.hid_device.specs.DecidingLaws.{SameButRequest, read_has_answer, write_is_short, prepare_keeps, prepare_forgets, read_has_no_effect};
+    ghost use Rattle.usb_control.specs.TryFunctions.{AppliesBy, PreparesBy};
+    ghost use Rattle.hid_device.specs.RequestTable.{core_table};
+    ghost use Rattle.hid_device.specs.RequestTableLaws.{SameButRequest, read_has_answer, write_is_short, prepare_keeps, prepare_forgets, read_has_no_effect};
 
     ghost answer_of = { core_table.answer_of };
 
@@ -743,9 +716,9 @@ impl Requests for Core {
 
     ghost read_has_no_effect = { read_has_no_effect };
 
-    #[tactic(auto, unfolding(crate::specs::Deciding::decide))]
+    #[tactic(auto, unfolding(crate::specs::RequestTable::decide))]
     fn prepare(&mut self, setup: &Setup) -> bool {
-        match what_is_asked(setup) {
+        match request_kind(setup) {
             Some(asked) => self.decide(asked),
             None => self.refuse(),
         }
@@ -761,22 +734,15 @@ impl Requests for Core {
 
     fn apply(&mut self, bytes: &[u8]) {
         match self.pending {
-            Pending::Nothing => {}
-            Pending::Configure => self.configure(),
-            Pending::Keep { place } => self.keep(place, bytes),
-            Pending::Idle { report, time } => set_idle(&mut self.idle, report, time),
-            Pending::Protocol(protocol) => self.protocol = protocol,
-            Pending::Halt => self.halt(),
-            Pending::Clear => self.clear(),
+            PendingWrite::Nothing => {}
+            PendingWrite::Configure => self.configure(),
+            PendingWrite::Keep { place } => self.keep(place, bytes),
+            PendingWrite::Idle { report, time } => set_idle(&mut self.idle, report, time),
+            PendingWrite::Protocol(protocol) => self.protocol = protocol,
+            PendingWrite::Halt => self.halt(),
+            PendingWrite::Clear => self.clear(),
         }
     }
-}
-
-// The numbers of a byte string are bytes.
-fn are_bytes(bytes: &[u8])
-    ensures { AreBytes bytes.now }
-{
-    let _bytes = bytes;
 }
 
 fn change_snapshot(

@@ -7,30 +7,32 @@ use Rattle.hid_descriptor.specs.declared.report.ReportKind.TheVariants.{Input, O
 use Rattle.usb_control.specs.declared.setup.Setup.{Setup}
 use Rattle.usb_control.specs.SetupBytes.{IsSpelled, reads}
 use Rattle.usb_control.specs.Host.{sent_length}
-use Rattle.hid_requests.specs.declared.asked.Asked.{Asked}
-use Rattle.hid_requests.specs.declared.asked.Asked.TheVariants.{Status, InterfaceStatus, ControlStatus, ReportStatus, DeviceDescriptor, Configuration, HidDescriptor, ReportDescriptor, GetConfiguration, GetInterface, SetConfiguration, ClearFeature, SetFeature, GetReport, GetIdle, GetProtocol, SetReport, SetIdle, SetProtocol}
+use Rattle.hid_requests.specs.declared.request_kinds.RequestKind.{RequestKind}
+use Rattle.hid_requests.specs.declared.request_kinds.RequestKind.TheVariants.{Status, InterfaceStatus, ControlStatus, ReportStatus, DeviceDescriptor, Configuration, HidDescriptor, ReportDescriptor, GetConfiguration, GetInterface, SetConfiguration, ClearFeature, SetFeature, GetReport, GetIdle, GetProtocol, SetReport, SetIdle, SetProtocol}
 use Rattle.hid_requests.specs.declared.class.Protocol.TheVariants as protocols
 use Rattle.hid_requests.specs.declared.request.Request.{Request}
 use Rattle.hid_requests.specs.declared.request.Request.TheVariants as requests
 use Rattle.hid_requests.specs.declared.request.Asking.{Asking}
 use Rattle.hid_requests.specs.Class.{kind_of, type_of}
-use Rattle.hid_requests.specs.Asked.{IsSorted, asked_of, class_row, high_of, is_bare_class, is_bare_row, is_class, is_read, is_row, low_of, standard_row, written}
-use Rattle.hid_requests.specs.Asking.{FitsRequest, IsOfReports, asks, asks_endpoint, row_of, sends_of, setup_for, word_of}
+use Rattle.hid_requests.specs.RequestKinds.{IsSorted, class_row, high_of, is_bare_class, is_bare_row, is_class, is_read, is_row, low_of, report_data_length, request_kind_of, standard_row}
+use Rattle.hid_requests.specs.RequestSetup.{FitsRequest, IsOfReports, asks, asks_endpoint, row_of, sends_of, setup_for, word_of}
 
 -- the row that there is, if any, is one of the request's
-abbrev AreSorted : Setup → Option Asked → Type 0
-AreSorted setup o = (asked : Asked) → o ≡ Some asked → IsSorted setup asked
+abbrev AreSorted : Setup → Option RequestKind → Type 0
+AreSorted setup o = (asked : RequestKind) → o ≡ Some asked → IsSorted setup asked
 
 -- a request of the first row, or of one of the rest
-row : (setup : Setup) (test : Bool) (here rest : Option Asked) → (test ≡ true → AreSorted setup here) → AreSorted setup rest
+row : (setup : Setup) (test : Bool) (here rest : Option RequestKind) → (test ≡ true → AreSorted setup here)
+    → AreSorted setup rest
     → AreSorted setup (if test then here else rest)
 row setup true here rest there others = there refl
 row setup false here rest there others = others
 
-one : (setup : Setup) (asked : Asked) → IsSorted setup asked → AreSorted setup (Some asked)
+one : (setup : Setup) (asked : RequestKind) → IsSorted setup asked → AreSorted setup (Some asked)
 one setup asked is other h = let e : asked ≡ other = cc in subst (IsSorted setup) e is
 
-of_kind : (setup : Setup) (o : Option ReportKind) (made : ReportKind → Asked) → ((kind : ReportKind) → IsSorted setup (made kind))
+of_kind : (setup : Setup) (o : Option ReportKind) (made : ReportKind → RequestKind)
+    → ((kind : ReportKind) → IsSorted setup (made kind))
     → AreSorted setup (option_map made o)
 of_kind setup None made all = λ other h. absurd (cc)
 of_kind setup (Some kind) made all = one setup (made kind) (all kind)
@@ -44,7 +46,8 @@ way setup type number more h =
     ap (nat_le 128) same
 
 -- a row of one wValue that reads
-reading : (setup : Setup) (type number value index : ℕ) (asked : Asked) → nat_le 128 type ≡ is_read asked → is_read asked ≡ true
+reading : (setup : Setup) (type number value index : ℕ) (asked : RequestKind) → nat_le 128 type ≡ is_read asked
+    → is_read asked ≡ true
     → is_row setup type number value index ≡ true → AreSorted setup (Some asked)
 reading setup type number value index asked same is h =
     one setup asked (record {
@@ -53,13 +56,15 @@ reading setup type number value index asked same is h =
     })
 
 -- a row of any wValue, with its data
-with_data : (setup : Setup) (type number : ℕ) (asked : Asked) → nat_le 128 type ≡ is_read asked
-    → (is_read asked ≡ false → setup.length ≡ written asked) → is_class setup type number ≡ true → IsSorted setup asked
+with_data : (setup : Setup) (type number : ℕ) (asked : RequestKind) → nat_le 128 type ≡ is_read asked
+    → (is_read asked ≡ false → setup.length ≡ report_data_length asked) → is_class setup type number ≡ true
+    → IsSorted setup asked
 with_data setup type number asked same bytes h =
     record { ways = way setup type number (setup.index == 0) h ∙ same; bytes = bytes }
 
 -- rows that write without data
-writing : (setup : Setup) (type number value index : ℕ) (asked : Asked) → nat_le 128 type ≡ is_read asked → written asked ≡ 0
+writing : (setup : Setup) (type number value index : ℕ) (asked : RequestKind) → nat_le 128 type ≡ is_read asked
+    → report_data_length asked ≡ 0
     → is_bare_row setup type number value index ≡ true → AreSorted setup (Some asked)
 writing setup type number value index asked same none h =
     let empty : setup.length ≡ 0 = grind (arith, nat_tests, h) in
@@ -68,7 +73,8 @@ writing setup type number value index asked same none h =
       bytes = λ writes. empty ∙ sym none;
     })
 
-writing_any : (setup : Setup) (type number : ℕ) (asked : Asked) → nat_le 128 type ≡ is_read asked → written asked ≡ 0
+writing_any : (setup : Setup) (type number : ℕ) (asked : RequestKind) → nat_le 128 type ≡ is_read asked
+    → report_data_length asked ≡ 0
     → is_bare_class setup type number ≡ true → AreSorted setup (Some asked)
 writing_any setup type number asked same none h =
     let empty : setup.length ≡ 0 = grind (arith, nat_tests, h) in
@@ -108,13 +114,13 @@ class_sorted setup =
     (row setup (is_bare_row setup 0x21 11 1 0) (Some (SetProtocol protocols.Report)) None (writing setup 0x21 11 1 0 (SetProtocol protocols.Report) refl refl)
     (λ other h. absurd (cc))))))))
 
-first_sorted : (setup : Setup) (first second : Option Asked) → AreSorted setup first → AreSorted setup second
+first_sorted : (setup : Setup) (first second : Option RequestKind) → AreSorted setup first → AreSorted setup second
     → AreSorted setup (elim first [ None ↦ second | Some asked ↦ Some asked ])
 first_sorted setup None second here there = there
 first_sorted setup (Some asked) second here there = here
 
-pub sorted : (setup : Setup) (asked : Asked) → asked_of setup ≡ Some asked → IsSorted setup asked
-unfolding asked_of
+pub sorted : (setup : Setup) (asked : RequestKind) → request_kind_of setup ≡ Some asked → IsSorted setup asked
+unfolding request_kind_of
 sorted setup = first_sorted setup (standard_row setup) (class_row setup) (standard_sorted setup) (class_sorted setup)
 
 -- the bytes of a word
@@ -147,8 +153,9 @@ of_reports requests.Halt asking known = known
 of_reports requests.Clear asking known = known
 of_reports requests.EndpointStatus asking known = known
 
-pub asked_so : (request : Request) (asking : Asking) → FitsRequest request → IsOfReports request asking → asked_of (setup_for request asking) ≡ Some (row_of request)
-unfolding asked_of
+pub asked_so : (request : Request) (asking : Asking) → FitsRequest request → IsOfReports request asking
+    → request_kind_of (setup_for request asking) ≡ Some (row_of request)
+unfolding request_kind_of
 asked_so requests.Device asking fits known = refl
 asked_so requests.Config asking fits known = refl
 asked_so requests.Report asking fits known = refl

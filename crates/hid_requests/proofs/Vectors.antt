@@ -3,13 +3,13 @@
 use Rattle.std.proofs.Common.{◌≡◌, [], ◌∷◌, true, Some, None, refl}
 use Rattle.hid_descriptor.specs.declared.report.ReportKind.TheVariants.{Feature}
 use Rattle.usb_control.specs.SetupBytes.{setup_bytes, setup_of}
-use Rattle.hid_requests.specs.declared.asked.Asked.TheVariants.{ReportDescriptor}
+use Rattle.hid_requests.specs.declared.request_kinds.RequestKind.TheVariants.{ReportDescriptor}
 use Rattle.hid_requests.specs.declared.codes.TheConstants.{REPORT_ENDPOINT}
-use Rattle.hid_requests.specs.declared.asked.Asked.TheVariants as rows
+use Rattle.hid_requests.specs.declared.request_kinds.RequestKind.TheVariants as rows
 use Rattle.hid_requests.specs.declared.class.Protocol.TheVariants.{Boot}
 use Rattle.hid_requests.specs.declared.request.Request.TheVariants.{Report, Idle, GetReport, Protocol, Halt, Clear, EndpointStatus}
-use Rattle.hid_requests.specs.Asked.{asked_of}
-use Rattle.hid_requests.specs.Asking.{setup_for}
+use Rattle.hid_requests.specs.RequestKinds.{request_kind_of}
+use Rattle.hid_requests.specs.RequestSetup.{setup_for}
 use Rattle.hid_requests.specs.Descriptors.{configuration_bytes, device_bytes}
 
 -- a keyboard's report descriptor has 63 bytes (HID 1.11, appendix E.6)
@@ -18,12 +18,13 @@ report_bytes : setup_bytes (setup_for Report (record { report_length = 63; endpo
 report_bytes = refl
 
 -- its first one is a row, and its second is none
-report_row : asked_of (setup_of (0x81 ∷ 0x06 ∷ 0x00 ∷ 0x22 ∷ 0x00 ∷ 0x00 ∷ 0x3F ∷ 0x00 ∷ [])) ≡ Some ReportDescriptor
-unfolding asked_of
+report_row : request_kind_of (setup_of (0x81 ∷ 0x06 ∷ 0x00 ∷ 0x22 ∷ 0x00 ∷ 0x00 ∷ 0x3F ∷ 0x00 ∷ []))
+    ≡ Some ReportDescriptor
+unfolding request_kind_of
 report_row = refl
 
-second_report : asked_of (setup_of (0x81 ∷ 0x06 ∷ 0x01 ∷ 0x22 ∷ 0x00 ∷ 0x00 ∷ 0x3F ∷ 0x00 ∷ [])) ≡ None
-unfolding asked_of
+second_report : request_kind_of (setup_of (0x81 ∷ 0x06 ∷ 0x01 ∷ 0x22 ∷ 0x00 ∷ 0x00 ∷ 0x3F ∷ 0x00 ∷ [])) ≡ None
+unfolding request_kind_of
 second_report = refl
 
 -- an idle time of 500 ms for all Input reports (HID 1.11, 7.2.4): its duration is 125
@@ -36,13 +37,14 @@ feature_bytes : setup_bytes (setup_for (GetReport Feature 7) (record { report_le
     ≡ 0xA1 ∷ 0x01 ∷ 0x07 ∷ 0x03 ∷ 0x00 ∷ 0x00 ∷ 0x00 ∷ 0x01 ∷ []
 feature_bytes = refl
 
-feature_row : asked_of (setup_of (0xA1 ∷ 0x01 ∷ 0x07 ∷ 0x03 ∷ 0x00 ∷ 0x00 ∷ 0x00 ∷ 0x01 ∷ [])) ≡ Some (rows.GetReport Feature 7)
-unfolding asked_of
+feature_row : request_kind_of (setup_of (0xA1 ∷ 0x01 ∷ 0x07 ∷ 0x03 ∷ 0x00 ∷ 0x00 ∷ 0x00 ∷ 0x01 ∷ []))
+    ≡ Some (rows.GetReport Feature 7)
+unfolding request_kind_of
 feature_row = refl
 
 -- there are no reports of type 4
-fourth_type : asked_of (setup_of (0xA1 ∷ 0x01 ∷ 0x07 ∷ 0x04 ∷ 0x00 ∷ 0x00 ∷ 0x40 ∷ 0x00 ∷ [])) ≡ None
-unfolding asked_of
+fourth_type : request_kind_of (setup_of (0xA1 ∷ 0x01 ∷ 0x07 ∷ 0x04 ∷ 0x00 ∷ 0x00 ∷ 0x40 ∷ 0x00 ∷ [])) ≡ None
+unfolding request_kind_of
 fourth_type = refl
 
 -- the boot protocol is 0 (7.2.6)
@@ -50,8 +52,9 @@ boot_bytes : setup_bytes (setup_for (Protocol true) (record { report_length = 63
     ≡ 0x21 ∷ 0x0B ∷ 0x00 ∷ 0x00 ∷ 0x00 ∷ 0x00 ∷ 0x00 ∷ 0x00 ∷ []
 boot_bytes = refl
 
-boot_row : asked_of (setup_of (0x21 ∷ 0x0B ∷ 0x00 ∷ 0x00 ∷ 0x00 ∷ 0x00 ∷ 0x00 ∷ 0x00 ∷ [])) ≡ Some (rows.SetProtocol Boot)
-unfolding asked_of
+boot_row : request_kind_of (setup_of (0x21 ∷ 0x0B ∷ 0x00 ∷ 0x00 ∷ 0x00 ∷ 0x00 ∷ 0x00 ∷ 0x00 ∷ []))
+    ≡ Some (rows.SetProtocol Boot)
+unfolding request_kind_of
 boot_row = refl
 
 -- Input reports come from endpoint 1
@@ -71,13 +74,14 @@ status_bytes : setup_bytes (setup_for EndpointStatus (record { report_length = 6
     ≡ 0x82 ∷ 0x00 ∷ 0x00 ∷ 0x00 ∷ 0x81 ∷ 0x00 ∷ 0x02 ∷ 0x00 ∷ []
 status_bytes = refl
 
-halt_row : asked_of (setup_of (0x02 ∷ 0x03 ∷ 0x00 ∷ 0x00 ∷ 0x81 ∷ 0x00 ∷ 0x00 ∷ 0x00 ∷ [])) ≡ Some rows.SetFeature
-unfolding asked_of
+halt_row : request_kind_of (setup_of (0x02 ∷ 0x03 ∷ 0x00 ∷ 0x00 ∷ 0x81 ∷ 0x00 ∷ 0x00 ∷ 0x00 ∷ []))
+    ≡ Some rows.SetFeature
+unfolding request_kind_of
 halt_row = refl
 
 -- of endpoint 1 from the host it is no row
-halt_from_the_host : asked_of (setup_of (0x02 ∷ 0x03 ∷ 0x00 ∷ 0x00 ∷ 0x01 ∷ 0x00 ∷ 0x00 ∷ 0x00 ∷ [])) ≡ None
-unfolding asked_of
+halt_from_the_host : request_kind_of (setup_of (0x02 ∷ 0x03 ∷ 0x00 ∷ 0x00 ∷ 0x01 ∷ 0x00 ∷ 0x00 ∷ 0x00 ∷ [])) ≡ None
+unfolding request_kind_of
 halt_from_the_host = refl
 
 -- vendor FFFF, product 0001

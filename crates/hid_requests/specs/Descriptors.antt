@@ -14,20 +14,20 @@ descriptor type fields = (2 + length fields) ∷ type ∷ fields
 abbrev pub word : ℕ → List ℕ
 word n = to_le_bytes w16 n
 
--- A device: bcdUSB 2.00; class, subclass and protocol 0, those of its interface count; bMaxPacketSize0 8; idVendor and
--- idProduct; bcdDevice 1.00; no strings; one configuration (table 9-8).
+-- A device descriptor: bcdUSB 2.00; class, subclass and protocol 0, those of its interface count; bMaxPacketSize0 8;
+-- idVendor and idProduct; bcdDevice 1.00; no strings; one configuration (table 9-8).
 abbrev pub device_bytes : DeviceInfo → List ℕ
 device_bytes info =
     descriptor 1 (word 0x0200 ++ 0 ∷ 0 ∷ 0 ∷ 8 ∷
     (word info.vendor ++ word info.product ++ word 0x0100 ++ 0 ∷ 0 ∷ 0 ∷ 1 ∷ []))
 
--- A configuration: wTotalLength 34; one interface; bConfigurationValue 1; no string; powered by the bus; bMaxPower
--- 100 mA, in units of 2 (table 9-10).
+-- A configuration descriptor: wTotalLength 34; one interface; bConfigurationValue 1; no string; powered by the bus;
+-- bMaxPower 100 mA, in units of 2 (table 9-10).
 abbrev pub configuration_descriptor : List ℕ
 configuration_descriptor = descriptor 2 (word 34 ++ 1 ∷ 1 ∷ 0 ∷ 0x80 ∷ 50 ∷ [])
 
--- Its interface: bInterfaceNumber and bAlternateSetting 0; one endpoint; class 3, human interface devices, with this
--- subclass and protocol; no string (table 9-12; HID 1.11, 4.1 to 4.3).
+-- The interface descriptor of a configuration: bInterfaceNumber and bAlternateSetting 0; one endpoint; class 3, human
+-- interface devices, with this subclass and protocol; no string (table 9-12; HID 1.11, 4.1 to 4.3).
 abbrev pub interface_descriptor : ℕ → ℕ → List ℕ
 interface_descriptor subclass protocol = descriptor 4 (0 ∷ 0 ∷ 1 ∷ 3 ∷ subclass ∷ protocol ∷ 0 ∷ [])
 
@@ -36,7 +36,7 @@ interface_descriptor subclass protocol = descriptor 4 (0 ∷ 0 ∷ 1 ∷ 3 ∷ s
 abbrev pub hid_bytes : ℕ → List ℕ
 hid_bytes report_length = descriptor 0x21 (word 0x0111 ++ 0 ∷ 1 ∷ 0x22 ∷ word report_length)
 
--- Its endpoint: to the host; interrupt; wMaxPacketSize 64; bInterval in frames (table 9-13).
+-- The endpoint descriptor of an interface: to the host; interrupt; wMaxPacketSize 64; bInterval in frames (table 9-13).
 abbrev pub endpoint_descriptor : ℕ → ℕ → List ℕ
 endpoint_descriptor endpoint interval = descriptor 5 ((0x80 + endpoint) ∷ 3 ∷ (word 64 ++ interval ∷ []))
 

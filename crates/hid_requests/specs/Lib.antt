@@ -1,6 +1,6 @@
 pub mod Class
-pub mod Asked
-pub mod Asking
+pub mod RequestKinds
+pub mod RequestSetup
 pub mod Descriptors
 pub mod Boot
 pub mod Fault

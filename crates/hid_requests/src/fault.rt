@@ -20,7 +20,7 @@ pub enum DeviceCause {
     NoEmptyCode,
     /// V19: a relative control can't send 0, so it can't send that nothing moved.
     RelativeWithoutZero,
-    /// V21: memory was wanting for what is kept beside the layout.
+    /// V21: memory ran out for what is kept beside the layout.
     Memory,
 }
 
@@ -63,7 +63,7 @@ impl fmt::Display for DeviceCause {
     }
 }
 
-/// A refusal of a device. It is printed as its code, and behind V1 to V16 with the place, as in `V3 at 0`.
+/// A refusal of a device. It is printed as its code, and after V1 to V16 with the place, as in `V3 at 0`.
 #[derive(Clone, Copy, Debug, PartialEq, Eq)]
 pub struct DeviceFault {
     /// Of the causes that stand, the first in the order of [`DeviceCause`].

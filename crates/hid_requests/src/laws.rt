@@ -6,17 +6,18 @@ ghost use Rattle.usb_control.specs.declared.descriptors.DeviceInfo.{DeviceInfo};
 ghost use Rattle.usb_control.specs.SetupBytes.{IsSpelled};
 ghost use Rattle.usb_control.specs.Host.{sent_length};
 ghost use Rattle.usb_control.specs.Descriptors.{IsDevice, ReadsConfig, device_info_of};
-ghost use Rattle.hid_requests.specs.declared.asked.Asked.{Asked};
+ghost use Rattle.hid_requests.specs.declared.request_kinds.RequestKind.{RequestKind};
 ghost use Rattle.hid_requests.specs.declared.request.Request.{Request};
 ghost use Rattle.hid_requests.specs.declared.request.Asking.{Asking};
-ghost use Rattle.hid_requests.specs.Asked.{IsSorted, asked_of};
-ghost use Rattle.hid_requests.specs.Asking.{FitsRequest, IsOfReports, row_of, sends_of, setup_for};
+ghost use Rattle.hid_requests.specs.RequestKinds.{IsSorted, request_kind_of};
+ghost use Rattle.hid_requests.specs.RequestSetup.{FitsRequest, IsOfReports, row_of, sends_of, setup_for};
 ghost use Rattle.hid_requests.specs.Descriptors.{FitsConfig, FitsDevice, configuration_bytes, device_bytes};
 
 /// A request reads or writes as its row does, and a write has as many bytes as its row.
 #[tactic(auto, using(crate::proofs::AskedLemmas::sorted))]
 pub fn rows_are_sorted()
-    ensures { (setup : Setup) (asked : Asked) → asked_of setup ≡ Some asked → IsSorted setup asked }
+    ensures { (setup : Setup) (asked : RequestKind) → request_kind_of setup ≡ Some asked
+        → IsSorted setup asked }
 {}
 
 /// The setup data of a host's request are of the row that the request means. Those of a request for an endpoint are so where
@@ -24,7 +25,7 @@ pub fn rows_are_sorted()
 #[tactic(auto, using(crate::proofs::AskedLemmas::asked_so))]
 pub fn requests_have_rows()
     ensures { (request : Request) (asking : Asking) → FitsRequest request → IsOfReports request asking
-        → asked_of (setup_for request asking) ≡ Some (row_of request) }
+        → request_kind_of (setup_for request asking) ≡ Some (row_of request) }
 {}
 
 /// The data that go with a request are as long as its setup data say, and there are none with a read.

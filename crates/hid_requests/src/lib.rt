@@ -2,7 +2,7 @@
 //! and 7.2).
 //! ```text
 //!   host                                          device
-//!   Request --setup--> Setup, 8 bytes ----------> what_is_asked --> Asked, or nothing that it answers
+//!   Request --setup--> Setup, 8 bytes ----------> request_kind --> RequestKind, or nothing that it answers
 //!
 //!   Device     80 06 00 01 00 00 12 00            DeviceDescriptor   device_descriptor: 18 bytes
 //!   Config     80 06 00 02 00 00 FF 00            Configuration      configuration: 34 bytes, four descriptors
@@ -15,7 +15,7 @@
 //! request with others. A row of the class has wIndex 0, and in wValue a Report ID with the type of that report or its idle
 //! time, or a protocol. wLength matters in a write only; the answer to a read is cut to it when it is sent.
 //!
-//! The promise: [`what_is_asked`] gives the row of the standard's tables. Each request of a host has a row
+//! The promise: [`request_kind`] gives the row of the standard's tables. Each request of a host has a row
 //! ([`laws::requests_have_rows`]) and as much data as it says ([`laws::data_are_announced`]). A host reads of a device's
 //! configuration what the device was made of ([`laws::configurations_are_read`]). No call takes memory, and none is refused.
 //!
@@ -23,11 +23,10 @@
 //! endpoint of a device's reports ([`REPORT_ENDPOINT`]).
 //! ```text
 //!   let setup = Request::Configure.setup(&Asking { report_length: 63, endpoint: 1 });    // 00 09 01 00 00 00 00 00
-//!   what_is_asked(&setup)                                                                // Some(Asked::SetConfiguration)
+//!   request_kind(&setup)                                                                 // Some(RequestKind::SetConfiguration)
 //! ```
 #![tactic(auto)]
 
-mod asked;
 mod boot;
 mod class;
 mod codes;
@@ -35,11 +34,12 @@ mod descriptors;
 mod fault;
 pub mod laws;
 mod request;
+mod request_kinds;
 
-pub use asked::{Asked, what_is_asked};
 pub use boot::Boot;
 pub use class::Protocol;
 pub use codes::REPORT_ENDPOINT;
 pub use descriptors::{configuration, device_descriptor, hid_descriptor};
 pub use fault::{DeviceCause, DeviceFault};
 pub use request::{Asking, Request};
+pub use request_kinds::{RequestKind, request_kind};

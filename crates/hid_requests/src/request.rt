@@ -1,7 +1,7 @@
 //! What a host asks.
 ghost use Rattle.std.specs.Prelude.{◌≡◌};
 ghost use Rattle.usb_control.specs.SetupBytes.{IsSpelled};
-ghost use Rattle.hid_requests.specs.Asking.{FitsRequest, asks, asks_endpoint, protocol_of, sends_of, setup_for, word_of};
+ghost use Rattle.hid_requests.specs.RequestSetup.{FitsRequest, asks, asks_endpoint, protocol_of, sends_of, setup_for, word_of};
 
 use crate::class::{Protocol, type_of};
 use crate::codes::{
@@ -135,7 +135,7 @@ impl Request {
         }
     }
 
-    /// The same request once more.
+    /// A copy of the request.
     pub fn copied(&self) -> Request
         ensures { result ≡ self.now }
     {

@@ -1,4 +1,4 @@
-use Rattle.hid_device.proofs.ApartLemmas.{changes_leave, configuration_is, cut_is, frames_leave, halts_leave, polls_leave, rounds_stay, snapshot_stays}
+use Rattle.hid_device.proofs.EndpointLemmas.{changes_leave, configuration_is, aborted_is, frames_leave, halts_leave, polls_leave, rounds_stay, snapshot_stays}
 use Rattle.hid_device.proofs.laws.ends_are_apart.Goals as goal
 
 pub returns-clause-snapshot : goal.returns-clause-snapshot
@@ -19,8 +19,8 @@ returns-clause-changes c = changes_leave
 pub returns-clause-frames : goal.returns-clause-frames
 returns-clause-frames c = frames_leave
 
-pub returns-clause-cuts : goal.returns-clause-cuts
-returns-clause-cuts c = cut_is
+pub returns-clause-aborts : goal.returns-clause-aborts
+returns-clause-aborts c = aborted_is
 
 pub returns-clause-halts : goal.returns-clause-halts
 returns-clause-halts c = halts_leave

@@ -3,10 +3,11 @@ use Rattle.hid_descriptor.specs.Faults.{Accepts}
 use Rattle.hid_descriptor.specs.Items.{Spelled}
 use Rattle.hid_layout.specs.Layout.{Contents, layout_of}
 use Rattle.hid_requests.specs.declared.fault.DeviceFault.{DeviceFault}
-use Rattle.hid_device.specs.Making.{Lays, RefusesDescriptor}
+use Rattle.hid_device.specs.Creation.{ParsesTo, RefusesDescriptor}
 use Rattle.hid_device.proofs.state.served_layout.Goals as goal
 
-lays : (descriptor : List ℕ) (layout : Contents) → (items : List Spelled) × Accepts descriptor items × (layout ≡ layout_of items) → Lays descriptor layout
+lays : (descriptor : List ℕ) (layout : Contents)
+    → (items : List Spelled) × Accepts descriptor items × (layout ≡ layout_of items) → ParsesTo descriptor layout
 lays descriptor layout (items, accepted, laid) = record { items = items; accepted = accepted; laid = laid }
 
 pub returns-in-Err-clause-refused : goal.returns-in-Err-clause-refused

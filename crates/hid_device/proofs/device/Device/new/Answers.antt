@@ -1,5 +1,5 @@
 use Rattle.std.proofs.Common.{◌∙◌, false, ap, sym}
-use Rattle.usb_control.specs.Device.{DevControlState, idle}
+use Rattle.usb_control.specs.Device.{DevControlState, idle_control}
 use Rattle.hid_device.specs.Core.{CoreState}
 use Rattle.hid_device.specs.Device.{DeviceState}
 use Rattle.hid_device.proofs.device.Device.new.Goals as goal
@@ -11,6 +11,8 @@ returns c =
       (
         made.0,
         made.1,
-        ap (λ (control : DevControlState CoreState). let d : DeviceState = record { addr = c.args.addr; control = control; waits = false } in d) (c.new-2.ensures ∙ ap idle made.2),
+        ap (λ (control : DevControlState CoreState). let d : DeviceState =
+            record { addr = c.args.addr; control = control; awaits_ack = false } in d)
+            (c.new-2.ensures ∙ ap idle_control made.2),
       ),
     )

@@ -3,7 +3,7 @@ use Rattle.std.specs.Prelude.{min}
 use Rattle.std.proofs.lemmas.List.{length-map}
 use Rattle.hid_device.specs.contracts.state.Core.{the_view}
 use Rattle.hid_device.specs.Core.{CoreState, framed_core}
-use Rattle.hid_device.specs.Standing.{Standing, most_frames}
+use Rattle.hid_device.specs.ReportState.{ReportState, most_frames}
 use Rattle.hid_device.proofs.OutputLemmas.{refilled, sound_framed}
 use Rattle.hid_device.proofs.state.Core.frame.Goals as goal
 
@@ -22,7 +22,7 @@ invariant_of-self c =
     let before = c.self.invariant.sound in
     record {
       sound = sound_framed (the_view c.self.inside) _ before (ap (λ (frames : List ℕ). length frames) (frames_then c) ∙ same_length c ∙ before.each_frames);
-      calm = c.self.invariant.calm;
+      nothing_due = c.self.invariant.nothing_due;
       armed = c.self.invariant.armed;
       round = c.self.invariant.round;
       room = c.self.invariant.room;
@@ -31,5 +31,6 @@ invariant_of-self c =
 pub returns : goal.returns
 returns c =
     let core = the_view c.self.inside in
-    ap (λ (frames : List ℕ). let d : Standing = record core.standing { frames = frames } in let framed : CoreState = record core { standing = d } in framed) (frames_then c ∙ frames_are c)
+    ap (λ (frames : List ℕ). let d : ReportState = record core.reports { frames = frames } in let framed : CoreState =
+    record core { reports = d } in framed) (frames_then c ∙ frames_are c)
     ∙ ap framed_core c.self.view_is

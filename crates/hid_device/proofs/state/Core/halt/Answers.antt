@@ -11,7 +11,7 @@ invariant_of-self c =
     let before = c.self.invariant.sound in
     record {
       sound = sound_halted (the_view c.self.inside) _ pipe.toggle pipe.halted before before.each_cut;
-      calm = c.self.invariant.calm;
+      nothing_due = c.self.invariant.nothing_due;
       armed = ap (λ (p : DevPipeState). p.armed) c.halt.ensures;
       round = tt;
       room = c.self.invariant.room;
@@ -25,4 +25,5 @@ returns c =
     let same : pipe.toggle ≡ core.toggle = ap (λ (p : DevPipeState). p.toggle) c.halt.ensures in
     ap (λ (toggle : Bool). let s : CoreState = record core { current = None; piece = 0; toggle = toggle; halted = pipe.halted } in s) same
     ∙ ap (λ (halted : Bool). let s : CoreState = record core { current = None; piece = 0; halted = halted } in s) is
-    ∙ ap (λ (x : CoreState). let s : CoreState = record x { current = None; piece = 0; halted = true } in s) (c.self.view_is ∙ c.cut_round.ensures)
+    ∙ ap (λ (x : CoreState). let s : CoreState = record x { current = None; piece = 0; halted = true } in s)
+    (c.self.view_is ∙ c.abort_round.ensures)

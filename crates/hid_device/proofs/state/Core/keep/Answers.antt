@@ -2,11 +2,11 @@ use Rattle.std.proofs.Common.{◌≡◌, ◌<◌, ℕ, List, length, Some, sym, 
 use Rattle.std.specs.Prelude.{slice_get, slice_set}
 use Rattle.std.proofs.lemmas.Option.{slice_get-get_or}
 use Rattle.std.proofs.lemmas.Grind.{common_steps}
-use Rattle.hid_device.specs.declared.decisions.Pending.TheVariants.{Keep}
+use Rattle.hid_device.specs.declared.decisions.PendingWrite.TheVariants.{Keep}
 use Rattle.hid_device.specs.contracts.state.Core.{the_view}
 use Rattle.hid_device.specs.Core.{CoreState}
-use Rattle.hid_device.specs.Deciding.{effected}
-use Rattle.hid_device.specs.Outputs.{AreOutputs, kept}
+use Rattle.hid_device.specs.RequestTable.{core_after_write}
+use Rattle.hid_device.specs.Outputs.{AreOutputs, with_report}
 use Rattle.hid_device.proofs.OutputLemmas.{kept_are, kept_is, sound_with}
 use Rattle.hid_device.proofs.state.Core.keep.Goals as goal
 
@@ -15,12 +15,13 @@ invariant_of-self c =
     let before = c.self.invariant.sound in
     let within : c.args.place < length c.self.inside.outputs.items = grind (arith, common_steps) in
     let there : slice_get c.self.inside.outputs.items c.args.place ≡ Some c.index_mut.result.now = slice_get-get_or c.self.inside.outputs.items c.args.place c.index_mut.result.now within ∙ ap Some (sym c.index_mut.ensures.value) in
-    let set : slice_set c.self.inside.outputs.items c.args.place c.keep.new.self ≡ kept c.self.inside.outputs.items c.args.place c.args.bytes.now
+    let set : slice_set c.self.inside.outputs.items c.args.place c.keep.new.self
+    ≡ with_report c.self.inside.outputs.items c.args.place c.args.bytes.now
     = kept_is c.self.inside.outputs.items c.args.place c.args.bytes.now c.index_mut.result.now c.keep.new.self there c.keep.ensures in
     record {
       sound = sound_with (the_view c.self.inside) c.self.inside.is_configured c.self.inside.idle.items c.self.inside.protocol _ before before.each_idle (subst (AreOutputs c.self.inside.layout) (sym set)
           (kept_are c.self.inside.layout c.self.inside.outputs.items c.args.place c.args.bytes.now before.outputs));
-      calm = c.self.invariant.calm;
+      nothing_due = c.self.invariant.nothing_due;
       armed = c.self.invariant.armed;
       round = c.self.invariant.round;
       room = c.self.invariant.room;
@@ -30,7 +31,8 @@ pub returns-then-place-len : goal.returns-then-place-len
 returns-then-place-len c =
     let within : c.args.place < length c.self.inside.outputs.items = grind (arith, common_steps) in
     let there : slice_get c.self.inside.outputs.items c.args.place ≡ Some c.index_mut.result.now = slice_get-get_or c.self.inside.outputs.items c.args.place c.index_mut.result.now within ∙ ap Some (sym c.index_mut.ensures.value) in
-    let set : slice_set c.self.inside.outputs.items c.args.place c.keep.new.self ≡ kept c.self.inside.outputs.items c.args.place c.args.bytes.now
+    let set : slice_set c.self.inside.outputs.items c.args.place c.keep.new.self
+    ≡ with_report c.self.inside.outputs.items c.args.place c.args.bytes.now
     = kept_is c.self.inside.outputs.items c.args.place c.args.bytes.now c.index_mut.result.now c.keep.new.self there c.keep.ensures in
     ap (λ (outputs : List (List ℕ)). record (the_view c.self.inside) { outputs = outputs }) set
-    ∙ ap (λ (core : CoreState). effected core c.args.bytes.now (Keep c.args.place)) c.self.view_is
+    ∙ ap (λ (core : CoreState). core_after_write core c.args.bytes.now (Keep c.args.place)) c.self.view_is

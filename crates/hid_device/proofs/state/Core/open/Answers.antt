@@ -5,7 +5,6 @@ use Rattle.hid_layout.specs.Controls.{items_of}
 use Rattle.hid_snapshots.specs.Pieces.{piece_of}
 use Rattle.hid_snapshots.proofs.PieceLemmas.{some_piece}
 use Rattle.hid_snapshots.specs.Encoded.{part_bytes}
-use Rattle.hid_snapshots.specs.Encoding.{AreBytes}
 use Rattle.usb_transact.specs.Device.{DevPipeState}
 use Rattle.hid_device.specs.Core.{AreBytesOf, CoreState, piece_armed}
 use Rattle.hid_device.specs.contracts.state.Core.{the_view}
@@ -26,7 +25,7 @@ index_mut-requires c =
 pub index_mut-requires-2 : goal.index_mut-requires-2
 index_mut-requires-2 c =
     let sound = c.self.invariant.sound in
-    subst (λ (n : ℕ). c.args.report < n) (sym (c.self.inside.cut.ok.0 ∙ sound.each_cut)) (counted (the_view c.self.inside) _ c.args.report sound c.self.view_is c.requires.input)
+    subst (λ (n : ℕ). c.args.report < n) (sym (c.self.inside.aborted.ok.0 ∙ sound.each_cut)) (counted (the_view c.self.inside) _ c.args.report sound c.self.view_is c.requires.input)
 
 pub write_report-requires-clause-input : goal.write_report-requires-clause-input
 write_report-requires-clause-input c = counted_input (the_view c.self.inside) _ c.args.report c.self.invariant.sound c.self.view_is c.requires.input
@@ -43,14 +42,14 @@ arm-requires-clause-going c = ap (λ (core : CoreState). core.halted) c.self.vie
 pub invariant_of-self : goal.invariant_of-self
 invariant_of-self c =
     let before = c.self.invariant.sound in
-    let frames : length c.self.inside.frames.items ≡ length c.args.self.now.standing.frames = ap (λ (core : CoreState). length core.standing.frames) c.self.view_is in
+    let frames : length c.self.inside.frames.items ≡ length c.args.self.now.reports.frames =
+    ap (λ (core : CoreState). length core.reports.frames) c.self.view_is in
     let going : c.arm.new.self.halted ≡ false = ap (λ (pipe : DevPipeState). pipe.halted) c.arm.ensures ∙ ap (λ (core : CoreState). core.halted) c.self.view_is ∙ c.requires.going in
     let part : List ℕ = part_bytes c.self.inside.layout c.args.report c.shown.new.parts in
     let is : c.write_report.new.bytes.items ≡ part = c.write_report.ensures.bytes in
-    let are_bytes : AreBytes c.write_report.new.bytes.items = subst AreBytes c.deref.ensures.0 c.are_bytes.ensures in
     let shows : AreBytesOf c.self.inside.layout c.shown.new.parts c.args.report c.write_report.new.bytes.items
-    = record { are_bytes = are_bytes; shows = c.write_report.ensures.shows; only = c.write_report.ensures.only } in
-    let sent : c.piece_of.result.now ≡ piece_of part 0 = c.piece_of.ensures.piece ∙ ap (λ (bytes : List ℕ). piece_of bytes 0) (c.deref-2.ensures.0 ∙ is) in
+    = record { are_bytes = c.write_report.ensures.small; shows = c.write_report.ensures.shows; only = c.write_report.ensures.only } in
+    let sent : c.piece_of.result.now ≡ piece_of part 0 = c.piece_of.ensures.piece ∙ ap (λ (bytes : List ℕ). piece_of bytes 0) (c.deref.ensures.0 ∙ is) in
     record {
       sound = record {
         lays = before.lays;
@@ -61,7 +60,7 @@ invariant_of-self c =
         fixed = c.shown.ensures.fits;
         each_frames = length-set c.self.inside.frames.items c.args.report 0 ∙ before.each_frames;
         each_idle = before.each_idle;
-        each_cut = length-set c.self.inside.cut.items c.args.report false ∙ before.each_cut;
+        each_cut = length-set c.self.inside.aborted.items c.args.report false ∙ before.each_cut;
         of_input = omega (arith, frames, before.each_frames, c.requires.input);
         piece = some_piece (items_of c.self.inside.layout) c.args.report;
         sends = subst (λ (bytes : List ℕ). AreBytesOf c.self.inside.layout c.shown.new.parts c.args.report bytes) is shows;
@@ -70,6 +69,6 @@ invariant_of-self c =
       };
       room = c.self.invariant.room;
       round = is;
-      calm = tt;
+      nothing_due = tt;
       armed = ap (λ (pipe : DevPipeState). pipe.armed) c.arm.ensures ∙ ap Some sent;
     }

@@ -3,7 +3,7 @@ use Rattle.std.specs.Prelude.{slice_get}
 use Rattle.std.specs.Option.{option_and_then}
 use Rattle.std.proofs.lemmas.Option.{slice_get-get_or}
 use Rattle.hid_device.specs.Core.{CoreState}
-use Rattle.hid_device.specs.Deciding.{output_of}
+use Rattle.hid_device.specs.RequestTable.{output_of}
 use Rattle.hid_device.specs.Outputs.{kept_place}
 use Rattle.hid_device.proofs.OutputLemmas.{kept_there}
 use Rattle.hid_device.proofs.state.Core.output.Goals as goal

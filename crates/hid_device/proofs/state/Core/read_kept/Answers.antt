@@ -3,9 +3,9 @@ use Rattle.std.specs.Prelude.{slice_get}
 use Rattle.std.proofs.lemmas.Option.{slice_get-get_or}
 use Rattle.hid_device.specs.contracts.state.Core.{the_view}
 use Rattle.hid_device.specs.Core.{CoreState}
-use Rattle.hid_device.specs.Deciding.{left_by, reads_any}
-use Rattle.hid_device.specs.Decisions.{is_accepted}
-use Rattle.hid_device.specs.declared.decisions.Pending.TheVariants.{Nothing}
+use Rattle.hid_device.specs.RequestTable.{core_after_decision, reads_any}
+use Rattle.hid_device.specs.RequestDecisions.{is_accepted}
+use Rattle.hid_device.specs.declared.decisions.PendingWrite.TheVariants.{Nothing}
 use Rattle.hid_device.proofs.state.Core.read_kept.Goals as goal
 
 pub returns : goal.returns
@@ -22,5 +22,6 @@ returns c =
     let out : slice_get core.outputs place ≡ Some bytes
     = ap (λ (core : CoreState). slice_get core.outputs place) (sym forgot) ∙ at ∙ ap Some (sym written) in (
       ap (λ (o : Option (List ℕ)). is_accepted (reads_any o)) (sym out),
-      ap (λ (core : CoreState). let read : CoreState = record core { answer = Some bytes } in read) forgot ∙ ap (λ (o : Option (List ℕ)). left_by core (reads_any o)) (sym out),
+      ap (λ (core : CoreState). let read : CoreState = record core { answer = Some bytes } in read) forgot
+          ∙ ap (λ (o : Option (List ℕ)). core_after_decision core (reads_any o)) (sym out),
     )

@@ -2,7 +2,7 @@ use Rattle.std.proofs.Common.{◌≡◌, ◌∙◌, ◌<◌, ℕ, List, length, 
 use Rattle.std.specs.Prelude.{slice_get}
 use Rattle.std.specs.Option.{option_and_then}
 use Rattle.hid_device.specs.Core.{CoreState}
-use Rattle.hid_device.specs.Deciding.{Decides, output_of, reads_any}
+use Rattle.hid_device.specs.RequestTable.{Decides, output_of, reads_any}
 use Rattle.hid_device.specs.Outputs.{kept_place}
 use Rattle.hid_device.proofs.OutputLemmas.{kept_there}
 use Rattle.hid_device.proofs.state.Core.read_output.Goals as goal

@@ -17,7 +17,7 @@ invariant_of-self c =
     let outputs : take c.self.inside.outputs.len (new ++ drop (length new) items) ≡ bare_outputs c.self.inside.layout = refilled new items c.self.inside.outputs.len c.self.inside.outputs.ok.0 same ∙ c.reset_outputs.ensures in
     record {
       sound = sound_with (the_view c.self.inside) false c.fill.new.self.items protocols.Report _ before idle (subst (AreOutputs c.self.inside.layout) (sym outputs) (bare_are c.self.inside.layout));
-      calm = c.self.invariant.calm;
+      nothing_due = c.self.invariant.nothing_due;
       armed = c.self.invariant.armed;
       round = c.self.invariant.round;
       room = c.self.invariant.room;

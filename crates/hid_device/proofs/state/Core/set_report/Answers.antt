@@ -2,10 +2,10 @@ use Rattle.std.proofs.Common.{◌≡◌, ◌∙◌, ◌<◌, ◌==◌, ◌&&◌,
 use Rattle.std.specs.Prelude.{nat_le, slice_get}
 use Rattle.std.proofs.lemmas.Option.{slice_get-get_or}
 use Rattle.usb_control.specs.declared.device.TheConstants.{MAX_WRITE}
-use Rattle.hid_device.specs.declared.decisions.Pending.TheVariants.{Keep}
+use Rattle.hid_device.specs.declared.decisions.PendingWrite.TheVariants.{Keep}
 use Rattle.hid_device.specs.Core.{CoreState}
-use Rattle.hid_device.specs.Deciding.{Decides, keeps}
-use Rattle.hid_device.specs.Decisions.{writes_if}
+use Rattle.hid_device.specs.RequestTable.{Decides, keeps}
+use Rattle.hid_device.specs.RequestDecisions.{writes_if}
 use Rattle.hid_device.specs.Outputs.{kept_bytes, kept_place}
 use Rattle.hid_device.proofs.OutputLemmas.{kept_there, suits_is}
 use Rattle.hid_device.proofs.state.Core.set_report.Goals as goal

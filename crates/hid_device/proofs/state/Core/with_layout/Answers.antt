@@ -1,7 +1,7 @@
 use Rattle.std.proofs.Common.{◌≡◌, ℕ, List, None, refl, sym, ap, subst, arith}
 use Rattle.std.proofs.lemmas.Grind.{common_steps}
 use Rattle.usb_transact.specs.Device.{DevPipeState}
-use Rattle.hid_layout.specs.Laying.{Lays}
+use Rattle.hid_layout.specs.Parsing.{ParsesTo}
 use Rattle.hid_device.specs.Outputs.{AreOutputs}
 use Rattle.hid_device.proofs.InputLemmas.{inputs_first}
 use Rattle.hid_device.proofs.OutputLemmas.{bare_are}
@@ -12,7 +12,8 @@ invariant_of-result-2 c =
     let armed : c.new.result.armed ≡ None = ap (λ (pipe : DevPipeState). pipe.armed) c.new.ensures in
     record {
       sound = record {
-        lays = subst (λ (bytes : List ℕ). Lays bytes c.args.layout) (sym c.in-Ok.ensures.made.descriptor) c.requires.lays;
+        lays = subst (λ (bytes : List ℕ). ParsesTo bytes c.args.layout)
+            (sym c.in-Ok.ensures.made.descriptor) c.requires.lays;
         empty_codes = c.requires.empty_codes;
         zeros = c.requires.zeros;
         inputs_first = inputs_first c.args.descriptor.now c.args.layout c.requires.lays;
@@ -29,7 +30,7 @@ invariant_of-result-2 c =
             (bare_are c.args.layout);
       };
       room = c.in-Ok.ensures.made.fits_still;
-      calm = tt;
+      nothing_due = tt;
       armed = armed;
       round = tt;
     }

@@ -2,8 +2,8 @@ use Rattle.std.proofs.Common.{ℕ, true, Option, sym, ap, ◌∙◌}
 use Rattle.std.proofs.lemmas.List.{length-set}
 use Rattle.hid_device.specs.contracts.state.Core.{the_view}
 use Rattle.hid_device.specs.Core.{CoreState}
-use Rattle.hid_device.specs.Standing.{cut_at}
-use Rattle.hid_device.proofs.state.Core.cut_round.Goals as goal
+use Rattle.hid_device.specs.ReportState.{with_abort}
+use Rattle.hid_device.proofs.state.Core.abort_round.Goals as goal
 
 pub invariant_of-self : goal.invariant_of-self
 invariant_of-self c =
@@ -18,14 +18,14 @@ invariant_of-self c =
         fixed = before.fixed;
         each_frames = before.each_frames;
         each_idle = before.each_idle;
-        each_cut = length-set c.self.inside.cut.items c.in-Some.report true ∙ before.each_cut;
+        each_cut = length-set c.self.inside.aborted.items c.in-Some.report true ∙ before.each_cut;
         of_input = before.of_input;
         piece = before.piece;
         sends = before.sends;
         quiet = before.quiet;
         outputs = before.outputs;
       };
-      calm = c.self.invariant.calm;
+      nothing_due = c.self.invariant.nothing_due;
       armed = c.self.invariant.armed;
       round = c.self.invariant.round;
       room = c.self.invariant.room;
@@ -34,12 +34,16 @@ invariant_of-self c =
 pub returns-in-Some : goal.returns-in-Some
 returns-in-Some c =
     let core = the_view c.self.inside in
-    ap (λ (round : Option ℕ). let cut : CoreState = record core { standing = cut_at round core.standing } in cut) (sym c.in-Some.is)
-    ∙ ap (λ (core : CoreState). let cut : CoreState = record core { standing = cut_at core.current core.standing } in cut) c.self.view_is
+    ap (λ (round : Option ℕ). let aborted : CoreState = record core { reports = with_abort round core.reports } in aborted)
+    (sym c.in-Some.is)
+    ∙ ap (λ (core : CoreState). let aborted : CoreState =
+    record core { reports = with_abort core.current core.reports } in aborted) c.self.view_is
 
 pub returns-in-None : goal.returns-in-None
 returns-in-None c =
     let core = the_view c.self.inside in
     sym c.self.view_is
-    ∙ ap (λ (round : Option ℕ). let cut : CoreState = record core { standing = cut_at round core.standing } in cut) (sym c.in-None.is)
-    ∙ ap (λ (core : CoreState). let cut : CoreState = record core { standing = cut_at core.current core.standing } in cut) c.self.view_is
+    ∙ ap (λ (round : Option ℕ). let aborted : CoreState = record core { reports = with_abort round core.reports } in aborted)
+    (sym c.in-None.is)
+    ∙ ap (λ (core : CoreState). let aborted : CoreState =
+    record core { reports = with_abort core.current core.reports } in aborted) c.self.view_is

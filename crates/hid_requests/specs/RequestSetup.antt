@@ -2,8 +2,8 @@
 -- 1.11, 7.1 and 7.2).
 use Rattle.std.specs.Prelude.{◌≡◌, ℕ, ◌+◌, ◌*◌, ◌<◌, ◌≤◌, ◌^◌, Bool, true, false, List, [], length}
 use Rattle.usb_control.specs.declared.setup.Setup.{Setup}
-use Rattle.hid_requests.specs.declared.asked.Asked.{Asked}
-use Rattle.hid_requests.specs.declared.asked.Asked.TheVariants as rows
+use Rattle.hid_requests.specs.declared.request_kinds.RequestKind.{RequestKind}
+use Rattle.hid_requests.specs.declared.request_kinds.RequestKind.TheVariants as rows
 use Rattle.hid_requests.specs.declared.class.Protocol.{Protocol}
 use Rattle.hid_requests.specs.declared.class.Protocol.TheVariants as protocols
 use Rattle.hid_requests.specs.declared.request.Request.{Request}
@@ -74,7 +74,7 @@ IsOfReports EndpointStatus asking = asking.endpoint ≡ 1
 IsOfReports _ asking = Unit {0}
 
 -- The row of the request tables that a host's request means.
-abbrev pub row_of : Request → Asked
+abbrev pub row_of : Request → RequestKind
 row_of Device = rows.DeviceDescriptor
 row_of Config = rows.Configuration
 row_of Report = rows.ReportDescriptor

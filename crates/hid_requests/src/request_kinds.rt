@@ -1,6 +1,6 @@
 //! What a device is asked.
 ghost use Rattle.std.specs.Prelude.{◌≡◌};
-ghost use Rattle.hid_requests.specs.Asked.{asked_of, class_row, is_bare_class, is_bare_row, is_class, is_row, standard_row};
+ghost use Rattle.hid_requests.specs.RequestKinds.{class_row, is_bare_class, is_bare_row, is_class, is_row, request_kind_of, standard_row};
 
 use crate::class::{Protocol, kind_of};
 use crate::codes::{
@@ -14,7 +14,7 @@ use usb_control::Setup;
 
 /// What a device is asked: a row of the requests that it answers (USB 2.0, 9.4; HID 1.11, 7.1 and 7.2).
 #[derive(Clone, Copy)]
-pub enum Asked {
+pub enum RequestKind {
     /// GET_STATUS of the device.
     Status,
     /// GET_STATUS of interface 0.
@@ -84,7 +84,7 @@ fn is_row(setup: &Setup, request_type: u8, request: u8, value: u16, index: u16) 
         && (setup.value == value && setup.index == index)
 }
 
-// The same without data.
+// A request of this type and number, with this value and index, and no data.
 fn is_bare_row(setup: &Setup, request_type: u8, request: u8, value: u16, index: u16) -> bool
     ensures { result ≡ is_bare_row setup.now request_type request value index }
 {
@@ -98,7 +98,7 @@ fn is_class(setup: &Setup, request_type: u8, request: u8) -> bool
     setup.request_type == request_type && setup.request == request && setup.index == 0
 }
 
-// The same without data.
+// A request of interface 0 of this type and number, without data.
 fn is_bare_class(setup: &Setup, request_type: u8, request: u8) -> bool
     ensures { result ≡ is_bare_class setup.now request_type request }
 {
@@ -106,37 +106,37 @@ fn is_bare_class(setup: &Setup, request_type: u8, request: u8) -> bool
 }
 
 // Its row among the standard requests.
-fn standard_row(setup: &Setup) -> Option<Asked>
+fn standard_row(setup: &Setup) -> Option<RequestKind>
     ensures { result ≡ standard_row setup.now }
 {
     if is_row(setup, OF_DEVICE, GET_STATUS, 0, 0) {
-        Some(Asked::Status)
+        Some(RequestKind::Status)
     } else if is_row(setup, OF_INTERFACE, GET_STATUS, 0, 0) {
-        Some(Asked::InterfaceStatus)
+        Some(RequestKind::InterfaceStatus)
     } else if is_row(setup, OF_ENDPOINT, GET_STATUS, 0, 0x00) {
-        Some(Asked::ControlStatus)
+        Some(RequestKind::ControlStatus)
     } else if is_row(setup, OF_ENDPOINT, GET_STATUS, 0, 0x80) {
-        Some(Asked::ControlStatus)
+        Some(RequestKind::ControlStatus)
     } else if is_row(setup, OF_ENDPOINT, GET_STATUS, 0, 0x81) {
-        Some(Asked::ReportStatus)
+        Some(RequestKind::ReportStatus)
     } else if is_row(setup, OF_DEVICE, GET_DESCRIPTOR, FIRST_DEVICE, 0) {
-        Some(Asked::DeviceDescriptor)
+        Some(RequestKind::DeviceDescriptor)
     } else if is_row(setup, OF_DEVICE, GET_DESCRIPTOR, FIRST_CONFIGURATION, 0) {
-        Some(Asked::Configuration)
+        Some(RequestKind::Configuration)
     } else if is_row(setup, OF_INTERFACE, GET_DESCRIPTOR, FIRST_HID, 0) {
-        Some(Asked::HidDescriptor)
+        Some(RequestKind::HidDescriptor)
     } else if is_row(setup, OF_INTERFACE, GET_DESCRIPTOR, FIRST_REPORT, 0) {
-        Some(Asked::ReportDescriptor)
+        Some(RequestKind::ReportDescriptor)
     } else if is_row(setup, OF_DEVICE, GET_CONFIGURATION, 0, 0) {
-        Some(Asked::GetConfiguration)
+        Some(RequestKind::GetConfiguration)
     } else if is_row(setup, OF_INTERFACE, GET_INTERFACE, 0, 0) {
-        Some(Asked::GetInterface)
+        Some(RequestKind::GetInterface)
     } else if is_bare_row(setup, TO_DEVICE, SET_CONFIGURATION, 1, 0) {
-        Some(Asked::SetConfiguration)
+        Some(RequestKind::SetConfiguration)
     } else if is_bare_row(setup, TO_ENDPOINT, CLEAR_FEATURE, ENDPOINT_HALT, 0x81) {
-        Some(Asked::ClearFeature)
+        Some(RequestKind::ClearFeature)
     } else if is_bare_row(setup, TO_ENDPOINT, SET_FEATURE, ENDPOINT_HALT, 0x81) {
-        Some(Asked::SetFeature)
+        Some(RequestKind::SetFeature)
     } else {
         None
     }
@@ -144,32 +144,32 @@ fn standard_row(setup: &Setup) -> Option<Asked>
 
 // Its row among the class requests. wValue has an ID in its low byte, and the type of a report or an idle time in its high
 // one.
-fn class_row(setup: &Setup) -> Option<Asked>
+fn class_row(setup: &Setup) -> Option<RequestKind>
     ensures { result ≡ class_row setup.now }
 {
     let [id, high] = setup.value.to_le_bytes();
     if is_class(setup, OF_CLASS, GET_REPORT) {
         let kind = kind_of(high)?;
-        Some(Asked::GetReport { kind, id })
+        Some(RequestKind::GetReport { kind, id })
     } else if is_row(setup, OF_CLASS, GET_IDLE, u16::from(id), 0) {
-        Some(Asked::GetIdle { id })
+        Some(RequestKind::GetIdle { id })
     } else if is_row(setup, OF_CLASS, GET_PROTOCOL, 0, 0) {
-        Some(Asked::GetProtocol)
+        Some(RequestKind::GetProtocol)
     } else if is_class(setup, TO_CLASS, SET_REPORT) {
         let kind = kind_of(high)?;
-        Some(Asked::SetReport {
+        Some(RequestKind::SetReport {
             kind,
             id,
             length: setup.length,
         })
     } else if is_bare_class(setup, TO_CLASS, SET_IDLE) {
-        Some(Asked::SetIdle { id, time: high })
+        Some(RequestKind::SetIdle { id, time: high })
     } else if is_bare_row(setup, TO_CLASS, SET_PROTOCOL, 0, 0) {
-        Some(Asked::SetProtocol {
+        Some(RequestKind::SetProtocol {
             protocol: Protocol::Boot,
         })
     } else if is_bare_row(setup, TO_CLASS, SET_PROTOCOL, 1, 0) {
-        Some(Asked::SetProtocol {
+        Some(RequestKind::SetProtocol {
             protocol: Protocol::Report,
         })
     } else {
@@ -179,9 +179,9 @@ fn class_row(setup: &Setup) -> Option<Asked>
 
 /// What a setup asks, where it is of a row that a device answers. Whether it is answered may rest on how the device
 /// stands: see `hid_device`.
-#[tactic(auto, unfolding(crate::specs::Asked::asked_of))]
-pub fn what_is_asked(setup: &Setup) -> Option<Asked>
-    ensures { result ≡ asked_of setup.now }
+#[tactic(auto, unfolding(crate::specs::RequestKinds::request_kind_of))]
+pub fn request_kind(setup: &Setup) -> Option<RequestKind>
+    ensures { result ≡ request_kind_of setup.now }
 {
     match standard_row(setup) {
         Some(asked) => Some(asked),

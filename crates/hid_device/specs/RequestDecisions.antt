@@ -2,26 +2,26 @@
 use Rattle.std.specs.Prelude.{ℕ, Bool, true, false, List}
 use Rattle.hid_device.specs.declared.decisions.Answer.{Answer}
 use Rattle.hid_device.specs.declared.decisions.Answer.TheVariants.{Bytes, Descriptor}
-use Rattle.hid_device.specs.declared.decisions.Pending.{Pending}
+use Rattle.hid_device.specs.declared.decisions.PendingWrite.{PendingWrite}
 
 -- a request is refused, or reads these bytes, or writes and is to bring this about
-pub data Decided : Type 0 where
-  Refuses : Decided
-  Reads : List ℕ → Decided
-  Writes : Pending → Decided
+pub data RequestDecision : Type 0 where
+  Refuses : RequestDecision
+  Reads : List ℕ → RequestDecision
+  Writes : PendingWrite → RequestDecision
 
--- a read that is accepted where this holds
-abbrev pub reads_if : Bool → List ℕ → Decided
+-- a read of these bytes where a condition holds, else a refusal
+abbrev pub reads_if : Bool → List ℕ → RequestDecision
 reads_if true bytes = Reads bytes
 reads_if false bytes = Refuses
 
--- a write that is accepted where this holds
-abbrev pub writes_if : Bool → Pending → Decided
+-- a write with this effect where a condition holds, else a refusal
+abbrev pub writes_if : Bool → PendingWrite → RequestDecision
 writes_if true pending = Writes pending
 writes_if false pending = Refuses
 
--- whether it is accepted
-abbrev pub is_accepted : Decided → Bool
+-- whether a request is accepted, by what is decided on it
+abbrev pub is_accepted : RequestDecision → Bool
 is_accepted Refuses = false
 is_accepted (Reads bytes) = true
 is_accepted (Writes pending) = true
