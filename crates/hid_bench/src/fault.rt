@@ -43,7 +43,7 @@ impl fmt::Display for BenchFault {
             BenchFault::Descriptor => "the descriptor is refused",
             BenchFault::Report => "a report is refused",
             BenchFault::Control => "no control of that usage can be changed",
-            BenchFault::Memory => "memory was wanting",
+            BenchFault::Memory => "out of memory",
         })
     }
 }

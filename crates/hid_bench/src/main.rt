@@ -26,7 +26,7 @@ use fault::BenchFault;
 use std::env;
 use std::process::ExitCode;
 use turns::done;
-use words::asked_by;
+use words::parse_args;
 
 /// Standard output or memory failed.
 const OUTSIDE: u8 = 3;
@@ -40,7 +40,7 @@ fn main(rt: HostRuntime) -> ExitCode {
     let Ok(words) = words else {
         return ExitCode::from(OUTSIDE);
     };
-    match asked_by(alloc, words.as_slice()) {
+    match parse_args(alloc, words.as_slice()) {
         Ok(asked) => tell(&rt, done(alloc, &asked)),
         Err(fault) => tell(&rt, Err(fault)),
     }

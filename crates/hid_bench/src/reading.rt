@@ -32,6 +32,9 @@ impl Reading {
     ghost use Rattle.hid_bench.specs.Reading.{Reads};
 
     /// Reads a report descriptor. Nothing is held, and values are those of a blank snapshot.
+    ///
+    /// # Errors
+    /// As of [`parsed`], and [`BenchFault::Memory`] where a view or the room for events finds none.
     pub fn open(alloc: Global, descriptor: &[u8]) -> Result<Reading, BenchFault> {
         let layout = parsed(alloc, descriptor)?;
         let Ok(view) = View::initial(alloc, &layout) else {
@@ -48,6 +51,9 @@ impl Reading {
     }
 
     /// Reads an Input report, and says how many events it tells.
+    ///
+    /// # Errors
+    /// [`BenchFault::Report`] where the bytes are no Input report of the device: what was read of it stays.
     pub fn read(&mut self, report: &[u8]) -> Result<usize, BenchFault>
         ensures { Reads self.old report.now result self.new }
     {
@@ -63,6 +69,9 @@ impl Reading {
 }
 
 /// The layout of a report descriptor.
+///
+/// # Errors
+/// [`BenchFault::Descriptor`] where the descriptor is refused, and [`BenchFault::Memory`] where memory runs out.
 pub fn parsed(alloc: Global, descriptor: &[u8]) -> Result<Layout, BenchFault> {
     match Layout::parse(alloc, descriptor) {
         Ok(layout) => Ok(layout),

@@ -37,9 +37,13 @@ impl Model for Stepping {
 }
 
 impl Stepping {
-    ghost use Rattle.hid_stack.specs.Rig.{bus_after_all, delivered_in};
+    ghost use Rattle.hid_stack.specs.Rig.{bus_after_all, deliveries_of_steps};
 
     /// Attaches a device, ready. In a turn the relative controls of these usages move by 5, and then it is polled once.
+    ///
+    /// # Errors
+    /// [`BenchFault::Descriptor`] where no device can be made of the descriptor; of the first usage with a fault that
+    /// of [`control_of`]; [`BenchFault::Memory`] where memory runs out.
     pub fn open(
         alloc: Global,
         descriptor: &[u8],
@@ -66,10 +70,14 @@ impl Stepping {
     }
 
     /// Makes the steps of a turn, and says how many events they deliver.
+    ///
+    /// # Errors
+    /// Why a step was refused: [`BenchFault::Control`] where it is a change, [`BenchFault::Memory`] where the events
+    /// find no memory. The steps before it are done.
     pub fn turn(&mut self) -> Result<usize, BenchFault>
         ensures after { OnOk result (self.new.members ≡ bus_after_all self.old.members self.old.steps) }
         ensures told { IfOk result
-            (λ told. told ≡ length (delivered_in self.old.members self.old.steps)) }
+            (λ told. told ≡ length (deliveries_of_steps self.old.members self.old.steps)) }
         ensures steps { self.new.steps ≡ self.old.steps }
     {
         self.events.clear();

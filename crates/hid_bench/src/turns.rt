@@ -3,13 +3,16 @@
 use crate::fault::BenchFault;
 use crate::reading::{Reading, parsed};
 use crate::stepping::Stepping;
-use crate::words::{Asked, Work};
+use crate::words::{CliArgs, Work};
 use crate::writing::Writing;
 use arrayvec::ArrayVec;
 use std::alloc::Global;
 
 /// Does the work of all turns: how many items were listed, events came or bytes were written.
-pub fn done(alloc: Global, asked: &Asked) -> Result<u64, BenchFault> {
+///
+/// # Errors
+/// What the work gives: a fault of [`parsed`], [`Reading`], [`Writing`] or [`Stepping`]. It ends at the first one.
+pub fn done(alloc: Global, asked: &CliArgs) -> Result<u64, BenchFault> {
     let descriptor = asked.descriptor.as_slice();
     match asked.work {
         Work::Parse => parses(alloc, descriptor, asked.turns),

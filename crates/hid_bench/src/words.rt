@@ -13,17 +13,17 @@ pub enum Work {
     Read,
     /// A report is written.
     Write,
-    /// A device is polled, behind what moves.
+    /// A device is polled, after what moves.
     Step,
 }
 
 /// What the words ask for.
 #[derive(Drop)]
-pub struct Asked {
+pub struct CliArgs {
     pub work: Work,
     pub turns: u32,
     pub descriptor: Vec<u8>,
-    /// The bytes of each word behind the descriptor: a report, or a usage.
+    /// The bytes of each word after the descriptor: a report, or a usage.
     pub rest: Vec<Vec<u8>>,
 }
 
@@ -45,8 +45,11 @@ fn bytes_of(alloc: Global, word: &String) -> Result<Vec<u8>, BenchFault> {
     }
 }
 
-/// What the words behind the first ask for, which is the program's name.
-pub fn asked_by(alloc: Global, words: &[String]) -> Result<Asked, BenchFault> {
+/// What the words after the first ask for, which is the program's name.
+///
+/// # Errors
+/// [`BenchFault::Usage`] where the words are no work, number of turns and bytes in hex, and [`BenchFault::Memory`].
+pub fn parse_args(alloc: Global, words: &[String]) -> Result<CliArgs, BenchFault> {
     let [_, work, turns, descriptor, others @ ..] = words else {
         return Err(BenchFault::Usage);
     };
@@ -63,7 +66,7 @@ pub fn asked_by(alloc: Global, words: &[String]) -> Result<Asked, BenchFault> {
             return Err(BenchFault::Memory);
         }
     }
-    Ok(Asked {
+    Ok(CliArgs {
         work,
         turns,
         descriptor,

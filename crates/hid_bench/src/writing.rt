@@ -4,7 +4,7 @@ ghost use Rattle.std.specs.Prelude.{◌≡◌, ◌<◌, true, IfOk};
 ghost use Rattle.hid_layout.specs.Controls.{items_of};
 ghost use Rattle.hid_snapshots.specs.Parts.{IsInput, has_zeros};
 ghost use Rattle.hid_snapshots.specs.Codes.{has_empty_codes};
-ghost use Rattle.hid_usages.specs.Cells.{FitsSnapshot, FitsShown};
+ghost use Rattle.hid_usages.specs.ControlStates.{FitsSnapshot, FitsShown};
 
 use crate::fault::BenchFault;
 use crate::reading::parsed;
@@ -27,7 +27,7 @@ pub struct Writing {
 impl Model for Writing {
     ghost use Rattle.std.specs.Prelude.{◌≡◌, true};
     ghost use Rattle.hid_layout.specs.Controls.{items_of};
-    ghost use Rattle.hid_usages.specs.Cells.{FitsShown};
+    ghost use Rattle.hid_usages.specs.ControlStates.{FitsShown};
     ghost use Rattle.hid_snapshots.specs.Parts.{IsInput, has_zeros};
     ghost use Rattle.hid_snapshots.specs.Codes.{has_empty_codes};
     ghost use Rattle.hid_bench.specs.Writing.{Part};
@@ -59,7 +59,7 @@ fn touch(layout: &Layout, snapshot: &mut Snapshot, control: ControlId) -> Result
     }
 }
 
-/// The same, of the controls of these usages.
+/// Presses, moves or sets the controls of these usages.
 fn touch_all(layout: &Layout, snapshot: &mut Snapshot, usages: &[Vec<u8>]) -> Result<(), BenchFault>
     requires { FitsSnapshot (items_of layout.now) snapshot.old }
     ensures { FitsSnapshot (items_of layout.now) snapshot.new }
@@ -81,6 +81,10 @@ fn usage_of(bytes: &[u8]) -> Option<Usage> {
     }
 }
 
+/// The control that a word of the command line names by its usage.
+///
+/// # Errors
+/// [`BenchFault::Usage`] where the word isn't four bytes, and [`BenchFault::Control`] where no control has the usage.
 pub fn control_of(layout: &Layout, word: &[u8]) -> Result<ControlId, BenchFault> {
     let Some(usage) = usage_of(word) else {
         return Err(BenchFault::Usage);
@@ -92,6 +96,11 @@ impl Writing {
     ghost use Rattle.hid_snapshots.specs.Encoded.{part_bytes};
 
     /// Reads a report descriptor, changes the controls of these usages, and shows them in the report of the first one.
+    ///
+    /// # Errors
+    /// [`BenchFault::Descriptor`] where the descriptor is refused, or its reports can't say that nothing is pressed or
+    /// moved; [`BenchFault::Usage`] where there is no usage, or one isn't four bytes; [`BenchFault::Control`] where no
+    /// control has a usage, it can't change so, or the first one is in no Input report; [`BenchFault::Memory`].
     pub fn open(
         alloc: Global,
         descriptor: &[u8],

@@ -1,6 +1,6 @@
 //! One device on a bus of its own, and what its host knows of it.
 ghost use Rattle.std.specs.Prelude.{◌≡◌, IfErr, IfOk};
-ghost use Rattle.hid_usages.specs.Snapshots.{cell_at, is_pressed};
+ghost use Rattle.hid_usages.specs.Snapshots.{state_at, is_pressed};
 ghost use Rattle.hid_host.specs.Phase.{IfReady};
 ghost use Rattle.hid_client.specs.Playing.{IsNotPlayed, IsPlayed};
 
@@ -9,7 +9,7 @@ use hid_layout::ControlId;
 use hid_stack::{Delivered, HostDevice, HostState, Rig, StackFault, Start, Step};
 use std::alloc::Global;
 
-/// What a device gave over some steps, and whether its host holds a control behind them.
+/// What a device gave over some steps, and whether its host holds a control after them.
 #[derive(Debug, Drop)]
 pub struct Played {
     pub events: Vec<Delivered>,
@@ -19,7 +19,7 @@ pub struct Played {
 /// Attaches a device to a bus of its own, as number 1, runs steps, and looks at a control in the host's view.
 ///
 /// # Errors
-/// Why the device is refused, or the first step that is; or want of memory.
+/// Why the device is refused, or the first step that is; or out of memory.
 pub fn play(
     alloc: Global,
     config: &Config,
@@ -45,7 +45,7 @@ pub fn play(
 /// Whether a host holds a control in its view. One that isn't ready holds none.
 fn holds(host: &HostDevice, control: ControlId) -> bool
     ensures { IfReady host.now.phase
-        (λ known. result ≡ is_pressed (cell_at known.view control.item) control.index) }
+        (λ known. result ≡ is_pressed (state_at known.view control.item) control.index) }
 {
     match host.state() {
         HostState::Ready => host.view().held(control),

@@ -5,7 +5,7 @@ use Rattle.hid_descriptor.specs.declared.fault.Cause.{Cause}
 use Rattle.hid_descriptor.specs.declared.usage.Usage.{Usage}
 use Rattle.hid_layout.specs.Controls.{items_of}
 use Rattle.hid_descriptor.specs.Faults.{Explains, Refuses}
-use Rattle.hid_layout.specs.Finding.{shown_at}
+use Rattle.hid_layout.specs.Finding.{control_usage}
 use Rattle.hid_descriptor.specs.Laws.{HasOneReading, AcceptsNoRefused, HasOneCause, HasOnePlace}
 use Rattle.hid_layout.specs.Layout.{Contents, layout_of}
 use Rattle.hid_snapshots.specs.declared.change.ChangeFault.TheVariants as change
@@ -18,27 +18,28 @@ use Rattle.hid_requests.specs.declared.fault.DeviceCause.{DeviceCause}
 use Rattle.hid_requests.specs.declared.fault.DeviceCause.TheVariants as causes
 use Rattle.hid_requests.specs.declared.fault.DeviceFault.{DeviceFault}
 use Rattle.hid_requests.specs.Fault.{is_memory}
-use Rattle.hid_device.specs.Making.{Lays}
-use Rattle.hid_device.specs.Making as making
+use Rattle.hid_device.specs.Creation.{ParsesTo}
+use Rattle.hid_device.specs.Creation as making
 use Rattle.hid_host.specs.declared.fault.StackFault.{StackFault}
 use Rattle.hid_host.specs.declared.fault.StackFault.TheVariants.{NoDevice, NotReady, Refused, Control, BadDescriptor, Report, TooManyDevices, Memory}
 use Rattle.hid_host.specs.declared.fault.DescriptorFault.TheVariants.{Info, ReportLength, Layout, Device}
 use Rattle.hid_bus.specs.declared.step.Step.TheVariants.{Change, Frame, Poll, Begin, Control, Halt, Reset}
 use Rattle.hid_bus.specs.declared.step.Told.{Told}
-use Rattle.hid_stack.specs.Attaching.{Suits, wants_memory, Attaches, IsBefore, IsLeast, Finds, member_at_start}
+use Rattle.hid_stack.specs.Attaching.{Suits, is_out_of_memory, Attaches, IsBefore, IsLeast, Finds, member_at_start}
 use Rattle.hid_stack.specs.Laws.{TellsOneThing, FindsOneControl, AttachesOneDevice}
 use Rattle.hid_bus.specs.declared.start.Start.{Start}
 use Rattle.hid_stack.specs.Members.{Member}
 use Rattle.hid_stack.specs.Rig.{member_at}
 use Rattle.hid_host.specs.declared.host.Transfer.{Transfer}
 use Rattle.hid_host.specs.Host.{running}
-use Rattle.hid_bus.specs.Stations.{Station}
-use Rattle.hid_stack.specs.Tells.{TellsPoll, TellsTry}
+use Rattle.hid_bus.specs.LinkState.{LinkState}
+use Rattle.hid_stack.specs.StepResult.{TellsPoll, TellsTry}
 use Rattle.hid_host.proofs.ReadyLemmas.{refused_unless}
 
 -- ---- polls
 
-one_poll : (layout : Contents) (s : Station) (fate : Fate) (told other : Told) → TellsPoll layout s fate told → TellsPoll layout s fate other → told ≡ other
+one_poll : (layout : Contents) (s : LinkState) (fate : Fate) (told other : Told) → TellsPoll layout s fate told
+    → TellsPoll layout s fate other → told ≡ other
 one_poll layout s TokenLost told other h k = h ∙ sym k
 one_poll layout s ReplyLost told other h k = h ∙ sym k
 one_poll layout s Clean told other h k = h ∙ sym k
@@ -46,11 +47,11 @@ one_poll layout s AckLost told other h k = h ∙ sym k
 
 -- a poll of the device that a number names, if it names one
 abbrev PollTells : Option Member → Fate → Told → Type 0
-PollTells found fate told = elim found [ None ↦ ⊥ | Some m ↦ TellsPoll m.layout m.station fate told ]
+PollTells found fate told = elim found [ None ↦ ⊥ | Some m ↦ TellsPoll m.layout m.link fate told ]
 
 one_of_found : (found : Option Member) (fate : Fate) (told other : Told) → PollTells found fate told → PollTells found fate other → told ≡ other
 one_of_found None fate told other h k = absurd h
-one_of_found (Some m) fate told other h k = one_poll m.layout m.station fate told other h k
+one_of_found (Some m) fate told other h k = one_poll m.layout m.link fate told other h k
 
 try_of : (fate : Fate) (m : Member) (o : Option Transfer) (told other : Told) → TellsTry fate m o told → TellsTry fate m o other → told ≡ other
 try_of fate m None told other h k = absurd h
@@ -111,7 +112,7 @@ data Found (members : List Member) (dev : ℕ) (usage : Usage) (r : Result Contr
   Least : (c : ControlId) (m : Member) → r ≡ Ok c → member_at members dev ≡ Some m → IsLeast m.layout usage c → Found members dev usage r
   NoMember : r ≡ Err NoDevice → member_at members dev ≡ None → Found members dev usage r
   NoControl : (m : Member) → r ≡ Err (Refused change.NoSuchControl) → member_at members dev ≡ Some m
-      → ((d : ControlId) → shown_at (items_of m.layout) d ≡ Some usage → ⊥) → Found members dev usage r
+      → ((d : ControlId) → control_usage (items_of m.layout) d ≡ Some usage → ⊥) → Found members dev usage r
 
 found : (members : List Member) (dev : ℕ) (usage : Usage) (r : Result ControlId StackFault) → Finds members dev usage r → Found members dev usage r
 found members dev usage (Ok c) h = Least c h.0 refl h.1 h.2
@@ -136,12 +137,16 @@ one_found members dev usage r other (Least c m is at least) (Least d n is' at' l
     is ∙ ap Ok same ∙ sym is'
 one_found members dev usage r other (Least c m is at least) (NoMember is' none) = let e : Some m ≡ None = sym at ∙ none in absurd (cc)
 one_found members dev usage r other (Least c m is at least) (NoControl n is' at' none) =
-    absurd (none c (subst (λ (x : Member). shown_at (items_of x.layout) c ≡ Some usage) (same_member (member_at members dev) m n at at') least.has_usage))
+    absurd (none c
+    (subst (λ (x : Member). control_usage (items_of x.layout) c ≡ Some usage)
+    (same_member (member_at members dev) m n at at') least.has_usage))
 one_found members dev usage r other (NoMember is none) (Least d n is' at' least') = let e : Some n ≡ None = sym at' ∙ none in absurd (cc)
 one_found members dev usage r other (NoMember is none) (NoMember is' none') = is ∙ sym is'
 one_found members dev usage r other (NoMember is none) (NoControl n is' at' none') = let e : Some n ≡ None = sym at' ∙ none in absurd (cc)
 one_found members dev usage r other (NoControl m is at none) (Least d n is' at' least') =
-    absurd (none d (subst (λ (x : Member). shown_at (items_of x.layout) d ≡ Some usage) (same_member (member_at members dev) n m at' at) least'.has_usage))
+    absurd (none d
+    (subst (λ (x : Member). control_usage (items_of x.layout) d ≡ Some usage)
+    (same_member (member_at members dev) n m at' at) least'.has_usage))
 one_found members dev usage r other (NoControl m is at none) (NoMember is' none') = let e : Some m ≡ None = sym at ∙ none' in absurd (cc)
 one_found members dev usage r other (NoControl m is at none) (NoControl n is' at' none') = is ∙ sym is'
 
@@ -157,10 +162,11 @@ pub record OneReading : Type 0 where
   pub cause : HasOneCause
   pub place : HasOnePlace
 
-one_layout : HasOneReading → (descriptor : List ℕ) (layout other : Contents) → Lays descriptor layout → Lays descriptor other → layout ≡ other
+one_layout : HasOneReading → (descriptor : List ℕ) (layout other : Contents) → ParsesTo descriptor layout
+    → ParsesTo descriptor other → layout ≡ other
 one_layout reading descriptor layout other h k = h.laid ∙ ap layout_of (reading descriptor h.items k.items h.accepted k.accepted) ∙ sym k.laid
 
--- a cause that is no want of memory is the descriptor's
+-- a cause that is no running out of memory is the descriptor's
 layout_refused : (descriptor : List ℕ) (found : Cause) (at : ℕ) → is_memory found ≡ false → Explains descriptor found at → Refuses descriptor found at
 layout_refused descriptor found at aside h =
     refused_unless descriptor found at (λ e. let wrong : true ≡ false = sym (ap is_memory e) ∙ aside in cc) h
@@ -168,9 +174,9 @@ layout_refused descriptor found at aside h =
 clash : {A : Type 0} {b : Bool} → b ≡ true → b ≡ false → A
 clash h k = let e : true ≡ false = sym h ∙ k in absurd (cc)
 
--- a device is refused for one cause at most, at one place, want of memory aside
+-- a device is refused for one cause at most, at one place, out of memory aside
 one_refusal : OneReading → (addr : ℕ) (config : Config) (descriptor : List ℕ) (found other : DeviceCause) (at there : ℕ)
-    → wants_memory found ≡ false → wants_memory other ≡ false
+    → is_out_of_memory found ≡ false → is_out_of_memory other ≡ false
     → making.Refuses addr config descriptor found at → making.Refuses addr config descriptor other there → (found ≡ other) × (at ≡ there)
 one_refusal one addr config descriptor causes.Memory other at there aside other_aside h k = absurd (cc)
 one_refusal one addr config descriptor causes.BadConfig causes.BadConfig at there aside other_aside h k = (refl, h.1 ∙ sym k.1)
@@ -205,9 +211,10 @@ one_refusal one addr config descriptor causes.RelativeWithoutZero causes.Relativ
     (refl, place ∙ sym place')
 one_refusal one addr config descriptor causes.RelativeWithoutZero causes.Memory at there aside other_aside h k = absurd (cc)
 
--- where a device can be made it isn't refused, want of memory aside
+-- where a device can be made it isn't refused, out of memory aside
 serves_or_refused : OneReading → (addr : ℕ) (config : Config) (descriptor : List ℕ) (layout : Contents) (found : DeviceCause) (at : ℕ)
-    → wants_memory found ≡ false → Suits addr config descriptor layout → making.Refuses addr config descriptor found at → ⊥
+    → is_out_of_memory found ≡ false → Suits addr config descriptor layout
+    → making.Refuses addr config descriptor found at → ⊥
 serves_or_refused one addr config descriptor layout causes.Memory at aside suits h = cc
 serves_or_refused one addr config descriptor layout causes.BadConfig at aside suits h = clash suits.config_fits h.0
 serves_or_refused one addr config descriptor layout (causes.Layout c) at aside suits h =
@@ -217,12 +224,13 @@ serves_or_refused one addr config descriptor layout causes.NoEmptyCode at aside 
 serves_or_refused one addr config descriptor layout causes.RelativeWithoutZero at aside suits (fits, (other, lays, codes, lacks, place)) =
     clash suits.serves.zeros (ap (λ l. has_zeros (items_of l)) (one_layout one.reading descriptor layout other suits.serves.lays lays) ∙ lacks)
 
--- what attaching a device comes to, want of memory aside: a member more, no room, or a refusal
+-- what attaching a device comes to, out of memory aside: a member more, no room, or a refusal
 data Attached (room : ℕ) (config : Config) (descriptor : List ℕ) (start : Start) (old : List Member) (r : Result ℕ StackFault) (new : List Member) : Type 0 where
   OneMore : length old < room → r ≡ Ok (length old + 1) → (layout : Contents) → Suits (length old + 1) config descriptor layout
       → new ≡ old ++ member_at_start start (length old + 1) config descriptor layout ∷ [] → Attached room config descriptor start old r new
   NoRoom : room ≤ length old → r ≡ Err TooManyDevices → new ≡ old → Attached room config descriptor start old r new
-  NoPair : length old < room → (fault : DeviceFault) → r ≡ Err (BadDescriptor (Device fault)) → wants_memory fault.cause ≡ false
+  NoPair : length old < room → (fault : DeviceFault) → r ≡ Err (BadDescriptor (Device fault))
+      → is_out_of_memory fault.cause ≡ false
       → making.Refuses (length old + 1) config descriptor fault.cause fault.at → new ≡ old → Attached room config descriptor start old r new
 
 attached : (room : ℕ) (config : Config) (descriptor : List ℕ) (start : Start) (old new : List Member) (r : Result ℕ StackFault)

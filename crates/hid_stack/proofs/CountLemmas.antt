@@ -7,40 +7,41 @@ use Rattle.usb_transact.specs.declared.transaction.Fate.{Fate}
 use Rattle.usb_transact.specs.declared.transaction.Fate.TheVariants.{Clean, TokenLost, ReplyLost, AckLost}
 use Rattle.usb_control.specs.declared.host.HostStage.{HostStage}
 use Rattle.usb_control.specs.declared.host.HostStage.TheVariants as stages
-use Rattle.usb_control.specs.Computed.{control_tried, effect_reached, is_applied, takes_effect}
+use Rattle.usb_control.specs.TryFunctions.{control_tried, effect_reached, is_applied, takes_effect}
 use Rattle.usb_control.specs.Device.{Answers, Applies, Decides as Decides', DevControlState, Effect}
 use Rattle.usb_control.specs.Host.{HostTransferState}
-use Rattle.usb_control.specs.Meanwhile.{GoesBy, StandAt, act_now, decision_now, is_effect, is_running}
+use Rattle.usb_control.specs.Interleaving.{GoesBy, StandAt, act_now, decision_now, is_effect, is_running}
 use Rattle.usb_control.specs.Runs.{acts, effects, is_open}
 use Rattle.usb_control.specs.SetupBytes.{IsSpelled}
-use Rattle.usb_control.specs.Transfer.{Act, Decides, Nothing, TakesEffect, Decision, Place, Piece, Position, Past, Setup, Shape, Status, act_at, act_of, shape_of, tried}
+use Rattle.usb_control.specs.Transfer.{Act, Decides, Nothing, TakesEffect, Decision, Place, Piece, Position, Past, Setup, Shape, Status, act_at, act_of, shape_of, place_after_try}
 use Rattle.usb_control.proofs.LawLemmas.{kept_is}
-use Rattle.usb_control.proofs.MeanwhileLemmas.{goes_by, is_running_runs, runs_so}
+use Rattle.usb_control.proofs.InterleavingLemmas.{goes_by, is_running_runs, runs_so}
 use Rattle.hid_requests.specs.declared.request.Asking.{Asking}
 use Rattle.hid_requests.specs.declared.request.Request.{Request}
-use Rattle.hid_bus.specs.Lives.{Deed}
+use Rattle.hid_bus.specs.DeviceHistory.{BusEvent}
 use Rattle.hid_bus.specs.Rounds.{OwnStep, Changes, Frame, Polls}
-use Rattle.hid_device.specs.declared.decisions.Pending.{Pending}
-use Rattle.hid_device.specs.declared.decisions.Pending.TheVariants as pendings
+use Rattle.hid_device.specs.declared.decisions.PendingWrite.{PendingWrite}
+use Rattle.hid_device.specs.declared.decisions.PendingWrite.TheVariants as pendings
 use Rattle.hid_device.specs.Core.{CoreState}
-use Rattle.hid_device.specs.Deciding.{core_table}
+use Rattle.hid_device.specs.RequestTable.{core_table}
 use Rattle.hid_host.specs.declared.host.Transfer.{Transfer}
 use Rattle.hid_host.specs.declared.phase.HostState.{HostState}
-use Rattle.hid_requests.specs.Asking.{FitsRequest, sends_of}
-use Rattle.hid_stack.specs.Bringing.{is_configure}
+use Rattle.hid_requests.specs.RequestSetup.{FitsRequest, sends_of}
+use Rattle.hid_stack.specs.ControlSteps.{is_configure}
 use Rattle.hid_host.specs.Host.{running, running_at}
 use Rattle.hid_requests.proofs.AskedLemmas.{of_reports}
-use Rattle.hid_stack.specs.Knowing.{IsBehindSetup, IsDecided, asking_of}
-use Rattle.hid_stack.specs.Trails.{Trail, trail_tried}
-use Rattle.hid_stack.proofs.KnowingLemmas.{acts_go, decided_behind, decided_stays}
+use Rattle.hid_stack.specs.HostInvariant.{IsAfterSetup, IsDecided, asking_of}
+use Rattle.hid_stack.specs.Trails.{Trail, trail_after_try}
+use Rattle.hid_stack.proofs.HostInvariantLemmas.{acts_go, decided_behind, decided_stays}
 use Rattle.hid_stack.proofs.RoundLemmas.{is_configuring, pends_so}
-use Rattle.hid_stack.specs.Members.{Member, MemberStep, Scheduled, Begins, Controls, Halts, Resets, brought_deed, control_at, core_at, deeds_in, effect_deed, ends_tried_at, halted_deed, halted_if, member_after, polls_it, scheduled_deed, tried_deed, tried_of, tried_to, written_deed}
+use Rattle.hid_stack.specs.Members.{Member, MemberStep, Scheduled, Begins, Controls, Halts, Resets, try_bus_event_of, control_of_member, core_of_member, bus_events_of_steps, effect_bus_event, member_transfer_after, halt_bus_event_of, member_after_halt, member_after, polls_it, step_bus_event, try_bus_event, member_after_try, member_after_try_in, write_bus_event}
 use Rattle.hid_stack.specs.Transfers.{BeginsNone, configurations, effects_in, ends_at, more_if, setup_at, takes_effect_at, tries_of, try_at}
 
 -- ---- one try
 
 -- only a status takes effect
-effect_behind : (p : Position) (shape : Shape) (fate : Fate) (d held : Decision) (applied : Bool) → is_effect (act_at p shape fate d held applied) ≡ true → IsBehindSetup p
+effect_behind : (p : Position) (shape : Shape) (fate : Fate) (d held : Decision) (applied : Bool)
+    → is_effect (act_at p shape fate d held applied) ≡ true → IsAfterSetup p
 effect_behind p shape TokenLost d held applied h = absurd (cc)
 effect_behind Setup shape Clean d held applied h = absurd (cc)
 effect_behind Setup shape ReplyLost d held applied h = absurd (cc)
@@ -49,9 +50,10 @@ effect_behind (Piece k) shape fate d held applied h = tt
 effect_behind Status shape fate d held applied h = tt
 effect_behind Past shape fate d held applied h = tt
 
--- a configuration befalls the device where the effect of a request for it is carried out
-written_as : (core : CoreState) (pending : Pending) (bytes : List ℕ) (rest : List Deed)
-    → configurations (cons_option (written_deed core pending) rest) ≡ more_if (is_configuring pending) (configurations rest)
+-- a configuration happens to the device where the effect of a request for it is carried out
+written_as : (core : CoreState) (pending : PendingWrite) (bytes : List ℕ) (rest : List BusEvent)
+    → configurations (cons_option (write_bus_event core pending) rest)
+    ≡ more_if (is_configuring pending) (configurations rest)
 written_as core pendings.Nothing bytes rest = refl
 written_as core pendings.Configure bytes rest = refl
 written_as core (pendings.Keep i) bytes rest = refl
@@ -60,15 +62,19 @@ written_as core (pendings.Protocol protocol) bytes rest = refl
 written_as core pendings.Halt bytes rest = refl
 written_as core pendings.Clear bytes rest = refl
 
-effect_as : (e : Effect) (core : CoreState) (sets : Bool) (rest : List Deed) → (is_applied e ≡ true → is_configuring core.pending ≡ sets)
-    → configurations (cons_option (effect_deed e core) rest) ≡ more_if (is_applied e && sets) (configurations rest)
-effect_as (Answers answer stage heard) core sets rest pends = refl
+effect_as : (e : Effect) (core : CoreState) (sets : Bool) (rest : List BusEvent)
+    → (is_applied e ≡ true → is_configuring core.pending ≡ sets)
+    → configurations (cons_option (effect_bus_event e core) rest)
+    ≡ more_if (is_applied e && sets) (configurations rest)
+effect_as (Answers answer stage last_packet) core sets rest pends = refl
 effect_as (Decides' bytes) core sets rest pends = refl
 effect_as (Applies bytes) core sets rest pends = written_as core core.pending bytes rest ∙ ap (λ (b : Bool). more_if b (configurations rest)) (pends refl)
 
-brought_as : (fate : Fate) (ends : HostTransferState) (control : DevControlState CoreState) (sets : Bool) (rest : List Deed)
+brought_as : (fate : Fate) (ends : HostTransferState) (control : DevControlState CoreState) (sets : Bool)
+    (rest : List BusEvent)
     → (takes_effect core_table fate ends control ≡ true → is_configuring control.requests.pending ≡ sets)
-    → configurations (cons_option (brought_deed fate ends control) rest) ≡ more_if (takes_effect core_table fate ends control && sets) (configurations rest)
+    → configurations (cons_option (try_bus_event_of fate ends control) rest)
+    ≡ more_if (takes_effect core_table fate ends control && sets) (configurations rest)
 brought_as TokenLost ends control sets rest pends = refl
 brought_as Clean ends control sets rest pends = effect_as (effect_reached core_table ends control) control.requests sets rest pends
 brought_as ReplyLost ends control sets rest pends = effect_as (effect_reached core_table ends control) control.requests sets rest pends
@@ -81,7 +87,8 @@ pub record Stood (m : Member) (t : Transfer) (trail : Trail) : Type 0 where
   pub spelled : IsSpelled t.ends.setup
   pub fits : FitsRequest t.request
   pub stands : StandAt core_table (sends_of t.request) trail.place (ends_at m t)
-  pub decided : IsBehindSetup trail.place.host → IsDecided t.request trail.decider (core_at m) trail.place.decision
+  pub decided : IsAfterSetup trail.place.host
+      → IsDecided t.request trail.decider (core_of_member m) trail.place.decision
 
 -- a step of the schedule leaves it
 pub stood_scheduled : (x : OwnStep) (m : Member) (t : Transfer) (trail : Trail) → Stood m t trail → Stood (member_after m (Scheduled x)) t trail
@@ -91,51 +98,65 @@ stood_scheduled x m t trail s =
       asked = s.asked;
       spelled = s.spelled;
       fits = s.fits;
-      stands = kept_is core_table.answer_of (shape_of t.ends.setup) (sends_of t.request) trail.place t.ends (control_at m) (control_at n) s.stands refl refl;
-      decided = λ behind. decided_stays t.request trail.decider (core_at m) (core_at n) trail.place.decision (record { layout = refl; config = refl; descriptor = refl; configured = λ h. h }) refl (s.decided behind);
+      stands = kept_is core_table.answer_of (shape_of t.ends.setup) (sends_of t.request) trail.place t.ends
+          (control_of_member m) (control_of_member n) s.stands refl refl;
+      decided =
+          λ behind. decided_stays t.request trail.decider (core_of_member m) (core_of_member n) trail.place.decision
+          (record { layout = refl; config = refl; descriptor = refl; configured = λ h. h }) refl (s.decided behind);
     }
 
--- and so does a halt of the device
-pub stood_halted : (b : Bool) (m : Member) (t : Transfer) (trail : Trail) → Stood m t trail → Stood (halted_if b m) t trail
+-- a halt of the device leaves the transfer as it stands
+pub stood_halted : (b : Bool) (m : Member) (t : Transfer) (trail : Trail) → Stood m t trail
+    → Stood (member_after_halt b m) t trail
 stood_halted false m t trail s = s
 stood_halted true m t trail s =
-    let n = halted_if true m in
+    let n = member_after_halt true m in
     record {
       asked = s.asked;
       spelled = s.spelled;
       fits = s.fits;
-      stands = kept_is core_table.answer_of (shape_of t.ends.setup) (sends_of t.request) trail.place t.ends (control_at m) (control_at n) s.stands refl refl;
-      decided = λ behind. decided_stays t.request trail.decider (core_at m) (core_at n) trail.place.decision (record { layout = refl; config = refl; descriptor = refl; configured = λ h. h }) refl (s.decided behind);
+      stands = kept_is core_table.answer_of (shape_of t.ends.setup) (sends_of t.request) trail.place t.ends
+          (control_of_member m) (control_of_member n) s.stands refl refl;
+      decided =
+          λ behind. decided_stays t.request trail.decider (core_of_member m) (core_of_member n) trail.place.decision
+          (record { layout = refl; config = refl; descriptor = refl; configured = λ h. h }) refl (s.decided behind);
     }
 
-pub halted_transfer : (b : Bool) (m : Member) → (halted_if b m).transfer ≡ m.transfer
+pub halted_transfer : (b : Bool) (m : Member) → (member_after_halt b m).transfer ≡ m.transfer
 halted_transfer true m = refl
 halted_transfer false m = refl
 
--- and a try leads on
+-- the transfer after a try
 abbrev pub tried_transfer : Fate → Member → Transfer → Transfer
-tried_transfer fate m t = record t { ends = ends_tried_at fate m t }
+tried_transfer fate m t = record t { ends = member_transfer_after fate m t }
 
 -- its trail
 abbrev pub trail_on : Fate → Member → Transfer → Trail → Trail
-trail_on fate m t trail = trail_tried fate t (control_at m) trail
+trail_on fate m t trail = trail_after_try fate t (control_of_member m) trail
 
 pub stood_tried : (fate : Fate) (m : Member) (t : Transfer) (trail : Trail) (host : HostState) → Stood m t trail → GoesBy core_table (sends_of t.request) trail.place fate (ends_at m t)
-    → Stood (tried_to fate m t host) (tried_transfer fate m t) (trail_on fate m t trail)
+    → Stood (member_after_try_in fate m t host) (tried_transfer fate m t) (trail_on fate m t trail)
 stood_tried fate m t trail host s g =
-    let n = tried_to fate m t host in
-    let control = control_tried core_table fate t.ends (control_at m) in
-    let asking : Asking = asking_of (core_at m) in
+    let n = member_after_try_in fate m t host in
+    let control = control_tried core_table fate t.ends (control_of_member m) in
+    let asking : Asking = asking_of (core_of_member m) in
     let behind : Trail = trail_on fate m t trail in
-    let goes = acts_go t.ends.setup (sends_of t.request) (act_now core_table trail.place fate (ends_at m t)) (core_at m) control.requests g.acts in
+    let goes =
+    acts_go t.ends.setup (sends_of t.request) (act_now core_table trail.place fate (ends_at m t))
+    (core_of_member m) control.requests g.acts in
     record {
       asked = g.asked ∙ s.asked;
       spelled = subst IsSpelled (sym g.asked) s.spelled;
       fits = s.fits;
-      stands = kept_is core_table.answer_of (shape_of (ends_tried_at fate m t).setup) (sends_of t.request) behind.place (ends_tried_at fate m t) control (control_at n) g.stands refl refl;
-      decided = λ later. decided_stays t.request behind.decider control.requests (core_at n) behind.place.decision
+      stands = kept_is core_table.answer_of (shape_of (member_transfer_after fate m t).setup)
+          (sends_of t.request) behind.place (member_transfer_after fate m t) control
+          (control_of_member n) g.stands refl refl;
+      decided =
+          λ later. decided_stays t.request behind.decider control.requests (core_of_member n) behind.place.decision
           (record { layout = sym goes.layout; config = sym goes.config; descriptor = sym goes.descriptor; configured = λ h. h }) refl
-          (decided_behind t.request asking t.ends.setup (sends_of t.request) fate (decision_now core_table (ends_at m t)) trail.place.host trail.place trail.decider (core_at m) control.requests s.fits (of_reports t.request asking refl) s.asked refl g.acts
+          (decided_behind t.request asking t.ends.setup (sends_of t.request) fate
+          (decision_now core_table (ends_at m t)) trail.place.host trail.place trail.decider
+          (core_of_member m) control.requests s.fits (of_reports t.request asking refl) s.asked refl g.acts
           s.decided later);
     }
 
@@ -148,28 +169,33 @@ more_of false false n = refl
 
 -- what is pending where a write takes effect was decided at the last SETUP that arrived
 pub decided_now : (fate : Fate) (m : Member) (t : Transfer) (trail : Trail) → Stood m t trail → GoesBy core_table (sends_of t.request) trail.place fate (ends_at m t)
-    → takes_effect core_table fate t.ends (control_at m) ≡ true → IsDecided t.request trail.decider (core_at m) trail.place.decision
+    → takes_effect core_table fate t.ends (control_of_member m) ≡ true
+    → IsDecided t.request trail.decider (core_of_member m) trail.place.decision
 decided_now fate m t trail s g takes =
     let place : Place = trail.place in
     s.decided (effect_behind place.host (shape_of t.ends.setup) fate (decision_now core_table (ends_at m t)) place.decision place.applied (sym g.takes ∙ takes))
 
-try_configures : (fate : Fate) (m : Member) (t : Transfer) (trail : Trail) (rest : List Deed) (later : ℕ) → Stood m t trail → GoesBy core_table (sends_of t.request) trail.place fate (ends_at m t)
+try_configures : (fate : Fate) (m : Member) (t : Transfer) (trail : Trail) (rest : List BusEvent) (later : ℕ)
+    → Stood m t trail → GoesBy core_table (sends_of t.request) trail.place fate (ends_at m t)
     → configurations rest ≡ (if is_configure t.request then later else 0)
-    → configurations (cons_option (brought_deed fate t.ends (control_at m)) rest)
-    ≡ (if is_configure t.request then more_if (takes_effect core_table fate t.ends (control_at m)) later else 0)
+    → configurations (cons_option (try_bus_event_of fate t.ends (control_of_member m)) rest)
+    ≡ (if is_configure t.request then more_if
+    (takes_effect core_table fate t.ends (control_of_member m)) later else 0)
 try_configures fate m t trail rest later s g so =
-    let takes = takes_effect core_table fate t.ends (control_at m) in
-    brought_as fate t.ends (control_at m) (is_configure t.request) rest
-    (λ takes. pends_so t.request trail.decider (core_at m) trail.place.decision (decided_now fate m t trail s g takes))
+    let takes = takes_effect core_table fate t.ends (control_of_member m) in
+    brought_as fate t.ends (control_of_member m) (is_configure t.request) rest
+    (λ takes. pends_so t.request trail.decider (core_of_member m) trail.place.decision
+    (decided_now fate m t trail s g takes))
     ∙ ap (more_if (takes && is_configure t.request)) so
     ∙ more_of takes (is_configure t.request) later
 
 -- ---- whole lists
 
--- what is counted of the acts of a request, where so many came before, and of what befell its device
-pub record Counts (request : Request) (before : ℕ) (done : List Act) (later : ℕ) (deeds : List Deed) : Type 0 where
+-- what is counted of the acts of a request, where n came before, and of what befell its device
+pub record Counts (request : Request) (before : ℕ) (done : List Act) (later : ℕ)
+    (bus_events : List BusEvent) : Type 0 where
   pub took : effects before done ≡ later + before
-  pub configures : configurations deeds ≡ (if is_configure request then later else 0)
+  pub configures : configurations bus_events ≡ (if is_configure request then later else 0)
 
 one_act : (n : ℕ) (act : Act) (rest : List Act) → effects n (act ∷ rest) ≡ effects (more_if (is_effect act) n) rest
 one_act n Nothing rest = refl
@@ -187,25 +213,33 @@ more_before : (b : Bool) (m n : ℕ) → m + more_if b n ≡ more_if b m + n
 more_before true m n = omega arith
 more_before false m n = refl
 
-poll_deed : (polls : Bool) (fate : Fate) (deeds : List Deed) → configurations (cons_option (scheduled_deed polls (Polls fate)) deeds) ≡ configurations deeds
-poll_deed true fate deeds = refl
-poll_deed false fate deeds = refl
+poll_bus_event : (polls : Bool) (fate : Fate) (bus_events : List BusEvent)
+    → configurations (cons_option (step_bus_event polls (Polls fate)) bus_events) ≡ configurations bus_events
+poll_bus_event true fate bus_events = refl
+poll_bus_event false fate bus_events = refl
 
-own_deed : (polls : Bool) (x : OwnStep) (deeds : List Deed) → configurations (cons_option (scheduled_deed polls x) deeds) ≡ configurations deeds
-own_deed polls (Changes change) deeds = refl
-own_deed polls Frame deeds = refl
-own_deed polls (Polls fate) deeds = poll_deed polls fate deeds
+own_bus_event : (polls : Bool) (x : OwnStep) (bus_events : List BusEvent)
+    → configurations (cons_option (step_bus_event polls x) bus_events) ≡ configurations bus_events
+own_bus_event polls (Changes change) bus_events = refl
+own_bus_event polls Frame bus_events = refl
+own_bus_event polls (Polls fate) bus_events = poll_bus_event polls fate bus_events
 
-halt_deed : (is_configured : Bool) (deeds : List Deed) → configurations (cons_option (halted_deed is_configured) deeds) ≡ configurations deeds
-halt_deed true deeds = refl
-halt_deed false deeds = refl
+halt_bus_event : (is_configured : Bool) (bus_events : List BusEvent)
+    → configurations (cons_option (halt_bus_event_of is_configured) bus_events) ≡ configurations bus_events
+halt_bus_event true bus_events = refl
+halt_bus_event false bus_events = refl
 
-open_acts : (shape : Shape) (x : Fate × Decision) (xs : List (Fate × Decision)) (place : Place) → is_open place ≡ true → acts shape (x ∷ xs) place ≡ act_of shape x.0 x.1 place ∷ acts shape xs (tried shape x.0 x.1 place)
-open_acts shape x xs place h = ap (λ (b : Bool). if b then act_of shape x.0 x.1 place ∷ acts shape xs (tried shape x.0 x.1 place) else []) h
+open_acts : (shape : Shape) (x : Fate × Decision) (xs : List (Fate × Decision)) (place : Place) → is_open place ≡ true
+    → acts shape (x ∷ xs) place ≡ act_of shape x.0 x.1 place ∷ acts shape xs (place_after_try shape x.0 x.1 place)
+open_acts shape x xs place h =
+    ap (λ (b : Bool). if b then act_of shape x.0 x.1 place
+    ∷ acts shape xs (place_after_try shape x.0 x.1 place) else []) h
 
 closed_acts : (shape : Shape) (xs : List (Fate × Decision)) (place : Place) → is_open place ≡ false → acts shape xs place ≡ []
 closed_acts shape [] place h = refl
-closed_acts shape (x ∷ xs) place h = ap (λ (b : Bool). if b then act_of shape x.0 x.1 place ∷ acts shape xs (tried shape x.0 x.1 place) else []) h
+closed_acts shape (x ∷ xs) place h =
+    ap (λ (b : Bool). if b then act_of shape x.0 x.1 place
+    ∷ acts shape xs (place_after_try shape x.0 x.1 place) else []) h
 
 -- ---- a transfer that runs
 
@@ -222,16 +256,19 @@ running_so t (stages.Failed fault) b is = ap (λ (x : Bool). if x then Some t el
 pub runs_as : (m : Member) (t : Transfer) → m.transfer ≡ Some t → running m.transfer ≡ (if is_running t.ends.stage then Some t else None)
 runs_as m t has = ap running has ∙ running_so t t.ends.stage (is_running t.ends.stage) refl
 
--- the same of a try and the steps behind it, of a transfer that runs or not
+-- the acts of a try and the steps after it are counted, of a transfer that runs or not
 abbrev CountsTry : Fate → List MemberStep → Member → Transfer → Trail → ℕ → Option Transfer → Option Transfer → Type 0
 CountsTry fate steps m t trail n runs has =
-    Counts t.request n (acts (shape_of t.ends.setup) (try_at fate m has ++ tries_of (tried_of fate m runs) steps) trail.place)
-    (more_if (takes_effect_at fate m runs) (effects_in (tried_of fate m runs) steps))
-    (cons_option (tried_deed fate m runs) (deeds_in (tried_of fate m runs) steps))
+    Counts t.request n
+    (acts (shape_of t.ends.setup)
+    (try_at fate m has ++ tries_of (member_after_try fate m runs) steps) trail.place)
+    (more_if (takes_effect_at fate m runs) (effects_in (member_after_try fate m runs) steps))
+    (cons_option (try_bus_event fate m runs) (bus_events_of_steps (member_after_try fate m runs) steps))
 
 abbrev Behind : List MemberStep → Type 0
 Behind steps = (m : Member) (t : Transfer) (trail : Trail) (n : ℕ) → m.transfer ≡ Some t → BeginsNone steps → Stood m t trail
-    → Counts t.request n (acts (shape_of t.ends.setup) (tries_of m steps) trail.place) (effects_in m steps) (deeds_in m steps)
+    → Counts t.request n (acts (shape_of t.ends.setup) (tries_of m steps) trail.place) (effects_in m steps)
+    (bus_events_of_steps m steps)
 
 try_counts : (fate : Fate) (steps : List MemberStep) (m : Member) (t : Transfer) (trail : Trail) (n : ℕ) → BeginsNone steps → Stood m t trail → is_running t.ends.stage ≡ true → Behind steps
     → CountsTry fate steps m t trail n (Some t) (Some t)
@@ -240,11 +277,12 @@ try_counts fate steps m t trail n none s runs later =
     let shape = shape_of t.ends.setup in
     let g = goes_by core_table (sends_of t.request) place fate (ends_at m t) s.spelled (is_running_runs t.ends.stage runs) s.stands in
     let act = act_now core_table place fate (ends_at m t) in
-    let k = tried_of fate m (Some t) in
+    let k = member_after_try fate m (Some t) in
     let behind : Trail = trail_on fate m t trail in
     let xs = tries_of k steps in
     let more : ℕ = more_if (is_effect act) n in
-    let rest : Counts t.request more (acts (shape_of (ends_tried_at fate m t).setup) xs behind.place) (effects_in k steps) (deeds_in k steps)
+    let rest : Counts t.request more (acts (shape_of (member_transfer_after fate m t).setup) xs behind.place)
+    (effects_in k steps) (bus_events_of_steps k steps)
     = later k (tried_transfer fate m t) behind more refl none (stood_tried fate m t trail k.host s g) in
     record {
       took = ap (effects n) (open_acts shape (fate, decision_now core_table (ends_at m t)) xs place (sym (runs_so core_table (sends_of t.request) place (ends_at m t) s.stands) ∙ runs))
@@ -253,7 +291,8 @@ try_counts fate steps m t trail n none s runs later =
           ∙ rest.took
           ∙ more_before (is_effect act) (effects_in k steps) n
           ∙ ap (λ (b : Bool). more_if b (effects_in k steps) + n) (sym g.takes);
-      configures = try_configures fate m t trail (deeds_in k steps) (effects_in k steps) s g rest.configures;
+      configures =
+          try_configures fate m t trail (bus_events_of_steps k steps) (effects_in k steps) s g rest.configures;
     }
 
 over_counts : (fate : Fate) (steps : List MemberStep) (m : Member) (t : Transfer) (trail : Trail) (n : ℕ) → m.transfer ≡ Some t → BeginsNone steps → Stood m t trail → is_running t.ends.stage ≡ false → Behind steps
@@ -272,12 +311,20 @@ pub counted : (steps : List MemberStep) → Behind steps
 counted [] m t trail n has none s = record { took = none_yet n; configures = none_counts (is_configure t.request) }
 counted (Scheduled x ∷ steps) m t trail n has none s =
     let rest = counted steps (member_after m (Scheduled x)) t trail n has none (stood_scheduled x m t trail s) in
-    record { took = rest.took; configures = own_deed (polls_it m) x (deeds_in (member_after m (Scheduled x)) steps) ∙ rest.configures }
+    record {
+      took = rest.took;
+      configures =
+          own_bus_event (polls_it m) x (bus_events_of_steps (member_after m (Scheduled x)) steps) ∙ rest.configures;
+    }
 counted (Begins request ∷ steps) m t trail n has none s = absurd none
 counted (Halts ∷ steps) m t trail n has none s =
     let k = member_after m Halts in
     let rest = counted steps k t trail n (halted_transfer m.endpoint.is_configured m ∙ has) none (stood_halted m.endpoint.is_configured m t trail s) in
-    record { took = rest.took; configures = halt_deed m.endpoint.is_configured (deeds_in k steps) ∙ rest.configures }
+    record {
+      took = rest.took;
+      configures =
+          halt_bus_event m.endpoint.is_configured (bus_events_of_steps k steps) ∙ rest.configures;
+    }
 counted (Resets ∷ steps) m t trail n has none s = absurd none
 counted (Controls fate ∷ steps) m t trail n has none s = elim (cases_Bool (is_running t.ends.stage)) [
   | inl runs ↦

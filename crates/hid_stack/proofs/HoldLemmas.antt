@@ -1,4 +1,5 @@
--- Each host of a bus holds its toggle while its endpoint is halted or a Clear is pending, whatever befalls its device.
+-- Each host of a bus holds its toggle while its endpoint is halted or a Clear is pending, whatever happens to its
+-- device.
 use Rattle.std.proofs.Common.{◌≡◌, ◌∙◌, ◌++◌, ℕ, Bool, true, false, List, [], ◌∷◌, Option, Some, None, refl, ap, sym, subst, cond, eqb, ◌-◌, Result, Ok, Err, OnOk, IfErr}
 use Rattle.std.specs.Prelude.{if◌then◌else◌, ◌||◌, is_some, IfSome, slice_get}
 use Rattle.usb_transact.specs.declared.transaction.Fate.{Fate}
@@ -11,21 +12,21 @@ use Rattle.hid_layout.specs.Controls.{Item, items_of}
 use Rattle.hid_layout.specs.Layout.{Contents}
 use Rattle.hid_requests.specs.declared.request.Request.{Request}
 use Rattle.hid_requests.specs.declared.request.Request.TheVariants as requests
-use Rattle.hid_bus.specs.Standing.{due_where}
+use Rattle.hid_bus.specs.ReportState.{due_where}
 use Rattle.hid_bus.specs.Rounds.{Changes, Frame, Polls}
-use Rattle.hid_bus.specs.Stations.{Open, Station, after, answered, expected, opened, opened_by, round_polled}
-use Rattle.hid_bus.specs.Lives.{Configures, Deed, Ended, Began, Cut, Evened, Gone, Happening, Idles, Own, befallen_all, course_after, course_behind, ended, flips, happenings, happens_by, toggle_from, toggle_past}
-use Rattle.hid_bus.specs.Lives as lives
+use Rattle.hid_bus.specs.LinkState.{LinkState, Open, expected_toggle, round_after_poll, state_after_answer, state_after_step, state_at_token, with_open_report}
+use Rattle.hid_bus.specs.DeviceHistory.{Configures, BusEvent, RoundEnded, LinkConfigured, RoundAborted, TogglesReset, BusReset, LinkOutcome, Idles, Own, state_after_all, history_after, history_after_all, rounds_as_outcomes, flipped_toggle, outcomes_of_events, outcomes_of_event, toggle_after_outcomes, toggle_after_round}
+use Rattle.hid_bus.specs.DeviceHistory as lives
 use Rattle.hid_host.specs.declared.fault.StackFault.{StackFault}
 use Rattle.hid_host.specs.declared.fault.StackFault.TheVariants.{Control, NotReady}
 use Rattle.usb_control.specs.declared.fault.ControlFault.TheVariants.{Busy}
 use Rattle.hid_host.specs.declared.host.Transfer.{Transfer}
 use Rattle.hid_host.specs.declared.phase.HostState.{HostState}
 use Rattle.hid_host.specs.declared.phase.HostState.TheVariants as states
-use Rattle.hid_host.specs.Host.{clearing_behind, clearing_with, cuts_round, running, running_at}
+use Rattle.hid_host.specs.Host.{clearing_after, clearing_with, request_aborts_round, running, running_at}
 use Rattle.hid_host.specs.Phase.{may_begin, may_poll}
 use Rattle.hid_bus.specs.declared.step.Step.{Step}
-use Rattle.hid_stack.specs.Expecting.{AllHoldToggles, HoldsToggle}
+use Rattle.hid_stack.specs.ExpectedToggles.{AllHoldToggles, HoldsToggle}
 use Rattle.std.proofs.lemmas.List.Elements.{All-get_or, All-map, All-push, All-set, All-weaker}
 use Rattle.std.proofs.lemmas.Option.{get_or_from_slice_get, slice_get_within}
 use Rattle.hid_device.specs.declared.config.Config.{Config}
@@ -35,52 +36,69 @@ use Rattle.hid_bus.specs.declared.step.Step.TheVariants.{Change as ChangeStep, F
 use Rattle.hid_bus.specs.declared.step.Told.{Told}
 use Rattle.hid_host.specs.declared.fault.StackFault.TheVariants as faults
 use Rattle.hid_stack.specs.Attaching.{member_at_start}
-use Rattle.hid_stack.specs.Members.{Begins, Controls, Halts, Member, MemberStep, Resets, Scheduled, befallen_by, begin_refusal_at, begun_unless, control_at, ends_tried_at, expects_behind, expects_of, halted_if, held_at, member_after, polled_deed, polls_it, state_at, state_behind, tried_deed, tried_of, tried_to, unconcluded_of}
-use Rattle.hid_stack.specs.Rig.{bus_after, bus_after_all, member_at, one_after, one_unconcluded, refused_after, with_member}
+use Rattle.hid_stack.specs.Members.{Begins, Controls, Halts, Member, MemberStep, Resets, Scheduled, begin_refusal_at, control_of_member, expected_toggle_of, expects_after, host_state_after, host_state_after_try, member_after, member_after_begin, member_after_halt, member_after_try, member_after_try_in, member_held_toggle, member_out_of_memory, member_transfer_after, poll_bus_event, polls_it, state_after_event_if, try_bus_event}
+use Rattle.hid_stack.specs.Rig.{bus_after, bus_after_all, bus_after_refusal, member_at, one_after, one_unconcluded, with_member}
 use Rattle.hid_stack.proofs.MemberLemmas.{IsEffect, brings_effect}
 
 -- ---- polls of a halted endpoint
 
-opened_by_halted : (items : List Item) (s : Station) (due : Option ℕ) → (opened_by items s due).halted ≡ s.halted
+opened_by_halted : (items : List Item) (s : LinkState) (due : Option ℕ)
+    → (with_open_report items s due).halted ≡ s.halted
 opened_by_halted items s None = refl
 opened_by_halted items s (Some r) = refl
 
-opened_halted : (items : List Item) (s : Station) → (opened items s).halted ≡ s.halted
+opened_halted : (items : List Item) (s : LinkState) → (state_at_token items s).halted ≡ s.halted
 opened_halted items s =
-    elim s.current as (λ (o : Option Open). (elim o as (λ _. Station) [ Some round ↦ s | None ↦ opened_by items s (due_where items s.halted s.standing) ]).halted ≡ s.halted)
-    [ Some round ↦ refl | None ↦ opened_by_halted items s (due_where items s.halted s.standing) ]
+    elim s.current as
+    (λ (o : Option Open).
+    (elim o as
+    (λ _. LinkState) [
+      | Some round ↦ s
+      | None ↦
+          with_open_report items s (due_where items s.halted s.reports)
+    ]).halted ≡ s.halted)
+    [ Some round ↦ refl | None ↦ opened_by_halted items s (due_where items s.halted s.reports) ]
 
-polled_halted : (items : List Item) (s : Station) (round : Open) (fate : Fate) → (round_polled items s round fate).halted ≡ s.halted
+polled_halted : (items : List Item) (s : LinkState) (round : Open) (fate : Fate)
+    → (round_after_poll items s round fate).halted ≡ s.halted
 polled_halted items s round Clean = refl
 polled_halted items s round TokenLost = refl
 polled_halted items s round ReplyLost = refl
 polled_halted items s round AckLost = refl
 
-answered_halted : (items : List Item) (s : Station) (fate : Fate) → (answered items s fate).halted ≡ s.halted
+answered_halted : (items : List Item) (s : LinkState) (fate : Fate)
+    → (state_after_answer items s fate).halted ≡ s.halted
 answered_halted items s fate =
-    elim s.current as (λ (o : Option Open). (elim o as (λ _. Station) [ None ↦ s | Some round ↦ round_polled items s round fate ]).halted ≡ s.halted)
+    elim s.current as
+    (λ (o : Option Open).
+    (elim o as (λ _. LinkState) [ None ↦ s | Some round ↦ round_after_poll items s round fate ]).halted
+    ≡ s.halted)
     [ None ↦ refl | Some round ↦ polled_halted items s round fate ]
 
-pub poll_halted : (items : List Item) (s : Station) (fate : Fate) → (after items s (Polls fate)).halted ≡ s.halted
+pub poll_halted : (items : List Item) (s : LinkState) (fate : Fate)
+    → (state_after_step items s (Polls fate)).halted ≡ s.halted
 poll_halted items s TokenLost = answered_halted items s TokenLost
-poll_halted items s Clean = answered_halted items (opened items s) Clean ∙ opened_halted items s
-poll_halted items s ReplyLost = answered_halted items (opened items s) ReplyLost ∙ opened_halted items s
-poll_halted items s AckLost = answered_halted items (opened items s) AckLost ∙ opened_halted items s
+poll_halted items s Clean = answered_halted items (state_at_token items s) Clean ∙ opened_halted items s
+poll_halted items s ReplyLost = answered_halted items (state_at_token items s) ReplyLost ∙ opened_halted items s
+poll_halted items s AckLost = answered_halted items (state_at_token items s) AckLost ∙ opened_halted items s
 
 -- ---- the toggle that is held
 
 abbrev pub shown : Option Bool → Bool → Bool
 shown held else_expects = elim held as (λ _. Bool) [ Some expects ↦ expects | None ↦ else_expects ]
 
-pub held_self : (host : HostState) (holds e x : Bool) → held_at host holds e ≡ held_at host holds (shown (held_at host holds e) x)
+pub held_self : (host : HostState) (holds e x : Bool)
+    → member_held_toggle host holds e ≡ member_held_toggle host holds (shown (member_held_toggle host holds e) x)
 held_self states.Ready true e x = refl
 held_self states.Ready false e x = refl
 held_self states.Cold holds e x = refl
 held_self states.Described holds e x = refl
 held_self states.Parsed holds e x = refl
 
-pub held_with : (host : HostState) (holds : Bool) (held : Option Bool) (e x : Bool) → held ≡ held_at host holds e → held ≡ held_at host holds (shown held x)
-held_with host holds held e x is = is ∙ held_self host holds e x ∙ ap (λ (o : Option Bool). held_at host holds (shown o x)) (sym is)
+pub held_with : (host : HostState) (holds : Bool) (held : Option Bool) (e x : Bool)
+    → held ≡ member_held_toggle host holds e → held ≡ member_held_toggle host holds (shown held x)
+held_with host holds held e x is =
+    is ∙ held_self host holds e x ∙ ap (λ (o : Option Bool). member_held_toggle host holds (shown o x)) (sym is)
 
 pub polls_ready : (host : HostState) (clearing : Bool) → may_poll host clearing ≡ true → (host ≡ states.Ready) × (clearing ≡ false)
 polls_ready states.Ready false polls = (refl, refl)
@@ -91,7 +109,8 @@ polls_ready states.Parsed clearing polls = absurd (cc)
 
 -- ---- what a try makes of the host
 
-behind_ready : (request : Request) → may_begin request states.Ready ≡ true → state_behind request states.Ready ≡ states.Ready
+behind_ready : (request : Request) → may_begin request states.Ready ≡ true
+    → host_state_after request states.Ready ≡ states.Ready
 behind_ready requests.Device may = refl
 behind_ready requests.Config may = absurd (cc)
 behind_ready requests.Report may = absurd (cc)
@@ -108,9 +127,10 @@ behind_ready requests.Halt may = refl
 behind_ready requests.Clear may = refl
 behind_ready requests.EndpointStatus may = refl
 
-pub stays_ready : (stage : HostStage) (request : Request) (host : HostState) → host ≡ states.Ready → may_begin request host ≡ true → state_at stage request host ≡ states.Ready
+pub stays_ready : (stage : HostStage) (request : Request) (host : HostState) → host ≡ states.Ready
+    → may_begin request host ≡ true → host_state_after_try stage request host ≡ states.Ready
 stays_ready stages.Done request host ready may =
-    ap (state_behind request) ready ∙ behind_ready request (sym (ap (may_begin request) ready) ∙ may)
+    ap (host_state_after request) ready ∙ behind_ready request (sym (ap (may_begin request) ready) ∙ may)
 stays_ready stages.Setup request host ready may = ready
 stays_ready (stages.DataIn one) request host ready may = ready
 stays_ready (stages.DataOut sent one) request host ready may = ready
@@ -118,7 +138,8 @@ stays_ready stages.StatusIn request host ready may = ready
 stays_ready stages.StatusOut request host ready may = ready
 stays_ready (stages.Failed fault) request host ready may = ready
 
-pub runs_stays : (stage : HostStage) (request : Request) (host : HostState) → IsRunning stage → state_at stage request host ≡ host
+pub runs_stays : (stage : HostStage) (request : Request) (host : HostState) → IsRunning stage
+    → host_state_after_try stage request host ≡ host
 runs_stays stages.Done request host run = absurd (cc)
 runs_stays stages.Setup request host run = refl
 runs_stays (stages.DataIn one) request host run = refl
@@ -127,7 +148,8 @@ runs_stays stages.StatusIn request host run = refl
 runs_stays stages.StatusOut request host run = refl
 runs_stays (stages.Failed fault) request host run = absurd (cc)
 
-pub runs_clearing : (stage : HostStage) (request : Request) (clearing : Bool) → IsRunning stage → clearing_behind stage request clearing ≡ clearing
+pub runs_clearing : (stage : HostStage) (request : Request) (clearing : Bool) → IsRunning stage
+    → clearing_after stage request clearing ≡ clearing
 runs_clearing stages.Done request clearing run = absurd (cc)
 runs_clearing stages.Setup request clearing run = refl
 runs_clearing (stages.DataIn one) request clearing run = refl
@@ -146,9 +168,10 @@ running_if P t stages.StatusIn h = h refl
 running_if P t stages.StatusOut h = h refl
 running_if P t (stages.Failed fault) h = tt
 
--- ---- behind a step of the device
+-- ---- after a step of the device
 
-effect_even : (items : List Item) (s : Station) (o : Option Deed) → IsEffect o → s.odd ≡ false → (befallen_by items s o).odd ≡ false
+effect_even : (items : List Item) (s : LinkState) (o : Option BusEvent) → IsEffect o → s.toggle ≡ false
+    → (state_after_event_if items s o).toggle ≡ false
 effect_even items s None is even = even
 effect_even items s (Some (Own x)) is even = absurd is
 effect_even items s (Some (Idles idle)) is even = even
@@ -157,16 +180,19 @@ effect_even items s (Some lives.Halts) is even = even
 effect_even items s (Some lives.Clears) is even = refl
 effect_even items s (Some lives.Resets) is even = absurd is
 
-pub tried_effect : (fate : Fate) (m : Member) (t : Transfer) → IsEffect (tried_deed fate m (Some t))
-tried_effect fate m t = brings_effect fate t.ends (control_at m)
+pub tried_effect : (fate : Fate) (m : Member) (t : Transfer) → IsEffect (try_bus_event fate m (Some t))
+tried_effect fate m t = brings_effect fate t.ends (control_of_member m)
 
-pub polls_holds : (b : Bool) (fate : Fate) (m : Member) → polls_it m ≡ b → HoldsToggle m → HoldsToggle (record m { station = befallen_by (items_of m.layout) m.station (polled_deed b fate) })
+pub polls_holds : (b : Bool) (fate : Fate) (m : Member) → polls_it m ≡ b → HoldsToggle m
+    → HoldsToggle (record m { link = state_after_event_if (items_of m.layout) m.link (poll_bus_event b fate) })
 polls_holds false fate m is h = h
 polls_holds true fate m is h =
-    let s = befallen_by (items_of m.layout) m.station (polled_deed true fate) in
-    let halted : s.halted ≡ m.station.halted = poll_halted (items_of m.layout) m.station fate in
+    let s = state_after_event_if (items_of m.layout) m.link (poll_bus_event true fate) in
+    let halted : s.halted ≡ m.link.halted = poll_halted (items_of m.layout) m.link fate in
     record {
-      held = held_with m.host (s.halted || m.clearing) m.held (expects_of m) (expected s) (h.held ∙ ap (λ (b : Bool). held_at m.host (b || m.clearing) (expects_of m)) (sym halted));
+      held = held_with m.host (s.halted || m.clearing) m.held (expected_toggle_of m) (expected_toggle s)
+          (h.held ∙ ap (λ (b : Bool). member_held_toggle m.host (b || m.clearing) (expected_toggle_of m))
+          (sym halted));
       even = λ apart. absurd (apart (polls_ready m.host m.clearing is).0);
       needs = h.needs;
       pends = h.pends;
@@ -177,40 +203,52 @@ may_if true may h = absurd (cc)
 may_if false true h = refl
 may_if false false h = absurd (cc)
 
-pub begins_holds : (o : Option StackFault) (m : Member) (request : Request) → begin_refusal_at m request ≡ o → HoldsToggle m → HoldsToggle (begun_unless o m request)
+pub begins_holds : (o : Option StackFault) (m : Member) (request : Request) → begin_refusal_at m request ≡ o
+    → HoldsToggle m → HoldsToggle (member_after_begin o m request)
 begins_holds (Some fault) m request is h = h
 begins_holds None m request is h = record {
-  held = held_self m.host (m.station.halted || clearing_with request m.clearing) (expects_of m) (expected m.station);
+  held = held_self m.host (m.link.halted || clearing_with request m.clearing) (expected_toggle_of m)
+      (expected_toggle m.link);
   even = h.even;
   needs = may_if (is_some (running m.transfer)) (may_begin request m.host) is;
   pends = λ clears. ap (λ (q : Request). clearing_with q m.clearing) clears;
 }
 
-tried_holds : (fate : Fate) (m : Member) (t : Transfer) (host : HostState) → running m.transfer ≡ Some t → (IsRunning (ends_tried_at fate m t).stage → host ≡ m.host) → (m.host ≡ states.Ready → host ≡ states.Ready)
-    → HoldsToggle m → HoldsToggle (tried_to fate m t host)
+tried_holds : (fate : Fate) (m : Member) (t : Transfer) (host : HostState) → running m.transfer ≡ Some t
+    → (IsRunning (member_transfer_after fate m t).stage → host ≡ m.host)
+    → (m.host ≡ states.Ready → host ≡ states.Ready)
+    → HoldsToggle m → HoldsToggle (member_after_try_in fate m t host)
 tried_holds fate m t host runs same stays h =
-    let n = tried_to fate m t host in
-    let stage = (ends_tried_at fate m t).stage in
+    let n = member_after_try_in fate m t host in
+    let stage = (member_transfer_after fate m t).stage in
     let needs : may_begin t.request m.host ≡ true = subst (λ (o : Option Transfer). IfSome o (λ u. may_begin u.request m.host ≡ true)) runs h.needs in
     let pends : t.request ≡ requests.Clear → m.clearing ≡ true = subst (λ (o : Option Transfer). IfSome o (λ u. u.request ≡ requests.Clear → m.clearing ≡ true)) runs h.pends in
     record {
-      held = held_self host (n.station.halted || n.clearing) (expects_behind stage t.request (expects_of m)) (expected n.station);
-      even = λ apart. effect_even (items_of m.layout) m.station (tried_deed fate m (Some t)) (tried_effect fate m t) (h.even (λ ready. apart (stays ready)));
-      needs = running_if (λ u. may_begin u.request host ≡ true) (record t { ends = ends_tried_at fate m t }) stage (λ run. ap (may_begin t.request) (same run) ∙ needs);
-      pends = running_if (λ u. u.request ≡ requests.Clear → n.clearing ≡ true) (record t { ends = ends_tried_at fate m t }) stage (λ run is. runs_clearing stage t.request m.clearing run ∙ pends is);
+      held = held_self host (n.link.halted || n.clearing) (expects_after stage t.request (expected_toggle_of m))
+          (expected_toggle n.link);
+      even = λ apart. effect_even (items_of m.layout) m.link (try_bus_event fate m (Some t)) (tried_effect fate m t)
+          (h.even (λ ready. apart (stays ready)));
+      needs = running_if (λ u. may_begin u.request host ≡ true)
+          (record t { ends = member_transfer_after fate m t }) stage
+          (λ run. ap (may_begin t.request) (same run) ∙ needs);
+      pends = running_if (λ u. u.request ≡ requests.Clear → n.clearing ≡ true)
+          (record t { ends = member_transfer_after fate m t }) stage
+          (λ run is. runs_clearing stage t.request m.clearing run ∙ pends is);
     }
 
-pub controls_holds : (fate : Fate) (o : Option Transfer) (m : Member) → running m.transfer ≡ o → HoldsToggle m → HoldsToggle (tried_of fate m o)
+pub controls_holds : (fate : Fate) (o : Option Transfer) (m : Member) → running m.transfer ≡ o → HoldsToggle m
+    → HoldsToggle (member_after_try fate m o)
 controls_holds fate None m runs h = h
 controls_holds fate (Some t) m runs h =
-    let stage = (ends_tried_at fate m t).stage in
+    let stage = (member_transfer_after fate m t).stage in
     let needs : may_begin t.request m.host ≡ true = subst (λ (o : Option Transfer). IfSome o (λ u. may_begin u.request m.host ≡ true)) runs h.needs in
-    tried_holds fate m t (state_at stage t.request m.host) runs (runs_stays stage t.request m.host) (λ ready. stays_ready stage t.request m.host ready needs) h
+    tried_holds fate m t (host_state_after_try stage t.request m.host) runs (runs_stays stage t.request m.host)
+    (λ ready. stays_ready stage t.request m.host ready needs) h
 
-pub halts_holds : (b : Bool) (m : Member) → HoldsToggle m → HoldsToggle (halted_if b m)
+pub halts_holds : (b : Bool) (m : Member) → HoldsToggle m → HoldsToggle (member_after_halt b m)
 halts_holds false m h = h
 halts_holds true m h = record {
-  held = held_self m.host (true || m.clearing) (expects_of m) m.station.odd;
+  held = held_self m.host (true || m.clearing) (expected_toggle_of m) m.link.toggle;
   even = h.even;
   needs = h.needs;
   pends = h.pends;
@@ -225,11 +263,12 @@ after_holds (Controls fate) m h = controls_holds fate (running m.transfer) m ref
 after_holds Halts m h = halts_holds m.endpoint.is_configured m h
 after_holds Resets m h = record { held = refl; even = λ apart. refl; needs = tt; pends = tt }
 
-pub unconcluded_holds : (fate : Fate) (o : Option Transfer) (m : Member) → running m.transfer ≡ o → HoldsToggle m → HoldsToggle (unconcluded_of fate m o)
+pub unconcluded_holds : (fate : Fate) (o : Option Transfer) (m : Member) → running m.transfer ≡ o → HoldsToggle m
+    → HoldsToggle (member_out_of_memory fate m o)
 unconcluded_holds fate None m runs h = h
-unconcluded_holds fate (Some t) m runs h = by_request (cuts_round t.request)
+unconcluded_holds fate (Some t) m runs h = by_request (request_aborts_round t.request)
   where
-    by_request : (b : Bool) → HoldsToggle (if b then m else tried_to fate m t m.host)
+    by_request : (b : Bool) → HoldsToggle (if b then m else member_after_try_in fate m t m.host)
     by_request true = h
     by_request false = tried_holds fate m t m.host runs (λ run. refl) (λ ready. ready) h
 
@@ -272,12 +311,22 @@ all_hold members (x ∷ steps) all = all_hold (bus_after members x) steps (bus_h
 tries_hold : (members : List Member) (device : ℕ) (fate : Fate) → AllHoldToggles members → AllHoldToggles (one_unconcluded members device fate)
 tries_hold members device fate all = by_member (member_at members device) refl
   where
-    by_member : (o : Option Member) → member_at members device ≡ o → AllHoldToggles (elim o as (λ _. List Member) [ None ↦ members | Some m ↦ with_member members device (unconcluded_of fate m (running m.transfer)) ])
+    by_member : (o : Option Member) → member_at members device ≡ o
+        → AllHoldToggles
+        (elim o as
+        (λ _. List Member) [
+          | None ↦ members
+          | Some m ↦
+              with_member members device (member_out_of_memory fate m (running m.transfer))
+        ])
     by_member None e = all
-    by_member (Some m) e = All-set HoldsToggle members (device - 1) (unconcluded_of fate m (running m.transfer)) (unconcluded_holds fate (running m.transfer) m refl (member_holds members device m all e)) all
+    by_member (Some m) e =
+        All-set HoldsToggle members (device - 1) (member_out_of_memory fate m (running m.transfer))
+        (unconcluded_holds fate (running m.transfer) m refl (member_holds members device m all e)) all
 
--- also behind a step that is refused
-refused_hold : (members : List Member) (x : Step) (e : StackFault) → AllHoldToggles members → AllHoldToggles (refused_after members x e)
+-- also after a step that is refused
+refused_hold : (members : List Member) (x : Step) (e : StackFault) → AllHoldToggles members
+    → AllHoldToggles (bus_after_refusal members x e)
 refused_hold members (ControlStep device fate) faults.Memory all = tries_hold members device fate all
 refused_hold members (ControlStep device fate) faults.NoDevice all = all
 refused_hold members (ControlStep device fate) faults.NotReady all = all
@@ -293,10 +342,14 @@ refused_hold members (BeginStep device request) e all = all
 refused_hold members (HaltStep device) e all = all
 refused_hold members (ResetStep device) e all = all
 
-pub stepped_hold : (members after : List Member) (x : Step) (result : Result Told StackFault) → OnOk result (after ≡ bus_after members x) → IfErr result (λ e. after ≡ refused_after members x e)
-    → AllHoldToggles members → AllHoldToggles after
-stepped_hold members after x (Ok told) done refused all = subst AllHoldToggles (sym done) (bus_holds members x all)
-stepped_hold members after x (Err e) done refused all = subst AllHoldToggles (sym refused) (refused_hold members x e all)
+pub stepped_hold : (members state_after_step : List Member) (x : Step) (result : Result Told StackFault)
+    → OnOk result (state_after_step ≡ bus_after members x)
+    → IfErr result (λ e. state_after_step ≡ bus_after_refusal members x e)
+    → AllHoldToggles members → AllHoldToggles state_after_step
+stepped_hold members state_after_step x (Ok told) done refused all =
+    subst AllHoldToggles (sym done) (bus_holds members x all)
+stepped_hold members state_after_step x (Err e) done refused all =
+    subst AllHoldToggles (sym refused) (refused_hold members x e all)
 
 -- where a device was attached
 pub starts_hold : (start : Start) (addr : ℕ) (config : Config) (descriptor : List ℕ) (layout : Contents) → HoldsToggle (member_at_start start addr config descriptor layout)

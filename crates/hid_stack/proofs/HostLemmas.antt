@@ -15,16 +15,16 @@ use Rattle.hid_requests.specs.declared.request.Request.TheVariants as requests
 use Rattle.hid_requests.specs.Descriptors.{FitsConfig, configuration_bytes, device_bytes}
 use Rattle.hid_requests.proofs.DescriptorLemmas.{configuration_read}
 use Rattle.hid_device.specs.Core.{CoreState}
-use Rattle.hid_device.specs.Deciding.{device_info}
-use Rattle.hid_layout.specs.Laying.{Lays}
+use Rattle.hid_device.specs.RequestTable.{device_info}
+use Rattle.hid_layout.specs.Parsing.{ParsesTo}
 use Rattle.hid_host.specs.declared.fault.StackFault.{StackFault}
 use Rattle.hid_host.specs.declared.fault.StackFault.TheVariants.{NoDevice, NotReady, Refused, Control, BadDescriptor, Report, TooManyDevices, Memory}
 use Rattle.hid_host.specs.declared.fault.DescriptorFault.TheVariants.{Info, ReportLength, Layout, Device}
 use Rattle.hid_host.specs.declared.phase.HostPhase.{HostPhase}
 use Rattle.hid_host.specs.declared.phase.HostPhase.TheVariants.{Cold, Described, Parsed, Ready}
 use Rattle.hid_host.specs.Conclusions.{ConfigRead, Configured, DeviceRead, Makes, ReportRead, leads_to, phase_made}
-use Rattle.hid_host.specs.Host.{told_made}
-use Rattle.hid_stack.specs.Knowing.{HasEffect, IsNoRefusal, KnowsAt, info_of}
+use Rattle.hid_host.specs.Host.{conclusion_result}
+use Rattle.hid_stack.specs.HostInvariant.{HasEffect, IsConsistentAt, IsNoRefusal, info_of}
 use Rattle.hid_host.specs.Phase.{cleared_phase, may_begin, state_of}
 
 -- ---- a configuration is read in one way
@@ -85,7 +85,9 @@ device_is bytes info (Err Memory) is h = absurd h
 
 -- ---- the report descriptor has the device's layout, memory aside
 
-pub report_is : HasOneReading → AcceptsNoRefused → (info : ConfigInfo) (bytes : List ℕ) (layout : Contents) (read : Result Contents StackFault) → Lays bytes layout → length bytes ≡ info.report_length
+pub report_is : HasOneReading → AcceptsNoRefused
+    → (info : ConfigInfo) (bytes : List ℕ) (layout : Contents) (read : Result Contents StackFault)
+    → ParsesTo bytes layout → length bytes ≡ info.report_length
     → ReportRead info bytes read → (read ≡ Ok layout) ⊎ (read ≡ Err Memory)
 report_is one apart info bytes layout (Ok other) lays long (len, other_lays) =
     let same : other ≡ layout = other_lays.laid ∙ ap layout_of (one bytes other_lays.items lays.items other_lays.accepted lays.accepted) ∙ sym lays.laid in
@@ -111,10 +113,10 @@ IsAnswer requests.Config core bytes = bytes ≡ configuration_bytes (info_of cor
 IsAnswer requests.Report core bytes = bytes ≡ core.descriptor
 IsAnswer _ core bytes = Unit {0}
 
--- the host knows its device behind it, and nothing was refused
+-- the host knows its device after it, and nothing was refused
 pub record Learns (addr : ℕ) (phase : HostPhase) (core : CoreState) (made : Result HostPhase StackFault) : Type 0 where
-  pub knows : KnowsAt (phase_made phase made) addr core
-  pub told : IsNoRefusal (told_made made)
+  pub knows : IsConsistentAt (phase_made phase made) addr core
+  pub told : IsNoRefusal (conclusion_result made)
 
 learns_so : (addr : ℕ) (phase : HostPhase) (core : CoreState) (made other : Result HostPhase StackFault) → made ≡ other → Learns addr phase core other → Learns addr phase core made
 learns_so addr phase core made other is h = subst (λ (m : Result HostPhase StackFault). Learns addr phase core m) (sym is) h
@@ -122,10 +124,14 @@ learns_so addr phase core made other is h = subst (λ (m : Result HostPhase Stac
 pub fits_info : (core : CoreState) → length core.descriptor < 2 ^ 16 → FitsConfig (info_of core)
 fits_info core short = record { report_length = short; endpoint = search rules }
 
-report_learned : HasOneReading → AcceptsNoRefused → (addr : ℕ) (info : ConfigInfo) (core : CoreState) (bytes : List ℕ) (read : Result Contents StackFault) → Lays core.descriptor core.layout
+report_learned : HasOneReading → AcceptsNoRefused
+    → (addr : ℕ) (info : ConfigInfo) (core : CoreState) (bytes : List ℕ) (read : Result Contents StackFault)
+    → ParsesTo core.descriptor core.layout
     → info ≡ info_of core → bytes ≡ core.descriptor → ReportRead info bytes read → Learns addr (Described info) core (leads_to (Parsed info) read)
 report_learned one apart addr info core bytes read lays knows is h =
-    elim (report_is one apart info bytes core.layout read (subst (λ (b : List ℕ). Lays b core.layout) (sym is) lays) (ap (λ (b : List ℕ). length b) is ∙ ap (λ (i : ConfigInfo). i.report_length) (sym knows)) h) [
+    elim (report_is one apart info bytes core.layout read
+    (subst (λ (b : List ℕ). ParsesTo b core.layout) (sym is) lays)
+    (ap (λ (b : List ℕ). length b) is ∙ ap (λ (i : ConfigInfo). i.report_length) (sym knows)) h) [
       | inl ok ↦ learns_so addr (Described info) core _ (Ok (Parsed info core.layout)) (ap (leads_to (Parsed info)) ok) (record { knows = (knows, refl); told = tt })
       | inr none ↦ learns_so addr (Described info) core _ (Err Memory) (ap (leads_to (Parsed info)) none) (record { knows = knows; told = tt })
     ]
@@ -133,20 +139,23 @@ report_learned one apart addr info core bytes read lays knows is h =
 configured_learned : (addr : ℕ) (info : ConfigInfo) (layout : Contents) (core : CoreState) (made : Result HostPhase StackFault) → info ≡ info_of core → layout ≡ core.layout → core.is_configured ≡ true
     → Configured addr info layout made → Learns addr (Parsed info layout) core made
 configured_learned addr info layout core (Ok next) says laid took is = record {
-  knows = subst (λ (p : HostPhase). KnowsAt p addr core) (sym is) (laid, took, refl, ap (λ (i : ConfigInfo). i.endpoint) says);
+  knows = subst (λ (p : HostPhase). IsConsistentAt p addr core) (sym is)
+      (laid, took, refl, ap (λ (i : ConfigInfo). i.endpoint) says);
   told = tt;
 }
 configured_learned addr info layout core (Err fault) says laid took is = learns_so addr (Parsed info layout) core (Err fault) (Err Memory) (ap (λ (f : StackFault). Err f) is) (record { knows = (says, laid); told = tt })
 
--- a host whose pipe begins anew knows the same
-cleared_known : (phase : HostPhase) (addr : ℕ) (core : CoreState) → KnowsAt phase addr core → KnowsAt (cleared_phase phase) addr core
+-- a host whose pipe starts again knows the same
+cleared_known : (phase : HostPhase) (addr : ℕ) (core : CoreState) → IsConsistentAt phase addr core
+    → IsConsistentAt (cleared_phase phase) addr core
 cleared_known Cold addr core knows = knows
 cleared_known (Described info) addr core knows = knows
 cleared_known (Parsed info layout) addr core knows = knows
 cleared_known (Ready known) addr core knows = knows
 
 pub learned : HasOneReading → AcceptsNoRefused → (addr : ℕ) (request : Request) (phase : HostPhase) (core : CoreState) (bytes : List ℕ) (made : Result HostPhase StackFault)
-    → Lays core.descriptor core.layout → length core.descriptor < 2 ^ 16 → KnowsAt phase addr core → may_begin request (state_of phase) ≡ true → IsAnswer request core bytes → HasEffect request core
+    → ParsesTo core.descriptor core.layout → length core.descriptor < 2 ^ 16 → IsConsistentAt phase addr core
+    → may_begin request (state_of phase) ≡ true → IsAnswer request core bytes → HasEffect request core
     → Makes addr request phase bytes made → Learns addr phase core made
 learned one apart addr requests.Device phase core bytes made lays short knows needs answer effect (read, h, is) =
     learns_so addr phase core made (Ok phase) (is ∙ ap (leads_to (λ _. phase)) (device_is bytes (device_info core.config) read answer h)) (record { knows = knows; told = tt })

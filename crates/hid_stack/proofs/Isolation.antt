@@ -13,9 +13,9 @@ use Rattle.hid_snapshots.specs.declared.event.Event.{Event}
 use Rattle.hid_snapshots.proofs.ItemLemmas.{set_here, set_there}
 use Rattle.hid_bus.specs.Rounds.{OwnStep, Changes, Polls}
 use Rattle.hid_bus.specs.Rounds as own_steps
-use Rattle.hid_bus.specs.Following.{FollowsLife, course_from}
-use Rattle.hid_bus.specs.Lives.{course_behind, happenings, told_in}
-use Rattle.hid_bus.specs.Stations.{Station, after_all, events_in}
+use Rattle.hid_bus.specs.HistoryState.{FollowsHistory, history_from}
+use Rattle.hid_bus.specs.DeviceHistory.{events_of_history, history_after_all, outcomes_of_events}
+use Rattle.hid_bus.specs.LinkState.{LinkState, events_of_steps, state_after_steps}
 use Rattle.hid_host.specs.declared.phase.HostState.{HostState}
 use Rattle.hid_host.specs.declared.phase.HostState.TheVariants.{Ready}
 use Rattle.hid_host.specs.Phase.{may_poll}
@@ -24,12 +24,12 @@ use Rattle.hid_bus.specs.declared.step.Step.TheVariants.{Change, Frame, Poll, Be
 use Rattle.hid_bus.specs.declared.step.Delivered.{Delivered}
 use Rattle.hid_bus.specs.Delivered.{from_device}
 use Rattle.hid_bus.proofs.DeliveredLemmas.{from_append}
-use Rattle.hid_stack.specs.Members.{Member, MemberStep, Scheduled, Begins, Controls, Halts, Resets, deed_at, deeds_in, events_by, member_after, member_after_all}
-use Rattle.hid_stack.specs.Rig.{HasOnlySchedule, member_at, with_member, one_after, bus_after, tagged, one_delivers, delivered_at, bus_after_all, delivered_in, is_scheduled, member_step, member_steps, own_step, own, IsIsolated}
+use Rattle.hid_stack.specs.Members.{Member, MemberStep, Scheduled, Begins, Controls, Halts, Resets, bus_event_of_step, bus_events_of_steps, events_of_event_if, member_after, member_after_all}
+use Rattle.hid_stack.specs.Rig.{HasOnlySchedule, member_at, with_member, one_after, bus_after, with_device_number, member_deliveries, deliveries_of_step, bus_after_all, deliveries_of_steps, is_scheduled, member_step, member_steps, own_step, device_steps, IsIsolated}
 use Rattle.hid_stack.specs.Headline.{DeliversChanges, DevicesLive, KeepsToRounds}
-use Rattle.hid_bus.proofs.LifeLemmas.{lives_on}
+use Rattle.hid_bus.proofs.HistoryEventLemmas.{lives_on}
 use Rattle.hid_bus.proofs.ScheduleLemmas.{delivers_epoch, own_told as own_told_in, stands_by_rounds}
-use Rattle.hid_stack.proofs.MemberLemmas.{layout_stays, ready_deeds, ready_stands, stations, told_on}
+use Rattle.hid_stack.proofs.MemberLemmas.{layout_stays, links, ready_bus_events, ready_stands, told_on}
 
 same_places : (d e : ℕ) → eqb d 0 ≡ false → eqb e 0 ≡ false → d - 1 ≡ e - 1 → d ≡ e
 same_places d e some_d some_e same = grind (arith, nat_tests)
@@ -63,7 +63,7 @@ after_own m (Some x) = member_after m x
 
 abbrev pub own_events : Member → Option MemberStep → List Event
 own_events m None = []
-own_events m (Some x) = events_by (items_of m.layout) m.station (deed_at m x)
+own_events m (Some x) = events_of_event_if (items_of m.layout) m.link (bus_event_of_step m x)
 
 pub same_or_not : (d device : ℕ) → ((d ≡ device) × (eqb d device ≡ true)) ⊎ ((d ≡ device → ⊥) × (eqb d device ≡ false))
 same_or_not d device = grind (arith, nat_tests)
@@ -106,42 +106,69 @@ step_state device members m (Halt d) h = one_state d device members m Halts h
 step_state device members m (Reset d) h = one_state d device members m Resets h
 
 -- what one step delivers of one device
-from_tagged_same : (device : ℕ) (es : List Event) → eqb device device ≡ true → from_device device (map (tagged device) es) ≡ es
+from_tagged_same : (device : ℕ) (es : List Event) → eqb device device ≡ true
+    → from_device device (map (with_device_number device) es) ≡ es
 from_tagged_same device [] h = refl
 from_tagged_same device (e ∷ es) h = rw h (ap (λ (es : List Event). e ∷ es) (from_tagged_same device es h))
 
-pub from_tagged_other : (d device : ℕ) (es : List Event) → eqb d device ≡ false → from_device device (map (tagged d) es) ≡ []
+pub from_tagged_other : (d device : ℕ) (es : List Event) → eqb d device ≡ false
+    → from_device device (map (with_device_number d) es) ≡ []
 from_tagged_other d device [] h = refl
 from_tagged_other d device (e ∷ es) h = rw h (from_tagged_other d device es h)
 
-events_same : (device : ℕ) (members : List Member) (m : Member) (y : MemberStep) → eqb device device ≡ true → member_at members device ≡ Some m → from_device device (one_delivers members device y) ≡ events_by (items_of m.layout) m.station (deed_at m y)
+events_same : (device : ℕ) (members : List Member) (m : Member) (y : MemberStep) → eqb device device ≡ true
+    → member_at members device ≡ Some m
+    → from_device device (member_deliveries members device y)
+    ≡ events_of_event_if (items_of m.layout) m.link (bus_event_of_step m y)
 events_same device members m y hit h =
-    ap (λ (o : Option Member). from_device device (elim o as (λ _. List Delivered) [ None ↦ [] | Some t ↦ map (tagged device) (events_by (items_of t.layout) t.station (deed_at t y)) ])) h
-    ∙ from_tagged_same device (events_by (items_of m.layout) m.station (deed_at m y)) hit
+    ap (λ (o : Option Member). from_device device
+    (elim o as
+    (λ _. List Delivered) [
+      | None ↦ []
+      | Some t ↦
+          map (with_device_number device) (events_of_event_if (items_of t.layout) t.link (bus_event_of_step t y))
+    ])) h
+    ∙ from_tagged_same device (events_of_event_if (items_of m.layout) m.link (bus_event_of_step m y)) hit
 
-events_other : (d device : ℕ) (members : List Member) (y : MemberStep) → eqb d device ≡ false → from_device device (one_delivers members d y) ≡ []
+events_other : (d device : ℕ) (members : List Member) (y : MemberStep) → eqb d device ≡ false
+    → from_device device (member_deliveries members d y) ≡ []
 events_other d device members y miss =
-    elim (member_at members d) as (λ (o : Option Member). from_device device (elim o as (λ _. List Delivered) [ None ↦ [] | Some t ↦ map (tagged d) (events_by (items_of t.layout) t.station (deed_at t y)) ]) ≡ [])
-    [ None ↦ refl | Some t ↦ from_tagged_other d device (events_by (items_of t.layout) t.station (deed_at t y)) miss ]
+    elim (member_at members d) as
+    (λ (o : Option Member). from_device device
+    (elim o as
+    (λ _. List Delivered) [
+      | None ↦ []
+      | Some t ↦
+          map (with_device_number d) (events_of_event_if (items_of t.layout) t.link (bus_event_of_step t y))
+    ]) ≡ []) [
+      | None ↦ refl
+      | Some t ↦
+          from_tagged_other d device (events_of_event_if (items_of t.layout) t.link (bus_event_of_step t y)) miss
+    ]
 
-one_told : (d device : ℕ) (members : List Member) (m : Member) (y : MemberStep) → member_at members device ≡ Some m → from_device device (one_delivers members d y) ≡ own_events m (if_own d device y)
+one_told : (d device : ℕ) (members : List Member) (m : Member) (y : MemberStep) → member_at members device ≡ Some m
+    → from_device device (member_deliveries members d y) ≡ own_events m (if_own d device y)
 one_told d device members m y h = elim (same_or_not d device) [
   | inl same ↦
       let hit : eqb device device ≡ true = subst (λ (n : ℕ). eqb n device ≡ true) same.0 same.1 in
-      subst (λ (n : ℕ). from_device device (one_delivers members n y) ≡ own_events m (if_own n device y)) (sym same.0)
+      subst (λ (n : ℕ). from_device device (member_deliveries members n y) ≡ own_events m (if_own n device y))
+      (sym same.0)
       (events_same device members m y hit h ∙ sym (ap (λ (b : Bool). own_events m (cond b (Some y) None)) hit))
   | inr other ↦ events_other d device members y other.1 ∙ sym (ap (λ (b : Bool). own_events m (cond b (Some y) None)) other.1)
 ]
 
 -- what delivers nothing tells nothing, whosever step it is
-quiet_own : (m : Member) (d device : ℕ) (y : MemberStep) → events_by (items_of m.layout) m.station (deed_at m y) ≡ [] → [] ≡ own_events m (if_own d device y)
+quiet_own : (m : Member) (d device : ℕ) (y : MemberStep)
+    → events_of_event_if (items_of m.layout) m.link (bus_event_of_step m y) ≡ []
+    → [] ≡ own_events m (if_own d device y)
 quiet_own m d device y quiet = by_number (eqb d device)
   where
     by_number : (b : Bool) → [] ≡ own_events m (cond b (Some y) None)
     by_number true = sym quiet
     by_number false = refl
 
-pub step_events : (device : ℕ) (members : List Member) (m : Member) (x : Step) → member_at members device ≡ Some m → from_device device (delivered_at members x) ≡ own_events m (member_step device x)
+pub step_events : (device : ℕ) (members : List Member) (m : Member) (x : Step) → member_at members device ≡ Some m
+    → from_device device (deliveries_of_step members x) ≡ own_events m (member_step device x)
 step_events device members m (Change d change) h = quiet_own m d device (Scheduled (Changes change)) refl
 step_events device members m Frame h = refl
 step_events device members m (Poll d fate) h = one_told d device members m (Scheduled (Polls fate)) h
@@ -155,7 +182,10 @@ own_states : (m : Member) (o : Option MemberStep) (steps : List MemberStep) → 
 own_states m None steps = refl
 own_states m (Some x) steps = refl
 
-own_told : (m : Member) (o : Option MemberStep) (steps : List MemberStep) → own_events m o ++ told_in (items_of m.layout) (after_own m o).station (deeds_in (after_own m o) steps) ≡ told_in (items_of m.layout) m.station (deeds_in m (cons_option o steps))
+own_told : (m : Member) (o : Option MemberStep) (steps : List MemberStep)
+    → own_events m o
+    ++ events_of_history (items_of m.layout) (after_own m o).link (bus_events_of_steps (after_own m o) steps)
+    ≡ events_of_history (items_of m.layout) m.link (bus_events_of_steps m (cons_option o steps))
 own_told m None steps = refl
 own_told m (Some x) steps = told_on m x steps
 
@@ -170,29 +200,39 @@ states (x ∷ steps) members device m h =
     states steps (bus_after members x) device (after_own m (member_step device x)) (step_state device members m x h)
     ∙ ap (λ (t : Member). Some t) (own_states m (member_step device x) (member_steps device steps))
 
--- one step, and what is delivered behind it
-told_behind : (x : Step) (rest : List Delivered) (steps : List Step) (members : List Member) (device : ℕ) (m : Member) → member_at members device ≡ Some m
-    → (let own = after_own m (member_step device x) in from_device device rest ≡ told_in (items_of own.layout) own.station (deeds_in own (member_steps device steps)))
-    → from_device device (delivered_at members x ++ rest) ≡ told_in (items_of m.layout) m.station (deeds_in m (member_steps device (x ∷ steps)))
-told_behind x rest steps members device m h later =
-    let own = after_own m (member_step device x) in
-    let here = ap (λ (l : Contents). told_in (items_of l) own.station (deeds_in own (member_steps device steps))) (after_own-layout m (member_step device x)) in
-    from_append device (delivered_at members x) rest
+-- one step, and what is delivered after it
+told_later : (x : Step) (rest : List Delivered) (steps : List Step) (members : List Member) (device : ℕ) (m : Member) → member_at members device ≡ Some m
+    → (let device_steps =
+    after_own m (member_step device x) in from_device device rest
+    ≡ events_of_history (items_of device_steps.layout) device_steps.link
+    (bus_events_of_steps device_steps (member_steps device steps)))
+    → from_device device (deliveries_of_step members x ++ rest)
+    ≡ events_of_history (items_of m.layout) m.link (bus_events_of_steps m (member_steps device (x ∷ steps)))
+told_later x rest steps members device m h later =
+    let device_steps = after_own m (member_step device x) in
+    let here =
+    ap (λ (l : Contents). events_of_history (items_of l) device_steps.link
+    (bus_events_of_steps device_steps (member_steps device steps))) (after_own-layout m (member_step device x)) in
+    from_append device (deliveries_of_step members x) rest
     ∙ ap (λ (es : List Event). es ++ from_device device rest) (step_events device members m x h)
     ∙ ap (λ (es : List Event). own_events m (member_step device x) ++ es) (later ∙ here)
     ∙ own_told m (member_step device x) (member_steps device steps)
 
 told : (steps : List Step) (members : List Member) (device : ℕ) (m : Member) → member_at members device ≡ Some m
-    → from_device device (delivered_in members steps) ≡ told_in (items_of m.layout) m.station (deeds_in m (member_steps device steps))
+    → from_device device (deliveries_of_steps members steps)
+    ≡ events_of_history (items_of m.layout) m.link (bus_events_of_steps m (member_steps device steps))
 told [] members device m h = refl
 told (x ∷ steps) members device m h =
-    told_behind x (delivered_in (bus_after members x) steps) steps members device m h
+    told_later x (deliveries_of_steps (bus_after members x) steps) steps members device m h
     (told steps (bus_after members x) device (after_own m (member_step device x)) (step_state device members m x h))
 
-pub isolated : (members after : List Member) (steps : List Step) (old new : List Delivered) → after ≡ bus_after_all members steps → new ≡ old ++ delivered_in members steps → IsIsolated members after steps old new
+pub isolated : (members after : List Member) (steps : List Step) (old new : List Delivered)
+    → after ≡ bus_after_all members steps → new ≡ old ++ deliveries_of_steps members steps
+    → IsIsolated members after steps old new
 isolated members after steps old new states_are told_are = record {
   states = λ device m h. ap (λ (ms : List Member). member_at ms device) states_are ∙ states steps members device m h;
-  events = λ device m h. ap (from_device device) told_are ∙ from_append device old (delivered_in members steps) ∙ ap (λ (es : List Event). from_device device old ++ es) (told steps members device m h);
+  events = λ device m h. ap (from_device device) told_are ∙ from_append device old (deliveries_of_steps members steps)
+      ∙ ap (λ (es : List Event). from_device device old ++ es) (told steps members device m h);
 }
 
 -- steps of which none is of a transfer of a device are its schedule
@@ -233,52 +273,60 @@ cons_mapped : (o : Option OwnStep) (xs : List OwnStep) → cons_option (option_m
 cons_mapped None xs = refl
 cons_mapped (Some x) xs = refl
 
-pub only_schedule : (device : ℕ) (steps : List Step) → HasOnlySchedule device steps → member_steps device steps ≡ map (λ y. Scheduled y) (own device steps)
+pub only_schedule : (device : ℕ) (steps : List Step) → HasOnlySchedule device steps
+    → member_steps device steps ≡ map (λ y. Scheduled y) (device_steps device steps)
 only_schedule device [] h = refl
 only_schedule device (x ∷ steps) h =
     ap (λ (o : Option MemberStep). cons_option o (member_steps device steps)) (only_step device x (h 0 x (omega arith)))
     ∙ ap (cons_option (option_map (λ y. Scheduled y) (own_step device x))) (only_schedule device steps (λ k d lt. h (suc k) d (omega (arith, lt))))
-    ∙ cons_mapped (own_step device x) (own device steps)
+    ∙ cons_mapped (own_step device x) (device_steps device steps)
 
 -- a device that was just configured is polled
 fresh_polls : (m : Member) → m.host ≡ Ready → m.clearing ≡ false → may_poll m.host m.clearing ≡ true
 fresh_polls m ready clear = ap (λ (h : HostState). may_poll h m.clearing) ready ∙ ap (may_poll Ready) clear
 
--- and delivers the events of its epoch
-pub headline : (members : List Member) (steps : List Step) (old new : List Delivered) → new ≡ old ++ delivered_in members steps → DeliversChanges members steps old new
+-- a device that was just configured delivers the events of its epoch
+pub headline : (members : List Member) (steps : List Step) (old new : List Delivered)
+    → new ≡ old ++ deliveries_of_steps members steps → DeliversChanges members steps old new
 headline members steps old new told_are device m snapshot idle h just only =
     let items = items_of m.layout in
-    ap (from_device device) told_are ∙ from_append device old (delivered_in members steps)
+    ap (from_device device) told_are ∙ from_append device old (deliveries_of_steps members steps)
     ∙ ap (λ (es : List Event). from_device device old ++ es)
     (told steps members device m h
-    ∙ ap (λ (xs : List MemberStep). told_in items m.station (deeds_in m xs)) (only_schedule device steps only)
-    ∙ ap (told_in items m.station) (ready_deeds (own device steps) m (fresh_polls m just.host just.clear))
-    ∙ own_told_in items (own device steps) m.station
-    ∙ ap (λ (s : Station). events_in items s (own device steps)) just.station ∙ delivers_epoch items snapshot idle (own device steps))
+    ∙ ap (λ (xs : List MemberStep). events_of_history items m.link (bus_events_of_steps m xs))
+    (only_schedule device steps only)
+    ∙ ap (events_of_history items m.link)
+    (ready_bus_events (device_steps device steps) m (fresh_polls m just.host just.clear))
+    ∙ own_told_in items (device_steps device steps) m.link
+    ∙ ap (λ (s : LinkState). events_of_steps items s (device_steps device steps)) just.link
+    ∙ delivers_epoch items snapshot idle (device_steps device steps))
 
 -- each device without an open round stands by the rounds of its own steps
 pub keeps_to_rounds : (members after : List Member) (steps : List Step) → after ≡ bus_after_all members steps → KeepsToRounds members steps after
 keeps_to_rounds members after steps states_are device m h ready none_open only = (
-  after_all (items_of m.layout) m.station (own device steps),
+  state_after_steps (items_of m.layout) m.link (device_steps device steps),
   ap (λ (ms : List Member). member_at ms device) states_are ∙ states steps members device m h
       ∙ ap (λ (xs : List MemberStep). Some (member_after_all m xs)) (only_schedule device steps only)
-      ∙ ap (λ (n : Member). Some n) (ready_stands (own device steps) m ready),
-  stands_by_rounds (items_of m.layout) m.station (own device steps) none_open,
+      ∙ ap (λ (n : Member). Some n) (ready_stands (device_steps device steps) m ready),
+  stands_by_rounds (items_of m.layout) m.link (device_steps device steps) none_open,
 )
 
--- and lives on, whatever befalls it
-pub devices_live : (members after : List Member) (steps : List Step) (old new : List Delivered) → after ≡ bus_after_all members steps → new ≡ old ++ delivered_in members steps → DevicesLive members steps after old new
+-- each device without an open round goes on as its history says, whatever happens to it
+pub devices_live : (members after : List Member) (steps : List Step) (old new : List Delivered)
+    → after ≡ bus_after_all members steps → new ≡ old ++ deliveries_of_steps members steps
+    → DevicesLive members steps after old new
 devices_live members after steps old new states_are told_are device m h none_open =
     let xs = member_steps device steps in
     let apart = isolated members after steps old new states_are told_are in
-    let lives = lives_on (items_of m.layout) m.station (deeds_in m xs) none_open in (
+    let lives = lives_on (items_of m.layout) m.link (bus_events_of_steps m xs) none_open in (
       member_after_all m xs,
-      told_in (items_of m.layout) m.station (deeds_in m xs),
+      events_of_history (items_of m.layout) m.link (bus_events_of_steps m xs),
       apart.states device m h,
       apart.events device m h,
-      subst (λ (s : Station). FollowsLife (items_of m.layout) m.station.view m.station.odd
-          (happenings (items_of m.layout) (deeds_in m xs) (course_from m.station)) (course_behind (items_of m.layout) (deeds_in m xs) (course_from m.station))
-          (told_in (items_of m.layout) m.station (deeds_in m xs)) s) (sym (stations xs m)) lives,
+      subst (λ (s : LinkState). FollowsHistory (items_of m.layout) m.link.view m.link.toggle
+          (outcomes_of_events (items_of m.layout) (bus_events_of_steps m xs) (history_from m.link))
+          (history_after_all (items_of m.layout) (bus_events_of_steps m xs) (history_from m.link))
+          (events_of_history (items_of m.layout) m.link (bus_events_of_steps m xs)) s) (sym (links xs m)) lives,
     )
 
 pub ruleset by_itself = (isolated, headline, keeps_to_rounds, devices_live)
@@ -288,18 +336,29 @@ after_push : (s : List Member) (steps : List Step) (step : Step) → bus_after_a
 after_push s [] step = refl
 after_push s (x ∷ steps) step = after_push (bus_after s x) steps step
 
-delivered_push : (s : List Member) (steps : List Step) (step : Step) → delivered_in s (steps ++ step ∷ []) ≡ delivered_in s steps ++ delivered_at (bus_after_all s steps) step
-delivered_push s [] step = append-nil (delivered_at s step)
-delivered_push s (x ∷ steps) step = rw (delivered_push (bus_after s x) steps step) (sym (append_assoc (delivered_at s x) (delivered_in (bus_after s x) steps) (delivered_at (bus_after_all (bus_after s x) steps) step)))
+delivered_push : (s : List Member) (steps : List Step) (step : Step)
+    → deliveries_of_steps s (steps ++ step ∷ []) ≡ deliveries_of_steps s steps
+    ++ deliveries_of_step (bus_after_all s steps) step
+delivered_push s [] step = append-nil (deliveries_of_step s step)
+delivered_push s (x ∷ steps) step =
+    rw (delivered_push (bus_after s x) steps step)
+    (sym (append_assoc (deliveries_of_step s x) (deliveries_of_steps (bus_after s x) steps)
+    (deliveries_of_step (bus_after_all (bus_after s x) steps) step)))
 
 pub ran_more : (s mid new : List Member) (steps : List Step) (i : ℕ) (d : Step) → i < length steps → mid ≡ bus_after_all s (take i steps) → new ≡ bus_after mid (get_or steps i d) → new ≡ bus_after_all s (take (i + 1) steps)
 ran_more s mid new steps i d lt before one = one ∙ ap (λ (m : List Member). bus_after m (get_or steps i d)) before ∙ sym (ap (bus_after_all s) (take_more steps i d lt) ∙ after_push s (take i steps) (get_or steps i d))
 
-pub told_more : (s mid : List Member) (first old new : List Delivered) (steps : List Step) (i : ℕ) (d : Step) → i < length steps → mid ≡ bus_after_all s (take i steps) → old ≡ first ++ delivered_in s (take i steps) → new ≡ old ++ delivered_at mid (get_or steps i d) → new ≡ first ++ delivered_in s (take (i + 1) steps)
+pub told_more : (s mid : List Member) (first old new : List Delivered) (steps : List Step) (i : ℕ) (d : Step)
+    → i < length steps → mid ≡ bus_after_all s (take i steps) → old ≡ first ++ deliveries_of_steps s (take i steps)
+    → new ≡ old ++ deliveries_of_step mid (get_or steps i d)
+    → new ≡ first ++ deliveries_of_steps s (take (i + 1) steps)
 told_more s mid first old new steps i d lt before told one =
-    let more : delivered_in s (take (i + 1) steps) ≡ delivered_in s (take i steps) ++ delivered_at (bus_after_all s (take i steps)) (get_or steps i d)
-    = ap (delivered_in s) (take_more steps i d lt) ∙ delivered_push s (take i steps) (get_or steps i d) in
-    one ∙ ap (λ (es : List Delivered). es ++ delivered_at mid (get_or steps i d)) told
-    ∙ ap (λ (m : List Member). (first ++ delivered_in s (take i steps)) ++ delivered_at m (get_or steps i d)) before
-    ∙ append_assoc first (delivered_in s (take i steps)) (delivered_at (bus_after_all s (take i steps)) (get_or steps i d))
+    let more : deliveries_of_steps s (take (i + 1) steps) ≡ deliveries_of_steps s (take i steps)
+    ++ deliveries_of_step (bus_after_all s (take i steps)) (get_or steps i d)
+    = ap (deliveries_of_steps s) (take_more steps i d lt) ∙ delivered_push s (take i steps) (get_or steps i d) in
+    one ∙ ap (λ (es : List Delivered). es ++ deliveries_of_step mid (get_or steps i d)) told
+    ∙ ap (λ (m : List Member). (first ++ deliveries_of_steps s (take i steps))
+    ++ deliveries_of_step m (get_or steps i d)) before
+    ∙ append_assoc first (deliveries_of_steps s (take i steps))
+    (deliveries_of_step (bus_after_all s (take i steps)) (get_or steps i d))
     ∙ ap (λ (es : List Delivered). first ++ es) (sym more)

@@ -1,4 +1,4 @@
--- A host knows its virtual device behind whatever befalls the two.
+-- A host knows its virtual device after whatever happens to the two.
 use Rattle.std.proofs.Common.{◌≡◌, ◌⊎◌, inl, inr, ℕ, Bool, true, false, List, [], ◌∷◌, length, take, suc, zero, Option, Some, None, Result, Ok, Err, refl, ap, sym, ◌∙◌, subst, arith}
 use Rattle.std.specs.Prelude.{IfSome, is_some, ◌<◌, ◌≤◌, ◌^◌, if◌then◌else◌}
 use Rattle.hid_descriptor.specs.Laws.{HasOneReading, AcceptsNoRefused}
@@ -11,41 +11,42 @@ use Rattle.usb_control.specs.declared.fault.ControlFault.TheVariants.{NoTransfer
 use Rattle.usb_control.specs.declared.host.HostStage.{HostStage}
 use Rattle.usb_control.specs.declared.host.HostStage.TheVariants as stages
 use Rattle.usb_control.specs.declared.host.Progress.{Progress}
-use Rattle.usb_control.specs.Computed.{AppliesBy, PreparesBy, host_tried}
+use Rattle.usb_control.specs.TryFunctions.{AppliesBy, PreparesBy, host_tried}
 use Rattle.usb_control.specs.Device.{DevControlState}
 use Rattle.usb_control.specs.Host.{HostTransferState, IsRunning, progress_of}
-use Rattle.usb_control.specs.Meanwhile.{decision_now}
+use Rattle.usb_control.specs.Interleaving.{decision_now}
 use Rattle.usb_control.specs.Runs.{IsDone}
 use Rattle.usb_control.specs.SetupBytes.{IsSpelled, reads}
-use Rattle.usb_control.specs.Standing.{Stands}
+use Rattle.usb_control.specs.Positions.{Stands}
 use Rattle.usb_control.specs.Transaction.{Transacts}
-use Rattle.usb_control.specs.Transfer.{Act, Decision, Place, answered_bytes, act_of, shape_of, tried}
+use Rattle.usb_control.specs.Transfer.{Act, Decision, Place, answered_bytes, act_of, shape_of, place_after_try}
 use Rattle.usb_control.proofs.LawLemmas.{begins, done_is, kept_is, read_is}
-use Rattle.usb_control.proofs.ComputedLemmas.{tries_are}
-use Rattle.usb_control.proofs.MeanwhileLemmas.{goes_by}
+use Rattle.usb_control.proofs.TryFunctionLemmas.{tries_are}
+use Rattle.usb_control.proofs.InterleavingLemmas.{goes_by}
 use Rattle.hid_requests.specs.declared.request.Request.{Request}
 use Rattle.hid_requests.specs.declared.request.Request.TheVariants as requests
 use Rattle.hid_requests.specs.declared.request.Asking.{Asking}
-use Rattle.hid_requests.specs.Asking.{FitsRequest, asks_endpoint, sends_of, setup_for}
+use Rattle.hid_requests.specs.RequestSetup.{FitsRequest, asks_endpoint, sends_of, setup_for}
 use Rattle.hid_requests.specs.Descriptors.{configuration_bytes, device_bytes}
 use Rattle.hid_requests.specs.declared.codes.TheConstants.{REPORT_ENDPOINT as ENDPOINT}
-use Rattle.hid_device.specs.Core.{CoreState}
-use Rattle.hid_device.specs.Deciding.{config_info, core_table, device_info}
-use Rattle.hid_layout.specs.Laying.{Lays}
+use Rattle.hid_snapshots.specs.declared.change.Change.{Change}
+use Rattle.hid_device.specs.Core.{CoreState, changed_core, framed_core}
+use Rattle.hid_device.specs.RequestTable.{config_info, core_table, device_info}
+use Rattle.hid_layout.specs.Parsing.{ParsesTo}
 use Rattle.hid_host.specs.declared.fault.StackFault.{StackFault}
 use Rattle.hid_host.specs.declared.fault.StackFault.TheVariants.{NotReady, Control}
 use Rattle.hid_host.specs.declared.host.Transfer.{Transfer}
 use Rattle.hid_host.specs.declared.phase.HostPhase.{HostPhase}
 use Rattle.hid_host.specs.declared.phase.HostPhase.TheVariants.{Cold, Described, Parsed, Ready}
 use Rattle.hid_host.specs.Conclusions.{Makes, phase_made}
-use Rattle.hid_host.specs.Host.{ConcludesAt, ControlSteps, HostEnd, TriesOnce, begin_refusal, begun, bytes_got, clearing_behind, clearing_with, ready_after, running, running_at, told_made}
-use Rattle.hid_stack.specs.Knowing.{Carries, HasEffect, IsBehindSetup, IsDecided, IsNoRefusal, IsPending, KnowsAt, KnowsBy, LeavesTransfers, asking_of, info_of}
+use Rattle.hid_host.specs.Host.{ConcludesAt, ControlSteps, HostEnd, TriesOnce, begin_refusal, clearing_after, clearing_with, cold_host, conclusion_result, host_after_begin, host_after_reply, read_bytes_of, ready_host, running, running_at}
+use Rattle.hid_stack.specs.HostInvariant.{FollowsTrail, HasEffect, IsAfterSetup, IsConsistentAt, IsConsistentBy, IsDecided, IsNoRefusal, IsPending, LeavesTransfers, asking_of, info_of, with_core}
 use Rattle.hid_host.specs.Phase.{IfReady, asking_at, has_endpoint, may_begin, state_of}
-use Rattle.hid_host.specs.Ready.{Known, known_behind}
+use Rattle.hid_host.specs.Ready.{Known, known_after}
 use Rattle.hid_requests.proofs.AskedLemmas.{of_reports, sends_so, spelled_so}
-use Rattle.hid_stack.specs.Trails.{Trail, ends_with, trail_behind, trail_from, trail_tried}
+use Rattle.hid_stack.specs.Trails.{Trail, ends_with, trail_after, trail_after_try, trail_from}
 use Rattle.hid_stack.proofs.HostLemmas.{IsAnswer, learned}
-use Rattle.hid_stack.proofs.KnowingLemmas.{ActsOn, Goes, acts_go, clear_brings, clear_pends, configure_brings, decided_behind, decided_stays, effect_at}
+use Rattle.hid_stack.proofs.HostInvariantLemmas.{ActsOn, Goes, acts_go, clear_brings, clear_pends, configure_brings, decided_behind, decided_stays, effect_at}
 use Rattle.hid_stack.proofs.PlacesLemmas.{open_place, past_applied}
 
 -- ---- the setups of requests
@@ -55,14 +56,16 @@ abbrev asks_with : ℕ → Setup
 asks_with n = record { request_type = 0x81; request = 6; value = 0x2200; index = 0; length = n }
 
 -- the endpoint that a host polls is its device's
-endpoint_with : (phase : HostPhase) (addr : ℕ) (core : CoreState) → KnowsAt phase addr core → has_endpoint (state_of phase) ≡ true → (asking_at phase).endpoint ≡ ENDPOINT
+endpoint_with : (phase : HostPhase) (addr : ℕ) (core : CoreState) → IsConsistentAt phase addr core
+    → has_endpoint (state_of phase) ≡ true → (asking_at phase).endpoint ≡ ENDPOINT
 endpoint_with Cold addr core knows needs = absurd (cc)
 endpoint_with (Described info) addr core knows needs = absurd (cc)
 endpoint_with (Parsed info layout) addr core knows needs = absurd (cc)
 endpoint_with (Ready known) addr core knows needs = knows.3
 
 -- what the host asks with is what the device has
-asked_with : (request : Request) (phase : HostPhase) (addr : ℕ) (core : CoreState) → KnowsAt phase addr core → may_begin request (state_of phase) ≡ true
+asked_with : (request : Request) (phase : HostPhase) (addr : ℕ) (core : CoreState) → IsConsistentAt phase addr core
+    → may_begin request (state_of phase) ≡ true
     → setup_for request (asking_at phase) ≡ setup_for request (asking_of core)
 asked_with requests.Device phase addr core knows needs = refl
 asked_with requests.Config phase addr core knows needs = refl
@@ -89,7 +92,8 @@ info_on : (old new : CoreState) → Goes old new → info_of old ≡ info_of new
 info_on old new goes =
     ap (λ config. config_info config (length old.descriptor)) (sym goes.config) ∙ ap (λ (d : List ℕ). config_info new.config (length d)) (sym goes.descriptor)
 
-pub knows_on : (phase : HostPhase) (addr : ℕ) (old new : CoreState) → Goes old new → KnowsAt phase addr old → KnowsAt phase addr new
+pub knows_on : (phase : HostPhase) (addr : ℕ) (old new : CoreState) → Goes old new → IsConsistentAt phase addr old
+    → IsConsistentAt phase addr new
 knows_on Cold addr old new goes h = tt
 knows_on (Described info) addr old new goes h = h ∙ info_on old new goes
 knows_on (Parsed info layout) addr old new goes h = (h.0 ∙ info_on old new goes, h.1 ∙ sym goes.layout)
@@ -134,8 +138,10 @@ answer_is requests.Clear decider core decision bytes says got = tt
 answer_is requests.EndpointStatus decider core decision bytes says got = tt
 
 effect_so : (request : Request) (asking : Asking) (setup : Setup) (fate : Fate) (decision : Decision) (place : Place) (decider old new : CoreState) → setup ≡ setup_for request asking
-    → (IsBehindSetup place.host → IsDecided request decider old place.decision) → (place.applied ≡ true → HasEffect request old)
-    → ActsOn setup (sends_of request) (act_of (shape_of setup) fate decision place) old new → (tried (shape_of setup) fate decision place).applied ≡ true → HasEffect request new
+    → (IsAfterSetup place.host → IsDecided request decider old place.decision)
+    → (place.applied ≡ true → HasEffect request old)
+    → ActsOn setup (sends_of request) (act_of (shape_of setup) fate decision place) old new
+    → (place_after_try (shape_of setup) fate decision place).applied ≡ true → HasEffect request new
 effect_so requests.Configure asking setup fate decision place decider old new asks decided effect acts took =
     effect_at configure_brings setup [] fate place.host decision place.decision place old new (ap (λ (s : Setup). reads s) asks) refl refl (λ behind accepted. (decided behind).by.1) effect acts took
 effect_so requests.Clear asking setup fate decision place decider old new asks decided effect acts took =
@@ -155,15 +161,17 @@ effect_so (requests.SetReport kind id bytes) asking setup fate decision place de
 effect_so requests.Halt asking setup fate decision place decider old new asks decided effect acts took = tt
 effect_so requests.EndpointStatus asking setup fate decision place decider old new asks decided effect acts took = tt
 
--- a transfer behind a try of it
+-- a transfer after a try of it
 pub record Tried (trail : Trail) (next : HostPhase) (transfer : Transfer) (old new : DevControlState CoreState) : Type 0 where
   pub goes : Goes old.requests new.requests
-  pub carries : Carries trail next transfer new
+  pub carries : FollowsTrail trail next transfer new
   pub effect : trail.place.applied ≡ true → HasEffect transfer.request new.requests
 
-pub carried : (trail : Trail) (fate : Fate) (phase next : HostPhase) (t : Transfer) (ends : HostTransferState) (old new : DevControlState CoreState) → length old.requests.descriptor < 2 ^ 16 → Carries trail phase t old
+pub carried : (trail : Trail) (fate : Fate) (phase next : HostPhase) (t : Transfer) (ends : HostTransferState)
+    (old new : DevControlState CoreState) → length old.requests.descriptor < 2 ^ 16 → FollowsTrail trail phase t old
     → IsRunning t.ends.stage → Transacts (PreparesBy core_table) (AppliesBy core_table) core_table.answer_of fate t.ends old ends new → ends.setup ≡ t.ends.setup
-    → (IsRunning ends.stage → next ≡ phase) → Tried (trail_tried fate t old trail) next (record t { ends = ends }) old new
+    → (IsRunning ends.stage → next ≡ phase)
+    → Tried (trail_after_try fate t old trail) next (record t { ends = ends }) old new
 carried trail fate phase next t ends old new short c running transacts same stays =
     let asking : Asking = asking_of old.requests in
     let setup : Setup = t.ends.setup in
@@ -173,7 +181,7 @@ carried trail fate phase next t ends old new short c running transacts same stay
     let e = (tries_are core_table fate t.ends old ends new).0 transacts in
     let g = goes_by core_table (sends_of t.request) place fate both spelled running c.stands in
     let decision : Decision = decision_now core_table both in
-    let behind : Place = tried (shape_of setup) fate decision place in
+    let behind : Place = place_after_try (shape_of setup) fate decision place in
     let act : Act = act_of (shape_of setup) fate decision place in
     let acts : ActsOn setup (sends_of t.request) act old.requests new.requests
     = subst (λ (d : DevControlState CoreState). ActsOn setup (sends_of t.request) act old.requests d.requests) (sym e.1) g.acts in
@@ -200,7 +208,9 @@ carried trail fate phase next t ends old new short c running transacts same stay
 
 -- what is concluded: on an answer, or nothing
 concluded_by : (stage : HostStage) (addr : ℕ) (request : Request) (phase next : HostPhase) (bytes : List ℕ) (result : Result Progress StackFault) → ConcludesAt stage addr request phase bytes result next
-    → ((stage ≡ stages.Done) × ((made : Result HostPhase StackFault) × Makes addr request phase bytes made × (result ≡ told_made made) × (next ≡ phase_made phase made)))
+    → ((stage ≡ stages.Done)
+    × ((made : Result HostPhase StackFault) × Makes addr request phase bytes made × (result ≡ conclusion_result made)
+    × (next ≡ phase_made phase made)))
     ⊎ ((result ≡ Ok (progress_of stage)) × (next ≡ phase))
 concluded_by stages.Done addr request phase next bytes result h = inl (refl, h)
 concluded_by stages.Setup addr request phase next bytes result h = inr h
@@ -229,32 +239,34 @@ done_by requests.Halt asking setup core applied asks effect took = tt
 done_by requests.Clear asking setup core applied asks effect took = effect (took (ap (λ (s : Setup). reads s) asks))
 done_by requests.EndpointStatus asking setup core applied asks effect took = tt
 
-pub done_effect : (trail : Trail) (fate : Fate) (phase : HostPhase) (t : Transfer) (ends : HostTransferState) (old new : DevControlState CoreState) → length old.requests.descriptor < 2 ^ 16 → Carries trail phase t old
+pub done_effect : (trail : Trail) (fate : Fate) (phase : HostPhase) (t : Transfer) (ends : HostTransferState)
+    (old new : DevControlState CoreState) → length old.requests.descriptor < 2 ^ 16 → FollowsTrail trail phase t old
     → IsRunning t.ends.stage → Transacts (PreparesBy core_table) (AppliesBy core_table) core_table.answer_of fate t.ends old ends new → ends.setup ≡ t.ends.setup
     → ends.stage ≡ stages.Done → HasEffect t.request new.requests
 done_effect trail fate phase t ends old new short c running transacts same done =
     let tried_so = carried trail fate phase phase t ends old new short c running transacts same (λ run. refl) in
-    let place : Place = (trail_tried fate t old trail).place in
+    let place : Place = (trail_after_try fate t old trail).place in
     let d = tried_so.carries in
     let is_done : IsDone place = (done_is core_table.answer_of (shape_of ends.setup) (sends_of t.request) place ends new d.stands).0 done in
     done_by t.request (asking_of new.requests) ends.setup new.requests place.applied d.asked tried_so.effect (d.applied is_done)
 
 -- the bytes of a read that is done
 pub got_so : (ends : HostTransferState) (setup : Setup) (decision : Decision) → ends.setup ≡ setup → (reads ends.setup ≡ true → ends.bytes ≡ answered_bytes (shape_of ends.setup) decision)
-    → reads setup ≡ true → bytes_got ends ≡ answered_bytes (shape_of setup) decision
+    → reads setup ≡ true → read_bytes_of ends ≡ answered_bytes (shape_of setup) decision
 got_so ends setup decision is got is_read =
     let here : reads ends.setup ≡ true = ap (λ (s : Setup). reads s) is ∙ is_read in
     ap (λ (b : Bool). if b then ends.bytes else []) here ∙ got here ∙ ap (λ (s : Setup). answered_bytes (shape_of s) decision) is
 
 record Behind (trail : Trail) (host : HostEnd) (result : Result Progress StackFault) (new : DevControlState CoreState) : Type 0 where
-  knows : KnowsBy trail host new
+  knows : IsConsistentBy trail host new
   told : IsNoRefusal result
 
 is_told : (p : Progress) (result : Result Progress StackFault) → result ≡ Ok p → IsNoRefusal result
 is_told p result is = subst IsNoRefusal (sym is) tt
 
 -- a Clear that still runs is pending
-pub clears_on : (stage : HostStage) (request : Request) (clearing : Bool) → IsRunning stage → clearing ≡ true → clearing_behind stage request clearing ≡ true
+pub clears_on : (stage : HostStage) (request : Request) (clearing : Bool) → IsRunning stage → clearing ≡ true
+    → clearing_after stage request clearing ≡ true
 clears_on stages.Done request clearing run h = absurd (cc)
 clears_on stages.Setup request clearing run h = h
 clears_on (stages.DataIn one) request clearing run h = h
@@ -264,37 +276,57 @@ clears_on stages.StatusOut request clearing run h = h
 clears_on (stages.Failed fault) request clearing run h = h
 
 once_known : HasOneReading → AcceptsNoRefused → (trail : Trail) (fate : Fate) (host after : HostEnd) (t : Transfer) (old new : DevControlState CoreState) (result : Result Progress StackFault)
-    → Lays old.requests.descriptor old.requests.layout → length old.requests.descriptor < 2 ^ 16 → KnowsAt host.phase host.addr old.requests → Carries trail host.phase t old → IsPending host.clearing t → IsRunning t.ends.stage
-    → TriesOnce (PreparesBy core_table) (AppliesBy core_table) core_table.answer_of fate host t old result after new → Behind (trail_tried fate t old trail) after result new
+    → ParsesTo old.requests.descriptor old.requests.layout → length old.requests.descriptor < 2 ^ 16
+    → IsConsistentAt host.phase host.addr old.requests → FollowsTrail trail host.phase t old
+    → IsPending host.clearing t
+    → IsRunning t.ends.stage
+    → TriesOnce (PreparesBy core_table) (AppliesBy core_table) core_table.answer_of fate host t old result after new
+    → Behind (trail_after_try fate t old trail) after result new
 once_known one apart trail fate host after t old new result lays short knows c pending running tr =
-    let behind_it : Trail = trail_tried fate t old trail in
+    let behind_it : Trail = trail_after_try fate t old trail in
     let place : Place = behind_it.place in
-    let clears : IsPending (clearing_behind tr.ends.stage t.request host.clearing) (record t { ends = tr.ends })
+    let clears : IsPending (clearing_after tr.ends.stage t.request host.clearing) (record t { ends = tr.ends })
     = λ is run. clears_on tr.ends.stage t.request host.clearing run (pending is running) in
-    elim (concluded_by tr.ends.stage host.addr t.request host.phase tr.next (bytes_got tr.ends) result tr.concludes) [
+    elim (concluded_by tr.ends.stage host.addr t.request host.phase tr.next
+    (read_bytes_of tr.ends) result tr.concludes) [
       | inl (done, (made, makes, told, moves)) ↦
           let not_running : IsRunning tr.ends.stage → tr.next ≡ host.phase = λ run. let wrong = subst IsRunning done run in absurd (cc) in
           let tried_so = carried trail fate host.phase tr.next t tr.ends old new short c running tr.transacts tr.same not_running in
           let goes = tried_so.goes in
           let d = tried_so.carries in
           let is_done : IsDone place = (done_is core_table.answer_of (shape_of tr.ends.setup) (sends_of t.request) place tr.ends new d.stands).0 done in
-          let behind : IsBehindSetup place.host = subst IsBehindSetup (sym is_done.1) tt in
-          let answer = answer_is t.request behind_it.decider new.requests place.decision (bytes_got tr.ends) (d.decided behind)
+          let behind : IsAfterSetup place.host = subst IsAfterSetup (sym is_done.1) tt in
+          let answer =
+          answer_is t.request behind_it.decider new.requests place.decision (read_bytes_of tr.ends)
+          (d.decided behind)
           (got_so tr.ends (setup_for t.request (asking_of new.requests)) place.decision d.asked
           (λ is_read. read_is core_table.answer_of (shape_of tr.ends.setup) (sends_of t.request) place tr.ends new d.stands is_done is_read)) in
           let effect = done_effect trail fate host.phase t tr.ends old new short c running tr.transacts tr.same done in
-          let lays_on : Lays new.requests.descriptor new.requests.layout = subst (λ (x : List ℕ). Lays x new.requests.layout) (sym goes.descriptor) (subst (λ l. Lays old.requests.descriptor l) (sym goes.layout) lays) in
+          let lays_on : ParsesTo new.requests.descriptor new.requests.layout =
+          subst (λ (x : List ℕ). ParsesTo x new.requests.layout) (sym goes.descriptor)
+          (subst (λ l. ParsesTo old.requests.descriptor l) (sym goes.layout) lays) in
           let short_on : length new.requests.descriptor < 2 ^ 16 = subst (λ (x : List ℕ). length x < 2 ^ 16) (sym goes.descriptor) short in
-          let l = learned one apart host.addr t.request host.phase new.requests (bytes_got tr.ends) made lays_on short_on (knows_on host.phase host.addr old.requests new.requests goes knows) (c.needs running) answer effect makes in
+          let l = learned one apart host.addr t.request host.phase new.requests
+          (read_bytes_of tr.ends) made lays_on short_on
+          (knows_on host.phase host.addr old.requests new.requests goes knows)
+          (c.needs running) answer effect makes in
           record {
-            knows = subst (λ (h : HostEnd). KnowsBy behind_it h new) (sym tr.after) (record { phase = subst (λ (p : HostPhase). KnowsAt p host.addr new.requests) (sym moves) l.knows; transfer = d; clears = clears });
+            knows = subst (λ (h : HostEnd). IsConsistentBy behind_it h new) (sym tr.after)
+                (record {
+                  phase =
+                      subst (λ (p : HostPhase). IsConsistentAt p host.addr new.requests) (sym moves) l.knows;
+                  transfer =
+                      d;
+                  clears = clears;
+                });
             told = subst IsNoRefusal (sym told) l.told;
           }
       | inr (told, stays) ↦
           let tried_so = carried trail fate host.phase tr.next t tr.ends old new short c running tr.transacts tr.same (λ run. stays) in
           record {
-            knows = subst (λ (h : HostEnd). KnowsBy behind_it h new) (sym tr.after) (record {
-              phase = subst (λ (p : HostPhase). KnowsAt p host.addr new.requests) (sym stays) (knows_on host.phase host.addr old.requests new.requests tried_so.goes knows);
+            knows = subst (λ (h : HostEnd). IsConsistentBy behind_it h new) (sym tr.after) (record {
+              phase = subst (λ (p : HostPhase). IsConsistentAt p host.addr new.requests) (sym stays)
+                  (knows_on host.phase host.addr old.requests new.requests tried_so.goes knows);
               transfer = tried_so.carries;
               clears = clears;
             });
@@ -319,23 +351,29 @@ runs_so (Some u) t h =
     (ap (λ (x : Transfer). Some x) r.0, subst (λ (x : Transfer). IsRunning x.ends.stage) r.0 r.1)
 
 steps_by : HasOneReading → AcceptsNoRefused → (trail : Trail) (fate : Fate) (host after : HostEnd) (old new : DevControlState CoreState) (result : Result Progress StackFault) (o : Option Transfer)
-    → Lays old.requests.descriptor old.requests.layout → length old.requests.descriptor < 2 ^ 16 → KnowsBy trail host old → running host.transfer ≡ o
+    → ParsesTo old.requests.descriptor old.requests.layout → length old.requests.descriptor < 2 ^ 16
+    → IsConsistentBy trail host old → running host.transfer ≡ o
     → (elim o as (λ _. Type 0) [
       | None ↦ (result ≡ Err (Control NoTransfer)) × (after ≡ host) × (new ≡ old)
       | Some t ↦ TriesOnce (PreparesBy core_table) (AppliesBy core_table) core_table.answer_of fate host t old result after new
-    ]) → Behind (trail_behind fate o old trail) after result new
+    ]) → Behind (trail_after fate o old trail) after result new
 steps_by one apart trail fate host after old new result None lays short knows is (told, same, stays) = record {
-  knows = subst (λ (h : HostEnd). KnowsBy trail h new) (sym same) (subst (λ (c : DevControlState CoreState). KnowsBy trail host c) (sym stays) knows);
+  knows = subst (λ (h : HostEnd). IsConsistentBy trail h new) (sym same)
+      (subst (λ (c : DevControlState CoreState). IsConsistentBy trail host c) (sym stays) knows);
   told = subst IsNoRefusal (sym told) tt;
 }
 steps_by one apart trail fate host after old new result (Some t) lays short knows is tr =
     let r = runs_so host.transfer t is in
-    once_known one apart trail fate host after t old new result lays short knows.phase (subst (λ (o : Option Transfer). IfSome o (λ (x : Transfer). Carries trail host.phase x old)) r.0 knows.transfer)
+    once_known one apart trail fate host after t old new result lays short knows.phase
+    (subst (λ (o : Option Transfer). IfSome o
+    (λ (x : Transfer). FollowsTrail trail host.phase x old)) r.0 knows.transfer)
     (subst (λ (o : Option Transfer). IfSome o (IsPending host.clearing)) r.0 knows.clears) r.1 tr
 
 pub steps_know : HasOneReading → AcceptsNoRefused → (trail : Trail) (fate : Fate) (host after : HostEnd) (old new : DevControlState CoreState) (result : Result Progress StackFault)
-    → Lays old.requests.descriptor old.requests.layout → length old.requests.descriptor < 2 ^ 16 → KnowsBy trail host old
-    → ControlSteps (PreparesBy core_table) (AppliesBy core_table) core_table.answer_of fate host old result after new → KnowsBy (trail_behind fate (running host.transfer) old trail) after new × IsNoRefusal result
+    → ParsesTo old.requests.descriptor old.requests.layout → length old.requests.descriptor < 2 ^ 16
+    → IsConsistentBy trail host old
+    → ControlSteps (PreparesBy core_table) (AppliesBy core_table) core_table.answer_of fate host old result after new
+    → IsConsistentBy (trail_after fate (running host.transfer) old trail) after new × IsNoRefusal result
 steps_know one apart trail fate host after old new result lays short knows steps =
     let b = steps_by one apart trail fate host after old new result (running host.transfer) lays short knows refl steps in
     (b.knows, b.told)
@@ -347,8 +385,9 @@ may_if true may h = absurd (cc)
 may_if false true h = refl
 may_if false false h = absurd (cc)
 
-pub begins_know : (trail : Trail) (host : HostEnd) (request : Request) (control : DevControlState CoreState) → FitsRequest request → begin_refusal host request ≡ None → KnowsBy trail host control
-    → KnowsBy (trail_from control.requests) (begun host request) control
+pub begins_know : (trail : Trail) (host : HostEnd) (request : Request) (control : DevControlState CoreState)
+    → FitsRequest request → begin_refusal host request ≡ None → IsConsistentBy trail host control
+    → IsConsistentBy (trail_from control.requests) (host_after_begin host request) control
 begins_know trail host request control fits none knows =
     let needs : may_begin request (state_of host.phase) ≡ true = may_if (is_some (running host.transfer)) (may_begin request (state_of host.phase)) none in
     record {
@@ -373,7 +412,7 @@ leaves_goes clearing old new l = record { layout = l.layout; config = l.config; 
 effect_goes : (request : Request) (clearing : Bool) (old new : DevControlState CoreState) → LeavesTransfers clearing old new → (request ≡ requests.Clear → clearing ≡ true)
     → HasEffect request old.requests → HasEffect request new.requests
 effect_goes requests.Configure clearing old new l pending h = l.configured h
-effect_goes requests.Clear clearing old new l pending h = l.anew (pending refl) h
+effect_goes requests.Clear clearing old new l pending h = l.restarts (pending refl) h
 effect_goes requests.Device clearing old new l pending h = tt
 effect_goes requests.Config clearing old new l pending h = tt
 effect_goes requests.Report clearing old new l pending h = tt
@@ -388,8 +427,9 @@ effect_goes (requests.SetReport kind id bytes) clearing old new l pending h = tt
 effect_goes requests.Halt clearing old new l pending h = tt
 effect_goes requests.EndpointStatus clearing old new l pending h = tt
 
-pub carries_on : (trail : Trail) (phase : HostPhase) (clearing : Bool) (old new : DevControlState CoreState) (o : Option Transfer) → LeavesTransfers clearing old new → IfSome o (λ t. Carries trail phase t old)
-    → IfSome o (IsPending clearing) → IfSome o (λ t. Carries trail phase t new)
+pub carries_on : (trail : Trail) (phase : HostPhase) (clearing : Bool) (old new : DevControlState CoreState)
+    (o : Option Transfer) → LeavesTransfers clearing old new → IfSome o (λ t. FollowsTrail trail phase t old)
+    → IfSome o (IsPending clearing) → IfSome o (λ t. FollowsTrail trail phase t new)
 carries_on trail phase clearing old new None l h pending = tt
 carries_on trail phase clearing old new (Some t) l c pending =
     let goes = leaves_goes clearing old new l in
@@ -403,24 +443,44 @@ carries_on trail phase clearing old new (Some t) l c pending =
       applied = c.applied;
     }
 
-pub leaves_know : (trail : Trail) (host : HostEnd) (old new : DevControlState CoreState) → LeavesTransfers host.clearing old new → KnowsBy trail host old → KnowsBy trail host new
+pub leaves_know : (trail : Trail) (host : HostEnd) (old new : DevControlState CoreState)
+    → LeavesTransfers host.clearing old new → IsConsistentBy trail host old → IsConsistentBy trail host new
 leaves_know trail host old new l knows = record {
   phase = knows_on host.phase host.addr old.requests new.requests (leaves_goes host.clearing old new l) knows.phase;
   transfer = carries_on trail host.phase host.clearing old new host.transfer l knows.transfer knows.clears;
   clears = knows.clears;
 }
 
+-- a change of a control and a frame leave the transfers
+pub change_leaves : (clearing : Bool) (control : DevControlState CoreState) (change : Change) → LeavesTransfers clearing control (with_core control (changed_core control.requests change))
+change_leaves clearing control change = record { layout = refl; config = refl; descriptor = refl; configured = λ h. h; answer = refl; pending = refl; stage = refl; restarts = λ is h. record { current = h.current; toggle = h.toggle } }
+
+pub frame_leaves : (clearing : Bool) (control : DevControlState CoreState) → LeavesTransfers clearing control (with_core control (framed_core control.requests))
+frame_leaves clearing control = record { layout = refl; config = refl; descriptor = refl; configured = λ h. h; answer = refl; pending = refl; stage = refl; restarts = λ is h. record { current = h.current; toggle = h.toggle } }
+
+-- ---- at first
+
+pub cold_knows : (trail : Trail) (addr : ℕ) (control : DevControlState CoreState)
+    → IsConsistentBy trail (cold_host addr) control
+cold_knows trail addr control = record { phase = tt; transfer = tt; clears = tt }
+
+pub ready_knows : (trail : Trail) (addr : ℕ) (control : DevControlState CoreState)
+    → control.requests.is_configured ≡ true → IsConsistentBy trail (ready_host addr control.requests.layout) control
+ready_knows trail addr control configured = record { phase = (refl, configured, refl, refl); transfer = tt; clears = tt }
+
 -- ---- the answer to a poll
 
-knows_behind : (known : Known) (addr : ℕ) (core : CoreState) (took : Took) → KnowsAt (Ready known) addr core → KnowsAt (Ready (known_behind known took)) addr core
+knows_behind : (known : Known) (addr : ℕ) (core : CoreState) (took : Took) → IsConsistentAt (Ready known) addr core
+    → IsConsistentAt (Ready (known_after known took)) addr core
 knows_behind known addr core (Fresh payload) h = h
 knows_behind known addr core Again h = h
 knows_behind known addr core Nak h = h
 knows_behind known addr core Stall h = h
 knows_behind known addr core Silent h = h
 
-carries_so : (trail : Trail) (phase next : HostPhase) (control : DevControlState CoreState) (o : Option Transfer) → state_of next ≡ state_of phase → IfSome o (λ t. Carries trail phase t control)
-    → IfSome o (λ t. Carries trail next t control)
+carries_so : (trail : Trail) (phase next : HostPhase) (control : DevControlState CoreState) (o : Option Transfer)
+    → state_of next ≡ state_of phase → IfSome o (λ t. FollowsTrail trail phase t control)
+    → IfSome o (λ t. FollowsTrail trail next t control)
 carries_so trail phase next control None same h = tt
 carries_so trail phase next control (Some t) same c = record {
   stands = c.stands;
@@ -433,22 +493,26 @@ carries_so trail phase next control (Some t) same c = record {
 }
 
 replies_at : (trail : Trail) (phase : HostPhase) (addr : ℕ) (transfer : Option Transfer) (clearing : Bool) (control : DevControlState CoreState) (took : Took)
-    → KnowsBy trail (record { addr = addr; phase = phase; transfer = transfer; clearing = clearing }) control
-    → IfReady phase (λ known. KnowsBy trail (ready_after (record { addr = addr; phase = phase; transfer = transfer; clearing = clearing }) known took) control)
+    → IsConsistentBy trail (record { addr = addr; phase = phase; transfer = transfer; clearing = clearing }) control
+    → IfReady phase
+    (λ known. IsConsistentBy trail
+    (host_after_reply
+    (record { addr = addr; phase = phase; transfer = transfer; clearing = clearing }) known took) control)
 replies_at trail Cold addr transfer clearing control took knows = tt
 replies_at trail (Described info) addr transfer clearing control took knows = tt
 replies_at trail (Parsed info layout) addr transfer clearing control took knows = tt
 replies_at trail (Ready known) addr transfer clearing control took knows = record {
   phase = knows_behind known addr control.requests took knows.phase;
-  transfer = carries_so trail (Ready known) (Ready (known_behind known took)) control transfer refl knows.transfer;
+  transfer = carries_so trail (Ready known) (Ready (known_after known took)) control transfer refl knows.transfer;
   clears = knows.clears;
 }
 
-pub replies_know : (trail : Trail) (host : HostEnd) (control : DevControlState CoreState) (took : Took) → KnowsBy trail host control
-    → IfReady host.phase (λ known. KnowsBy trail (ready_after host known took) control)
+pub replies_know : (trail : Trail) (host : HostEnd) (control : DevControlState CoreState) (took : Took)
+    → IsConsistentBy trail host control
+    → IfReady host.phase (λ known. IsConsistentBy trail (host_after_reply host known took) control)
 replies_know trail host control took knows = replies_at trail host.phase host.addr host.transfer host.clearing control took knows
 
 -- ---- a sound device
 
-pub short_so : (descriptor : List ℕ) (layout : Contents) → Lays descriptor layout → length descriptor < 2 ^ 16
+pub short_so : (descriptor : List ℕ) (layout : Contents) → ParsesTo descriptor layout → length descriptor < 2 ^ 16
 short_so descriptor layout lays = let short = lays.accepted.reaches.short in omega (arith, short)

@@ -2,6 +2,7 @@ pub mod MemberLemmas
 pub mod Isolation
 pub mod PieceLemmas
 pub mod PollLemmas
+pub mod StallLemmas
 pub mod OverLemmas
 pub mod StepLemmas
 pub mod SlotLemmas
@@ -23,7 +24,7 @@ pub mod BeginLemmas
 pub mod AttachLemmas
 pub mod ShowLemmas
 pub mod ReportLemmas
-pub mod StoryLemmas
+pub mod BusHistoryLemmas
 pub mod HoldLemmas
 pub mod ToggleLemmas
 pub mod CarryLemmas
@@ -33,10 +34,10 @@ mod Vectors
 mod ToggleVectors
 pub mod ServeLemmas
 pub mod PlacesLemmas
-pub mod KnowingLemmas
+pub mod HostInvariantLemmas
 pub mod TrailLemmas
 pub mod HostLemmas
 pub mod LawLemmas
 pub mod SuitLemmas
 pub mod RoundLemmas
-pub mod BringingLemmas
+pub mod ControlStepLemmas

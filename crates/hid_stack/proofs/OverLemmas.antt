@@ -8,57 +8,60 @@ use Rattle.usb_packet.specs.Spelling.{Spells}
 use Rattle.usb_transact.specs.declared.bus.Phase.{Phase}
 use Rattle.usb_transact.specs.declared.bus.Phase.TheVariants.{Token, Reply}
 use Rattle.usb_transact.specs.declared.host.Took.{Took}
-use Rattle.usb_transact.specs.Bus.{Arrivals, arrived, Carries, IsRead, Replies}
+use Rattle.usb_transact.specs.Bus.{Arrivals, received_bytes, Carries, IsDecoded, Replies}
 use Rattle.usb_transact.specs.Host.{token_to}
-use Rattle.usb_transact.specs.Taken.{taken}
+use Rattle.usb_transact.specs.Taken.{reply_outcome}
 use Rattle.hid_device.specs.Device.{DeviceState}
 use Rattle.hid_host.specs.declared.fault.StackFault.{StackFault}
 use Rattle.hid_host.specs.declared.fault.StackFault.TheVariants.{NotReady}
 use Rattle.hid_host.specs.declared.phase.HostPhase.{HostPhase}
 use Rattle.hid_host.specs.declared.phase.HostPhase.TheVariants.{Cold, Described, Parsed, Ready}
-use Rattle.hid_host.specs.Host.{HostEnd, polls_at, ready_after}
+use Rattle.hid_host.specs.Host.{HostEnd, host_after_reply, polls_at}
 use Rattle.hid_host.specs.Phase.{IfReady, IsReady}
-use Rattle.hid_host.specs.Ready.{Known, told_of, events_behind}
+use Rattle.hid_host.specs.Ready.{Known, outcome_of, events_after}
 use Rattle.hid_layout.specs.Controls.{items_of, max_events}
 use Rattle.hid_bus.specs.declared.step.Told.{Told}
 use Rattle.hid_bus.specs.declared.step.Told.TheVariants.{Polled}
-use Rattle.hid_stack.specs.Polls.{Acknowledges, Asks, Ends, GoesByPackets, IsAnswer, PollsOver, SendsNothing, spelled, told_with}
+use Rattle.hid_stack.specs.Polls.{Acknowledges, Asks, Ends, GoesByPackets, IsAnswer, PollsOver, SendsNothing, encoded_packet, poll_outcome}
 
 -- what is read of the bytes that arrive is what is read of the packet
 pub carries_over : (arrivals : Arrivals) (phase : Phase) (packet : Packet) (bytes after : List ℕ) (has_come : Bool) (came : Option Packet)
-    → Spells packet bytes → arrived has_come after ≡ arrivals phase bytes → IsRead (arrived has_come after) came → Carries arrivals phase packet came
+    → Spells packet bytes → received_bytes has_come after ≡ arrivals phase bytes
+    → IsDecoded (received_bytes has_come after) came → Carries arrivals phase packet came
 carries_over arrivals phase packet bytes after has_come came spells is read = record {
   sent = subst (Spells packet) spells.spelled spells;
-  read = subst (λ (o : Option (List ℕ)). IsRead o came) (is ∙ ap (arrivals phase) spells.spelled) read;
+  read = subst (λ (o : Option (List ℕ)). IsDecoded o came) (is ∙ ap (arrivals phase) spells.spelled) read;
 }
 
 -- of an answer too, where there is one
 replies_over : (arrivals : Arrivals) (answer : Option Packet) (answers : Bool) (bytes after : List ℕ) (is_back : Bool) (reply : Option Packet)
-    → IsAnswer answer answers bytes → arrived is_back after ≡ cond answers (arrivals Reply bytes) None → IsRead (arrived is_back after) reply
+    → IsAnswer answer answers bytes → received_bytes is_back after ≡ cond answers (arrivals Reply bytes) None
+    → IsDecoded (received_bytes is_back after) reply
     → Replies arrivals Reply answer reply
 replies_over arrivals None answers bytes after is_back reply none is read =
-    subst (λ (o : Option (List ℕ)). IsRead o reply) (is ∙ ap (λ (b : Bool). cond b (arrivals Reply bytes) None) none) read
+    subst (λ (o : Option (List ℕ)). IsDecoded o reply)
+    (is ∙ ap (λ (b : Bool). cond b (arrivals Reply bytes) None) none) read
 replies_over arrivals (Some packet) answers bytes after is_back reply some is read =
     carries_over arrivals Reply packet bytes after is_back reply some.1 (is ∙ ap (λ (b : Bool). cond b (arrivals Reply bytes) None) some.0) read
 
 -- the bytes of an answer are its spelling
 spelled_over : (answer : Option Packet) (answers : Bool) (bytes : ArrayVec ℕ 65 (Unit {0})) (said : Option (ArrayVec ℕ 65 (Unit {0})))
-    → IsAnswer answer answers bytes.items → said ≡ cond answers (Some bytes) None → said ≡ spelled answer
+    → IsAnswer answer answers bytes.items → said ≡ cond answers (Some bytes) None → said ≡ encoded_packet answer
 spelled_over None answers bytes said none is = is ∙ ap (λ (b : Bool). cond b (Some bytes) None) none
 spelled_over (Some packet) answers bytes said some is =
     is ∙ ap (λ (b : Bool). cond b (Some bytes) None) some.0 ∙ ap (λ (items : List ℕ). Some (record { items = items })) some.1.spelled
 
 -- What the host got, and what it told.
 pub record Takes (known : Known) (host host_then : HostEnd) (reply : Option Packet) (result : Result Took StackFault) (before events : List Event) : Type 0 where
-  pub told : result ≡ told_of known (taken known.pipe.expects reply)
-  pub after : host_then ≡ ready_after host known (taken known.pipe.expects reply)
-  pub delivers : events ≡ before ++ events_behind known (taken known.pipe.expects reply)
+  pub told : result ≡ outcome_of known (reply_outcome known.pipe.expects reply)
+  pub after : host_then ≡ host_after_reply host known (reply_outcome known.pipe.expects reply)
+  pub delivers : events ≡ before ++ events_after known (reply_outcome known.pipe.expects reply)
 
 -- in each phase
 pub takes_all : (phase : HostPhase) (host host_then : HostEnd) (reply : Option Packet) (result : Result Took StackFault) (before events : List Event)
-    → IfReady phase (λ known. result ≡ told_of known (taken known.pipe.expects reply))
-    → IfReady phase (λ known. host_then ≡ ready_after host known (taken known.pipe.expects reply))
-    → IfReady phase (λ known. events ≡ before ++ events_behind known (taken known.pipe.expects reply))
+    → IfReady phase (λ known. result ≡ outcome_of known (reply_outcome known.pipe.expects reply))
+    → IfReady phase (λ known. host_then ≡ host_after_reply host known (reply_outcome known.pipe.expects reply))
+    → IfReady phase (λ known. events ≡ before ++ events_after known (reply_outcome known.pipe.expects reply))
     → IfReady phase (λ known. Takes known host host_then reply result before events)
 takes_all (Ready known) host host_then reply result before events told after delivers = record { told = told; after = after; delivers = delivers }
 takes_all Cold host host_then reply result before events told after delivers = tt
@@ -69,8 +72,10 @@ takes_all (Parsed info layout) host host_then reply result before events told af
 over : (arrivals : Arrivals) (device between device_then : DeviceState) (host host_then : HostEnd) (known : Known) (token : Packet)
     (answers : Bool) (bytes back : List ℕ) (is_back : Bool) (reply : Option Packet) (result : Result Took StackFault) (told : Result Told StackFault) (before events : List Event)
     → token ≡ token_to known.pipe → (asks : Asks arrivals token device answers bytes between)
-    → arrived is_back back ≡ cond answers (arrivals Reply bytes) None → IsRead (arrived is_back back) reply
-    → Takes known host host_then reply result before events → told ≡ told_with asks.responds.answer result → Ends arrivals result between device_then
+    → received_bytes is_back back ≡ cond answers (arrivals Reply bytes) None
+    → IsDecoded (received_bytes is_back back) reply
+    → Takes known host host_then reply result before events → told ≡ poll_outcome asks.responds.answer result
+    → Ends arrivals result between device_then
     → PollsOver arrivals device host known told device_then host_then before events
 over arrivals device between device_then host host_then known token answers bytes back is_back reply result told before events is asks back_is back_read takes told_is ends = record {
   token = asks.came;
@@ -78,10 +83,10 @@ over arrivals device between device_then host host_then known token answers byte
   between = between;
   reply = reply;
   polled = subst (λ (p : Packet). Carries arrivals Token p asks.came) is asks.carried;
-  heard = asks.responds.heard;
+  receives = asks.responds.receives;
   bytes = asks.responds.of_bytes;
   replied = replies_over arrivals asks.responds.answer answers bytes back is_back reply asks.responds.written back_is back_read;
-  told = told_is ∙ ap (told_with asks.responds.answer) takes.told;
+  told = told_is ∙ ap (poll_outcome asks.responds.answer) takes.told;
   host_moved = takes.after;
   delivers = takes.delivers;
   ended = subst (λ (r : Result Took StackFault). Ends arrivals r between device_then) takes.told ends;
@@ -94,7 +99,8 @@ pub plays_over : (arrivals : Arrivals) (device between device_then : DeviceState
     (result : Result Took StackFault) (took : Took) (before events : List Event)
     → IsReady phase × (clearing ≡ false) → (let it : Result Packet StackFault = Ok token in it ≡ polls_at phase clearing)
     → Asks arrivals token device answers bytes.items between
-    → arrived is_back back ≡ cond answers (arrivals Reply bytes.items) None → IsRead (arrived is_back back) reply
+    → received_bytes is_back back ≡ cond answers (arrivals Reply bytes.items) None
+    → IsDecoded (received_bytes is_back back) reply
     → said ≡ cond answers (Some bytes) None
     → IfReady phase (λ known. Takes known host host_then reply result before events) → result ≡ Ok took
     → Acknowledges arrivals took between device_then
@@ -105,7 +111,9 @@ plays_over arrivals device between device_then host host_then clearing (Parsed i
 plays_over arrivals device between device_then host host_then true (Ready known) token answers bytes back is_back reply said result took before events ready polls asks back_is back_read said_is takes ok acks = absurd (let e = ready.1 in cc)
 plays_over arrivals device between device_then host host_then false (Ready known) token answers bytes back is_back reply said result took before events ready polls asks back_is back_read said_is takes ok acks =
     over arrivals device between device_then host host_then known token answers bytes.items back is_back reply result (Ok (Polled said took)) before events (cc) asks back_is back_read takes
-    (ap (λ (o : Option (ArrayVec ℕ 65 (Unit {0}))). Ok (Polled o took)) (spelled_over asks.responds.answer answers bytes said asks.responds.written said_is) ∙ ap (told_with asks.responds.answer) (sym ok))
+    (ap (λ (o : Option (ArrayVec ℕ 65 (Unit {0}))). Ok (Polled o took))
+    (spelled_over asks.responds.answer answers bytes said asks.responds.written said_is)
+    ∙ ap (poll_outcome asks.responds.answer) (sym ok))
     (subst (λ (r : Result Took StackFault). Ends arrivals r between device_then) (sym ok) acks)
 
 -- what a `?` answers
@@ -118,7 +126,8 @@ pub refuses_over : (arrivals : Arrivals) (device between : DeviceState) (host ho
     (answers : Bool) (bytes back : List ℕ) (is_back : Bool) (reply : Option Packet) (result : Result Took StackFault) (r : Result Told StackFault) (fault : StackFault) (before events : List Event)
     → IsReady phase × (clearing ≡ false) → (let it : Result Packet StackFault = Ok token in it ≡ polls_at phase clearing)
     → Asks arrivals token device answers bytes between
-    → arrived is_back back ≡ cond answers (arrivals Reply bytes) None → IsRead (arrived is_back back) reply
+    → received_bytes is_back back ≡ cond answers (arrivals Reply bytes) None
+    → IsDecoded (received_bytes is_back back) reply
     → IfReady phase (λ known. Takes known host host_then reply result before events) → result ≡ Err fault → IsErrAnd r (λ e. e ≡ fault)
     → GoesByPackets arrivals device host clearing phase r between host_then before events
 refuses_over arrivals device between host host_then clearing Cold token answers bytes back is_back reply result r fault before events ready polls asks back_is back_read takes err is = absurd ready.0
@@ -127,9 +136,10 @@ refuses_over arrivals device between host host_then clearing (Parsed info layout
 refuses_over arrivals device between host host_then true (Ready known) token answers bytes back is_back reply result r fault before events ready polls asks back_is back_read takes err is = absurd (let e = ready.1 in cc)
 refuses_over arrivals device between host host_then false (Ready known) token answers bytes back is_back reply result r fault before events ready polls asks back_is back_read takes err is =
     over arrivals device between between host host_then known token answers bytes back is_back reply result r before events (cc) asks back_is back_read takes
-    (told_err r fault is ∙ ap (told_with asks.responds.answer) (sym err)) (subst (λ (r : Result Took StackFault). Ends arrivals r between between) (sym err) refl)
+    (told_err r fault is ∙ ap (poll_outcome asks.responds.answer) (sym err))
+    (subst (λ (r : Result Took StackFault). Ends arrivals r between between) (sym err) refl)
 
--- and of one that doesn't poll
+-- a host that doesn't poll sends nothing
 nothing_sent : (device : DeviceState) (host : HostEnd) (r : Result Told StackFault) (fault : StackFault) (before : List Event)
     → IsErrAnd r (λ e. e ≡ fault) → fault ≡ NotReady → SendsNothing device host r device host before before
 nothing_sent device host r fault before is why = record { told = told_err r fault is ∙ ap (λ (e : StackFault). Err e) why; device_stays = refl; host_stays = refl; delivers = refl }

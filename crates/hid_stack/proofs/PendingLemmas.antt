@@ -1,22 +1,22 @@
--- A Clear stays pending, whatever else its host asks meanwhile, and both ends begin anew where one is done.
+-- A Clear stays pending, whatever else its host asks meanwhile, and both ends start again where one is done.
 use Rattle.std.proofs.Common.{◌≡◌, ◌∙◌, ◌≢◌, ◌<◌, ◌^◌, Bool, true, false, List, [], ◌∷◌, Option, Some, None, inl, inr, refl, ap, sym, subst}
 use Rattle.std.specs.Prelude.{if◌then◌else◌, ◌&&◌, ◌||◌, not, length}
 use Rattle.std.proofs.lemmas.Bool.{cases_Bool}
 use Rattle.usb_transact.specs.declared.transaction.Fate.{Fate}
 use Rattle.usb_control.specs.declared.host.HostStage.{HostStage}
 use Rattle.usb_control.specs.declared.host.HostStage.TheVariants as stages
-use Rattle.usb_control.specs.Meanwhile.{is_running}
+use Rattle.usb_control.specs.Interleaving.{is_running}
 use Rattle.hid_requests.specs.declared.request.Request.{Request}
 use Rattle.hid_requests.specs.declared.request.Request.TheVariants as requests
-use Rattle.hid_layout.specs.Laying.{Lays}
+use Rattle.hid_layout.specs.Parsing.{ParsesTo}
 use Rattle.hid_bus.specs.Rounds.{OwnStep}
 use Rattle.hid_host.specs.declared.fault.StackFault.{StackFault}
 use Rattle.hid_host.specs.declared.host.Transfer.{Transfer}
 use Rattle.hid_host.specs.declared.phase.HostPhase.{HostPhase}
-use Rattle.hid_host.specs.Host.{clearing_behind, clearing_with, is_clear, running, transfer_of}
-use Rattle.hid_stack.specs.Clearing.{IsClearDone, IsPendingUntilDone, LeavePending}
-use Rattle.hid_stack.specs.Knowing.{asking_of}
-use Rattle.hid_stack.specs.Members.{Member, MemberStep, Scheduled, Begins, Controls, Halts, Resets, begin_refusal_at, begun_unless, core_at, ends_tried_at, halted_if, member_after, member_after_all, polls_it, tried_of}
+use Rattle.hid_host.specs.Host.{clearing_after, clearing_with, is_clear, running, transfer_of}
+use Rattle.hid_stack.specs.PendingClear.{IsClearDone, IsPendingUntilDone, LeavePending}
+use Rattle.hid_stack.specs.HostInvariant.{asking_of}
+use Rattle.hid_stack.specs.Members.{Member, MemberStep, Scheduled, Begins, Controls, Halts, Resets, begin_refusal_at, member_after_begin, core_of_member, member_transfer_after, member_after_halt, member_after, member_after_all, polls_it, member_after_try}
 use Rattle.hid_stack.specs.Transfers.{IsEvenAgain, IsOver, IsUndone}
 use Rattle.hid_stack.proofs.ClearLemmas.{Pends, begins_pending, even_there, halted_pends, idle_step, polls_none, scheduled_pends, tried_pends, tried_transfer}
 use Rattle.hid_stack.proofs.CountLemmas.{runs_as}
@@ -34,7 +34,7 @@ record StaysPending (m : Member) : Type 0 where
 same_transfer : (t u : Transfer) → Some t ≡ Some u → t ≡ u
 same_transfer t u same = cc
 
--- what befalls the device beside its endpoint 0
+-- what happens to the device beside its endpoint 0
 on_schedule : (x : OwnStep) (m : Member) → StaysPending m → StaysPending (member_after m (Scheduled x))
 on_schedule x m s = record {
   clearing = s.clearing;
@@ -43,7 +43,7 @@ on_schedule x m s = record {
   short = s.short;
 }
 
-on_halt : (b : Bool) (m : Member) → StaysPending m → StaysPending (halted_if b m)
+on_halt : (b : Bool) (m : Member) → StaysPending m → StaysPending (member_after_halt b m)
 on_halt false m s = s
 on_halt true m s = record {
   clearing = s.clearing;
@@ -57,18 +57,23 @@ still_clearing : (b : Bool) → (b || true) ≡ true
 still_clearing true = refl
 still_clearing false = refl
 
-on_begin : (o : Option StackFault) (m : Member) (request : Request) → StaysPending m → StaysPending (begun_unless o m request)
+on_begin : (o : Option StackFault) (m : Member) (request : Request) → StaysPending m
+    → StaysPending (member_after_begin o m request)
 on_begin (Some fault) m request s = s
 on_begin None m request s =
-    let first : Transfer = transfer_of m.addr (asking_of (core_at m)) request in
+    let first : Transfer = transfer_of m.addr (asking_of (core_of_member m)) request in
     record {
       clearing = ap (clearing_with request) s.clearing ∙ still_clearing (is_clear request);
       undone = λ done. let wrong = done.1 in absurd (cc);
       runs = λ t has is run.
           let same : first ≡ t = same_transfer first t has in
           let asks : request ≡ requests.Clear = ap (λ (x : Transfer). x.request) same ∙ is in
-          let pends = begins_pending m in
-          (pends.0, subst (λ (x : Transfer). Pends pends.0 (begun_unless None m request) x) same (subst (λ (q : Request). Pends pends.0 (begun_unless None m q) (transfer_of m.addr (asking_of (core_at m)) q)) (sym asks) pends.1));
+          let pends = begins_pending m in (
+            pends.0,
+            subst (λ (x : Transfer). Pends pends.0 (member_after_begin None m request) x) same
+                (subst (λ (q : Request). Pends pends.0 (member_after_begin None m q)
+                (transfer_of m.addr (asking_of (core_of_member m)) q)) (sym asks) pends.1),
+          );
       short = s.short;
     }
 
@@ -77,7 +82,8 @@ kept_if_other : (b clearing : Bool) → (b ≡ true → ⊥) → (not b && clear
 kept_if_other true clearing other = absurd (other refl)
 kept_if_other false clearing other = refl
 
-clearing_kept : (stage : HostStage) (request : Request) (clearing : Bool) → ((request ≡ requests.Clear) × (stage ≡ stages.Done) → ⊥) → clearing_behind stage request clearing ≡ clearing
+clearing_kept : (stage : HostStage) (request : Request) (clearing : Bool)
+    → ((request ≡ requests.Clear) × (stage ≡ stages.Done) → ⊥) → clearing_after stage request clearing ≡ clearing
 clearing_kept stages.Done request clearing undone = kept_if_other (is_clear request) clearing (λ is. undone (clear_is request is, refl))
 clearing_kept stages.Setup request clearing undone = refl
 clearing_kept (stages.DataIn one) request clearing undone = refl
@@ -86,24 +92,31 @@ clearing_kept stages.StatusIn request clearing undone = refl
 clearing_kept stages.StatusOut request clearing undone = refl
 clearing_kept (stages.Failed fault) request clearing undone = refl
 
-on_try : (fate : Fate) (m : Member) (t : Transfer) → m.transfer ≡ Some t → is_running t.ends.stage ≡ true → (IsClearDone (tried_of fate m (Some t)).transfer → ⊥) → StaysPending m → StaysPending (tried_of fate m (Some t))
+on_try : (fate : Fate) (m : Member) (t : Transfer) → m.transfer ≡ Some t → is_running t.ends.stage ≡ true
+    → (IsClearDone (member_after_try fate m (Some t)).transfer → ⊥) → StaysPending m
+    → StaysPending (member_after_try fate m (Some t))
 on_try fate m t has run undone s = record {
-  clearing = clearing_kept (ends_tried_at fate m t).stage t.request m.clearing undone ∙ s.clearing;
+  clearing = clearing_kept (member_transfer_after fate m t).stage t.request m.clearing undone ∙ s.clearing;
   undone = undone;
   runs = λ u is_u asks run_u.
       let same : tried_transfer fate m t ≡ u = same_transfer (tried_transfer fate m t) u is_u in
       let clear : t.request ≡ requests.Clear = ap (λ (x : Transfer). x.request) same ∙ asks in
-      let p = s.runs t has clear run in
-      (p.0, subst (λ (x : Transfer). Pends p.0 (tried_of fate m (Some t)) x) same (tried_pends fate p.0 m t s.short run (λ done. undone (clear, done)) p.1));
+      let p = s.runs t has clear run in (
+        p.0,
+        subst (λ (x : Transfer). Pends p.0 (member_after_try fate m (Some t)) x) same
+            (tried_pends fate p.0 m t s.short run (λ done. undone (clear, done)) p.1),
+      );
   short = s.short;
 }
 
 -- where no transfer runs nothing is tried
 no_transfer : (fate : Fate) (m : Member) → m.transfer ≡ None → member_after m (Controls fate) ≡ m
-no_transfer fate m none = ap (λ (o : Option Transfer). tried_of fate m (running o)) none
+no_transfer fate m none = ap (λ (o : Option Transfer). member_after_try fate m (running o)) none
 
-tries_it : (fate : Fate) (m : Member) (t : Transfer) → m.transfer ≡ Some t → is_running t.ends.stage ≡ true → member_after m (Controls fate) ≡ tried_of fate m (Some t)
-tries_it fate m t has run = ap (tried_of fate m) (runs_as m t has ∙ ap (λ (x : Bool). if x then Some t else None) run)
+tries_it : (fate : Fate) (m : Member) (t : Transfer) → m.transfer ≡ Some t → is_running t.ends.stage ≡ true
+    → member_after m (Controls fate) ≡ member_after_try fate m (Some t)
+tries_it fate m t has run =
+    ap (member_after_try fate m) (runs_as m t has ∙ ap (λ (x : Bool). if x then Some t else None) run)
 
 on_control : (fate : Fate) (m : Member) (o : Option Transfer) → m.transfer ≡ o → (IsClearDone (member_after m (Controls fate)).transfer → ⊥) → StaysPending m → StaysPending (member_after m (Controls fate))
 on_control fate m None has undone s = subst StaysPending (sym (no_transfer fate m has)) s
@@ -137,30 +150,37 @@ even_where fate n None has s done = absurd (s.undone (subst (λ (k : Member). Is
 even_where fate n (Some t) has s done = elim (cases_Bool (is_running t.ends.stage)) [
   | inl run ↦
       let there = tries_it fate n t has run in
-      let ends : (t.request ≡ requests.Clear) × ((ends_tried_at fate n t).stage ≡ stages.Done) = subst (λ (k : Member). IsClearDone k.transfer) there done in
+      let ends : (t.request ≡ requests.Clear) × ((member_transfer_after fate n t).stage ≡ stages.Done) =
+      subst (λ (k : Member). IsClearDone k.transfer) there done in
       let p = s.runs t has ends.0 run in
       even_there fate p.0 n (undone_as n.transfer t has (not_done t.ends.stage run)) (record { transfer = t; has = has; pends = p.1; short = s.short }) (subst (λ (k : Member). IsOver k.transfer) (sym there) ends.1)
   | inr over ↦ absurd (s.undone (subst (λ (k : Member). IsClearDone k.transfer) (idle_step fate n t false over refl has) done))
 ]
 
--- the same of a list, from a member that has begun
+-- a clear stays pending over a list of steps, from a member that has begun it
 abbrev PendingFrom : List MemberStep → Member → Type 0
 PendingFrom steps begun =
     let n = member_after_all begun steps in LeavePending begun steps
     → (polls_it n ≡ false) × ((fate : Fate) → IsClearDone (member_after n (Controls fate)).transfer → IsEvenAgain (member_after n (Controls fate)))
 
-pub pending_until_done : (m : Member) (steps : List MemberStep) → Lays m.descriptor m.layout → begin_refusal_at m requests.Clear ≡ None → IsPendingUntilDone m steps
+pub pending_until_done : (m : Member) (steps : List MemberStep) → ParsesTo m.descriptor m.layout
+    → begin_refusal_at m requests.Clear ≡ None → IsPendingUntilDone m steps
 pending_until_done m steps lays allowed =
-    let begun : Member = begun_unless None m requests.Clear in
+    let begun : Member = member_after_begin None m requests.Clear in
     let pends = begins_pending m in
     let first : StaysPending begun = record {
       clearing = refl;
       undone = λ done. let wrong = done.1 in absurd (cc);
-      runs = λ t has is run. (pends.0, subst (λ (x : Transfer). Pends pends.0 begun x) (same_transfer (transfer_of m.addr (asking_of (core_at m)) requests.Clear) t has) pends.1);
+      runs = λ t has is run. (
+        pends.0,
+        subst (λ (x : Transfer). Pends pends.0 begun x)
+            (same_transfer (transfer_of m.addr (asking_of (core_of_member m)) requests.Clear) t has) pends.1,
+      );
       short = short_so m.descriptor m.layout lays;
     } in
     let from : PendingFrom steps begun = λ leave.
     let n = member_after_all begun steps in
     let there = stays_pending_through steps begun leave first in
     (polls_none n there.clearing, λ fate done. even_where fate n n.transfer refl there done) in
-    subst (PendingFrom steps) (sym (ap (λ (o : Option StackFault). begun_unless o m requests.Clear) allowed)) from
+    subst (PendingFrom steps)
+    (sym (ap (λ (o : Option StackFault). member_after_begin o m requests.Clear) allowed)) from

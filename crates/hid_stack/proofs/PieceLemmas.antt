@@ -8,7 +8,7 @@ use Rattle.arrayvec.specs.declared.array_vec.ArrayVec.{ArrayVec}
 use Rattle.hid_descriptor.specs.declared.limits.TheConstants.{MAX_REPORT_BYTES}
 use Rattle.hid_layout.specs.Controls.{items_of}
 use Rattle.hid_layout.specs.Layout.{Contents, report_bytes}
-use Rattle.hid_snapshots.specs.declared.cell.Cell.{Cell}
+use Rattle.hid_snapshots.specs.declared.control_state.ControlState.{ControlState}
 use Rattle.hid_snapshots.specs.declared.event.Event.{Event}
 use Rattle.hid_snapshots.specs.declared.fault.ReportFault.{ReportFault}
 use Rattle.hid_snapshots.specs.declared.fault.ReportFault.TheVariants.{Short}
@@ -17,10 +17,10 @@ use Rattle.hid_snapshots.proofs.PieceLemmas.{collected_all, collected_more, full
 use Rattle.hid_usages.specs.Crossing.{ReadsAsShown}
 use Rattle.hid_usages.specs.Reading.{bytes_awaited, first_byte, is_input_with, report_begun, report_named, whole_report}
 use Rattle.hid_usages.specs.Taking.{read_view, read_events}
-use Rattle.hid_snapshots.specs.Views.{seen}
+use Rattle.hid_snapshots.specs.Views.{view_after_part}
 use Rattle.usb_transact.specs.declared.host.Took.TheVariants.{Fresh}
 use Rattle.hid_bus.specs.Rounds.{part_events}
-use Rattle.hid_host.specs.Ready.{Known, bytes_with, collected_with, data_read, ends_with, events_behind, events_read, is_whole, known_behind, read_or_fault, told_of, told_read, view_read, view_with}
+use Rattle.hid_host.specs.Ready.{Known, bytes_with, collected_bytes_with, data_read, ends_with, events_after, events_of_report, is_whole, known_after, outcome_of, read_or_fault, read_outcome, view_after_report, view_with}
 
 -- ---- how long a report is, by the first of its bytes that came
 
@@ -79,8 +79,9 @@ or_same false n = grind (arith, nat_tests)
 above : (n m : ℕ) → m < n → nat_le n m ≡ false
 above n m more = grind (arith, nat_tests, more)
 
--- the bytes that show a part: they are read as it was shown, and go in so many pieces
-pub record Reads (layout : Contents) (r : ℕ) (parts : List Cell) (bytes : List ℕ) (view : List Cell) : Type 0 where
+-- the bytes that show a part: they are read as it was shown, and go in n pieces
+pub record Reads (layout : Contents) (r : ℕ) (parts : List ControlState) (bytes : List ℕ)
+    (view : List ControlState) : Type 0 where
   pub shown : ReadsAsShown layout r parts bytes view
   pub long : report_bytes layout r ≡ length bytes
   pub pieces : pieces_of (items_of layout) r ≡ pieces_for (length bytes)
@@ -89,10 +90,13 @@ pub record Reads (layout : Contents) (r : ℕ) (parts : List Cell) (bytes : List
 abbrev pub up_to : List ℕ → ℕ → List ℕ
 up_to bytes piece = take (64 * (piece + 1)) bytes
 
-all_came : (layout : Contents) (r : ℕ) (parts : List Cell) (bytes : List ℕ) (view : List Cell) (piece : ℕ) → Reads layout r parts bytes view → is_last_piece (items_of layout) r piece ≡ true → up_to bytes piece ≡ bytes
+all_came : (layout : Contents) (r : ℕ) (parts : List ControlState) (bytes : List ℕ) (view : List ControlState)
+    (piece : ℕ) → Reads layout r parts bytes view → is_last_piece (items_of layout) r piece ≡ true
+    → up_to bytes piece ≡ bytes
 all_came layout r parts bytes view piece reads last = collected_all bytes piece (last_so (pieces_of (items_of layout) r) (pieces_for (length bytes)) (piece + 1) reads.pieces last)
 
-ends_by : (layout : Contents) (r : ℕ) (parts : List Cell) (bytes : List ℕ) (view : List Cell) (piece : ℕ) (last : Bool) → Reads layout r parts bytes view → is_last_piece (items_of layout) r piece ≡ last
+ends_by : (layout : Contents) (r : ℕ) (parts : List ControlState) (bytes : List ℕ) (view : List ControlState)
+    (piece : ℕ) (last : Bool) → Reads layout r parts bytes view → is_last_piece (items_of layout) r piece ≡ last
     → is_whole layout (up_to bytes piece) (length (piece_of bytes piece)) ≡ last
 ends_by layout r parts bytes view piece true reads last =
     let k = length (piece_of bytes piece) in
@@ -112,7 +116,7 @@ abbrev pub payload : List ℕ → ArrayVec ℕ 64 (Unit {0})
 payload bytes = record { items = bytes }
 
 -- its toggle changes with each
-abbrev pub known_as : Known → List Cell → List ℕ → Known
+abbrev pub known_as : Known → List ControlState → List ℕ → Known
 known_as known view collected = record {
   layout = known.layout;
   pipe = record known.pipe { expects = not known.pipe.expects };
@@ -121,16 +125,18 @@ known_as known view collected = record {
 }
 
 -- its view sees the part with the last piece, and before that it keeps what came
-abbrev pub taking : Known → ℕ → List Cell → List ℕ → ℕ → Bool → Known
+abbrev pub taking : Known → ℕ → List ControlState → List ℕ → ℕ → Bool → Known
 taking known r parts bytes piece last =
-    known_as known (cond last (seen (items_of known.layout) r known.view parts) known.view) (cond last [] (up_to bytes piece))
+    known_as known (cond last (view_after_part (items_of known.layout) r known.view parts) known.view)
+    (cond last [] (up_to bytes piece))
 
 -- what came joined with the piece, and whether the report ends so
 record Joins (known : Known) (bytes : List ℕ) (piece : ℕ) (last : Bool) : Type 0 where
   came : bytes_with known (piece_of bytes piece) ≡ up_to bytes piece
   ends : ends_with known (piece_of bytes piece) ≡ last
 
-joins : (known : Known) (r : ℕ) (parts : List Cell) (bytes : List ℕ) (piece : ℕ) (last : Bool) → Reads known.layout r parts bytes known.view → is_last_piece (items_of known.layout) r piece ≡ last
+joins : (known : Known) (r : ℕ) (parts : List ControlState) (bytes : List ℕ) (piece : ℕ) (last : Bool)
+    → Reads known.layout r parts bytes known.view → is_last_piece (items_of known.layout) r piece ≡ last
     → known.collected ≡ take (64 * piece) bytes → Joins known bytes piece last
 joins known r parts bytes piece last reads is got =
     let p = piece_of bytes piece in
@@ -140,49 +146,67 @@ joins known r parts bytes piece last reads is got =
       ends = ap (λ (bs : List ℕ). is_whole known.layout bs (length p)) came ∙ ends_by known.layout r parts bytes known.view piece last reads is;
     }
 
-view_then : (known : Known) (r : ℕ) (parts : List Cell) (bytes : List ℕ) (piece : ℕ) (last : Bool) → Reads known.layout r parts bytes known.view → is_last_piece (items_of known.layout) r piece ≡ last
-    → cond last (view_read known.layout (up_to bytes piece) known.view) known.view ≡ cond last (seen (items_of known.layout) r known.view parts) known.view
+view_then : (known : Known) (r : ℕ) (parts : List ControlState) (bytes : List ℕ) (piece : ℕ) (last : Bool)
+    → Reads known.layout r parts bytes known.view → is_last_piece (items_of known.layout) r piece ≡ last
+    → cond last (view_after_report known.layout (up_to bytes piece) known.view) known.view
+    ≡ cond last (view_after_part (items_of known.layout) r known.view parts) known.view
 view_then known r parts bytes piece false reads is = refl
 view_then known r parts bytes piece true reads is =
-    ap (λ (bs : List ℕ). view_read known.layout bs known.view) (all_came known.layout r parts bytes known.view piece reads is)
-    ∙ ap (λ (o : Result ℕ ReportFault). elim o as (λ _. List Cell) [ Ok n ↦ read_view known.layout n bytes known.view | Err fault ↦ known.view ]) reads.shown.report ∙ reads.shown.view
+    ap (λ (bs : List ℕ). view_after_report known.layout bs known.view)
+    (all_came known.layout r parts bytes known.view piece reads is)
+    ∙ ap (λ (o : Result ℕ ReportFault). elim o as
+    (λ _. List ControlState) [
+      | Ok n ↦ read_view known.layout n bytes known.view
+      | Err fault ↦
+          known.view
+    ]) reads.shown.report ∙ reads.shown.view
 
-events_then : (known : Known) (r : ℕ) (parts : List Cell) (bytes : List ℕ) (piece : ℕ) (last : Bool) → Reads known.layout r parts bytes known.view → is_last_piece (items_of known.layout) r piece ≡ last
-    → cond last (events_read known.layout (up_to bytes piece) known.view) [] ≡ cond last (part_events (items_of known.layout) r known.view parts) []
+events_then : (known : Known) (r : ℕ) (parts : List ControlState) (bytes : List ℕ) (piece : ℕ) (last : Bool)
+    → Reads known.layout r parts bytes known.view → is_last_piece (items_of known.layout) r piece ≡ last
+    → cond last (events_of_report known.layout (up_to bytes piece) known.view) []
+    ≡ cond last (part_events (items_of known.layout) r known.view parts) []
 events_then known r parts bytes piece false reads is = refl
 events_then known r parts bytes piece true reads is =
-    ap (λ (bs : List ℕ). events_read known.layout bs known.view) (all_came known.layout r parts bytes known.view piece reads is)
+    ap (λ (bs : List ℕ). events_of_report known.layout bs known.view)
+    (all_came known.layout r parts bytes known.view piece reads is)
     ∙ ap (λ (o : Result ℕ ReportFault). elim o as (λ _. List Event) [ Ok n ↦ read_events known.layout n bytes known.view | Err fault ↦ [] ]) reads.shown.report ∙ reads.shown.events
 
-told_then : (known : Known) (r : ℕ) (parts : List Cell) (bytes : List ℕ) (piece : ℕ) (last : Bool) → Reads known.layout r parts bytes known.view → is_last_piece (items_of known.layout) r piece ≡ last
+told_then : (known : Known) (r : ℕ) (parts : List ControlState) (bytes : List ℕ) (piece : ℕ) (last : Bool)
+    → Reads known.layout r parts bytes known.view → is_last_piece (items_of known.layout) r piece ≡ last
     → cond {A = Result (Unit {0}) ReportFault} last (read_or_fault (report_named known.layout (up_to bytes piece))) (Ok tt) ≡ Ok tt
 told_then known r parts bytes piece false reads is = refl
 told_then known r parts bytes piece true reads is =
     ap (λ (bs : List ℕ). read_or_fault (report_named known.layout bs)) (all_came known.layout r parts bytes known.view piece reads is) ∙ ap read_or_fault reads.shown.report
 
 -- a host that takes the piece at hand, where the pieces before it came
-pub record TakesPiece (known : Known) (r : ℕ) (parts : List Cell) (bytes : List ℕ) (piece : ℕ) (last : Bool) : Type 0 where
-  pub told : told_of known (Fresh (payload (piece_of bytes piece))) ≡ Ok (Fresh (payload (piece_of bytes piece)))
-  pub behind : known_behind known (Fresh (payload (piece_of bytes piece))) ≡ taking known r parts bytes piece last
-  pub events : events_behind known (Fresh (payload (piece_of bytes piece))) ≡ cond last (part_events (items_of known.layout) r known.view parts) []
+pub record TakesPiece (known : Known) (r : ℕ) (parts : List ControlState) (bytes : List ℕ) (piece : ℕ)
+    (last : Bool) : Type 0 where
+  pub told : outcome_of known (Fresh (payload (piece_of bytes piece))) ≡ Ok (Fresh (payload (piece_of bytes piece)))
+  pub behind : known_after known (Fresh (payload (piece_of bytes piece))) ≡ taking known r parts bytes piece last
+  pub events : events_after known (Fresh (payload (piece_of bytes piece)))
+      ≡ cond last (part_events (items_of known.layout) r known.view parts) []
 
-pub takes_piece : (known : Known) (r : ℕ) (parts : List Cell) (bytes : List ℕ) (piece : ℕ) (last : Bool) → Reads known.layout r parts bytes known.view → is_last_piece (items_of known.layout) r piece ≡ last
+pub takes_piece : (known : Known) (r : ℕ) (parts : List ControlState) (bytes : List ℕ) (piece : ℕ) (last : Bool)
+    → Reads known.layout r parts bytes known.view → is_last_piece (items_of known.layout) r piece ≡ last
     → known.collected ≡ take (64 * piece) bytes → TakesPiece known r parts bytes piece last
 takes_piece known r parts bytes piece last reads is got =
     let p = piece_of bytes piece in
     let j = joins known r parts bytes piece last reads is got in
-    let view : view_with known p ≡ cond last (seen (items_of known.layout) r known.view parts) known.view
-    = ap (λ (b : Bool). cond b (view_read known.layout (bytes_with known p) known.view) known.view) j.ends
-    ∙ ap (λ (bs : List ℕ). cond last (view_read known.layout bs known.view) known.view) j.came ∙ view_then known r parts bytes piece last reads is in
-    let collected : collected_with known p ≡ cond last [] (up_to bytes piece)
+    let view : view_with known p ≡ cond last (view_after_part (items_of known.layout) r known.view parts) known.view
+    = ap (λ (b : Bool). cond b (view_after_report known.layout (bytes_with known p) known.view) known.view) j.ends
+    ∙ ap (λ (bs : List ℕ). cond last (view_after_report known.layout bs known.view) known.view) j.came
+    ∙ view_then known r parts bytes piece last reads is in
+    let collected : collected_bytes_with known p ≡ cond last [] (up_to bytes piece)
     = ap (λ (b : Bool). cond b [] (bytes_with known p)) j.ends ∙ ap (λ (bs : List ℕ). cond last [] bs) j.came in
     let read : data_read known p ≡ Ok tt
     = ap (λ (b : Bool). cond {A = Result (Unit {0}) ReportFault} b (read_or_fault (report_named known.layout (bytes_with known p))) (Ok tt)) j.ends
     ∙ ap (λ (bs : List ℕ). cond {A = Result (Unit {0}) ReportFault} last (read_or_fault (report_named known.layout bs)) (Ok tt)) j.came ∙ told_then known r parts bytes piece last reads is in
     record {
-      told = ap (told_read (Fresh (payload p))) read;
-      behind = ap (λ (v : List Cell). known_as known v (collected_with known p)) view
-          ∙ ap (known_as known (cond last (seen (items_of known.layout) r known.view parts) known.view)) collected;
-      events = ap (λ (b : Bool). cond b (events_read known.layout (bytes_with known p) known.view) []) j.ends
-          ∙ ap (λ (bs : List ℕ). cond last (events_read known.layout bs known.view) []) j.came ∙ events_then known r parts bytes piece last reads is;
+      told = ap (read_outcome (Fresh (payload p))) read;
+      behind = ap (λ (v : List ControlState). known_as known v (collected_bytes_with known p)) view
+          ∙ ap (known_as known
+          (cond last (view_after_part (items_of known.layout) r known.view parts) known.view)) collected;
+      events = ap (λ (b : Bool). cond b (events_of_report known.layout (bytes_with known p) known.view) []) j.ends
+          ∙ ap (λ (bs : List ℕ). cond last (events_of_report known.layout bs known.view) []) j.came
+          ∙ events_then known r parts bytes piece last reads is;
     }

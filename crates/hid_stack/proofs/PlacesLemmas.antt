@@ -7,10 +7,10 @@ use Rattle.usb_control.specs.declared.fault.ControlFault.{ControlFault}
 use Rattle.usb_control.specs.declared.fault.ControlFault.TheVariants.{BusFault}
 use Rattle.usb_control.specs.Device.{DevControlState}
 use Rattle.usb_control.specs.Host.{HostTransferState, IsRunning}
-use Rattle.usb_control.specs.Standing.{Stands, StandsWith, host_stage}
-use Rattle.usb_control.specs.Transfer.{Shape, Decision, Refused, Accepted, Position, Setup, Piece, Status, Past, Place, silent, in_tried, out_tried, refused_tried, piece_tried, applies, comes, data_pieces, decided, next, setup_tried, tried_at}
+use Rattle.usb_control.specs.Positions.{Stands, StandsWith, host_stage}
+use Rattle.usb_control.specs.Transfer.{Shape, Decision, Refused, Accepted, Position, Setup, Piece, Status, Past, Place, place_after_silence, place_after_in, place_after_out, place_after_refusal, place_after_piece, applies, comes_from_device, data_pieces, place_after_decision, next_position, place_after_setup, place_after_try_at}
 
--- a place behind a try that wasn't decided on, and didn't take effect, by what stays
+-- a place after a try that wasn't decided on, and didn't take effect, by what stays
 pub record Stays (place after : Place) : Type 0 where
   pub applied : after.applied ≡ place.applied
   pub decision : after.decision ≡ place.decision
@@ -19,22 +19,27 @@ silent_by : (place : Place) (b : Bool) → Stays place (if b then record place {
 silent_by place true = record { applied = refl; decision = refl }
 silent_by place false = record { applied = refl; decision = refl }
 
-pub silent_stays : (place : Place) → Stays place (silent place)
+pub silent_stays : (place : Place) → Stays place (place_after_silence place)
 silent_stays place = silent_by place (nat_lt place.tries 2)
 
-in_stays : (fate : Fate) (count : ℕ) (place : Place) → Stays place (in_tried fate count place)
+in_stays : (fate : Fate) (count : ℕ) (place : Place) → Stays place (place_after_in fate count place)
 in_stays TokenLost count place = silent_stays place
 in_stays ReplyLost count place = silent_stays place
 in_stays AckLost count place = record { applied = refl; decision = refl }
 in_stays Clean count place = record { applied = refl; decision = refl }
 
-out_stays : (fate : Fate) (count : ℕ) (place : Place) → Stays place (out_tried fate count place)
+out_stays : (fate : Fate) (count : ℕ) (place : Place) → Stays place (place_after_out fate count place)
 out_stays TokenLost count place = silent_stays place
-out_stays ReplyLost count place = let s = silent_stays (record place { device = next count place.host }) in record { applied = s.applied; decision = s.decision }
-out_stays AckLost count place = let s = silent_stays (record place { device = next count place.host }) in record { applied = s.applied; decision = s.decision }
+out_stays ReplyLost count place = let s =
+    silent_stays (record place { device = next_position count place.host }) in
+    record { applied = s.applied; decision = s.decision }
+out_stays AckLost count place = let s =
+    silent_stays (record place { device = next_position count place.host }) in
+    record { applied = s.applied; decision = s.decision }
 out_stays Clean count place = record { applied = refl; decision = refl }
 
-refused_stays : (fate : Fate) (comes_in : Bool) (place : Place) → Stays place (refused_tried fate comes_in place)
+refused_stays : (fate : Fate) (comes_in : Bool) (place : Place)
+    → Stays place (place_after_refusal fate comes_in place)
 refused_stays Clean comes_in place = record { applied = refl; decision = refl }
 refused_stays AckLost true place = record { applied = refl; decision = refl }
 refused_stays AckLost false place = silent_stays place
@@ -47,28 +52,35 @@ pub record Reaches (shape : Shape) (fate : Fate) (place after : Place) : Type 0 
   pub decision : after.decision ≡ place.decision
 
 accepted_by : (shape : Shape) (fate : Fate) (count : ℕ) (place : Place) (b : Bool)
-    → Reaches shape fate place (if b then in_tried fate count (record place { applied = applies shape fate place.host || place.applied }) else out_tried fate count (record place { applied = applies shape fate place.host || place.applied }))
+    → Reaches shape fate place
+    (if b then place_after_in fate count
+    (record place { applied = applies shape fate place.host || place.applied }) else place_after_out fate count
+    (record place { applied = applies shape fate place.host || place.applied }))
 accepted_by shape fate count place true = let s = in_stays fate count (record place { applied = applies shape fate place.host || place.applied }) in record { applied = s.applied; decision = s.decision }
 accepted_by shape fate count place false = let s = out_stays fate count (record place { applied = applies shape fate place.host || place.applied }) in record { applied = s.applied; decision = s.decision }
 
-pub accepted_reaches : (shape : Shape) (fate : Fate) (answer : Option (List ℕ)) (place : Place) → Reaches shape fate place (piece_tried shape fate (Accepted answer) place)
-accepted_reaches shape fate answer place = accepted_by shape fate (data_pieces shape (Accepted answer)) place (comes shape place.host)
+pub accepted_reaches : (shape : Shape) (fate : Fate) (answer : Option (List ℕ)) (place : Place)
+    → Reaches shape fate place (place_after_piece shape fate (Accepted answer) place)
+accepted_reaches shape fate answer place =
+    accepted_by shape fate (data_pieces shape (Accepted answer)) place (comes_from_device shape place.host)
 
 -- a piece keeps what was decided
-pub piece_decision : (shape : Shape) (fate : Fate) (q : Decision) (place : Place) → (piece_tried shape fate q place).decision ≡ place.decision
-piece_decision shape fate Refused place = (refused_stays fate (comes shape place.host) place).decision
+pub piece_decision : (shape : Shape) (fate : Fate) (q : Decision) (place : Place)
+    → (place_after_piece shape fate q place).decision ≡ place.decision
+piece_decision shape fate Refused place = (refused_stays fate (comes_from_device shape place.host) place).decision
 piece_decision shape fate (Accepted answer) place = (accepted_reaches shape fate answer place).decision
 
 -- a piece of a refused request takes no effect
-pub refused_applied : (shape : Shape) (fate : Fate) (place : Place) → (piece_tried shape fate Refused place).applied ≡ place.applied
-refused_applied shape fate place = (refused_stays fate (comes shape place.host) place).applied
+pub refused_applied : (shape : Shape) (fate : Fate) (place : Place)
+    → (place_after_piece shape fate Refused place).applied ≡ place.applied
+refused_applied shape fate place = (refused_stays fate (comes_from_device shape place.host) place).applied
 
 -- a SETUP that didn't get its handshake leaves the host there
 host_by : (place : Place) (b : Bool) → (if b then record place { tries = place.tries + 1 } else record place { fault = Some BusFault }).host ≡ place.host
 host_by place true = refl
 host_by place false = refl
 
-pub silent_host : (place : Place) → (silent place).host ≡ place.host
+pub silent_host : (place : Place) → (place_after_silence place).host ≡ place.host
 silent_host place = host_by place (nat_lt place.tries 2)
 
 -- ---- the host comes past the last piece of a write by its status alone, which took effect then
@@ -81,28 +93,36 @@ next_not_past : (k : ℕ) (b : Bool) → (if b then Piece (suc k) else Status) �
 next_not_past k true h = cc
 next_not_past k false h = cc
 
-out_past : (fate : Fate) (count k : ℕ) (place : Place) → place.host ≡ Piece k → (out_tried fate count place).host ≡ Past → ⊥
+out_past : (fate : Fate) (count k : ℕ) (place : Place) → place.host ≡ Piece k
+    → (place_after_out fate count place).host ≡ Past → ⊥
 out_past TokenLost count k place at h = let wrong : Piece k ≡ Past = sym at ∙ sym (silent_host place) ∙ h in cc
-out_past ReplyLost count k place at h = let wrong : Piece k ≡ Past = sym at ∙ sym (silent_host (record place { device = next count place.host })) ∙ h in cc
-out_past AckLost count k place at h = let wrong : Piece k ≡ Past = sym at ∙ sym (silent_host (record place { device = next count place.host })) ∙ h in cc
-out_past Clean count k place at h = next_not_past k (nat_lt (suc k) count) (sym (ap (next count) at) ∙ h)
+out_past ReplyLost count k place at h = let wrong : Piece k ≡ Past =
+    sym at ∙ sym (silent_host (record place { device = next_position count place.host })) ∙ h in cc
+out_past AckLost count k place at h = let wrong : Piece k ≡ Past =
+    sym at ∙ sym (silent_host (record place { device = next_position count place.host })) ∙ h in cc
+out_past Clean count k place at h = next_not_past k (nat_lt (suc k) count) (sym (ap (next_position count) at) ∙ h)
 
-refused_host : (fate : Fate) (comes_in : Bool) (place : Place) → (refused_tried fate comes_in place).host ≡ place.host
+refused_host : (fate : Fate) (comes_in : Bool) (place : Place)
+    → (place_after_refusal fate comes_in place).host ≡ place.host
 refused_host Clean comes_in place = refl
 refused_host AckLost true place = refl
 refused_host AckLost false place = silent_host place
 refused_host TokenLost comes_in place = silent_host place
 refused_host ReplyLost comes_in place = silent_host place
 
-setup_past : (fate : Fate) (count : ℕ) (decision : Decision) (place : Place) → place.host ≡ Setup → (setup_tried fate count decision place).host ≡ Past → ⊥
+setup_past : (fate : Fate) (count : ℕ) (decision : Decision) (place : Place) → place.host ≡ Setup
+    → (place_after_setup fate count decision place).host ≡ Past → ⊥
 setup_past TokenLost count decision place at h = let wrong : Setup ≡ Past = sym at ∙ sym (silent_host place) ∙ h in cc
-setup_past ReplyLost count decision place at h = let wrong : Setup ≡ Past = sym at ∙ sym (silent_host (decided count decision place)) ∙ h in cc
-setup_past AckLost count decision place at h = let wrong : Setup ≡ Past = sym at ∙ sym (silent_host (decided count decision place)) ∙ h in cc
+setup_past ReplyLost count decision place at h = let wrong : Setup ≡ Past =
+    sym at ∙ sym (silent_host (place_after_decision count decision place)) ∙ h in cc
+setup_past AckLost count decision place at h = let wrong : Setup ≡ Past =
+    sym at ∙ sym (silent_host (place_after_decision count decision place)) ∙ h in cc
 setup_past Clean count decision place at h = first_not_past (count == 0) h
 
 -- a status of an accepted write whose answer reaches the host took effect
 status_applied : (shape : Shape) (fate : Fate) (count : ℕ) (place : Place) → shape.reads ≡ false → place.host ≡ Status
-    → (in_tried fate count (record place { applied = applies shape fate place.host || place.applied })).host ≡ Past → applies shape fate place.host || place.applied ≡ true
+    → (place_after_in fate count (record place { applied = applies shape fate place.host || place.applied })).host
+    ≡ Past → applies shape fate place.host || place.applied ≡ true
 status_applied shape TokenLost count place writes at h = let wrong : Status ≡ Past = sym at ∙ sym (silent_host (record place { applied = applies shape TokenLost place.host || place.applied })) ∙ h in absurd (cc)
 status_applied shape ReplyLost count place writes at h = let wrong : Status ≡ Past = sym at ∙ sym (silent_host (record place { applied = applies shape ReplyLost place.host || place.applied })) ∙ h in absurd (cc)
 status_applied shape AckLost count place writes at h = ap (λ (p : Position). applies shape AckLost p || place.applied) at ∙ ap (λ (b : Bool). not b || place.applied) writes
@@ -110,30 +130,41 @@ status_applied shape Clean count place writes at h = ap (λ (p : Position). appl
 
 -- a piece of an accepted write goes to the device, and leads no further than its status
 piece_past : (shape : Shape) (fate : Fate) (k : ℕ) (answer : Option (List ℕ)) (place : Place) → shape.reads ≡ false → place.host ≡ Piece k
-    → (piece_tried shape fate (Accepted answer) (record place { decision = Accepted answer })).host ≡ Past → ⊥
+    → (place_after_piece shape fate (Accepted answer) (record place { decision = Accepted answer })).host ≡ Past → ⊥
 piece_past shape fate k answer place writes at h =
     let count = data_pieces shape (Accepted answer) in
     let reached : Place = record place { decision = Accepted answer; applied = applies shape fate place.host || place.applied } in
-    let goes_out : comes shape place.host ≡ false = ap (comes shape) at ∙ writes in
-    out_past fate count k reached at (subst (λ (b : Bool). (if b then in_tried fate count reached else out_tried fate count reached).host ≡ Past) goes_out h)
+    let goes_out : comes_from_device shape place.host ≡ false = ap (comes_from_device shape) at ∙ writes in
+    out_past fate count k reached at
+    (subst (λ (b : Bool).
+    (if b then place_after_in fate count reached else place_after_out fate count reached).host ≡ Past) goes_out h)
 
 status_past : (shape : Shape) (fate : Fate) (answer : Option (List ℕ)) (place : Place) → shape.reads ≡ false → place.host ≡ Status
-    → (piece_tried shape fate (Accepted answer) (record place { decision = Accepted answer })).host ≡ Past
-    → (piece_tried shape fate (Accepted answer) (record place { decision = Accepted answer })).applied ≡ true
+    → (place_after_piece shape fate (Accepted answer) (record place { decision = Accepted answer })).host ≡ Past
+    → (place_after_piece shape fate (Accepted answer) (record place { decision = Accepted answer })).applied ≡ true
 status_past shape fate answer place writes at h =
     let count = data_pieces shape (Accepted answer) in
     let reached : Place = record place { decision = Accepted answer; applied = applies shape fate place.host || place.applied } in
-    let comes_in : comes shape place.host ≡ true = ap (comes shape) at ∙ ap (λ (b : Bool). not b || (shape.length == 0)) writes in
-    let here = subst (λ (b : Bool). (if b then in_tried fate count reached else out_tried fate count reached).host ≡ Past) comes_in h in
+    let comes_in : comes_from_device shape place.host ≡ true =
+    ap (comes_from_device shape) at ∙ ap (λ (b : Bool). not b || (shape.length == 0)) writes in
+    let here =
+    subst (λ (b : Bool).
+    (if b then place_after_in fate count reached else place_after_out fate count reached).host
+    ≡ Past) comes_in h in
     (accepted_reaches shape fate answer (record place { decision = Accepted answer })).applied
     ∙ status_applied shape fate count (record place { decision = Accepted answer }) writes at here
 
 pub past_applied : (shape : Shape) (fate : Fate) (decision : Decision) (p : Position) (q : Decision) (place : Place) → shape.reads ≡ false → place.host ≡ p → p ≢ Past
-    → (tried_at p shape fate decision (record place { decision = q })).host ≡ Past → (tried_at p shape fate decision (record place { decision = q })).applied ≡ true
+    → (place_after_try_at p shape fate decision (record place { decision = q })).host ≡ Past
+    → (place_after_try_at p shape fate decision (record place { decision = q })).applied ≡ true
 past_applied shape fate decision Setup q place writes at apart h = absurd (setup_past fate (data_pieces shape decision) decision (record place { decision = q }) at h)
-past_applied shape fate decision (Piece k) Refused place writes at apart h = let wrong : Piece k ≡ Past = sym at ∙ sym (refused_host fate (comes shape place.host) (record place { decision = Refused })) ∙ h in absurd (cc)
+past_applied shape fate decision (Piece k) Refused place writes at apart h = let wrong : Piece k ≡ Past =
+    sym at ∙ sym (refused_host fate (comes_from_device shape place.host) (record place { decision = Refused })) ∙ h in
+    absurd (cc)
 past_applied shape fate decision (Piece k) (Accepted answer) place writes at apart h = absurd (piece_past shape fate k answer place writes at h)
-past_applied shape fate decision Status Refused place writes at apart h = let wrong : Status ≡ Past = sym at ∙ sym (refused_host fate (comes shape place.host) (record place { decision = Refused })) ∙ h in absurd (cc)
+past_applied shape fate decision Status Refused place writes at apart h = let wrong : Status ≡ Past =
+    sym at ∙ sym (refused_host fate (comes_from_device shape place.host) (record place { decision = Refused })) ∙ h in
+    absurd (cc)
 past_applied shape fate decision Status (Accepted answer) place writes at apart h = status_past shape fate answer place writes at h
 past_applied shape fate decision Past q place writes at apart h = absurd (apart refl)
 

@@ -1,4 +1,4 @@
--- What holds of every device of a rig holds behind its calls.
+-- What holds of every device of a rig holds after its calls.
 use Rattle.std.proofs.Common.{◌≡◌, ◌∙◌, ◌<◌, ◌≤◌, ◌++◌, take, drop, ap, arith, ℕ, List, [], ◌∷◌, length, get_or, map, Option, Some, None, Result, Ok, Err, OnOk, OnErr, refl, sym, subst}
 use Rattle.std.specs.Prelude.{slice_set}
 use Rattle.std.proofs.lemmas.List.{take-append-le, take_all, length-map}
@@ -16,9 +16,9 @@ use Rattle.hid_host.specs.Host.{running}
 use Rattle.hid_bus.specs.declared.start.Start.{Start}
 use Rattle.hid_bus.specs.declared.start.Start.TheVariants as starts
 use Rattle.hid_stack.specs.Attaching.{member_at_start}
-use Rattle.hid_stack.specs.Members.{Member, MemberStep, Scheduled, Controls, member_after, tried_of}
+use Rattle.hid_stack.specs.Members.{Member, MemberStep, Scheduled, Controls, member_after, member_after_try}
 use Rattle.hid_stack.specs.Slot.{TriesTransfer}
-use Rattle.hid_stack.specs.Expecting.{AllHoldToggles}
+use Rattle.hid_stack.specs.ExpectedToggles.{AllHoldToggles}
 use Rattle.hid_stack.specs.Sums.{AllHaveMotions}
 use Rattle.hid_bus.proofs.MotionLemmas.{fresh_has}
 use Rattle.hid_stack.proofs.HoldLemmas.{bus_holds}
@@ -27,7 +27,7 @@ use Rattle.hid_stack.proofs.SumLemmas.{HasItsMotions, after_member, after_unconc
 at_place : (members : List Member) (i : ℕ) (m : Member) → AllHaveMotions members → i < length members → m ≡ get_or members i m → HasItsMotions m
 at_place members i m all within is = subst HasItsMotions (sym is) (All-get_or HasItsMotions members i m within all)
 
--- behind a call that is a step of a device, or that is refused and changes nothing, or makes a try
+-- after a call that is a step of a device, or that is refused and changes nothing, or makes a try
 pub stepped_have : (members : List Member) (i : ℕ) (m n : Member) → AllHaveMotions members → i < length members → m ≡ get_or members i m → (HasItsMotions m → HasItsMotions n)
     → AllHaveMotions (slice_set members i n)
 stepped_have members i m n all within is goes = All-set HasItsMotions members i n (goes (at_place members i m all within is)) all
@@ -46,13 +46,13 @@ polled m n x (Err fault) P after err has = subst HasItsMotions (sym err.0) has
 tried_by : (fate : Fate) (m n : Member) (o : Option Transfer) (result : Result Progress StackFault) → running m.transfer ≡ o → TriesTransfer fate m o result n → HasItsMotions m → HasItsMotions n
 tried_by fate m n None result is tries has = subst HasItsMotions (sym tries.1) has
 tried_by fate m n (Some t) (Ok progress) is tries has =
-    stepped m n (Controls fate) (tries.1 ∙ ap (tried_of fate m) (sym is)) has
+    stepped m n (Controls fate) (tries.1 ∙ ap (member_after_try fate m) (sym is)) has
 tried_by fate m n (Some t) (Err fault) is tries has = subst HasItsMotions (sym tries.2) (after_unconcluded fate m (Some t) has)
 
 pub tried : (fate : Fate) (m n : Member) (result : Result Progress StackFault) → TriesTransfer fate m (running m.transfer) result n → HasItsMotions m → HasItsMotions n
 tried fate m n result tries has = tried_by fate m n (running m.transfer) result refl tries has
 
--- behind a frame, whose slots stand in the memory of the list before
+-- after a frame, whose slots stand in the memory of the list before
 pub framed : (members new : List Member) (len : ℕ) → length new ≡ len → take len (new ++ drop (length new) members) ≡ new
 framed members new len size = take-append-le len new (drop (length new) members) (omega arith) ∙ take_all len new (omega arith)
 

@@ -16,7 +16,7 @@ use Rattle.hid_bus.specs.declared.step.Step.TheVariants.{Change, Frame, Poll, Be
 use Rattle.hid_bus.specs.declared.step.Told.{Told}
 use Rattle.hid_host.specs.Host.{running}
 use Rattle.hid_stack.specs.Members.{Member, MemberStep, Scheduled, Begins, Controls, Halts, Resets, member_after}
-use Rattle.hid_stack.specs.Rig.{AreScheduled, member_at, with_member, one_after, bus_after, bus_after_all, HasRoomAt, HasRoomFor, HasRoomToTry, is_scheduled, most_events, most_in, refusal, refused_after, stopped_after, IsRefusal, NoneIsRefused, StopsAt}
+use Rattle.hid_stack.specs.Rig.{AreScheduled, member_at, with_member, one_after, bus_after, bus_after_all, HasRoomAt, HasRoomFor, HasRoomToTry, is_scheduled, max_events_of_step, max_events_of_steps, refusal, bus_after_refusal, bus_after_stop, IsRefusal, NoneIsRefused, StopsAt}
 use Rattle.hid_host.specs.declared.fault.StackFault.{StackFault}
 use Rattle.hid_stack.proofs.MemberLemmas.{layout_stays}
 
@@ -53,20 +53,28 @@ bus_layouts members (Reset dev) = one_layouts members dev Resets
 abbrev polled_most : Option Member → ℕ
 polled_most found = elim found [ None ↦ 0 | Some m ↦ max_events (items_of m.layout) ]
 
-most_push : (members : List Member) (steps : List Step) (x : Step) → most_in members (steps ++ x ∷ []) ≡ most_in members steps + most_events (bus_after_all members steps) x
+most_push : (members : List Member) (steps : List Step) (x : Step)
+    → max_events_of_steps members (steps ++ x ∷ [])
+    ≡ max_events_of_steps members steps + max_events_of_step (bus_after_all members steps) x
 most_push members [] x = omega arith
 most_push members (y ∷ steps) x = omega (arith, most_push (bus_after members y) steps x)
 
 -- one more step of a run
 pub most_more : (members mid : List Member) (steps : List Step) (i : ℕ) (d : Step) (first used new : ℕ) → i < length steps → mid ≡ bus_after_all members (take i steps)
-    → used ≤ first + most_in members (take i steps) → new ≤ used + most_events mid (get_or steps i d) → new ≤ first + most_in members (take (i + 1) steps)
+    → used ≤ first + max_events_of_steps members (take i steps)
+    → new ≤ used + max_events_of_step mid (get_or steps i d)
+    → new ≤ first + max_events_of_steps members (take (i + 1) steps)
 most_more members mid steps i d first used new lt before few one =
-    let more = ap (most_in members) (take_more steps i d lt) ∙ most_push members (take i steps) (get_or steps i d) in
-    let same = ap (λ (ms : List Member). most_events ms (get_or steps i d)) before in
+    let more =
+    ap (max_events_of_steps members) (take_more steps i d lt)
+    ∙ most_push members (take i steps) (get_or steps i d) in
+    let same = ap (λ (ms : List Member). max_events_of_step ms (get_or steps i d)) before in
     omega (arith, few, one, more, same)
 
 -- the steps up to one of them deliver no more than all of them
-most_part : (members : List Member) (steps : List Step) (i : ℕ) (d : Step) → i < length steps → most_in members (take i steps) + most_events (bus_after_all members (take i steps)) (get_or steps i d) ≤ most_in members steps
+most_part : (members : List Member) (steps : List Step) (i : ℕ) (d : Step) → i < length steps
+    → max_events_of_steps members (take i steps) + max_events_of_step (bus_after_all members (take i steps))
+    (get_or steps i d) ≤ max_events_of_steps members steps
 most_part members [] i d lt = absurd (omega arith)
 most_part members (x ∷ steps) zero d lt = omega arith
 most_part members (x ∷ steps) (suc i) d lt = omega (arith, most_part (bus_after members x) steps i d (omega arith))
@@ -84,7 +92,8 @@ IsOfNone x = (device : ℕ) → is_scheduled device x ≡ true
 names_itself : (d : ℕ) → not (eqb d d) ≡ true → ⊥
 names_itself d h = grind (arith, nat_tests)
 
-has_room : (members : List Member) (x : Step) (used capacity : ℕ) → IsOfNone x → used + most_events members x ≤ capacity → HasRoomFor members x used capacity
+has_room : (members : List Member) (x : Step) (used capacity : ℕ) → IsOfNone x
+    → used + max_events_of_step members x ≤ capacity → HasRoomFor members x used capacity
 has_room members (Change dev change) used capacity none room = tt
 has_room members Frame used capacity none room = tt
 has_room members (Poll dev fate) used capacity none room = by_member (member_at members dev) room
@@ -102,9 +111,10 @@ none_at steps i d lt all device = All-get_or (λ x. is_scheduled device x ≡ tr
 
 -- where there is room for all steps, there is room for each as it comes
 pub room_at : (members mid : List Member) (steps : List Step) (i : ℕ) (d : Step) (first used capacity now : ℕ) → i < length steps → mid ≡ bus_after_all members (take i steps)
-    → used ≤ first + most_in members (take i steps) → capacity ≤ now → AreScheduled steps → first + most_in members steps ≤ capacity → HasRoomFor mid (get_or steps i d) used now
+    → used ≤ first + max_events_of_steps members (take i steps) → capacity ≤ now → AreScheduled steps
+    → first + max_events_of_steps members steps ≤ capacity → HasRoomFor mid (get_or steps i d) used now
 room_at members mid steps i d first used capacity now lt before few grows all room =
-    let same = ap (λ (ms : List Member). most_events ms (get_or steps i d)) before in
+    let same = ap (λ (ms : List Member). max_events_of_step ms (get_or steps i d)) before in
     let part = most_part members steps i d lt in
     has_room mid (get_or steps i d) used now (none_at steps i d lt all) (omega (arith, few, grows, room, same, part))
 
@@ -125,23 +135,27 @@ more_room members (Control dev fate) more used capacity now less grows has = by_
   where
     by_member : (o : Option Member) → IfSome o (λ (m : Member). HasRoomToTry fate m (running m.transfer) more capacity) → IfSome o (λ (m : Member). HasRoomToTry fate m (running m.transfer) used now)
     by_member None h = tt
-    by_member (Some m) h = (λ cuts. let fits = h.0 cuts in omega (arith, fits, less, grows), h.1)
+    by_member (Some m) h = (λ aborts. let fits = h.0 aborts in omega (arith, fits, less, grows), h.1)
 
 -- where there is room at a step of a run, there is as it comes
 pub room_here : (members mid : List Member) (steps : List Step) (i : ℕ) (d : Step) (first used capacity now : ℕ) → i < length steps → mid ≡ bus_after_all members (take i steps)
-    → used ≤ first + most_in members (take i steps) → capacity ≤ now → HasRoomAt members steps i first capacity → HasRoomFor mid (get_or steps i d) used now
+    → used ≤ first + max_events_of_steps members (take i steps) → capacity ≤ now
+    → HasRoomAt members steps i first capacity → HasRoomFor mid (get_or steps i d) used now
 room_here members mid steps i d first used capacity now lt before few grows has =
-    let most : ℕ = first + most_in members (take i steps) in
+    let most : ℕ = first + max_events_of_steps members (take i steps) in
     let here : HasRoomFor (bus_after_all members (take i steps)) (get_or steps i d) most capacity
     = subst (λ (o : Option Step). IfSome o (λ x. HasRoomFor (bus_after_all members (take i steps)) x most capacity)) (read_at steps i d lt) has in
     more_room mid (get_or steps i d) most used capacity now few grows (subst (λ (ms : List Member). HasRoomFor ms (get_or steps i d) most capacity) (sym before) here)
 
 -- where a run stops, the refused step leaves the bus so
 pub stopped : (members mid new : List Member) (steps : List Step) (i : ℕ) (d : Step) (e : StackFault) → i < length steps → mid ≡ bus_after_all members (take i steps)
-    → new ≡ refused_after mid (get_or steps i d) e → new ≡ stopped_after members steps i e
+    → new ≡ bus_after_refusal mid (get_or steps i d) e → new ≡ bus_after_stop members steps i e
 stopped members mid new steps i d e lt before one =
-    one ∙ ap (λ (ms : List Member). refused_after ms (get_or steps i d) e) before
-    ∙ sym (ap (λ (o : Option Step). elim o as (λ _. List Member) [ None ↦ members | Some x ↦ refused_after (bus_after_all members (take i steps)) x e ]) (read_at steps i d lt))
+    one ∙ ap (λ (ms : List Member). bus_after_refusal ms (get_or steps i d) e) before
+    ∙ sym (ap
+    (λ (o : Option Step). elim o as
+    (λ _. List Member) [ None ↦ members | Some x ↦ bus_after_refusal (bus_after_all members (take i steps)) x e ])
+    (read_at steps i d lt))
 
 pub stops_at : (members mid : List Member) (steps : List Step) (i : ℕ) (d : Step) (e : StackFault) → i < length steps → NoneIsRefused members (take i steps) → mid ≡ bus_after_all members (take i steps)
     → IsRefusal mid (get_or steps i d) e → StopsAt members steps i e
@@ -152,7 +166,7 @@ stops_at members mid steps i d e lt none before refused = (
       (subst (λ (ms : List Member). IsRefusal ms (get_or steps i d) e) before refused),
 )
 
--- what is told isn't refused
+-- what is reported isn't refused
 pub not_refused : (o : Option StackFault) (r : Result Told StackFault) (told : Told) → r ≡ Ok told → ((e : StackFault) → o ≡ Some e → r ≡ Err e) → o ≡ None
 not_refused None r told is refused = refl
 not_refused (Some e) r told is refused = let wrong : Ok told ≡ Err e = sym is ∙ refused e refl in absurd (cc)

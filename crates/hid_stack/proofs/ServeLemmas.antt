@@ -9,29 +9,30 @@ use Rattle.hid_snapshots.specs.Snapshots as snapshots
 use Rattle.usb_transact.specs.declared.transaction.Fate.{Fate}
 use Rattle.usb_control.specs.declared.host.Progress.{Progress}
 use Rattle.hid_requests.specs.declared.request.Request.{Request}
-use Rattle.hid_requests.specs.Asking.{FitsRequest}
+use Rattle.hid_requests.specs.RequestSetup.{FitsRequest}
 use Rattle.hid_bus.specs.Rounds.{Changes, Polls, Frame as Frames}
 use Rattle.hid_host.specs.declared.fault.StackFault.{StackFault}
 use Rattle.hid_host.specs.declared.fault.StackFault.TheVariants.{NoDevice, Memory}
-use Rattle.hid_host.specs.Host.{may_cut, running}
+use Rattle.hid_host.specs.Host.{may_abort_round, running}
 use Rattle.hid_bus.specs.declared.step.Delivered.{Delivered}
 use Rattle.hid_bus.specs.declared.step.Step.{Step}
 use Rattle.hid_bus.specs.declared.step.Step.TheVariants.{Change as ChangeStep, Frame, Poll, Begin, Control, Halt, Reset}
 use Rattle.hid_bus.specs.declared.step.Told.{Told}
 use Rattle.hid_bus.specs.declared.step.Told.TheVariants.{Quiet}
-use Rattle.hid_stack.specs.Members.{Member, MemberStep, Scheduled, Begins, Controls, Halts, Resets, begin_refusal_at, deed_at, events_by, member_after, polls_it}
-use Rattle.hid_stack.specs.Rig.{FitsStep, HasRoomFor, HasRoomToTry, IsRefusal, TakesMemory, bus_after, delivered_at, member_at, most_events, most_tried, one_after, one_delivers, poll_refusal, refusal, refused_after, tagged, with_member}
+use Rattle.hid_stack.specs.Members.{Member, MemberStep, Scheduled, Begins, Controls, Halts, Resets, begin_refusal_at, bus_event_of_step, events_of_event_if, member_after, polls_it}
+use Rattle.hid_stack.specs.Rig.{FitsStep, HasRoomFor, HasRoomToTry, IsRefusal, TakesMemory, bus_after, bus_after_refusal, deliveries_of_step, max_events_of_step, max_events_of_try, member_at, member_deliveries, one_after, poll_refusal, refusal, with_device_number, with_member}
 use Rattle.hid_stack.specs.Slot.{TriesTransfer}
-use Rattle.hid_stack.specs.Steps.{StepsTo, named_by}
-use Rattle.hid_stack.specs.Sums.{ConfiguresBetweenRounds, CutsByRequest, IsBetween, OnlyHaltsCut}
-use Rattle.hid_stack.specs.Tells.{Tells, TellsPoll}
+use Rattle.hid_stack.specs.Steps.{StepsTo, device_of_step}
+use Rattle.hid_stack.specs.Sums.{AbortsByRequest, ConfiguresBetweenRounds, IsBetween, OnlyHaltsAbort}
+use Rattle.hid_stack.specs.StepResult.{Tells, TellsPoll}
 use Rattle.hid_stack.proofs.NamedLemmas.{IsNamed, RefusedBy, begin_err, begin_only, begin_refused, begin_told, change_err, change_only, change_refused, change_told, control_between, control_cuts, control_done, control_few, control_room, control_told, control_undone, enough_room, few_of_it, leaves, memory_only, named, never_refused, never_stands, one_delivered, poll_only, poll_refused, poll_tells, stays_refused, tries_named}
 use Rattle.hid_stack.proofs.SumLemmas.{others_between, try_between}
 
 -- what a step of a device makes of any bus on which it stands under the number that the step names
 abbrev pub Serves : Member → Member → Step → Result Told StackFault → List Delivered → List Delivered → ℕ → ℕ → ℕ → ℕ → Type 0
 Serves m n x r old new len len_then cap cap_then =
-    (members : List Member) (dev : ℕ) → named_by x ≡ Some dev → member_at members dev ≡ Some m → StepsTo members (with_member members dev n) x r old new len len_then cap cap_then
+    (members : List Member) (dev : ℕ) → device_of_step x ≡ Some dev → member_at members dev ≡ Some m
+    → StepsTo members (with_member members dev n) x r old new len len_then cap cap_then
 
 -- a device under its number
 named_at : (members : List Member) (dev : ℕ) (m : Member) → member_at members dev ≡ Some m → IsNamed members dev (dev - 1) m
@@ -41,10 +42,11 @@ named_at members dev m here = record { place = refl; read = by_number (eqb dev 0
     by_number true k = absurd (cc)
     by_number false k = k
 
-serves : (m n : Member) (d : ℕ) (x y : Step) (r : Result Told StackFault) (old new : List Delivered) (len len_then cap cap_then : ℕ) → y ≡ x → named_by x ≡ Some d
+serves : (m n : Member) (d : ℕ) (x y : Step) (r : Result Told StackFault) (old new : List Delivered)
+    (len len_then cap cap_then : ℕ) → y ≡ x → device_of_step x ≡ Some d
     → ((members : List Member) → IsNamed members d (d - 1) m → StepsTo members (with_member members d n) x r old new len len_then cap cap_then) → Serves m n y r old new len len_then cap cap_then
 serves m n d x y r old new len len_then cap cap_then is names steps members dev names_it here =
-    let both : (let o = Some d in o) ≡ Some dev = sym names ∙ ap named_by (sym is) ∙ names_it in
+    let both : (let o = Some d in o) ≡ Some dev = sym names ∙ ap device_of_step (sym is) ∙ names_it in
     let same : d ≡ dev = cc in
     subst (λ (z : Step). StepsTo members (with_member members dev n) z r old new len len_then cap cap_then) (sym is)
     (subst (λ (k : ℕ). StepsTo members (with_member members k n) x r old new len len_then cap cap_then) same
@@ -52,19 +54,22 @@ serves m n d x y r old new len len_then cap cap_then is names steps members dev 
 
 -- a change
 change_here : (members : List Member) (d : ℕ) (m n : Member) (change : Change) (done : Result (Unit {0}) ChangeFault) (es : List Delivered) (len cap : ℕ) → IsNamed members d (d - 1) m
-    → snapshots.Changes (items_of m.layout) m.station.standing.snapshot change done n.station.standing.snapshot → n ≡ member_after m (Scheduled (Changes change))
+    → snapshots.Changes (items_of m.layout) m.link.reports.snapshot change done n.link.reports.snapshot
+    → n ≡ member_after m (Scheduled (Changes change))
     → StepsTo members (with_member members d n) (ChangeStep d change) (change_told done) es es len len cap cap
 change_here members d m n change (Ok u) es len cap at_place changes after = record {
   told = refl;
   after = leaves members members d (d - 1) m n (Scheduled (Changes change)) refl at_place after;
   events = sym (append-nil es);
   fits = tt;
-  refused = change_refused members d (d - 1) m change (Ok u) n.station.standing.snapshot (change_told (Ok u)) at_place changes refl;
+  refused =
+      change_refused members d (d - 1) m change (Ok u) n.link.reports.snapshot
+      (change_told (Ok u)) at_place changes refl;
   only = tt;
   err = tt;
   err_events = tt;
   between = others_between members (ChangeStep d change) tt;
-  cuts = tt;
+  aborts = tt;
   room = λ room wrong. absurd (cc);
   few = omega arith;
   capacity = omega arith;
@@ -74,19 +79,23 @@ change_here members d m n change (Err fault) es len cap at_place changes after =
   after = tt;
   events = tt;
   fits = tt;
-  refused = change_refused members d (d - 1) m change (Err fault) n.station.standing.snapshot (change_told (Err fault)) at_place changes refl;
-  only = change_only members d (d - 1) m change (Err fault) n.station.standing.snapshot (change_told (Err fault)) at_place changes refl;
+  refused =
+      change_refused members d (d - 1) m change (Err fault) n.link.reports.snapshot
+      (change_told (Err fault)) at_place changes refl;
+  only = change_only members d (d - 1) m change (Err fault) n.link.reports.snapshot
+      (change_told (Err fault)) at_place changes refl;
   err = change_err members members d (d - 1) m n change (Err fault) (change_told (Err fault)) refl at_place refl changes after;
   err_events = refl;
   between = others_between members (ChangeStep d change) tt;
-  cuts = tt;
+  aborts = tt;
   room = λ room wrong. absurd (cc);
   few = omega arith;
   capacity = omega arith;
 }
 
 pub change_serves : (m n : Member) (d : ℕ) (change : Change) (y : Step) (done : Result (Unit {0}) ChangeFault) (r : Result Told StackFault) (es : List Delivered) (len cap : ℕ) → y ≡ ChangeStep d change
-    → snapshots.Changes (items_of m.layout) m.station.standing.snapshot change done n.station.standing.snapshot → n ≡ member_after m (Scheduled (Changes change)) → change_told done ≡ r
+    → snapshots.Changes (items_of m.layout) m.link.reports.snapshot change done n.link.reports.snapshot
+    → n ≡ member_after m (Scheduled (Changes change)) → change_told done ≡ r
     → Serves m n y r es es len len cap cap
 change_serves m n d change y done r es len cap is changes after told =
     subst (λ (o : Result Told StackFault). Serves m n y o es es len len cap cap) told
@@ -95,13 +104,14 @@ change_serves m n d change y done r es len cap is changes after told =
 -- a step that moves one member on, delivers what that tells, and is refused without a trace
 record IsOneStep (members : List Member) (d : ℕ) (x : Step) (k : MemberStep) : Type 0 where
   after : bus_after members x ≡ one_after members d k
-  events : delivered_at members x ≡ one_delivers members d k
-  most : most_events members x ≡ (elim (member_at members d) as (λ _. ℕ) [ None ↦ 0 | Some m ↦ max_events (items_of m.layout) ])
+  events : deliveries_of_step members x ≡ member_deliveries members d k
+  most : max_events_of_step members x
+      ≡ (elim (member_at members d) as (λ _. ℕ) [ None ↦ 0 | Some m ↦ max_events (items_of m.layout) ])
   room : (len cap : ℕ) → HasRoomFor members x len cap → IfSome (member_at members d) (λ (m : Member). len + max_events (items_of m.layout) ≤ cap)
-  stays : (e : StackFault) → members ≡ refused_after members x e
+  stays : (e : StackFault) → members ≡ bus_after_refusal members x e
   fits : FitsStep x
   between : ConfiguresBetweenRounds members (x ∷ [])
-  cuts : OnlyHaltsCut members x
+  aborts : OnlyHaltsAbort members x
 
 -- what it tells, and why it is refused
 record IsAnswered (members : List Member) (x : Step) (r : Result Told StackFault) : Type 0 where
@@ -121,9 +131,12 @@ second : (r : Result Told StackFault) (P Q : Type 0) → OnErr r (P × Q) → On
 second (Ok told) P Q both = tt
 second (Err fault) P Q both = both.1
 
-one_serves : (m n : Member) (d : ℕ) (x y : Step) (k : MemberStep) (r : Result Told StackFault) (old new : List Delivered) (len len_then cap cap_then : ℕ) → y ≡ x → named_by x ≡ Some d
+one_serves : (m n : Member) (d : ℕ) (x y : Step) (k : MemberStep) (r : Result Told StackFault)
+    (old new : List Delivered) (len len_then cap cap_then : ℕ) → y ≡ x → device_of_step x ≡ Some d
     → ((members : List Member) → IsOneStep members d x k) → ((members : List Member) → IsNamed members d (d - 1) m → IsAnswered members x r)
-    → OnOk r (n ≡ member_after m k) → OnOk r (new ≡ old ++ map (tagged d) (events_by (items_of m.layout) m.station (deed_at m k)))
+    → OnOk r (n ≡ member_after m k)
+    → OnOk r (new ≡ old
+    ++ map (with_device_number d) (events_of_event_if (items_of m.layout) m.link (bus_event_of_step m k)))
     → OnErr r ((n ≡ m) × (new ≡ old)) → (len + max_events (items_of m.layout) ≤ cap → r ≢ Err Memory) → len_then ≤ len + max_events (items_of m.layout) → cap ≤ cap_then
     → Serves m n y r old new len len_then cap cap_then
 one_serves m n d x y k r old new len len_then cap cap_then is names steps answers after events err room few more =
@@ -137,10 +150,11 @@ one_serves m n d x y k r old new len len_then cap cap_then is names steps answer
       fits = fits_anyway r (FitsStep x) one.fits;
       refused = answer.refused;
       only = answer.only;
-      err = stays_anyway r (with_member members d n) (refused_after members x) members (stays_refused members members d (d - 1) m n r (new ≡ old) refl at_place err) one.stays;
+      err = stays_anyway r (with_member members d n) (bus_after_refusal members x) members
+          (stays_refused members members d (d - 1) m n r (new ≡ old) refl at_place err) one.stays;
       err_events = second r (n ≡ m) (new ≡ old) err;
       between = one.between;
-      cuts = one.cuts;
+      aborts = one.aborts;
       room = λ has. enough_room members d (d - 1) m r len cap at_place room (one.room len cap has);
       few = subst (λ (most : ℕ). len_then ≤ len + most) (sym one.most) (few_of_it members d (d - 1) m len len_then at_place few);
       capacity = more;
@@ -148,42 +162,46 @@ one_serves m n d x y k r old new len len_then cap cap_then is names steps answer
 
 -- a poll
 pub poll_serves : (m n : Member) (d : ℕ) (fate : Fate) (y : Step) (r : Result Told StackFault) (old new : List Delivered) (len len_then cap cap_then : ℕ) → y ≡ Poll d fate
-    → IfOk r (λ told. TellsPoll m.layout m.station fate told) → OnOk r (n ≡ member_after m (Scheduled (Polls fate)))
-    → OnOk r (new ≡ old ++ map (tagged d) (events_by (items_of m.layout) m.station (deed_at m (Scheduled (Polls fate)))))
+    → IfOk r (λ told. TellsPoll m.layout m.link fate told) → OnOk r (n ≡ member_after m (Scheduled (Polls fate)))
+    → OnOk r (new ≡ old
+    ++ map (with_device_number d)
+    (events_of_event_if (items_of m.layout) m.link (bus_event_of_step m (Scheduled (Polls fate)))))
     → ((e : StackFault) → poll_refusal (polls_it m) ≡ Some e → r ≡ Err e) → RefusedBy (poll_refusal (polls_it m)) r
     → OnErr r ((n ≡ m) × (new ≡ old)) → (len + max_events (items_of m.layout) ≤ cap → r ≢ Err Memory) → len_then ≤ len + max_events (items_of m.layout) → cap ≤ cap_then
     → Serves m n y r old new len len_then cap cap_then
 poll_serves m n d fate y r old new len len_then cap cap_then is told after events refused only err room few more =
     one_serves m n d (Poll d fate) y (Scheduled (Polls fate)) r old new len len_then cap cap_then is refl
-    (λ members. record { after = refl; events = refl; most = refl; room = λ len cap has. has; stays = λ e. refl; fits = tt; between = others_between members (Poll d fate) tt; cuts = tt })
+    (λ members. record { after = refl; events = refl; most = refl; room = λ len cap has. has; stays = λ e. refl; fits = tt; between = others_between members (Poll d fate) tt; aborts = tt })
     (λ members at_place. record {
       told = poll_tells members d (d - 1) m fate r at_place told;
       refused = poll_refused members d (d - 1) m fate r at_place refused;
       only = poll_only members d (d - 1) m fate r at_place only;
     }) after events err room few more
 
--- a halt and a reset: nothing but want of memory refuses these
+-- a halt and a reset: nothing but out of memory refuses these
 never : (members : List Member) (x : Step) (r : Result Told StackFault) → refusal members x ≡ None → TakesMemory members x → IfOk r (λ told. Tells members x told) → IfErr r (λ fault. fault ≡ Memory) → IsAnswered members x r
 never members x r none takes told only = record { told = told; refused = never_refused members x r none; only = memory_only members x r none takes only }
 
 pub halt_serves : (m n : Member) (d : ℕ) (y : Step) (r : Result Told StackFault) (old new : List Delivered) (len len_then cap cap_then : ℕ) → y ≡ Halt d
     → IfOk r (λ told. told ≡ Quiet) → IfErr r (λ fault. fault ≡ Memory) → OnOk r (n ≡ member_after m Halts)
-    → OnOk r (new ≡ old ++ map (tagged d) (events_by (items_of m.layout) m.station (deed_at m Halts)))
+    → OnOk r (new ≡ old
+    ++ map (with_device_number d) (events_of_event_if (items_of m.layout) m.link (bus_event_of_step m Halts)))
     → OnErr r ((n ≡ m) × (new ≡ old)) → (len + max_events (items_of m.layout) ≤ cap → r ≢ Err Memory) → len_then ≤ len + max_events (items_of m.layout) → cap ≤ cap_then
     → Serves m n y r old new len len_then cap cap_then
 halt_serves m n d y r old new len len_then cap cap_then is told only =
     one_serves m n d (Halt d) y Halts r old new len len_then cap cap_then is refl
-    (λ members. record { after = refl; events = refl; most = refl; room = λ len cap has. has; stays = λ e. refl; fits = tt; between = others_between members (Halt d) tt; cuts = tt })
+    (λ members. record { after = refl; events = refl; most = refl; room = λ len cap has. has; stays = λ e. refl; fits = tt; between = others_between members (Halt d) tt; aborts = tt })
     (λ members at_place. never members (Halt d) r (never_stands members d (d - 1) m at_place) tt told only)
 
 pub reset_serves : (m n : Member) (d : ℕ) (y : Step) (r : Result Told StackFault) (old new : List Delivered) (len len_then cap cap_then : ℕ) → y ≡ Reset d
     → IfOk r (λ told. told ≡ Quiet) → IfErr r (λ fault. fault ≡ Memory) → OnOk r (n ≡ member_after m Resets)
-    → OnOk r (new ≡ old ++ map (tagged d) (events_by (items_of m.layout) m.station (deed_at m Resets)))
+    → OnOk r (new ≡ old
+    ++ map (with_device_number d) (events_of_event_if (items_of m.layout) m.link (bus_event_of_step m Resets)))
     → OnErr r ((n ≡ m) × (new ≡ old)) → (len + max_events (items_of m.layout) ≤ cap → r ≢ Err Memory) → len_then ≤ len + max_events (items_of m.layout) → cap ≤ cap_then
     → Serves m n y r old new len len_then cap cap_then
 reset_serves m n d y r old new len len_then cap cap_then is told only =
     one_serves m n d (Reset d) y Resets r old new len len_then cap cap_then is refl
-    (λ members. record { after = refl; events = refl; most = refl; room = λ len cap has. has; stays = λ e. refl; fits = tt; between = others_between members (Reset d) tt; cuts = tt })
+    (λ members. record { after = refl; events = refl; most = refl; room = λ len cap has. has; stays = λ e. refl; fits = tt; between = others_between members (Reset d) tt; aborts = tt })
     (λ members at_place. never members (Reset d) r (never_stands members d (d - 1) m at_place) tt told only)
 
 -- a request that begins
@@ -201,7 +219,7 @@ begin_here members d m n request (Ok u) es len cap at_place after refused only e
   err = tt;
   err_events = tt;
   between = others_between members (Begin d request) tt;
-  cuts = tt;
+  aborts = tt;
   room = λ room. absurd room;
   few = omega arith;
   capacity = omega arith;
@@ -216,7 +234,7 @@ begin_here members d m n request (Err fault) es len cap at_place after refused o
   err = begin_err members members d (d - 1) m n request (Err fault) (begin_told (Err fault)) refl at_place refl err;
   err_events = refl;
   between = others_between members (Begin d request) tt;
-  cuts = tt;
+  aborts = tt;
   room = λ room. absurd room;
   few = omega arith;
   capacity = omega arith;
@@ -232,11 +250,17 @@ begin_serves m n d request y done r es len cap is after refused only err fits to
 
 -- a try
 pub control_serves : (m n : Member) (d : ℕ) (fate : Fate) (y : Step) (done : Result Progress StackFault) (r : Result Told StackFault) (old new : List Delivered) (len len_then cap cap_then : ℕ) → y ≡ Control d fate
-    → TriesTransfer fate m (running m.transfer) done n → IsBetween m.station (deed_at m (Controls fate)) → CutsByRequest fate m (running m.transfer)
-    → OnOk done (new ≡ old ++ map (tagged d) (events_by (items_of m.layout) m.station (deed_at m (Controls fate)))) → OnErr done (new ≡ old)
-    → (HasRoomToTry fate m (running m.transfer) len cap → done ≢ Err Memory) → len_then ≤ len + most_tried m.layout (may_cut (running m.transfer)) → cap ≤ cap_then → r ≡ control_told done
+    → TriesTransfer fate m (running m.transfer) done n → IsBetween m.link (bus_event_of_step m (Controls fate))
+    → AbortsByRequest fate m (running m.transfer)
+    → OnOk done
+    (new ≡ old
+    ++ map (with_device_number d)
+    (events_of_event_if (items_of m.layout) m.link (bus_event_of_step m (Controls fate)))) → OnErr done (new ≡ old)
+    → (HasRoomToTry fate m (running m.transfer) len cap → done ≢ Err Memory)
+    → len_then ≤ len + max_events_of_try m.layout (may_abort_round (running m.transfer)) → cap ≤ cap_then
+    → r ≡ control_told done
     → Serves m n y r old new len len_then cap cap_then
-control_serves m n d fate y done r old new len len_then cap cap_then is tries between cuts events err_events room few more told =
+control_serves m n d fate y done r old new len len_then cap cap_then is tries between aborts events err_events room few more told =
     serves m n d (Control d fate) y r old new len len_then cap cap_then is refl (λ members at_place.
     let t = tries_named members members d (d - 1) m n fate done r refl at_place tries told in
     record {
@@ -249,7 +273,7 @@ control_serves m n d fate y done r old new len len_then cap cap_then is tries be
       err = t.err;
       err_events = control_undone done r _ told err_events;
       between = control_between members d (d - 1) m fate at_place between;
-      cuts = control_cuts members d (d - 1) m fate at_place cuts;
+      aborts = control_cuts members d (d - 1) m fate at_place aborts;
       room = control_room members d (d - 1) m fate done r len cap at_place told room;
       few = control_few members d (d - 1) m fate len len_then at_place few;
       capacity = more;
@@ -258,10 +282,11 @@ control_serves m n d fate y done r old new len len_then cap cap_then is tries be
 -- a frame names no device
 pub frame_serves : (m n : Member) (y : Step) (r : Result Told StackFault) (old new : List Delivered) (len len_then cap cap_then : ℕ) → y ≡ Frame → Serves m n y r old new len len_then cap cap_then
 frame_serves m n y r old new len len_then cap cap_then is members dev names here =
-    let none : None ≡ Some dev = ap named_by (sym is) ∙ names in absurd (cc)
+    let none : None ≡ Some dev = ap device_of_step (sym is) ∙ names in absurd (cc)
 
--- and every device goes on by it
-pub frame_steps : (members behind : List Member) (x : Step) (es : List Delivered) (len cap : ℕ) → named_by x ≡ None → behind ≡ map (λ (m : Member). member_after m (Scheduled Frames)) members
+-- every device goes on by a frame
+pub frame_steps : (members behind : List Member) (x : Step) (es : List Delivered) (len cap : ℕ)
+    → device_of_step x ≡ None → behind ≡ map (λ (m : Member). member_after m (Scheduled Frames)) members
     → StepsTo members behind x (Ok Quiet) es es len len cap cap
 frame_steps members behind (ChangeStep dev change) es len cap none is = absurd (cc)
 frame_steps members behind (Poll dev fate) es len cap none is = absurd (cc)
@@ -279,44 +304,47 @@ frame_steps members behind Frame es len cap none is = record {
   err = tt;
   err_events = tt;
   between = others_between members Frame tt;
-  cuts = tt;
+  aborts = tt;
   room = λ room wrong. absurd (cc);
   few = omega arith;
   capacity = omega arith;
 }
 
 -- where no device has the number
-none_cuts : (members : List Member) (dev : ℕ) (fate : Fate) → member_at members dev ≡ None → OnlyHaltsCut members (Control dev fate)
+none_cuts : (members : List Member) (dev : ℕ) (fate : Fate) → member_at members dev ≡ None
+    → OnlyHaltsAbort members (Control dev fate)
 none_cuts members dev fate none m here = let wrong : None ≡ Some m = sym none ∙ here in absurd (cc)
 
 record StandsAlone (members : List Member) (x : Step) : Type 0 where
   stands : refusal members x ≡ Some NoDevice
-  err : members ≡ refused_after members x NoDevice
+  err : members ≡ bus_after_refusal members x NoDevice
   between : ConfiguresBetweenRounds members (x ∷ [])
-  cuts : OnlyHaltsCut members x
+  aborts : OnlyHaltsAbort members x
 
-alone : (members : List Member) (x : Step) (dev : ℕ) → named_by x ≡ Some dev → member_at members dev ≡ None → StandsAlone members x
+alone : (members : List Member) (x : Step) (dev : ℕ) → device_of_step x ≡ Some dev → member_at members dev ≡ None
+    → StandsAlone members x
 alone members (ChangeStep d change) dev names none =
     let is : member_at members d ≡ None = cc in
-    record { stands = rw (is, refusal) refl; err = refl; between = others_between members (ChangeStep d change) tt; cuts = tt }
+    record { stands = rw (is, refusal) refl; err = refl; between = others_between members (ChangeStep d change) tt; aborts = tt }
 alone members Frame dev names none = absurd (cc)
 alone members (Poll d fate) dev names none =
     let is : member_at members d ≡ None = cc in
-    record { stands = rw (is, refusal) refl; err = refl; between = others_between members (Poll d fate) tt; cuts = tt }
+    record { stands = rw (is, refusal) refl; err = refl; between = others_between members (Poll d fate) tt; aborts = tt }
 alone members (Begin d request) dev names none =
     let is : member_at members d ≡ None = cc in
-    record { stands = rw (is, refusal) refl; err = refl; between = others_between members (Begin d request) tt; cuts = tt }
+    record { stands = rw (is, refusal) refl; err = refl; between = others_between members (Begin d request) tt; aborts = tt }
 alone members (Control d fate) dev names none =
     let is : member_at members d ≡ None = cc in
-    record { stands = rw (is, refusal) refl; err = refl; between = try_between members d fate None is tt; cuts = none_cuts members d fate is }
+    record { stands = rw (is, refusal) refl; err = refl; between = try_between members d fate None is tt; aborts = none_cuts members d fate is }
 alone members (Halt d) dev names none =
     let is : member_at members d ≡ None = cc in
-    record { stands = rw (is, refusal) refl; err = refl; between = others_between members (Halt d) tt; cuts = tt }
+    record { stands = rw (is, refusal) refl; err = refl; between = others_between members (Halt d) tt; aborts = tt }
 alone members (Reset d) dev names none =
     let is : member_at members d ≡ None = cc in
-    record { stands = rw (is, refusal) refl; err = refl; between = others_between members (Reset d) tt; cuts = tt }
+    record { stands = rw (is, refusal) refl; err = refl; between = others_between members (Reset d) tt; aborts = tt }
 
-pub none_steps : (members : List Member) (x : Step) (dev : ℕ) (r : Result Told StackFault) (es : List Delivered) (len cap : ℕ) → named_by x ≡ Some dev → r ≡ Err NoDevice → member_at members dev ≡ None
+pub none_steps : (members : List Member) (x : Step) (dev : ℕ) (r : Result Told StackFault) (es : List Delivered)
+    (len cap : ℕ) → device_of_step x ≡ Some dev → r ≡ Err NoDevice → member_at members dev ≡ None
     → StepsTo members members x r es es len len cap cap
 none_steps members x dev r es len cap names is none =
     let a = alone members x dev names none in
@@ -330,7 +358,7 @@ none_steps members x dev r es len cap names is none =
       err = a.err;
       err_events = refl;
       between = a.between;
-      cuts = a.cuts;
+      aborts = a.aborts;
       room = λ room wrong. absurd (cc);
       few = omega arith;
       capacity = omega arith;
@@ -338,7 +366,7 @@ none_steps members x dev r es len cap names is none =
 
 -- the device at its place
 pub placed_steps : (slots members : List Member) (x : Step) (dev i : ℕ) (m n : Member) (r : Result Told StackFault) (old new : List Delivered) (len len_then cap cap_then : ℕ)
-    → slots ≡ members → named_by x ≡ Some dev → dev ≡ i + 1 → i < length members → m ≡ get_or slots i m
+    → slots ≡ members → device_of_step x ≡ Some dev → dev ≡ i + 1 → i < length members → m ≡ get_or slots i m
     → Serves m n x r old new len len_then cap cap_then → StepsTo members (slice_set slots i n) x r old new len len_then cap cap_then
 placed_steps slots members x dev i m n r old new len len_then cap cap_then same names number within is steps =
     let at_place = named slots members dev i m same number within is in

@@ -1,4 +1,4 @@
--- A poll packet by packet, over a bus that loses packets, is a poll of the station (USB 2.0, 8.5.4 and 8.6).
+-- A poll packet by packet, over a bus that loses packets, is a poll of the link state (USB 2.0, 8.5.4 and 8.6).
 use Rattle.std.proofs.Common.{◌≡◌, ◌∙◌, ◌≤◌, ◌+◌, length, ℕ, Bool, true, false, List, [], Option, Some, None, Result, Ok, refl, ap, sym, subst, arith, eqb, cond, inl, inr}
 use Rattle.std.proofs.lemmas.Bool.{cases_Bool}
 use Rattle.std.specs.Prelude.{IfSome, ◌&&◌, ◌||◌}
@@ -7,7 +7,7 @@ use Rattle.hid_layout.specs.Layout.{Contents}
 use Rattle.hid_layout.specs.Controls.{items_of, max_events}
 use Rattle.hid_layout.specs.Reports.{IsLayout}
 use Rattle.hid_snapshots.specs.declared.event.Event.{Event}
-use Rattle.hid_snapshots.specs.Cells.{FitsView}
+use Rattle.hid_snapshots.specs.ControlStates.{FitsView}
 use Rattle.hid_snapshots.specs.Pieces.{pieces_for}
 use Rattle.hid_snapshots.proofs.PieceLemmas.{pieces_are}
 use Rattle.hid_usages.proofs.CrossingLemmas.{parts_back}
@@ -23,33 +23,34 @@ use Rattle.usb_transact.specs.Bus.{Arrivals, Replies}
 use Rattle.usb_transact.specs.Device.{answer_with}
 use Rattle.usb_transact.specs.Fate.{arrives_under}
 use Rattle.usb_transact.specs.Host.{token_to}
-use Rattle.usb_transact.specs.Taken.{taken}
+use Rattle.usb_transact.specs.Taken.{reply_outcome}
 use Rattle.usb_transact.proofs.TableLemmas.{read_whole, read_lost}
 use Rattle.hid_requests.specs.declared.codes.TheConstants.{REPORT_ENDPOINT as ENDPOINT}
 use Rattle.hid_device.specs.Inputs.{input_count}
-use Rattle.hid_bus.specs.Standing.{due_where}
-use Rattle.hid_device.specs.Core.{CoreState, IsSound, IsBelow, IsQuiet, SendsPart, opened_core_if, opening_of, poll_answer}
-use Rattle.hid_device.specs.Device.{DeviceState, is_poll, polled_device, control_answer, heard, core_of}
+use Rattle.hid_bus.specs.ReportState.{due_where}
+use Rattle.hid_device.specs.Core.{CoreState, IsSound, IsBelow, IsQuiet, SendsPart, core_with_due_round, core_at_poll, poll_response}
+use Rattle.hid_device.specs.Device.{DeviceState, is_poll, device_after_poll, control_answer, device_after_other, core_of}
 use Rattle.hid_bus.specs.Rounds.{Polls}
 use Rattle.hid_host.specs.declared.fault.StackFault.{StackFault}
 use Rattle.hid_host.specs.declared.phase.HostPhase.{HostPhase}
 use Rattle.hid_host.specs.declared.phase.HostPhase.TheVariants.{Cold, Described, Parsed, Ready}
 use Rattle.hid_bus.specs.declared.step.Told.{Told}
 use Rattle.hid_bus.specs.declared.step.Told.TheVariants.{Polled}
-use Rattle.hid_host.specs.Host.{HostEnd, ready_after}
+use Rattle.hid_host.specs.Host.{HostEnd, host_after_reply}
 use Rattle.hid_host.specs.Phase.{IfReady}
-use Rattle.hid_stack.specs.Slot.{joined, station_of, joint, held_of, HasGotUnless, IsEven, IsEvenUnless, ArePaired, IsPair}
-use Rattle.hid_host.specs.Ready.{Known, told_of, events_behind}
-use Rattle.hid_stack.specs.Polls.{Hears, Ends, PollsOver, GoesByPackets, spelled, told_with}
-use Rattle.hid_bus.specs.Stations.{Station, opened, answered, round_events, after, events_at}
+use Rattle.hid_stack.specs.Slot.{link_of_pair, link_of, pair_member, held_toggle, HasReceivedUnless, TogglesAgree, TogglesAgreeUnless, ArePaired, IsPair}
+use Rattle.hid_host.specs.Ready.{Known, outcome_of, events_after}
+use Rattle.hid_stack.specs.Polls.{Receives, Ends, PollsOver, GoesByPackets, encoded_packet, poll_outcome}
+use Rattle.hid_bus.specs.LinkState.{LinkState, state_at_token, state_after_answer, poll_events, state_after_step, events_of_step}
 use Rattle.hid_stack.specs.Laws.{PacketsMakePolls}
 use Rattle.usb_control.specs.Device.{DevControlState}
 use Rattle.hid_host.specs.declared.host.Transfer.{Transfer}
-use Rattle.hid_stack.specs.Knowing.{Knows, LeavesTransfers}
-use Rattle.hid_stack.specs.Members.{Member, Scheduled, held_if, member_after}
-use Rattle.hid_stack.specs.Tells.{TellsPoll, piece_shown, told_by}
+use Rattle.hid_stack.specs.HostInvariant.{IsConsistent, LeavesTransfers}
+use Rattle.hid_stack.specs.Members.{Member, Scheduled, member_after, toggle_if_held}
+use Rattle.hid_stack.specs.StepResult.{TellsPoll, piece_shown, poll_result}
 use Rattle.hid_stack.proofs.PieceLemmas.{Reads}
-use Rattle.hid_stack.proofs.PollLemmas.{opens, got_by, got_open, HasGot, Meets, Arrives, Lands, armed_at, bytes_of, going, stalled, unpending, ready_member, sharing, ready_with, member_of, pair_of, comes, clean, ack_lost_poll, reply_lost, stall_clean, stall_ack_lost, stall_lost}
+use Rattle.hid_stack.proofs.PollLemmas.{opens, got_by, got_open, HasGot, Meets, Arrives, Lands, armed_at, bytes_of, going, unpending, ready_member, sharing, ready_with, member_of, pair_of, comes, clean, ack_lost_poll, reply_lost}
+use Rattle.hid_stack.proofs.StallLemmas.{stalled, stall_clean, stall_ack_lost, stall_lost}
 
 -- opening a round keeps the layout, the configuration and the toggle
 pub record Keeps (c d : CoreState) : Type 0 where
@@ -58,38 +59,45 @@ pub record Keeps (c d : CoreState) : Type 0 where
   pub toggle : d.toggle ≡ c.toggle
   pub halted : d.halted ≡ c.halted
 
-keeps_if : (c : CoreState) (due : Option ℕ) → Keeps c (opened_core_if c due)
+keeps_if : (c : CoreState) (due : Option ℕ) → Keeps c (core_with_due_round c due)
 keeps_if c None = record { layout = refl; configured = refl; toggle = refl; halted = refl }
 keeps_if c (Some r) = record { layout = refl; configured = refl; toggle = refl; halted = refl }
 
-keeps_at : (c : CoreState) (current : Option ℕ) → Keeps (record c { current = current }) (opening_of (record c { current = current }))
-keeps_at c None = keeps_if (record c { current = None }) (due_where (items_of c.layout) c.halted c.standing)
+keeps_at : (c : CoreState) (current : Option ℕ)
+    → Keeps (record c { current = current }) (core_at_poll (record c { current = current }))
+keeps_at c None = keeps_if (record c { current = None }) (due_where (items_of c.layout) c.halted c.reports)
 keeps_at c (Some r) = record { layout = refl; configured = refl; toggle = refl; halted = refl }
 
-keeps : (c : CoreState) → Keeps c (opening_of c)
+keeps : (c : CoreState) → Keeps c (core_at_poll c)
 keeps c = keeps_at c c.current
 
--- and all that the device was made with
-member_kept_if : (d : DeviceState) (home : HostEnd) (held : Option Bool) (c : CoreState) (due : Option ℕ) → ready_member d home (opened_core_if c due) held ≡ ready_member d home c held
+-- opening a round keeps all that the device was made with
+member_kept_if : (d : DeviceState) (home : HostEnd) (held : Option Bool) (c : CoreState) (due : Option ℕ)
+    → ready_member d home (core_with_due_round c due) held ≡ ready_member d home c held
 member_kept_if d home held c None = refl
 member_kept_if d home held c (Some r) = refl
 
-member_kept_at : (d : DeviceState) (home : HostEnd) (held : Option Bool) (c : CoreState) (current : Option ℕ) → ready_member d home (opening_of (record c { current = current })) held ≡ ready_member d home c held
-member_kept_at d home held c None = member_kept_if d home held (record c { current = None }) (due_where (items_of c.layout) c.halted c.standing)
+member_kept_at : (d : DeviceState) (home : HostEnd) (held : Option Bool) (c : CoreState) (current : Option ℕ)
+    → ready_member d home (core_at_poll (record c { current = current })) held ≡ ready_member d home c held
+member_kept_at d home held c None =
+    member_kept_if d home held (record c { current = None }) (due_where (items_of c.layout) c.halted c.reports)
 member_kept_at d home held c (Some r) = refl
 
-member_kept : (d : DeviceState) (home : HostEnd) (held : Option Bool) (c : CoreState) → ready_member d home (opening_of c) held ≡ ready_member d home c held
+member_kept : (d : DeviceState) (home : HostEnd) (held : Option Bool) (c : CoreState)
+    → ready_member d home (core_at_poll c) held ≡ ready_member d home c held
 member_kept d home held c = member_kept_at d home held c c.current
 
 -- where no round is open then, the toggles are still the same
 even_if : (c : CoreState) (expects : Bool) (due : Option ℕ) → c.toggle ≡ expects
-    → IsEven (opened_core_if (record c { current = None }) due).toggle expects (opened_core_if (record c { current = None }) due).current
+    → TogglesAgree (core_with_due_round (record c { current = None }) due).toggle expects
+    (core_with_due_round (record c { current = None }) due).current
 even_if c expects None even = even
 even_if c expects (Some r) even = tt
 
-even_at : (c : CoreState) (expects : Bool) (current : Option ℕ) → IsEven c.toggle expects current
-    → IsEven (opening_of (record c { current = current })).toggle expects (opening_of (record c { current = current })).current
-even_at c expects None even = even_if c expects (due_where (items_of c.layout) c.halted c.standing) even
+even_at : (c : CoreState) (expects : Bool) (current : Option ℕ) → TogglesAgree c.toggle expects current
+    → TogglesAgree (core_at_poll (record c { current = current })).toggle expects
+    (core_at_poll (record c { current = current })).current
+even_at c expects None even = even_if c expects (due_where (items_of c.layout) c.halted c.reports) even
 even_at c expects (Some r) even = tt
 
 -- the token of a host polls its device
@@ -103,13 +111,13 @@ polls_it device known pair =
 
 -- the bytes that a device sends in pieces show its part
 reads_at : (c : CoreState) (known : Known) → IsSound c → IsLayout c.layout → FitsView (items_of c.layout) known.view
-    → (r : ℕ) → c.current ≡ Some r → Reads c.layout r c.standing.fixed (bytes_of c r) known.view
+    → (r : ℕ) → c.current ≡ Some r → Reads c.layout r c.reports.fixed (bytes_of c r) known.view
 reads_at c known sound laid fits r is =
-    let shows = subst (SendsPart c.layout c.standing.fixed) is sound.sends in
+    let shows = subst (SendsPart c.layout c.reports.fixed) is sound.sends in
     let below = subst (λ (o : Option ℕ). IsBelow (input_count c.layout.reports) o) is sound.of_input in
     let input = sound.inputs_first.first r below in
     record {
-      shown = parts_back c.layout r c.standing.fixed (bytes_of c r) known.view (record {
+      shown = parts_back c.layout r c.reports.fixed (bytes_of c r) known.view (record {
         laid = laid;
         input = input;
         fits = sound.fixed;
@@ -122,57 +130,80 @@ reads_at c known sound laid fits r is =
     }
 
 -- what a poll comes to at the two ends
-pub record PollsAs (fate : Fate) (device : DeviceState) (home : HostEnd) (held : Option Bool) (s : Station)
+pub record PollsAs (fate : Fate) (device : DeviceState) (home : HostEnd) (held : Option Bool) (s : LinkState)
     (result : Result Told StackFault) (device_then : DeviceState) (host_then : HostEnd) (events : List Event) : Type 0 where
-  pub member : joint device_then host_then ≡ ready_member device home (core_of device) held (after (items_of (core_of device).layout) s (Polls fate))
-  pub delivered : events ≡ events_at (items_of (core_of device).layout) s (Polls fate)
+  pub member : pair_member device_then host_then
+      ≡ ready_member device home (core_of device) held
+      (state_after_step (items_of (core_of device).layout) s (Polls fate))
+  pub delivered : events ≡ events_of_step (items_of (core_of device).layout) s (Polls fate)
   pub told : (told : Told) × (result ≡ Ok told) × TellsPoll (core_of device).layout s fate told
   pub pair : IsPair device_then host_then.clearing host_then.phase
 
 -- a token that is lost changes nothing
-stays_closed : (layout : Contents) (c : CoreState) (known : Known) (current : Option ℕ) → joined (record c { current = current }) known ≡ answered (items_of layout) (joined (record c { current = current }) known) TokenLost
+stays_closed : (layout : Contents) (c : CoreState) (known : Known) (current : Option ℕ)
+    → link_of_pair (record c { current = current }) known
+    ≡ state_after_answer (items_of layout) (link_of_pair (record c { current = current }) known) TokenLost
 stays_closed layout c known None = refl
 stays_closed layout c known (Some r) = refl
 
-tells_none : (layout : Contents) (c : CoreState) (known : Known) (current : Option ℕ) → [] ≡ round_events (items_of layout) (joined (record c { current = current }) known) TokenLost
+tells_none : (layout : Contents) (c : CoreState) (known : Known) (current : Option ℕ)
+    → [] ≡ poll_events (items_of layout) (link_of_pair (record c { current = current }) known) TokenLost
 tells_none layout c known None = refl
 tells_none layout c known (Some r) = refl
 
 token_lost : (device : DeviceState) (known : Known) (home : HostEnd) (result : Result Told StackFault) (device_then : DeviceState) (host_then : HostEnd) (events : List Event)
     → ArePaired device known false → PollsOver (arrives_under TokenLost) device (unpending home) known result device_then host_then [] events
-    → PollsAs TokenLost device home (held_of (core_of device) false (Ready known)) (joined (core_of device) known) result device_then host_then events
+    → PollsAs TokenLost device home (held_toggle (core_of device) false (Ready known))
+    (link_of_pair (core_of device) known) result device_then host_then events
 token_lost device known home result device_then host_then events pair t =
     let lost = read_lost (arrives_under TokenLost) Token (token_to known.pipe) t.token refl t.polled in
-    let heard : Hears device None t.answer t.between = subst (λ (o : Option Packet). Hears device o t.answer t.between) lost t.heard in
-    let none : t.reply ≡ None = subst (λ (o : Option Packet). Replies (arrives_under TokenLost) Reply o t.reply) heard.0 t.replied in
-    let took : taken known.pipe.expects t.reply ≡ Silent = ap (taken known.pipe.expects) none in
-    let device_is : device_then ≡ device = subst (λ (x : Took). Ends (arrives_under TokenLost) (told_of known x) t.between device_then) took t.ended ∙ heard.1 in
-    let host_is : host_then ≡ ready_with home known = t.host_moved ∙ ap (ready_after (unpending home) known) took in
+    let device_after_other : Receives device None t.answer t.between =
+    subst (λ (o : Option Packet). Receives device o t.answer t.between) lost t.receives in
+    let none : t.reply ≡ None =
+    subst (λ (o : Option Packet). Replies
+    (arrives_under TokenLost) Reply o t.reply) device_after_other.0 t.replied in
+    let took : reply_outcome known.pipe.expects t.reply ≡ Silent = ap (reply_outcome known.pipe.expects) none in
+    let device_is : device_then ≡ device =
+    subst (λ (x : Took). Ends (arrives_under TokenLost) (outcome_of known x) t.between device_then) took t.ended
+    ∙ device_after_other.1 in
+    let host_is : host_then ≡ ready_with home known =
+    t.host_moved ∙ ap (host_after_reply (unpending home) known) took in
     record {
       member = member_of device_then device host_then home known device_is host_is
-          ∙ ap (ready_member device home (core_of device) (held_of (core_of device) false (Ready known))) (stays_closed (core_of device).layout (core_of device) known (core_of device).current);
-      delivered = t.delivers ∙ ap (events_behind known) took ∙ tells_none (core_of device).layout (core_of device) known (core_of device).current;
-      told = (Polled None Silent, t.told ∙ ap (λ (x : Took). told_with t.answer (told_of known x)) took ∙ ap (λ (o : Option Packet). Ok (Polled (spelled o) Silent)) heard.0, refl);
+          ∙ ap (ready_member device home (core_of device) (held_toggle (core_of device) false (Ready known)))
+          (stays_closed (core_of device).layout (core_of device) known (core_of device).current);
+      delivered =
+          t.delivers ∙ ap (events_after known) took
+          ∙ tells_none (core_of device).layout (core_of device) known (core_of device).current;
+      told = (
+        Polled None Silent,
+        t.told ∙ ap (λ (x : Took). poll_outcome t.answer (outcome_of known x)) took
+            ∙ ap (λ (o : Option Packet). Ok (Polled (encoded_packet o) Silent)) device_after_other.0,
+        refl,
+      );
       pair = pair_of device_then device host_then home known device_is host_is pair;
     }
 
 -- a token that arrives is answered, once a round was opened where one is due
 pub record Answered (device : DeviceState) (answer : Option Packet) (between : DeviceState) : Type 0 where
-  pub is : answer ≡ Some (poll_answer (opening_of (core_of device)))
-  pub stands : between ≡ polled_device device (opening_of (core_of device))
-  pub sound : IsSound (opening_of (core_of device))
+  pub is : answer ≡ Some (poll_response (core_at_poll (core_of device)))
+  pub stands : between ≡ device_after_poll device (core_at_poll (core_of device))
+  pub sound : IsSound (core_at_poll (core_of device))
 
 token_came : (fate : Fate) (device : DeviceState) (known : Known) (home : HostEnd) (result : Result Told StackFault) (device_then : DeviceState) (host_then : HostEnd) (events : List Event)
     → ((bytes : List ℕ) → arrives_under fate Token bytes ≡ Some bytes) → ArePaired device known false
     → (t : PollsOver (arrives_under fate) device (unpending home) known result device_then host_then [] events) → Answered device t.answer t.between
 token_came fate device known home result device_then host_then events whole pair t =
-    let c = opening_of (core_of device) in
+    let c = core_at_poll (core_of device) in
     let token = token_to known.pipe in
     let polls = polls_it device known pair in
     let came = read_whole (arrives_under fate) Token token t.token (whole (spelling token)) t.polled in
-    let h : Hears device (Some token) t.answer t.between = subst (λ (o : Option Packet). Hears device o t.answer t.between) came t.heard in
-    let answer : t.answer ≡ Some (poll_answer c) = h.0 ∙ ap (λ (b : Bool). cond b (Some (poll_answer c)) (control_answer device token)) polls in
-    let stands : t.between ≡ polled_device device c = h.1 ∙ ap (λ (b : Bool). cond b (polled_device device c) (heard device token)) polls in
+    let h : Receives device (Some token) t.answer t.between =
+    subst (λ (o : Option Packet). Receives device o t.answer t.between) came t.receives in
+    let answer : t.answer ≡ Some (poll_response c) =
+    h.0 ∙ ap (λ (b : Bool). cond b (Some (poll_response c)) (control_answer device token)) polls in
+    let stands : t.between ≡ device_after_poll device c =
+    h.1 ∙ ap (λ (b : Bool). cond b (device_after_poll device c) (device_after_other device token)) polls in
     record {
       is = answer;
       stands = stands;
@@ -183,26 +214,30 @@ token_came fate device known home result device_then host_then events whole pair
 arrives : (fate : Fate) (device : DeviceState) (known : Known) (home : HostEnd) (result : Result Told StackFault) (device_then : DeviceState) (host_then : HostEnd) (events : List Event)
     → ArePaired device known false
     → (t : PollsOver (arrives_under fate) device (unpending home) known result device_then host_then [] events) → (a : Answered device t.answer t.between)
-    → Arrives fate (opening_of (core_of device)) known device home (poll_answer (opening_of (core_of device))) result device_then host_then events
+    → Arrives fate (core_at_poll (core_of device)) known device home
+    (poll_response (core_at_poll (core_of device))) result device_then host_then events
 arrives fate device known home result device_then host_then events pair t a =
-    let c = opening_of (core_of device) in
+    let c = core_at_poll (core_of device) in
     let layout : known.layout ≡ c.layout = pair.layout ∙ sym (keeps (core_of device)).layout in
     let shared : known ≡ sharing c known = ap (λ (l : Contents). record known { layout = l }) layout in
-    let took = taken known.pipe.expects t.reply in
+    let took = reply_outcome known.pipe.expects t.reply in
     record {
       reply = t.reply;
       replied = subst (λ (o : Option Packet). Replies (arrives_under fate) Reply o t.reply) a.is t.replied;
-      told = t.told ∙ ap (λ (o : Option Packet). told_with o (told_of known took)) a.is
-          ∙ ap (λ (k : Known). told_with (Some (poll_answer c)) (told_of k took)) shared;
-      host_moved = t.host_moved ∙ ap (λ (k : Known). ready_after (unpending home) k took) shared;
-      delivers = t.delivers ∙ ap (λ (k : Known). events_behind k took) shared;
-      ended = subst (λ (d : DeviceState). Ends (arrives_under fate) (told_of (sharing c known) took) d device_then) a.stands
-          (subst (λ (k : Known). Ends (arrives_under fate) (told_of k took) t.between device_then) shared t.ended);
+      told = t.told ∙ ap (λ (o : Option Packet). poll_outcome o (outcome_of known took)) a.is
+          ∙ ap (λ (k : Known). poll_outcome (Some (poll_response c)) (outcome_of k took)) shared;
+      host_moved = t.host_moved ∙ ap (λ (k : Known). host_after_reply (unpending home) k took) shared;
+      delivers = t.delivers ∙ ap (λ (k : Known). events_after k took) shared;
+      ended = subst
+          (λ (d : DeviceState). Ends (arrives_under fate) (outcome_of (sharing c known) took) d device_then) a.stands
+          (subst (λ (k : Known). Ends (arrives_under fate) (outcome_of k took) t.between device_then) shared t.ended);
     }
 
-meets : (device : DeviceState) (known : Known) → ArePaired device known false → IsSound (opening_of (core_of device)) → Meets device.addr (opening_of (core_of device)) known
+meets : (device : DeviceState) (known : Known) → ArePaired device known false
+    → IsSound (core_at_poll (core_of device)) → Meets device.addr (core_at_poll (core_of device)) known
 meets device known pair sound =
-    let layout : known.layout ≡ (opening_of (core_of device)).layout = pair.layout ∙ sym (keeps (core_of device)).layout in
+    let layout : known.layout ≡ (core_at_poll (core_of device)).layout =
+    pair.layout ∙ sym (keeps (core_of device)).layout in
     record {
       configured = (keeps (core_of device)).configured ∙ pair.configured;
       to_device = pair.addr;
@@ -212,47 +247,66 @@ meets device known pair sound =
       fits = subst (λ (l : Contents). FitsView (items_of l) known.view) layout pair.fits;
     }
 
--- the station from before the token
+-- the link state from before the token
 landed : (fate : Fate) (device : DeviceState) (known : Known) (home : HostEnd) (result : Result Told StackFault) (device_then : DeviceState) (host_then : HostEnd) (events : List Event)
-    → IsEven (core_of device).toggle known.pipe.expects (core_of device).current
-    → Lands fate (ready_member device home (opening_of (core_of device)) None) (joined (opening_of (core_of device)) known) result device_then host_then events
-    → Lands fate (ready_member device home (core_of device) None) (opened (items_of (core_of device).layout) (joined (core_of device) known)) result device_then host_then events
+    → TogglesAgree (core_of device).toggle known.pipe.expects (core_of device).current
+    → Lands fate (ready_member device home (core_at_poll (core_of device)) None)
+    (link_of_pair (core_at_poll (core_of device)) known) result device_then host_then events
+    → Lands fate (ready_member device home (core_of device) None)
+    (state_at_token (items_of (core_of device).layout)
+    (link_of_pair (core_of device) known)) result device_then host_then events
 landed fate device known home result device_then host_then events even lands =
-    subst (λ (s : Station). Lands fate (ready_member device home (core_of device) None) s result device_then host_then events) (opens (core_of device) known even)
-    (subst (λ (of : Station → Member). Lands fate of (joined (opening_of (core_of device)) known) result device_then host_then events) (member_kept device home None (core_of device)) lands)
+    subst (λ (s : LinkState). Lands fate
+    (ready_member device home (core_of device) None) s result device_then host_then events)
+    (opens (core_of device) known even)
+    (subst (λ (of : LinkState → Member). Lands fate of
+    (link_of_pair (core_at_poll (core_of device)) known) result device_then host_then events)
+    (member_kept device home None (core_of device)) lands)
 
--- what is told, by the piece at hand
-abbrev TellsSome : Contents → Station → Fate → Result Told StackFault → Type 0
-TellsSome layout s fate result = (told : Told) × (result ≡ Ok told) × (told ≡ told_by s fate (piece_shown layout s))
+-- what is reported, by the piece at hand
+abbrev TellsSome : Contents → LinkState → Fate → Result Told StackFault → Type 0
+TellsSome layout s fate result =
+    (told : Told) × (result ≡ Ok told) × (told ≡ poll_result s fate (piece_shown layout s))
 
-tells_some : (layout : Contents) (s : Station) (fate : Fate) (result : Result Told StackFault) → result ≡ Ok (told_by s fate (piece_shown layout s)) → TellsSome layout s fate result
-tells_some layout s fate result is = (told_by s fate (piece_shown layout s), is, refl)
+tells_some : (layout : Contents) (s : LinkState) (fate : Fate) (result : Result Told StackFault)
+    → result ≡ Ok (poll_result s fate (piece_shown layout s)) → TellsSome layout s fate result
+tells_some layout s fate result is = (poll_result s fate (piece_shown layout s), is, refl)
 
 -- ---- a poll of a device that isn't halted
 
 -- the two ends with a round that was opened where one is due
 record Going (fate : Fate) (device : DeviceState) (known : Known) (home : HostEnd)
     (result : Result Told StackFault) (device_then : DeviceState) (host_then : HostEnd) (events : List Event) : Type 0 where
-  even : IsEven (core_of device).toggle known.pipe.expects (core_of device).current
-  even_then : IsEven (opening_of (core_of device)).toggle known.pipe.expects (opening_of (core_of device)).current
-  same : opening_of (core_of device) ≡ going (opening_of (core_of device)) (opening_of (core_of device)).current
-  got : HasGot (opening_of (core_of device)) (opening_of (core_of device)).current known
-  meets : Meets device.addr (going (opening_of (core_of device)) (opening_of (core_of device)).current) known
-  packet_is : poll_answer (opening_of (core_of device)) ≡ answer_with false (opening_of (core_of device)).toggle (armed_at (opening_of (core_of device)) (opening_of (core_of device)).current)
-  arrives : Arrives fate (going (opening_of (core_of device)) (opening_of (core_of device)).current) known device home (poll_answer (opening_of (core_of device))) result device_then host_then events
-  reads : (r : ℕ) → (opening_of (core_of device)).current ≡ Some r
-      → Reads (opening_of (core_of device)).layout r (opening_of (core_of device)).standing.fixed (bytes_of (opening_of (core_of device)) r) known.view
+  even : TogglesAgree (core_of device).toggle known.pipe.expects (core_of device).current
+  even_then : TogglesAgree (core_at_poll (core_of device)).toggle known.pipe.expects
+      (core_at_poll (core_of device)).current
+  same : core_at_poll (core_of device) ≡ going (core_at_poll (core_of device)) (core_at_poll (core_of device)).current
+  got : HasGot (core_at_poll (core_of device)) (core_at_poll (core_of device)).current known
+  meets : Meets device.addr (going (core_at_poll (core_of device)) (core_at_poll (core_of device)).current) known
+  packet_is : poll_response (core_at_poll (core_of device))
+      ≡ answer_with false (core_at_poll (core_of device)).toggle
+      (armed_at (core_at_poll (core_of device)) (core_at_poll (core_of device)).current)
+  arrives : Arrives fate
+      (going (core_at_poll (core_of device)) (core_at_poll (core_of device)).current) known device home
+      (poll_response (core_at_poll (core_of device))) result device_then host_then events
+  reads : (r : ℕ) → (core_at_poll (core_of device)).current ≡ Some r
+      → Reads (core_at_poll (core_of device)).layout r (core_at_poll (core_of device)).reports.fixed
+      (bytes_of (core_at_poll (core_of device)) r) known.view
 
 goes : (fate : Fate) (device : DeviceState) (known : Known) (home : HostEnd) (result : Result Told StackFault) (device_then : DeviceState) (host_then : HostEnd) (events : List Event)
     → (core_of device).halted ≡ false → ArePaired device known false → (t : PollsOver (arrives_under fate) device (unpending home) known result device_then host_then [] events)
     → (a : Answered device t.answer t.between) → Going fate device known home result device_then host_then events
 goes fate device known home result device_then host_then events is pair t a =
     let before = core_of device in
-    let c = opening_of before in
+    let c = core_at_poll before in
     let halted : c.halted ≡ false = (keeps before).halted ∙ is in
     let same : c ≡ going c c.current = ap (λ (b : Bool). record c { halted = b }) halted in
-    let even = subst (λ (b : Bool). IsEvenUnless (b || false) before.toggle known.pipe.expects before.current) is pair.even in
-    let got = subst (λ (b : Bool). HasGotUnless (b || false) before.layout before.standing.fixed (joined before known).current known.collected) is pair.got in
+    let even =
+    subst (λ (b : Bool). TogglesAgreeUnless
+    (b || false) before.toggle known.pipe.expects before.current) is pair.even in
+    let got =
+    subst (λ (b : Bool). HasReceivedUnless (b || false) before.layout before.reports.fixed
+    (link_of_pair before known).current known.collected) is pair.got in
     let m = meets device known pair a.sound in
     record {
       even = even;
@@ -261,7 +315,9 @@ goes fate device known home result device_then host_then events is pair t a =
       got = got_open before known even got ∙ ap (λ (x : CoreState). got_by x known) same;
       meets = subst (λ (x : CoreState). Meets device.addr x known) same m;
       packet_is = ap (λ (b : Bool). answer_with b c.toggle (armed_at c c.current)) halted;
-      arrives = subst (λ (x : CoreState). Arrives fate x known device home (poll_answer c) result device_then host_then events) same
+      arrives =
+          subst (λ (x : CoreState). Arrives fate x known device home
+          (poll_response c) result device_then host_then events) same
           (arrives fate device known home result device_then host_then events pair t a);
       reads = reads_at c known a.sound m.laid m.fits;
     }
@@ -269,42 +325,78 @@ goes fate device known home result device_then host_then events is pair t a =
 -- what it comes to
 going_as : (fate : Fate) (device : DeviceState) (known : Known) (home : HostEnd) (result : Result Told StackFault) (device_then : DeviceState) (host_then : HostEnd) (events : List Event)
     → (core_of device).halted ≡ false → Going fate device known home result device_then host_then events
-    → Lands fate (ready_member device home (opening_of (core_of device)) None) (joined (going (opening_of (core_of device)) (opening_of (core_of device)).current) known) result device_then host_then events
-    → Lands fate (ready_member device home (core_of device) (held_of (core_of device) false (Ready known))) (opened (items_of (core_of device).layout) (joined (core_of device) known)) result device_then host_then events
+    → Lands fate (ready_member device home (core_at_poll (core_of device)) None)
+    (link_of_pair
+    (going (core_at_poll (core_of device))
+    (core_at_poll (core_of device)).current) known) result device_then host_then events
+    → Lands fate (ready_member device home (core_of device) (held_toggle (core_of device) false (Ready known)))
+    (state_at_token (items_of (core_of device).layout)
+    (link_of_pair (core_of device) known)) result device_then host_then events
 going_as fate device known home result device_then host_then events is g lands =
-    let c = opening_of (core_of device) in
+    let c = core_at_poll (core_of device) in
     let here = landed fate device known home result device_then host_then events g.even
-    (subst (λ (x : CoreState). Lands fate (ready_member device home c None) (joined x known) result device_then host_then events) (sym g.same) lands) in
-    subst (λ (held : Option Bool). Lands fate (ready_member device home (core_of device) held) (opened (items_of (core_of device).layout) (joined (core_of device) known)) result device_then host_then events)
-    (sym (ap (λ (b : Bool). held_if (b || false) known.pipe.expects) is)) here
+    (subst (λ (x : CoreState). Lands fate (ready_member device home c None)
+    (link_of_pair x known) result device_then host_then events) (sym g.same) lands) in
+    subst (λ (held : Option Bool). Lands fate (ready_member device home (core_of device) held)
+    (state_at_token (items_of (core_of device).layout)
+    (link_of_pair (core_of device) known)) result device_then host_then events)
+    (sym (ap (λ (b : Bool). toggle_if_held (b || false) known.pipe.expects) is)) here
 
 polls_going : (fate : Fate) (device : DeviceState) (known : Known) (home : HostEnd) (result : Result Told StackFault) (device_then : DeviceState) (host_then : HostEnd) (events : List Event)
     → (core_of device).halted ≡ false → ArePaired device known false → PollsOver (arrives_under fate) device (unpending home) known result device_then host_then [] events
-    → PollsAs fate device home (held_of (core_of device) false (Ready known)) (joined (core_of device) known) result device_then host_then events
+    → PollsAs fate device home (held_toggle (core_of device) false (Ready known))
+    (link_of_pair (core_of device) known) result device_then host_then events
 polls_going TokenLost device known home result device_then host_then events is pair t = token_lost device known home result device_then host_then events pair t
 polls_going ReplyLost device known home result device_then host_then events is pair t =
     let a = token_came ReplyLost device known home result device_then host_then events (λ bytes. refl) pair t in
-    let c = opening_of (core_of device) in
+    let c = core_at_poll (core_of device) in
     let g = goes ReplyLost device known home result device_then host_then events is pair t a in
     let lands = going_as ReplyLost device known home result device_then host_then events is g
-    (reply_lost c known device home c.current (poll_answer c) result device_then host_then events g.even_then g.got g.meets g.packet_is g.arrives) in
-    record { member = lands.member; delivered = lands.delivered; told = tells_some (core_of device).layout (opened (items_of (core_of device).layout) (joined (core_of device) known)) ReplyLost result lands.told; pair = lands.pair }
+    (reply_lost c known device home c.current
+    (poll_response c) result device_then host_then events g.even_then g.got g.meets g.packet_is g.arrives) in
+    record {
+      member = lands.member;
+      delivered = lands.delivered;
+      told =
+          tells_some (core_of device).layout
+          (state_at_token (items_of (core_of device).layout)
+          (link_of_pair (core_of device) known)) ReplyLost result lands.told;
+      pair = lands.pair;
+    }
 polls_going Clean device known home result device_then host_then events is pair t =
     let a = token_came Clean device known home result device_then host_then events (λ bytes. refl) pair t in
-    let c = opening_of (core_of device) in
+    let c = core_at_poll (core_of device) in
     let g = goes Clean device known home result device_then host_then events is pair t a in
     let lands = going_as Clean device known home result device_then host_then events is g
     (clean c known device home c.current result device_then host_then events g.even_then g.got g.meets g.reads
-    (comes Clean (going c c.current) known device home (armed_at c c.current) (poll_answer c) result device_then host_then events (λ bytes. refl) g.packet_is g.arrives)) in
-    record { member = lands.member; delivered = lands.delivered; told = tells_some (core_of device).layout (opened (items_of (core_of device).layout) (joined (core_of device) known)) Clean result lands.told; pair = lands.pair }
+    (comes Clean (going c c.current) known device home (armed_at c c.current)
+    (poll_response c) result device_then host_then events (λ bytes. refl) g.packet_is g.arrives)) in
+    record {
+      member = lands.member;
+      delivered = lands.delivered;
+      told =
+          tells_some (core_of device).layout
+          (state_at_token (items_of (core_of device).layout)
+          (link_of_pair (core_of device) known)) Clean result lands.told;
+      pair = lands.pair;
+    }
 polls_going AckLost device known home result device_then host_then events is pair t =
     let a = token_came AckLost device known home result device_then host_then events (λ bytes. refl) pair t in
-    let c = opening_of (core_of device) in
+    let c = core_at_poll (core_of device) in
     let g = goes AckLost device known home result device_then host_then events is pair t a in
     let lands = going_as AckLost device known home result device_then host_then events is g
     (ack_lost_poll c known device home c.current result device_then host_then events g.even_then g.got g.meets g.reads
-    (comes AckLost (going c c.current) known device home (armed_at c c.current) (poll_answer c) result device_then host_then events (λ bytes. refl) g.packet_is g.arrives)) in
-    record { member = lands.member; delivered = lands.delivered; told = tells_some (core_of device).layout (opened (items_of (core_of device).layout) (joined (core_of device) known)) AckLost result lands.told; pair = lands.pair }
+    (comes AckLost (going c c.current) known device home (armed_at c c.current)
+    (poll_response c) result device_then host_then events (λ bytes. refl) g.packet_is g.arrives)) in
+    record {
+      member = lands.member;
+      delivered = lands.delivered;
+      told =
+          tells_some (core_of device).layout
+          (state_at_token (items_of (core_of device).layout)
+          (link_of_pair (core_of device) known)) AckLost result lands.told;
+      pair = lands.pair;
+    }
 
 -- ---- a poll of one that is
 
@@ -320,72 +412,108 @@ record Stalling (fate : Fate) (device : DeviceState) (known : Known) (home : Hos
     (result : Result Told StackFault) (device_then : DeviceState) (host_then : HostEnd) (events : List Event) : Type 0 where
   same : core_of device ≡ stalled (core_of device)
   meets : Meets device.addr (stalled (core_of device)) known
-  packet_is : poll_answer (opening_of (core_of device)) ≡ packets.Stall
-  arrives : Arrives fate (stalled (core_of device)) known device home (poll_answer (opening_of (core_of device))) result device_then host_then events
+  packet_is : poll_response (core_at_poll (core_of device)) ≡ packets.Stall
+  arrives : Arrives fate (stalled (core_of device)) known device home
+      (poll_response (core_at_poll (core_of device))) result device_then host_then events
 
 stalls : (fate : Fate) (device : DeviceState) (known : Known) (home : HostEnd) (result : Result Told StackFault) (device_then : DeviceState) (host_then : HostEnd) (events : List Event)
     → (core_of device).halted ≡ true → ArePaired device known false → (t : PollsOver (arrives_under fate) device (unpending home) known result device_then host_then [] events)
     → (a : Answered device t.answer t.between) → Stalling fate device known home result device_then host_then events
 stalls fate device known home result device_then host_then events is pair t a =
-    let c = opening_of (core_of device) in
+    let c = core_at_poll (core_of device) in
     let same = is_stalled (core_of device) pair.sound is in
-    let there : c ≡ stalled (core_of device) = ap opening_of same in
+    let there : c ≡ stalled (core_of device) = ap core_at_poll same in
     record {
       same = same;
       meets = subst (λ (x : CoreState). Meets device.addr x known) there (meets device known pair a.sound);
-      packet_is = ap poll_answer there;
-      arrives = subst (λ (x : CoreState). Arrives fate x known device home (poll_answer c) result device_then host_then events) there
+      packet_is = ap poll_response there;
+      arrives =
+          subst (λ (x : CoreState). Arrives fate x known device home
+          (poll_response c) result device_then host_then events) there
           (arrives fate device known home result device_then host_then events pair t a);
     }
 
--- the station stays
+-- the link state stays
 stalled_as : (fate : Fate) (device : DeviceState) (known : Known) (home : HostEnd) (result : Result Told StackFault) (device_then : DeviceState) (host_then : HostEnd) (events : List Event)
     → (core_of device).halted ≡ true → core_of device ≡ stalled (core_of device)
-    → PollsAs fate device home (Some known.pipe.expects) (joined (stalled (core_of device)) known) result device_then host_then events
-    → PollsAs fate device home (held_of (core_of device) false (Ready known)) (joined (core_of device) known) result device_then host_then events
+    → PollsAs fate device home (Some known.pipe.expects)
+    (link_of_pair (stalled (core_of device)) known) result device_then host_then events
+    → PollsAs fate device home (held_toggle (core_of device) false (Ready known))
+    (link_of_pair (core_of device) known) result device_then host_then events
 stalled_as fate device known home result device_then host_then events is same done =
-    subst (λ (held : Option Bool). PollsAs fate device home held (joined (core_of device) known) result device_then host_then events)
-    (sym (ap (λ (b : Bool). held_if (b || false) known.pipe.expects) is))
-    (subst (λ (x : CoreState). PollsAs fate device home (Some known.pipe.expects) (joined x known) result device_then host_then events) (sym same) done)
+    subst (λ (held : Option Bool). PollsAs fate device home held
+    (link_of_pair (core_of device) known) result device_then host_then events)
+    (sym (ap (λ (b : Bool). toggle_if_held (b || false) known.pipe.expects) is))
+    (subst (λ (x : CoreState). PollsAs fate device home (Some known.pipe.expects)
+    (link_of_pair x known) result device_then host_then events) (sym same) done)
 
 polls_stalled : (fate : Fate) (device : DeviceState) (known : Known) (home : HostEnd) (result : Result Told StackFault) (device_then : DeviceState) (host_then : HostEnd) (events : List Event)
     → (core_of device).halted ≡ true → ArePaired device known false → PollsOver (arrives_under fate) device (unpending home) known result device_then host_then [] events
-    → PollsAs fate device home (held_of (core_of device) false (Ready known)) (joined (core_of device) known) result device_then host_then events
+    → PollsAs fate device home (held_toggle (core_of device) false (Ready known))
+    (link_of_pair (core_of device) known) result device_then host_then events
 polls_stalled TokenLost device known home result device_then host_then events is pair t = token_lost device known home result device_then host_then events pair t
 polls_stalled ReplyLost device known home result device_then host_then events is pair t =
     let a = token_came ReplyLost device known home result device_then host_then events (λ bytes. refl) pair t in
     let g = stalls ReplyLost device known home result device_then host_then events is pair t a in
-    let lands = stall_lost (core_of device) known device home (poll_answer (opening_of (core_of device))) result device_then host_then events g.meets g.packet_is g.arrives in
+    let lands =
+    stall_lost (core_of device) known device home
+    (poll_response
+    (core_at_poll (core_of device))) result device_then host_then events g.meets g.packet_is g.arrives in
     stalled_as ReplyLost device known home result device_then host_then events is g.same
-    (record { member = lands.member; delivered = lands.delivered; told = tells_some (core_of device).layout (joined (stalled (core_of device)) known) ReplyLost result lands.told; pair = lands.pair })
+    (record {
+      member = lands.member;
+      delivered = lands.delivered;
+      told =
+          tells_some (core_of device).layout
+          (link_of_pair (stalled (core_of device)) known) ReplyLost result lands.told;
+      pair = lands.pair;
+    })
 polls_stalled Clean device known home result device_then host_then events is pair t =
     let a = token_came Clean device known home result device_then host_then events (λ bytes. refl) pair t in
     let g = stalls Clean device known home result device_then host_then events is pair t a in
     let lands = stall_clean (core_of device) known device home result device_then host_then events g.meets
-    (comes Clean (stalled (core_of device)) known device home (armed_at (core_of device) None) (poll_answer (opening_of (core_of device))) result device_then host_then events (λ bytes. refl) g.packet_is g.arrives) in
+    (comes Clean (stalled (core_of device)) known device home (armed_at (core_of device) None)
+    (poll_response (core_at_poll (core_of device))) result device_then host_then events
+    (λ bytes. refl) g.packet_is g.arrives) in
     stalled_as Clean device known home result device_then host_then events is g.same
-    (record { member = lands.member; delivered = lands.delivered; told = tells_some (core_of device).layout (joined (stalled (core_of device)) known) Clean result lands.told; pair = lands.pair })
+    (record {
+      member = lands.member;
+      delivered = lands.delivered;
+      told =
+          tells_some (core_of device).layout (link_of_pair (stalled (core_of device)) known) Clean result lands.told;
+      pair = lands.pair;
+    })
 polls_stalled AckLost device known home result device_then host_then events is pair t =
     let a = token_came AckLost device known home result device_then host_then events (λ bytes. refl) pair t in
     let g = stalls AckLost device known home result device_then host_then events is pair t a in
     let lands = stall_ack_lost (core_of device) known device home result device_then host_then events g.meets
-    (comes AckLost (stalled (core_of device)) known device home (armed_at (core_of device) None) (poll_answer (opening_of (core_of device))) result device_then host_then events (λ bytes. refl) g.packet_is g.arrives) in
+    (comes AckLost (stalled (core_of device)) known device home (armed_at (core_of device) None)
+    (poll_response (core_at_poll (core_of device))) result device_then host_then events
+    (λ bytes. refl) g.packet_is g.arrives) in
     stalled_as AckLost device known home result device_then host_then events is g.same
-    (record { member = lands.member; delivered = lands.delivered; told = tells_some (core_of device).layout (joined (stalled (core_of device)) known) AckLost result lands.told; pair = lands.pair })
+    (record {
+      member = lands.member;
+      delivered = lands.delivered;
+      told =
+          tells_some (core_of device).layout (link_of_pair (stalled (core_of device)) known) AckLost result lands.told;
+      pair = lands.pair;
+    })
 
 -- of either
 pub polls : (fate : Fate) (device : DeviceState) (known : Known) (home : HostEnd) (result : Result Told StackFault) (device_then : DeviceState) (host_then : HostEnd) (events : List Event)
     → ArePaired device known false → PollsOver (arrives_under fate) device (unpending home) known result device_then host_then [] events
-    → PollsAs fate device home (held_of (core_of device) false (Ready known)) (joined (core_of device) known) result device_then host_then events
+    → PollsAs fate device home (held_toggle (core_of device) false (Ready known))
+    (link_of_pair (core_of device) known) result device_then host_then events
 polls fate device known home result device_then host_then events pair t = elim (cases_Bool (core_of device).halted) [
   | inl is ↦ polls_stalled fate device known home result device_then host_then events is pair t
   | inr is ↦ polls_going fate device known home result device_then host_then events is pair t
 ]
 
--- the same of a host, which is ready
+-- a poll of a host that is ready, packet by packet
 pub polls_at : (fate : Fate) (device : DeviceState) (host : HostEnd) (phase : HostPhase) (result : Result Told StackFault) (device_then : DeviceState) (host_then : HostEnd) (before events : List Event)
     → IsPair device false phase → before ≡ [] → GoesByPackets (arrives_under fate) device (unpending host) false phase result device_then host_then before events
-    → PollsAs fate device host (held_of (core_of device) false phase) (station_of (core_of device) phase) result device_then host_then events
+    → PollsAs fate device host (held_toggle (core_of device) false phase)
+    (link_of (core_of device) phase) result device_then host_then events
 polls_at fate device host Cold result device_then host_then before events pair none t = absurd pair
 polls_at fate device host (Described info) result device_then host_then before events pair none t = absurd pair
 polls_at fate device host (Parsed info layout) result device_then host_then before events pair none t = absurd pair
@@ -399,13 +527,14 @@ no_clear host free = ap (λ (b : Bool). record host { clearing = b }) free
 
 pub polls_by : (fate : Fate) (device : DeviceState) (host : HostEnd) (result : Result Told StackFault) (device_then : DeviceState) (host_then : HostEnd) (before events : List Event)
     → IsPair device false host.phase → host.clearing ≡ false → before ≡ [] → GoesByPackets (arrives_under fate) device host host.clearing host.phase result device_then host_then before events
-    → PollsAs fate device host (held_of (core_of device) false host.phase) (station_of (core_of device) host.phase) result device_then host_then events
+    → PollsAs fate device host (held_toggle (core_of device) false host.phase)
+    (link_of (core_of device) host.phase) result device_then host_then events
 polls_by fate device host result device_then host_then before events pair free none t =
     polls_at fate device host host.phase result device_then host_then before events pair none
     (subst (λ (h : HostEnd). GoesByPackets (arrives_under fate) device h h.clearing h.phase result device_then host_then before events) (no_clear host free) t)
 
--- what is told is what was returned
-pub told_is : (layout : Contents) (s : Station) (fate : Fate) (result : Result Told StackFault) (told : Told)
+-- what is reported is what was returned
+pub told_is : (layout : Contents) (s : LinkState) (fate : Fate) (result : Result Told StackFault) (told : Told)
     → result ≡ Ok told → ((other : Told) × (result ≡ Ok other) × TellsPoll layout s fate other) → TellsPoll layout s fate told
 told_is layout s fate result told is (other, other_is, tells) =
     let both : Ok told ≡ Ok other = sym is ∙ other_is in
@@ -437,18 +566,23 @@ few_of device (Ready known) before events pair none few =
 
 -- the member of a pair after a poll
 polled_member : (fate : Fate) (device : DeviceState) (host : HostEnd) (phase : HostPhase) → IsPair device false phase
-    → ready_member device host (core_of device) (held_of (core_of device) false phase) (after (items_of (core_of device).layout) (station_of (core_of device) phase) (Polls fate))
-    ≡ member_after (joint device (record { addr = host.addr; phase = phase; transfer = host.transfer; clearing = false })) (Scheduled (Polls fate))
+    → ready_member device host (core_of device) (held_toggle (core_of device) false phase)
+    (state_after_step (items_of (core_of device).layout) (link_of (core_of device) phase) (Polls fate))
+    ≡ member_after
+    (pair_member device (record { addr = host.addr; phase = phase; transfer = host.transfer; clearing = false }))
+    (Scheduled (Polls fate))
 polled_member fate device host Cold pair = absurd pair
 polled_member fate device host (Described info) pair = absurd pair
 polled_member fate device host (Parsed info layout) pair = absurd pair
 polled_member fate device host (Ready known) pair = refl
 
 pub polled_to : (fate : Fate) (device : DeviceState) (host : HostEnd) (result : Result Told StackFault) (device_then : DeviceState) (host_then : HostEnd) (events : List Event) → IsPair device false host.phase → host.clearing ≡ false
-    → PollsAs fate device host (held_of (core_of device) false host.phase) (station_of (core_of device) host.phase) result device_then host_then events → joint device_then host_then ≡ member_after (joint device host) (Scheduled (Polls fate))
+    → PollsAs fate device host (held_toggle (core_of device) false host.phase)
+    (link_of (core_of device) host.phase) result device_then host_then events
+    → pair_member device_then host_then ≡ member_after (pair_member device host) (Scheduled (Polls fate))
 polled_to fate device host result device_then host_then events pair free done =
     done.member ∙ polled_member fate device host host.phase pair
-    ∙ ap (λ (h : HostEnd). member_after (joint device h) (Scheduled (Polls fate))) (sym (no_clear host free))
+    ∙ ap (λ (h : HostEnd). member_after (pair_member device h) (Scheduled (Polls fate))) (sym (no_clear host free))
 
 -- a poll of a pair, by its packets
 pub packets_make_polls : PacketsMakePolls
@@ -456,10 +590,11 @@ packets_make_polls fate device host result device_then host_then events pair fre
     let done = polls_by fate device host result device_then host_then [] events pair free refl t in
     record { told = done.told; after = polled_to fate device host result device_then host_then events pair free done; delivers = done.delivered; pair = done.pair }
 
--- ---- what a host knows behind a poll
+-- ---- what a host knows after a poll
 
 -- what a poll leaves of a device's transfers
-leaves : (device device_then : DeviceState) (host host_then : HostEnd) (held : Option Bool) (s : Station) → joint device_then host_then ≡ ready_member device host (core_of device) held s
+leaves : (device device_then : DeviceState) (host host_then : HostEnd) (held : Option Bool) (s : LinkState)
+    → pair_member device_then host_then ≡ ready_member device host (core_of device) held s
     → LeavesTransfers false device.control device_then.control
 leaves device device_then host host_then held s same = record {
   layout = ap (λ (m : Member). m.layout) same;
@@ -469,45 +604,60 @@ leaves device device_then host host_then held s same = record {
   answer = ap (λ (m : Member). m.endpoint.answer) same;
   pending = ap (λ (m : Member). m.endpoint.pending) same;
   stage = ap (λ (m : Member). m.endpoint.stage) same;
-  anew = λ h. absurd (cc);
+  restarts = λ h. absurd (cc);
 }
 
 -- laws of hosts that know their devices
 abbrev RepliesLeave : Type 0
-RepliesLeave = (host : HostEnd) (control : DevControlState CoreState) (took : Took) → Knows host control → IfReady host.phase (λ known. Knows (ready_after host known took) control)
+RepliesLeave =
+    (host : HostEnd) (control : DevControlState CoreState) (took : Took) → IsConsistent host control
+    → IfReady host.phase (λ known. IsConsistent (host_after_reply host known took) control)
 
 abbrev OthersLeave : Type 0
-OthersLeave = (host : HostEnd) (old new : DevControlState CoreState) → LeavesTransfers host.clearing old new → Knows host old → Knows host new
+OthersLeave =
+    (host : HostEnd) (old new : DevControlState CoreState) → LeavesTransfers host.clearing old new
+    → IsConsistent host old → IsConsistent host new
 
 -- with the host's layout, pipe and view as they are then
-known_then : (arrivals : Arrivals) (device device_then : DeviceState) (addr : ℕ) (transfer : Option Transfer) (known : Known) (host_then : HostEnd) (result : Result Told StackFault) (before events : List Event) (held : Option Bool) (s : Station)
+known_then : (arrivals : Arrivals) (device device_then : DeviceState) (addr : ℕ) (transfer : Option Transfer)
+    (known : Known) (host_then : HostEnd) (result : Result Told StackFault) (before events : List Event)
+    (held : Option Bool) (s : LinkState)
     → (let host : HostEnd = record { addr = addr; phase = Ready known; transfer = transfer; clearing = false } in
     RepliesLeave → OthersLeave → PollsOver arrivals device host known result device_then host_then before events
-    → joint device_then host_then ≡ ready_member device host (core_of device) held s → Knows host device.control → Knows host_then device_then.control)
+    → pair_member device_then host_then ≡ ready_member device host (core_of device) held s
+    → IsConsistent host device.control → IsConsistent host_then device_then.control)
 known_then arrivals device device_then addr transfer known host_then result before events held s replies others t same knows =
     let host : HostEnd = record { addr = addr; phase = Ready known; transfer = transfer; clearing = false } in
-    let took = taken known.pipe.expects t.reply in
+    let took = reply_outcome known.pipe.expects t.reply in
     let still : host_then.clearing ≡ false = ap (λ (h : HostEnd). h.clearing) t.host_moved in
     others host_then device.control device_then.control
     (subst (λ (b : Bool). LeavesTransfers b device.control device_then.control) (sym still) (leaves device device_then host host_then held s same))
-    (subst (λ (h : HostEnd). Knows h device.control) (sym t.host_moved) (replies host device.control took knows))
+    (subst (λ (h : HostEnd). IsConsistent h device.control) (sym t.host_moved)
+    (replies host device.control took knows))
 
-knows_by : (arrivals : Arrivals) (device device_then : DeviceState) (addr : ℕ) (transfer : Option Transfer) (phase : HostPhase) (host_then : HostEnd) (result : Result Told StackFault) (before events : List Event) (held : Option Bool) (s : Station)
+knows_by : (arrivals : Arrivals) (device device_then : DeviceState) (addr : ℕ) (transfer : Option Transfer)
+    (phase : HostPhase) (host_then : HostEnd) (result : Result Told StackFault) (before events : List Event)
+    (held : Option Bool) (s : LinkState)
     → RepliesLeave → OthersLeave → IsPair device false phase
     → GoesByPackets arrivals device (record { addr = addr; phase = phase; transfer = transfer; clearing = false }) false phase result device_then host_then before events
-    → joint device_then host_then ≡ ready_member device (record { addr = addr; phase = phase; transfer = transfer; clearing = false }) (core_of device) held s
-    → Knows (record { addr = addr; phase = phase; transfer = transfer; clearing = false }) device.control → Knows host_then device_then.control
+    → pair_member device_then host_then
+    ≡ ready_member device (record { addr = addr; phase = phase; transfer = transfer; clearing = false })
+    (core_of device) held s
+    → IsConsistent (record { addr = addr; phase = phase; transfer = transfer; clearing = false }) device.control
+    → IsConsistent host_then device_then.control
 knows_by arrivals device device_then addr transfer Cold host_then result before events held s replies others pair t same knows = absurd pair
 knows_by arrivals device device_then addr transfer (Described info) host_then result before events held s replies others pair t same knows = absurd pair
 knows_by arrivals device device_then addr transfer (Parsed info layout) host_then result before events held s replies others pair t same knows = absurd pair
 knows_by arrivals device device_then addr transfer (Ready known) host_then result before events held s replies others pair t same knows =
     known_then arrivals device device_then addr transfer known host_then result before events held s replies others t same knows
 
-pub polls_know : (arrivals : Arrivals) (device device_then : DeviceState) (host host_then : HostEnd) (result : Result Told StackFault) (before events : List Event) (held : Option Bool) (s : Station)
+pub polls_know : (arrivals : Arrivals) (device device_then : DeviceState) (host host_then : HostEnd)
+    (result : Result Told StackFault) (before events : List Event) (held : Option Bool) (s : LinkState)
     → RepliesLeave → OthersLeave → IsPair device false host.phase → host.clearing ≡ false → GoesByPackets arrivals device host host.clearing host.phase result device_then host_then before events
-    → joint device_then host_then ≡ ready_member device host (core_of device) held s → Knows host device.control → Knows host_then device_then.control
+    → pair_member device_then host_then ≡ ready_member device host (core_of device) held s
+    → IsConsistent host device.control → IsConsistent host_then device_then.control
 polls_know arrivals device device_then host host_then result before events held s replies others pair free t same knows =
     let is = no_clear host free in
     knows_by arrivals device device_then host.addr host.transfer host.phase host_then result before events held s replies others pair
     (subst (λ (h : HostEnd). GoesByPackets arrivals device h h.clearing h.phase result device_then host_then before events) is t) same
-    (subst (λ (h : HostEnd). Knows h device.control) is knows)
+    (subst (λ (h : HostEnd). IsConsistent h device.control) is knows)

@@ -11,31 +11,31 @@ use Rattle.hid_layout.specs.Controls.{Item, items_of}
 use Rattle.hid_layout.specs.Layout.{Contents}
 use Rattle.usb_transact.specs.declared.transaction.Fate.{Fate}
 use Rattle.hid_layout.specs.declared.control.ControlId.{ControlId}
-use Rattle.hid_bus.specs.Lives.{Deed, Own, Idles, Configures, befallen, befallen_all, told_in}
-use Rattle.hid_bus.specs.Lives as lives
-use Rattle.hid_bus.specs.Motion.{AreBetweenRounds, given_motion, Conserves, station_motion, accepted_in, HasMotions}
+use Rattle.hid_bus.specs.DeviceHistory.{BusEvent, Own, Idles, Configures, state_after, state_after_all, events_of_history}
+use Rattle.hid_bus.specs.DeviceHistory as lives
+use Rattle.hid_bus.specs.Motion.{AreBetweenRounds, motion_of_events, Conserves, link_motion, accepted_steps_of_events, HasMotions}
 use Rattle.hid_bus.specs.Rounds.{Changes, Polls}
 use Rattle.hid_bus.specs.Rounds as own_steps
-use Rattle.hid_bus.specs.Stations.{Station}
+use Rattle.hid_bus.specs.LinkState.{LinkState}
 use Rattle.hid_host.specs.declared.fault.StackFault.{StackFault}
 use Rattle.hid_host.specs.declared.fault.StackFault.TheVariants.{NoDevice, NotReady, Refused, BadDescriptor, Report, TooManyDevices, Memory}
 use Rattle.hid_host.specs.declared.fault.StackFault.TheVariants as faults
 use Rattle.hid_host.specs.declared.host.Transfer.{Transfer}
-use Rattle.hid_host.specs.Host.{cuts_round, running}
+use Rattle.hid_host.specs.Host.{request_aborts_round, running}
 use Rattle.hid_bus.specs.declared.step.Step.{Step}
 use Rattle.hid_bus.specs.declared.step.Step.TheVariants.{Change, Frame, Poll, Begin, Control, Halt, Reset}
 use Rattle.hid_bus.specs.declared.step.Delivered.{Delivered}
 use Rattle.hid_bus.specs.Delivered.{from_device}
-use Rattle.hid_stack.specs.Members.{Member, MemberStep, Scheduled, Begins, Controls, Halts, Resets, befallen_by, brought_deed, control_at, deed_at, deeds_in, halted_deed, member_after, member_after_all, polls_it, scheduled_deed, tried_deed, unconcluded_deed, unconcluded_of}
-use Rattle.hid_stack.specs.Rig.{member_at, with_member, one_after, one_unconcluded, refused_after, bus_after, bus_after_all, delivered_in, member_step, member_steps}
-use Rattle.hid_stack.specs.Sums.{AllHaveMotions, ConfiguresBetweenRounds, CutsByRequest, CutsNone, IsBetween, OnlyHaltsCut, RefusedKeepMotion, SumsUp}
+use Rattle.hid_stack.specs.Members.{Member, MemberStep, Scheduled, Begins, Controls, Halts, Resets, state_after_event_if, try_bus_event_of, control_of_member, bus_event_of_step, bus_events_of_steps, halt_bus_event_of, member_after, member_after_all, polls_it, step_bus_event, try_bus_event, out_of_memory_bus_event, member_out_of_memory}
+use Rattle.hid_stack.specs.Rig.{member_at, with_member, one_after, one_unconcluded, bus_after_refusal, bus_after, bus_after_all, deliveries_of_steps, member_step, member_steps}
+use Rattle.hid_stack.specs.Sums.{AbortsByRequest, AbortsNone, AllHaveMotions, ConfiguresBetweenRounds, IsBetween, OnlyHaltsAbort, RefusedKeepMotion, SumsUp}
 use Rattle.hid_stack.proofs.Isolation.{isolated, same_or_not, states as states_of, with_other, with_same}
-use Rattle.hid_stack.proofs.MemberLemmas.{IsEffect, between_append, between_one, brings_effect, layout_stays, layouts_stay, station_is, stations, unconcluded_layout, unconcluded_station}
+use Rattle.hid_stack.proofs.MemberLemmas.{IsEffect, between_append, between_one, brings_effect, layout_stays, layouts_stay, link_is, links, unconcluded_layout, unconcluded_link}
 use Rattle.hid_bus.proofs.ItemMotionLemmas.{given_append}
 use Rattle.hid_bus.proofs.MotionLemmas.{lived_has, lives_keep}
 
 abbrev pub HasItsMotions : Member → Type 0
-HasItsMotions m = HasMotions (items_of m.layout) m.station
+HasItsMotions m = HasMotions (items_of m.layout) m.link
 
 all_at : (members : List Member) (i : ℕ) (m : Member) → AllHaveMotions members → slice_get members i ≡ Some m → HasItsMotions m
 all_at members i m all h =
@@ -50,20 +50,26 @@ member_has members device m all h = by_number (eqb device 0) h
     by_number true k = absurd (cc)
     by_number false k = all_at members (device - 1) m all k
 
--- behind what befalls it, where something does
-befallen_has : (items : List Item) (s : Station) (o : Option Deed) → HasMotions items s → HasMotions items (befallen_by items s o)
-befallen_has items s None has = has
-befallen_has items s (Some deed) has = lived_has items s (deed ∷ []) has
+-- after what happens to it, where something does
+state_after_has : (items : List Item) (s : LinkState) (o : Option BusEvent) → HasMotions items s
+    → HasMotions items (state_after_event_if items s o)
+state_after_has items s None has = has
+state_after_has items s (Some bus_event) has = lived_has items s (bus_event ∷ []) has
 
-has_with : (m n : Member) (o : Option Deed) → n.layout ≡ m.layout → n.station ≡ befallen_by (items_of m.layout) m.station o → HasItsMotions m → HasItsMotions n
-has_with m n o layout station has =
-    subst (λ (l : Contents). HasMotions (items_of l) n.station) (sym layout) (subst (HasMotions (items_of m.layout)) (sym station) (befallen_has (items_of m.layout) m.station o has))
+has_with : (m n : Member) (o : Option BusEvent) → n.layout ≡ m.layout
+    → n.link ≡ state_after_event_if (items_of m.layout) m.link o → HasItsMotions m → HasItsMotions n
+has_with m n o layout link has =
+    subst (λ (l : Contents). HasMotions (items_of l) n.link) (sym layout)
+    (subst (HasMotions (items_of m.layout)) (sym link) (state_after_has (items_of m.layout) m.link o has))
 
 pub after_member : (m : Member) (x : MemberStep) → HasItsMotions m → HasItsMotions (member_after m x)
-after_member m x has = has_with m (member_after m x) (deed_at m x) (layout_stays m x) (station_is m x) has
+after_member m x has = has_with m (member_after m x) (bus_event_of_step m x) (layout_stays m x) (link_is m x) has
 
-pub after_unconcluded : (fate : Fate) (m : Member) (o : Option Transfer) → HasItsMotions m → HasItsMotions (unconcluded_of fate m o)
-after_unconcluded fate m o has = has_with m (unconcluded_of fate m o) (unconcluded_deed fate m o) (unconcluded_layout fate m o) (unconcluded_station fate m o) has
+pub after_unconcluded : (fate : Fate) (m : Member) (o : Option Transfer) → HasItsMotions m
+    → HasItsMotions (member_out_of_memory fate m o)
+after_unconcluded fate m o has =
+    has_with m (member_out_of_memory fate m o) (out_of_memory_bus_event fate m o) (unconcluded_layout fate m o)
+    (unconcluded_link fate m o) has
 
 one_has : (members : List Member) (device : ℕ) (x : MemberStep) → AllHaveMotions members → AllHaveMotions (one_after members device x)
 one_has members device x all = by_member (member_at members device) refl
@@ -72,7 +78,7 @@ one_has members device x all = by_member (member_at members device) refl
     by_member None e = all
     by_member (Some m) e = All-set HasItsMotions members (device - 1) (member_after m x) (after_member m x (member_has members device m all e)) all
 
--- Behind a step, and where a device is attached, every device keeps its motions again.
+-- After a step, and where a device is attached, every device keeps its motions again.
 pub bus_has : (members : List Member) (x : Step) → AllHaveMotions members → AllHaveMotions (bus_after members x)
 bus_has members (Change device change) all = one_has members device (Scheduled (Changes change)) all
 bus_has members Frame all =
@@ -93,43 +99,51 @@ attached_has members m all has = All-push HasItsMotions members m all has
 
 -- The sum over steps of the bus.
 pub sums_up : (before behind : List Member) (steps : List Step) (old new : List Delivered) → AllHaveMotions before → ConfiguresBetweenRounds before steps
-    → behind ≡ bus_after_all before steps → new ≡ old ++ delivered_in before steps → SumsUp before behind steps old new
+    → behind ≡ bus_after_all before steps → new ≡ old ++ deliveries_of_steps before steps
+    → SumsUp before behind steps old new
 sums_up before behind steps old new all between states_are told_are device m n h k c =
     let apart = isolated before behind steps old new states_are told_are in
     let items = items_of m.layout in
     let xs = member_steps device steps in
-    let deeds = deeds_in m xs in
-    let sum : Conserves c (accepted_in items m.station deeds) (station_motion items m.station c) (told_in items m.station deeds) (station_motion items (befallen_all items m.station deeds) c)
-    = lives_keep items m.station (member_has before device m all h) deeds (between device m h) c in
-    let told : given_motion c (from_device device new) ≡ given_motion c (from_device device old) +ℤ given_motion c (told_in items m.station deeds)
-    = ap (given_motion c) (apart.events device m h) ∙ given_append c (from_device device old) (told_in items m.station deeds) in
+    let bus_events = bus_events_of_steps m xs in
+    let sum : Conserves c (accepted_steps_of_events items m.link bus_events) (link_motion items m.link c)
+    (events_of_history items m.link bus_events) (link_motion items (state_after_all items m.link bus_events) c)
+    = lives_keep items m.link (member_has before device m all h) bus_events (between device m h) c in
+    let told : motion_of_events c (from_device device new)
+    ≡ motion_of_events c (from_device device old) +ℤ motion_of_events c
+    (events_of_history items m.link bus_events)
+    = ap (motion_of_events c) (apart.events device m h)
+    ∙ given_append c (from_device device old) (events_of_history items m.link bus_events) in
     let stands : Some n ≡ Some (member_after_all m xs) = sym k ∙ apart.states device m h in
     let same : n ≡ member_after_all m xs = cc in
-    let still : station_motion (items_of n.layout) n.station c ≡ station_motion items (befallen_all items m.station deeds) c
-    = ap (λ (t : Member). station_motion (items_of t.layout) t.station c) same
-    ∙ ap (λ (l : Contents). station_motion (items_of l) (member_after_all m xs).station c) (layouts_stay xs m)
-    ∙ ap (λ (s : Station). station_motion items s c) (stations xs m) in
+    let still : link_motion (items_of n.layout) n.link c
+    ≡ link_motion items (state_after_all items m.link bus_events) c
+    = ap (λ (t : Member). link_motion (items_of t.layout) t.link c) same
+    ∙ ap (λ (l : Contents). link_motion (items_of l) (member_after_all m xs).link c) (layouts_stay xs m)
+    ∙ ap (λ (s : LinkState). link_motion items s c) (links xs m) in
     omega (arith, ints, sum, told, still)
 
 -- ---- configurations come between rounds
 
 abbrev StepIsBetween : Member → Option MemberStep → Type 0
 StepIsBetween m None = Unit {0}
-StepIsBetween m (Some x) = IsBetween m.station (deed_at m x)
+StepIsBetween m (Some x) = IsBetween m.link (bus_event_of_step m x)
 
-between_of : (m : Member) (o : Option MemberStep) → StepIsBetween m o → AreBetweenRounds (items_of m.layout) m.station (deeds_in m (cons_option o []))
+between_of : (m : Member) (o : Option MemberStep) → StepIsBetween m o
+    → AreBetweenRounds (items_of m.layout) m.link (bus_events_of_steps m (cons_option o []))
 between_of m None h = tt
 between_of m (Some x) h = between_one m x h
 
-polled_between : (m : Member) (polls : Bool) (fate : Fate) → IsBetween m.station (scheduled_deed polls (Polls fate))
+polled_between : (m : Member) (polls : Bool) (fate : Fate) → IsBetween m.link (step_bus_event polls (Polls fate))
 polled_between m true fate = tt
 polled_between m false fate = tt
 
-halted_between : (m : Member) (is_configured : Bool) → IsBetween m.station (halted_deed is_configured)
+halted_between : (m : Member) (is_configured : Bool) → IsBetween m.link (halt_bus_event_of is_configured)
 halted_between m true = tt
 halted_between m false = tt
 
-if_between : (m : Member) (b : Bool) (x : MemberStep) → (b ≡ true → IsBetween m.station (deed_at m x)) → StepIsBetween m (cond b (Some x) None)
+if_between : (m : Member) (b : Bool) (x : MemberStep) → (b ≡ true → IsBetween m.link (bus_event_of_step m x))
+    → StepIsBetween m (cond b (Some x) None)
 if_between m true x h = h refl
 if_between m false x h = tt
 
@@ -153,12 +167,14 @@ others_between members x no_try device m h = between_of m (member_step device x)
 same_device : (d device : ℕ) → eqb d device ≡ true → d ≡ device
 same_device d device h = grind (arith, nat_tests)
 
-pub try_between : (members : List Member) (dev : ℕ) (fate : Fate) (found : Option Member) → member_at members dev ≡ found → IfSome found (λ m. IsBetween m.station (deed_at m (Controls fate)))
+pub try_between : (members : List Member) (dev : ℕ) (fate : Fate) (found : Option Member)
+    → member_at members dev ≡ found → IfSome found (λ m. IsBetween m.link (bus_event_of_step m (Controls fate)))
     → ConfiguresBetweenRounds members (Control dev fate ∷ [])
 try_between members dev fate found at_place between device m h =
     between_of m (member_step device (Control dev fate)) (if_between m (eqb dev device) (Controls fate) (λ same.
     let here : found ≡ Some m = sym at_place ∙ ap (member_at members) (same_device dev device same) ∙ h in
-    subst (λ (o : Option Member). IfSome o (λ k. IsBetween k.station (deed_at k (Controls fate)))) here between))
+    subst (λ (o : Option Member). IfSome o
+    (λ k. IsBetween k.link (bus_event_of_step k (Controls fate)))) here between))
 
 steps_append : (device : ℕ) (xs ys : List Step) → member_steps device (xs ++ ys) ≡ member_steps device xs ++ member_steps device ys
 steps_append device [] ys = refl
@@ -177,103 +193,135 @@ between_more members mid steps i d lt before first one device m h =
     let n = member_after_all m xs in
     let here : member_at mid device ≡ Some n = ap (λ (ms : List Member). member_at ms device) before ∙ states_of (take i steps) members device m h in
     let all : member_steps device (take (i + 1) steps) ≡ xs ++ member_steps device (x ∷ []) = ap (member_steps device) (take_more steps i d lt) ∙ steps_append device (take i steps) (x ∷ []) in
-    subst (λ (ys : List MemberStep). AreBetweenRounds (items_of m.layout) m.station (deeds_in m ys)) (sym all)
+    subst (λ (ys : List MemberStep). AreBetweenRounds (items_of m.layout) m.link (bus_events_of_steps m ys)) (sym all)
     (between_append xs (member_steps device (x ∷ [])) m (first device m h) (one device n here))
 
 -- ---- a step that is refused keeps the motions
 
 abbrev motion_at : Member → ControlId → ℤ
-motion_at m c = station_motion (items_of m.layout) m.station c
+motion_at m c = link_motion (items_of m.layout) m.link c
 
-effect_keeps : (items : List Item) (s : Station) (o : Option Deed) (c : ControlId) → HasMotions items s → IsEffect o → IsBetween s o → CutsNone o → station_motion items (befallen_by items s o) c ≡ station_motion items s c
+effect_keeps : (items : List Item) (s : LinkState) (o : Option BusEvent) (c : ControlId) → HasMotions items s
+    → IsEffect o → IsBetween s o → AbortsNone o
+    → link_motion items (state_after_event_if items s o) c ≡ link_motion items s c
 effect_keeps items s None c has is between none = refl
 effect_keeps items s (Some (Own x)) c has is between none = absurd is
 effect_keeps items s (Some lives.Halts) c has is between none = absurd none
 effect_keeps items s (Some lives.Clears) c has is between none = absurd none
 effect_keeps items s (Some lives.Resets) c has is between none = absurd is
 effect_keeps items s (Some (Idles idle)) c has is between none =
-    let sum : Conserves c [] (station_motion items s c) [] (station_motion items (befallen items s (Idles idle)) c) = lives_keep items s has (Idles idle ∷ []) (between, tt) c in
+    let sum : Conserves c [] (link_motion items s c) [] (link_motion items (state_after items s (Idles idle)) c) =
+    lives_keep items s has (Idles idle ∷ []) (between, tt) c in
     omega (arith, ints, sum)
 effect_keeps items s (Some Configures) c has is between none =
-    let sum : Conserves c [] (station_motion items s c) [] (station_motion items (befallen items s Configures) c) = lives_keep items s has (Configures ∷ []) (between, tt) c in
+    let sum : Conserves c [] (link_motion items s c) [] (link_motion items (state_after items s Configures) c) =
+    lives_keep items s has (Configures ∷ []) (between, tt) c in
     omega (arith, ints, sum)
 
-tried_keeps : (fate : Fate) (m : Member) (o : Option Transfer) (c : ControlId) → HasItsMotions m → IsBetween m.station (tried_deed fate m o) → CutsByRequest fate m o
-    → station_motion (items_of m.layout) (befallen_by (items_of m.layout) m.station (unconcluded_deed fate m o)) c ≡ motion_at m c
-tried_keeps fate m None c has between cuts = refl
-tried_keeps fate m (Some t) c has between cuts = by_request (cuts_round t.request) cuts
+tried_keeps : (fate : Fate) (m : Member) (o : Option Transfer) (c : ControlId) → HasItsMotions m
+    → IsBetween m.link (try_bus_event fate m o) → AbortsByRequest fate m o
+    → link_motion (items_of m.layout)
+    (state_after_event_if (items_of m.layout) m.link (out_of_memory_bus_event fate m o)) c ≡ motion_at m c
+tried_keeps fate m None c has between aborts = refl
+tried_keeps fate m (Some t) c has between aborts = by_request (request_aborts_round t.request) aborts
   where
-    by_request : (b : Bool) → (b ≡ false → CutsNone (tried_deed fate m (Some t)))
-        → station_motion (items_of m.layout) (befallen_by (items_of m.layout) m.station (cond b None (tried_deed fate m (Some t)))) c ≡ motion_at m c
+    by_request : (b : Bool) → (b ≡ false → AbortsNone (try_bus_event fate m (Some t)))
+        → link_motion (items_of m.layout)
+        (state_after_event_if (items_of m.layout) m.link (cond b None (try_bus_event fate m (Some t)))) c
+        ≡ motion_at m c
     by_request true none = refl
-    by_request false none = effect_keeps (items_of m.layout) m.station (brought_deed fate t.ends (control_at m)) c has (brings_effect fate t.ends (control_at m)) between (none refl)
+    by_request false none =
+        effect_keeps (items_of m.layout) m.link (try_bus_event_of fate t.ends (control_of_member m)) c has
+        (brings_effect fate t.ends (control_of_member m)) between (none refl)
 
-unconcluded_keeps : (fate : Fate) (m : Member) (c : ControlId) → HasItsMotions m → IsBetween m.station (deed_at m (Controls fate)) → CutsByRequest fate m (running m.transfer)
-    → motion_at (unconcluded_of fate m (running m.transfer)) c ≡ motion_at m c
-unconcluded_keeps fate m c has between cuts =
-    let u = unconcluded_of fate m (running m.transfer) in
-    ap (λ (l : Contents). station_motion (items_of l) u.station c) (unconcluded_layout fate m (running m.transfer))
-    ∙ ap (λ (s : Station). station_motion (items_of m.layout) s c) (unconcluded_station fate m (running m.transfer))
-    ∙ tried_keeps fate m (running m.transfer) c has between cuts
+unconcluded_keeps : (fate : Fate) (m : Member) (c : ControlId) → HasItsMotions m
+    → IsBetween m.link (bus_event_of_step m (Controls fate)) → AbortsByRequest fate m (running m.transfer)
+    → motion_at (member_out_of_memory fate m (running m.transfer)) c ≡ motion_at m c
+unconcluded_keeps fate m c has between aborts =
+    let u = member_out_of_memory fate m (running m.transfer) in
+    ap (λ (l : Contents). link_motion (items_of l) u.link c) (unconcluded_layout fate m (running m.transfer))
+    ∙ ap (λ (s : LinkState). link_motion (items_of m.layout) s c) (unconcluded_link fate m (running m.transfer))
+    ∙ tried_keeps fate m (running m.transfer) c has between aborts
 
 same_keeps : (n k : Member) (c : ControlId) → (let o = Some n in o) ≡ Some k → motion_at n c ≡ motion_at k c
 same_keeps n k c same = let is : n ≡ k = cc in ap (λ (m : Member). motion_at m c) is
 
-between_back : (s : Station) (items : List Item) (o : Option Deed) → AreBetweenRounds items s (cons_option o []) → IsBetween s o
+between_back : (s : LinkState) (items : List Item) (o : Option BusEvent) → AreBetweenRounds items s (cons_option o [])
+    → IsBetween s o
 between_back s items None h = tt
-between_back s items (Some deed) h = h.0
+between_back s items (Some bus_event) h = h.0
 
 names_itself : (d : ℕ) → eqb d d ≡ true
 names_itself d = grind (arith, nat_tests)
 
-between_at : (members : List Member) (dev : ℕ) (fate : Fate) (m : Member) → ConfiguresBetweenRounds members (Control dev fate ∷ []) → member_at members dev ≡ Some m → IsBetween m.station (deed_at m (Controls fate))
+between_at : (members : List Member) (dev : ℕ) (fate : Fate) (m : Member)
+    → ConfiguresBetweenRounds members (Control dev fate ∷ []) → member_at members dev ≡ Some m
+    → IsBetween m.link (bus_event_of_step m (Controls fate))
 between_at members dev fate m between h =
-    let here = subst (λ (b : Bool). AreBetweenRounds (items_of m.layout) m.station (deeds_in m (cons_option (cond b (Some (Controls fate)) None) []))) (names_itself dev) (between dev m h) in
-    between_back m.station (items_of m.layout) (deed_at m (Controls fate)) here
+    let here =
+    subst (λ (b : Bool). AreBetweenRounds (items_of m.layout) m.link
+    (bus_events_of_steps m (cons_option (cond b (Some (Controls fate)) None) []))) (names_itself dev)
+    (between dev m h) in
+    between_back m.link (items_of m.layout) (bus_event_of_step m (Controls fate)) here
 
-one_keeps : (members : List Member) (dev device : ℕ) (fate : Fate) (k n : Member) (c : ControlId) → AllHaveMotions members → ConfiguresBetweenRounds members (Control dev fate ∷ []) → OnlyHaltsCut members (Control dev fate)
+one_keeps : (members : List Member) (dev device : ℕ) (fate : Fate) (k n : Member) (c : ControlId)
+    → AllHaveMotions members → ConfiguresBetweenRounds members (Control dev fate ∷ [])
+    → OnlyHaltsAbort members (Control dev fate)
     → member_at members device ≡ Some k → member_at (one_unconcluded members dev fate) device ≡ Some n → motion_at n c ≡ motion_at k c
-one_keeps members dev device fate k n c all between cuts h stands = by_found (member_at members dev) refl stands
+one_keeps members dev device fate k n c all between aborts h stands = by_found (member_at members dev) refl stands
   where
     by_found : (found : Option Member) → member_at members dev ≡ found
-        → member_at (elim found as (λ _. List Member) [ None ↦ members | Some m ↦ with_member members dev (unconcluded_of fate m (running m.transfer)) ]) device ≡ Some n → motion_at n c ≡ motion_at k c
+        → member_at
+        (elim found as
+        (λ _. List Member) [
+          | None ↦ members
+          | Some m ↦
+              with_member members dev (member_out_of_memory fate m (running m.transfer))
+        ]) device ≡ Some n
+        → motion_at n c ≡ motion_at k c
     by_found None e there = same_keeps n k c (sym there ∙ h)
     by_found (Some m) e there =
-        let u = unconcluded_of fate m (running m.transfer) in
+        let u = member_out_of_memory fate m (running m.transfer) in
         elim (same_or_not dev device) [
           | inl same ↦
               let is_u : member_at (with_member members dev u) device ≡ Some u = ap (member_at (with_member members dev u)) (sym same.0) ∙ with_same members dev m u e in
               let is_m : Some m ≡ Some k = sym e ∙ ap (member_at members) same.0 ∙ h in
-              same_keeps n u c (sym there ∙ is_u) ∙ unconcluded_keeps fate m c (member_has members dev m all e) (between_at members dev fate m between e) (cuts m e) ∙ same_keeps m k c is_m
+              same_keeps n u c (sym there ∙ is_u) ∙ unconcluded_keeps fate m c (member_has members dev m all e) (between_at members dev fate m between e) (aborts m e) ∙ same_keeps m k c is_m
           | inr other ↦ same_keeps n k c (sym there ∙ with_other members dev device k m u other.0 e h)
         ]
 
 pub refused_keep : RefusedKeepMotion
-refused_keep members (Control dev fate) Memory device k n c all between cuts h there = one_keeps members dev device fate k n c all between cuts h there
-refused_keep members (Control dev fate) NoDevice device k n c all between cuts h there = same_keeps n k c (sym there ∙ h)
-refused_keep members (Control dev fate) NotReady device k n c all between cuts h there = same_keeps n k c (sym there ∙ h)
-refused_keep members (Control dev fate) (Refused f) device k n c all between cuts h there = same_keeps n k c (sym there ∙ h)
-refused_keep members (Control dev fate) (faults.Control f) device k n c all between cuts h there = same_keeps n k c (sym there ∙ h)
-refused_keep members (Control dev fate) (BadDescriptor f) device k n c all between cuts h there = same_keeps n k c (sym there ∙ h)
-refused_keep members (Control dev fate) (Report f) device k n c all between cuts h there = same_keeps n k c (sym there ∙ h)
-refused_keep members (Control dev fate) TooManyDevices device k n c all between cuts h there = same_keeps n k c (sym there ∙ h)
-refused_keep members (Change dev change) e device k n c all between cuts h there = same_keeps n k c (sym there ∙ h)
-refused_keep members Frame e device k n c all between cuts h there = same_keeps n k c (sym there ∙ h)
-refused_keep members (Poll dev fate) e device k n c all between cuts h there = same_keeps n k c (sym there ∙ h)
-refused_keep members (Begin dev request) e device k n c all between cuts h there = same_keeps n k c (sym there ∙ h)
-refused_keep members (Halt dev) e device k n c all between cuts h there = same_keeps n k c (sym there ∙ h)
-refused_keep members (Reset dev) e device k n c all between cuts h there = same_keeps n k c (sym there ∙ h)
+refused_keep members (Control dev fate) Memory device k n c all between aborts h there = one_keeps members dev device fate k n c all between aborts h there
+refused_keep members (Control dev fate) NoDevice device k n c all between aborts h there = same_keeps n k c (sym there ∙ h)
+refused_keep members (Control dev fate) NotReady device k n c all between aborts h there = same_keeps n k c (sym there ∙ h)
+refused_keep members (Control dev fate) (Refused f) device k n c all between aborts h there = same_keeps n k c (sym there ∙ h)
+refused_keep members (Control dev fate) (faults.Control f) device k n c all between aborts h there = same_keeps n k c (sym there ∙ h)
+refused_keep members (Control dev fate) (BadDescriptor f) device k n c all between aborts h there = same_keeps n k c (sym there ∙ h)
+refused_keep members (Control dev fate) (Report f) device k n c all between aborts h there = same_keeps n k c (sym there ∙ h)
+refused_keep members (Control dev fate) TooManyDevices device k n c all between aborts h there = same_keeps n k c (sym there ∙ h)
+refused_keep members (Change dev change) e device k n c all between aborts h there = same_keeps n k c (sym there ∙ h)
+refused_keep members Frame e device k n c all between aborts h there = same_keeps n k c (sym there ∙ h)
+refused_keep members (Poll dev fate) e device k n c all between aborts h there = same_keeps n k c (sym there ∙ h)
+refused_keep members (Begin dev request) e device k n c all between aborts h there = same_keeps n k c (sym there ∙ h)
+refused_keep members (Halt dev) e device k n c all between aborts h there = same_keeps n k c (sym there ∙ h)
+refused_keep members (Reset dev) e device k n c all between aborts h there = same_keeps n k c (sym there ∙ h)
 
 -- the sum where a run stops
-pub sums_stop : (before mid new : List Member) (steps : List Step) (x : Step) (e : StackFault) (old out : List Delivered) → AllHaveMotions before → ConfiguresBetweenRounds before steps → ConfiguresBetweenRounds mid (x ∷ []) → OnlyHaltsCut mid x
-    → mid ≡ bus_after_all before steps → out ≡ old ++ delivered_in before steps → new ≡ refused_after mid x e → SumsUp before new steps old out
-sums_stop before mid new steps x e old out all between between_here cuts mid_is told_is new_is device m n h there c =
+pub sums_stop : (before mid new : List Member) (steps : List Step) (x : Step) (e : StackFault)
+    (old out : List Delivered) → AllHaveMotions before → ConfiguresBetweenRounds before steps
+    → ConfiguresBetweenRounds mid (x ∷ []) → OnlyHaltsAbort mid x
+    → mid ≡ bus_after_all before steps → out ≡ old ++ deliveries_of_steps before steps
+    → new ≡ bus_after_refusal mid x e → SumsUp before new steps old out
+sums_stop before mid new steps x e old out all between between_here aborts mid_is told_is new_is device m n h there c =
     let k = member_after_all m (member_steps device steps) in
     let at_mid : member_at mid device ≡ Some k = ap (λ (ms : List Member). member_at ms device) mid_is ∙ states_of steps before device m h in
-    let at_new : member_at (refused_after mid x e) device ≡ Some n = sym (ap (λ (ms : List Member). member_at ms device) new_is) ∙ there in
+    let at_new : member_at (bus_after_refusal mid x e) device ≡ Some n =
+    sym (ap (λ (ms : List Member). member_at ms device) new_is) ∙ there in
     let all_mid : AllHaveMotions mid = subst AllHaveMotions (sym mid_is) (all_has before steps all) in
-    subst (Conserves c (accepted_in (items_of m.layout) m.station (deeds_in m (member_steps device steps))) (given_motion c (from_device device old) +ℤ motion_at m c) (from_device device out))
-    (sym (refused_keep mid x e device k n c all_mid between_here cuts at_mid at_new))
+    subst (Conserves c
+    (accepted_steps_of_events (items_of m.layout) m.link (bus_events_of_steps m (member_steps device steps)))
+    (motion_of_events c (from_device device old) +ℤ motion_at m c) (from_device device out))
+    (sym (refused_keep mid x e device k n c all_mid between_here aborts at_mid at_new))
     (sums_up before mid steps old out all between mid_is told_is device m k h at_mid c)
 
 pub ruleset sums = (sums_up, all_has)

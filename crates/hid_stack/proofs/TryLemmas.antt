@@ -1,5 +1,5 @@
--- A try of a transfer at the two ends is a try of their member, and the toggle that its host expects behind it (USB 2.0, 8.5.3
--- and 9.1.1).
+-- A try of a transfer at the two ends is a try of their member, and the toggle that its host expects after it (USB
+-- 2.0, 8.5.3 and 9.1.1).
 use Rattle.std.proofs.Common.{◌≡◌, ◌∙◌, ℕ, Bool, true, false, cond, not, List, Option, Some, None, Result, Ok, Err, inl, inr, refl, ap, sym, subst}
 use Rattle.std.specs.Prelude.{◌||◌, IfSome}
 use Rattle.hid_layout.specs.Controls.{Item, items_of}
@@ -10,18 +10,18 @@ use Rattle.usb_control.specs.declared.fault.ControlFault.TheVariants.{NoTransfer
 use Rattle.usb_control.specs.declared.host.HostStage.{HostStage}
 use Rattle.usb_control.specs.declared.host.HostStage.TheVariants as stages
 use Rattle.usb_control.specs.declared.host.Progress.{Progress}
-use Rattle.usb_control.specs.Computed.{AppliesBy, PreparesBy, control_tried, effect_reached}
+use Rattle.usb_control.specs.TryFunctions.{AppliesBy, PreparesBy, control_tried, effect_reached}
 use Rattle.usb_control.specs.Device.{Answers, Applies, Decides, DevControlState, Effect}
 use Rattle.usb_control.specs.Host.{HostTransferState, IsRunning, progress_of}
 use Rattle.hid_requests.specs.declared.request.Request.{Request}
 use Rattle.hid_requests.specs.declared.request.Request.TheVariants as requests
-use Rattle.hid_bus.specs.Stations.{Station, expected}
-use Rattle.hid_bus.specs.Lives.{Deed, Own, Idles, Configures}
-use Rattle.hid_bus.specs.Lives as lives
-use Rattle.hid_device.specs.declared.decisions.Pending.{Pending}
-use Rattle.hid_device.specs.declared.decisions.Pending.TheVariants as pendings
+use Rattle.hid_bus.specs.LinkState.{LinkState, expected_toggle}
+use Rattle.hid_bus.specs.DeviceHistory.{BusEvent, Own, Idles, Configures}
+use Rattle.hid_bus.specs.DeviceHistory as lives
+use Rattle.hid_device.specs.declared.decisions.PendingWrite.{PendingWrite}
+use Rattle.hid_device.specs.declared.decisions.PendingWrite.TheVariants as pendings
 use Rattle.hid_device.specs.Core.{CoreState, IsSound}
-use Rattle.hid_device.specs.Deciding.{core_table, effected}
+use Rattle.hid_device.specs.RequestTable.{core_after_write, core_table}
 use Rattle.hid_device.specs.Device.{DeviceState, core_of}
 use Rattle.hid_host.specs.declared.fault.StackFault.{StackFault}
 use Rattle.hid_host.specs.declared.fault.StackFault.TheVariants.{Control, Memory}
@@ -30,20 +30,20 @@ use Rattle.hid_host.specs.declared.phase.HostPhase.{HostPhase}
 use Rattle.hid_host.specs.declared.phase.HostPhase.TheVariants.{Cold, Described, Parsed, Ready}
 use Rattle.hid_host.specs.declared.phase.HostState.{HostState}
 use Rattle.hid_host.specs.declared.phase.HostState.TheVariants as states
-use Rattle.hid_stack.specs.Bringing.{IsComputed, TakesMemory, answering, brought, brought_about, brought_at, carried_out, configures, cuts_in, ends_after, host_after}
-use Rattle.hid_host.specs.Host.{ControlSteps, HostEnd, TriesOnce, clearing_behind, cuts_round, is_clear, running, running_at}
-use Rattle.hid_stack.specs.Knowing.{IsNoRefusal, IsPending, Knows, KnowsAt}
+use Rattle.hid_stack.specs.ControlSteps.{StepsAsFunction, TakesMemory, core_after_effect, core_after_try, host_after_try, phase_after, phase_after_try, transfer_after_try, try_aborts_round, try_configures, with_answer_of}
+use Rattle.hid_host.specs.Host.{ControlSteps, HostEnd, TriesOnce, clearing_after, is_clear, request_aborts_round, running, running_at}
+use Rattle.hid_stack.specs.HostInvariant.{IsConsistent, IsConsistentAt, IsNoRefusal, IsPending}
 use Rattle.hid_host.specs.Phase.{may_begin, state_of}
 use Rattle.hid_host.specs.Ready.{Known}
 use Rattle.hid_device.specs.declared.config.Config.{Config}
-use Rattle.hid_stack.specs.Members.{Endpoint, Member, befallen_by, brought_deed, control_at, effect_deed, endpoint_of, ends_tried_at, expects_behind, expects_of, held_at, held_if, state_at, tried_deed, tried_to, written_deed}
-use Rattle.hid_stack.specs.Slot.{ArePaired, IsEven, IsEvenUnless, StandTogether, TriesOnPair, held_of, joined, joint, round_between, station_of}
-use Rattle.hid_stack.specs.Sums.{CutsByRequest, CutsNone, IsBetween}
-use Rattle.hid_stack.proofs.TransferLemmas.{Leaves, NoRounds, brought_at_station, brought_clears, brought_configures, brought_cuts, goes_together_at, leaves_by, same_try, state_brought_at, still_together, takes_no_clear, unready_none}
+use Rattle.hid_stack.specs.Members.{Endpoint, Member, control_of_member, effect_bus_event, endpoint_of, expected_toggle_of, expects_after, host_state_after_try, member_after_try_in, member_held_toggle, member_transfer_after, state_after_event_if, toggle_if_held, try_bus_event, try_bus_event_of, write_bus_event}
+use Rattle.hid_stack.specs.Slot.{ArePaired, StandTogether, TogglesAgree, TogglesAgreeUnless, TriesOnPair, held_toggle, link_of, link_of_pair, pair_member, round_between}
+use Rattle.hid_stack.specs.Sums.{AbortsByRequest, AbortsNone, IsBetween}
+use Rattle.hid_stack.proofs.TransferLemmas.{Leaves, NoRounds, brought_at_link, brought_clears, brought_configures, brought_cuts, goes_together_at, leaves_by, same_try, state_brought_at, still_together, takes_no_clear, unready_none}
 
 -- ---- the toggle that a host expects
 
-one_toggle : (items : List Item) (t e : Bool) (current : Option ℕ) (piece : ℕ) → IsEven t e current
+one_toggle : (items : List Item) (t e : Bool) (current : Option ℕ) (piece : ℕ) → TogglesAgree t e current
     → (elim (round_between items t e current piece) as (λ _. Bool) [ None ↦ t | Some round ↦ cond round.crossed (not t) t ]) ≡ e
 one_toggle items t e None piece even = even
 one_toggle items true true (Some r) piece even = refl
@@ -51,18 +51,22 @@ one_toggle items true false (Some r) piece even = refl
 one_toggle items false true (Some r) piece even = refl
 one_toggle items false false (Some r) piece even = refl
 
-expects_if : (b : Bool) (core : CoreState) (known : Known) → IsEvenUnless b core.toggle known.pipe.expects core.current
-    → (elim (held_if b known.pipe.expects) as (λ _. Bool) [ Some expects ↦ expects | None ↦ expected (joined core known) ]) ≡ known.pipe.expects
+expects_if : (b : Bool) (core : CoreState) (known : Known)
+    → TogglesAgreeUnless b core.toggle known.pipe.expects core.current
+    → (elim (toggle_if_held b known.pipe.expects) as
+    (λ _. Bool) [ Some expects ↦ expects | None ↦ expected_toggle (link_of_pair core known) ]) ≡ known.pipe.expects
 expects_if true core known even = refl
 expects_if false core known even = one_toggle (items_of core.layout) core.toggle known.pipe.expects core.current core.piece even
 
 -- of a member that is a device and its ready host
 pub expects_so : (device : DeviceState) (addr : ℕ) (transfer : Option Transfer) (clearing : Bool) (known : Known) → ArePaired device known clearing
-    → expects_of (joint device (record { addr = addr; phase = Ready known; transfer = transfer; clearing = clearing })) ≡ known.pipe.expects
+    → expected_toggle_of
+    (pair_member device (record { addr = addr; phase = Ready known; transfer = transfer; clearing = clearing }))
+    ≡ known.pipe.expects
 expects_so device addr transfer clearing known pair = expects_if ((core_of device).halted || clearing) (core_of device) known pair.even
 
 -- what is held is that
-pub halts_so : (core : CoreState) (phase : HostPhase) → (station_of core phase).halted ≡ core.halted
+pub halts_so : (core : CoreState) (phase : HostPhase) → (link_of core phase).halted ≡ core.halted
 halts_so core Cold = refl
 halts_so core (Described info) = refl
 halts_so core (Parsed info layout) = refl
@@ -73,15 +77,20 @@ abbrev pub host_by : ℕ → Option Transfer → Bool → HostPhase → HostEnd
 host_by addr transfer clearing phase = record { addr = addr; phase = phase; transfer = transfer; clearing = clearing }
 
 pub holds_still : (device : DeviceState) (core : CoreState) (addr : ℕ) (transfer : Option Transfer) (before now : Bool) (phase : HostPhase) → StandTogether device before phase
-    → held_of core now phase ≡ held_at (state_of phase) (core.halted || now) (expects_of (joint device (host_by addr transfer before phase)))
+    → held_toggle core now phase
+    ≡ member_held_toggle (state_of phase) (core.halted || now)
+    (expected_toggle_of (pair_member device (host_by addr transfer before phase)))
 holds_still device core addr transfer before now Cold together = refl
 holds_still device core addr transfer before now (Described info) together = refl
 holds_still device core addr transfer before now (Parsed info layout) together = refl
-holds_still device core addr transfer before now (Ready known) together = ap (held_if (core.halted || now)) (sym (expects_so device addr transfer before known together))
+holds_still device core addr transfer before now (Ready known) together =
+    ap (toggle_if_held (core.halted || now)) (sym (expects_so device addr transfer before known together))
 
--- and where it went on
+-- the host where it went on after a request
 holds_on : (request : Request) (device : DeviceState) (core : CoreState) (home addr : ℕ) (transfer : Option Transfer) (before now : Bool) (phase : HostPhase) → may_begin request (state_of phase) ≡ true → StandTogether device before phase
-    → held_of core now (brought request home core phase) ≡ held_at (state_of (brought request home core phase)) (core.halted || now) (expects_behind stages.Done request (expects_of (joint device (host_by addr transfer before phase))))
+    → held_toggle core now (phase_after request home core phase)
+    ≡ member_held_toggle (state_of (phase_after request home core phase)) (core.halted || now)
+    (expects_after stages.Done request (expected_toggle_of (pair_member device (host_by addr transfer before phase))))
 holds_on requests.Device device core home addr transfer before now phase needs together = holds_still device core addr transfer before now phase together
 holds_on requests.Status device core home addr transfer before now phase needs together = holds_still device core addr transfer before now phase together
 holds_on requests.GetConfiguration device core home addr transfer before now phase needs together = holds_still device core addr transfer before now phase together
@@ -102,7 +111,9 @@ holds_on requests.Clear device core home addr transfer before now (Parsed info l
 holds_on requests.Clear device core home addr transfer before now (Ready known) needs together = refl
 
 holds_at : (stage : HostStage) (request : Request) (device : DeviceState) (core : CoreState) (home addr : ℕ) (transfer : Option Transfer) (before now : Bool) (phase : HostPhase) → may_begin request (state_of phase) ≡ true → StandTogether device before phase
-    → held_of core now (brought_at stage request home core phase) ≡ held_at (state_of (brought_at stage request home core phase)) (core.halted || now) (expects_behind stage request (expects_of (joint device (host_by addr transfer before phase))))
+    → held_toggle core now (phase_after_try stage request home core phase)
+    ≡ member_held_toggle (state_of (phase_after_try stage request home core phase)) (core.halted || now)
+    (expects_after stage request (expected_toggle_of (pair_member device (host_by addr transfer before phase))))
 holds_at stages.Done request device core home addr transfer before now phase needs together = holds_on request device core home addr transfer before now phase needs together
 holds_at stages.Setup request device core home addr transfer before now phase needs together = holds_still device core addr transfer before now phase together
 holds_at (stages.DataIn one) request device core home addr transfer before now phase needs together = holds_still device core addr transfer before now phase together
@@ -111,9 +122,9 @@ holds_at stages.StatusIn request device core home addr transfer before now phase
 holds_at stages.StatusOut request device core home addr transfer before now phase needs together = holds_still device core addr transfer before now phase together
 holds_at (stages.Failed fault) request device core home addr transfer before now phase needs together = holds_still device core addr transfer before now phase together
 
--- where memory was wanting for a layout or a view, the host isn't ready
+-- where memory ran out for a layout or a view, the host isn't ready
 holds_none : (request : Request) (device : DeviceState) (core : CoreState) (addr : ℕ) (transfer : Option Transfer) (before now : Bool) (expects : Bool) (phase : HostPhase) → may_begin request (state_of phase) ≡ true → TakesMemory request
-    → held_of core now phase ≡ held_at (state_of phase) (core.halted || now) expects
+    → held_toggle core now phase ≡ member_held_toggle (state_of phase) (core.halted || now) expects
 holds_none request device core addr transfer before now expects Cold needs takes = refl
 holds_none request device core addr transfer before now expects (Described info) needs takes = refl
 holds_none request device core addr transfer before now expects (Parsed info layout) needs takes = refl
@@ -138,20 +149,21 @@ holds_none request device core addr transfer before now expects (Ready known) ne
 
 -- ---- a try
 
-sound_of : (device : DeviceState) (clearing : Bool) (phase : HostPhase) → StandTogether device clearing phase → IsSound (core_of device)
+pub sound_of : (device : DeviceState) (clearing : Bool) (phase : HostPhase) → StandTogether device clearing phase → IsSound (core_of device)
 sound_of device clearing Cold together = together.sound
 sound_of device clearing (Described info) together = together.sound
 sound_of device clearing (Parsed info layout) together = together.sound
 sound_of device clearing (Ready known) together = together.sound
 
 -- a member by its parts
-abbrev of_parts : Transfer → ℕ → Config → List ℕ → Contents → Station → Endpoint → HostState → HostTransferState → Bool → Option Bool → Member
+abbrev of_parts : Transfer → ℕ → Config → List ℕ → Contents → LinkState → Endpoint → HostState → HostTransferState
+    → Bool → Option Bool → Member
 of_parts t addr config descriptor layout s e host ends clearing held = record {
   addr = addr;
   config = config;
   descriptor = descriptor;
   layout = layout;
-  station = s;
+  link = s;
   endpoint = e;
   host = host;
   transfer = Some (record t { ends = ends });
@@ -159,67 +171,84 @@ of_parts t addr config descriptor layout s e host ends clearing held = record {
   held = held;
 }
 
-record SameParts (m : Member) (t : Transfer) (addr : ℕ) (config : Config) (descriptor : List ℕ) (layout : Contents) (s s' : Station) (e e' : Endpoint) (h h' : HostState) (ends ends' : HostTransferState) (c c' : Bool) (held held' : Option Bool) : Type 0 where
+record SameParts (m : Member) (t : Transfer) (addr : ℕ) (config : Config) (descriptor : List ℕ) (layout : Contents)
+    (s s' : LinkState) (e e' : Endpoint) (h h' : HostState) (ends ends' : HostTransferState) (c c' : Bool)
+    (held held' : Option Bool) : Type 0 where
   home : addr ≡ m.addr
   config_is : config ≡ m.config
   descriptor_is : descriptor ≡ m.descriptor
   layout_is : layout ≡ m.layout
-  station : s ≡ s'
+  link : s ≡ s'
   endpoint : e ≡ e'
   host : h ≡ h'
   ends_are : ends ≡ ends'
   clearing : c ≡ c'
   holds : held ≡ held'
 
-parts_same : (m : Member) (t : Transfer) (addr : ℕ) (config : Config) (descriptor : List ℕ) (layout : Contents) (s s' : Station) (e e' : Endpoint) (h h' : HostState) (ends ends' : HostTransferState) (c c' : Bool) (held held' : Option Bool)
+parts_same : (m : Member) (t : Transfer) (addr : ℕ) (config : Config) (descriptor : List ℕ) (layout : Contents)
+    (s s' : LinkState) (e e' : Endpoint) (h h' : HostState) (ends ends' : HostTransferState) (c c' : Bool)
+    (held held' : Option Bool)
     → SameParts m t addr config descriptor layout s s' e e' h h' ends ends' c c' held held' → of_parts t addr config descriptor layout s e h ends c held ≡ of_parts t m.addr m.config m.descriptor m.layout s' e' h' ends' c' held'
 parts_same m t addr config descriptor layout s s' e e' h h' ends ends' c c' held held' p =
     ap (λ (x : ℕ). of_parts t x config descriptor layout s e h ends c held) p.home
     ∙ ap (λ (x : Config). of_parts t m.addr x descriptor layout s e h ends c held) p.config_is
     ∙ ap (λ (x : List ℕ). of_parts t m.addr m.config x layout s e h ends c held) p.descriptor_is
     ∙ ap (λ (x : Contents). of_parts t m.addr m.config m.descriptor x s e h ends c held) p.layout_is
-    ∙ ap (λ (x : Station). of_parts t m.addr m.config m.descriptor m.layout x e h ends c held) p.station
+    ∙ ap (λ (x : LinkState). of_parts t m.addr m.config m.descriptor m.layout x e h ends c held) p.link
     ∙ ap (λ (x : Endpoint). of_parts t m.addr m.config m.descriptor m.layout s' x h ends c held) p.endpoint
     ∙ ap (λ (x : HostState). of_parts t m.addr m.config m.descriptor m.layout s' e' x ends c held) p.host
     ∙ ap (λ (x : HostTransferState). of_parts t m.addr m.config m.descriptor m.layout s' e' h' x c held) p.ends_are
     ∙ ap (λ (x : Bool). of_parts t m.addr m.config m.descriptor m.layout s' e' h' ends' x held) p.clearing
     ∙ ap (λ (x : Option Bool). of_parts t m.addr m.config m.descriptor m.layout s' e' h' ends' c' x) p.holds
 
--- the member behind a try, where the host's phase leaves the station
+-- the member after a try, where the host's phase leaves the link state
 joint_tried : (fate : Fate) (device device_then : DeviceState) (host : HostEnd) (t : Transfer) (phase : HostPhase) (next : HostState) → IsSound (core_of device) → device_then.control ≡ control_tried core_table fate t.ends device.control
-    → Leaves (core_of device) (core_of device_then) (brought_deed fate t.ends device.control)
-    → (brought_deed fate t.ends device.control ≡ Some Configures → state_of host.phase ≡ states.Parsed) → device_then.addr ≡ device.addr
-    → station_of (core_of device_then) phase ≡ station_of (core_of device_then) host.phase → state_of phase ≡ next
-    → (let stage = (ends_after fate t device.control).stage in let now = clearing_behind stage t.request host.clearing in
-    held_of (core_of device_then) now phase ≡ held_at (state_of phase) ((core_of device_then).halted || now) (expects_behind stage t.request (expects_of (joint device host))))
-    → joint device_then (host_after fate host t device.control phase) ≡ tried_to fate (joint device host) t next
+    → Leaves (core_of device) (core_of device_then) (try_bus_event_of fate t.ends device.control)
+    → (try_bus_event_of fate t.ends device.control ≡ Some Configures → state_of host.phase ≡ states.Parsed)
+    → device_then.addr ≡ device.addr
+    → link_of (core_of device_then) phase ≡ link_of (core_of device_then) host.phase → state_of phase ≡ next
+    → (let stage = (transfer_after_try fate t device.control).stage in let now =
+    clearing_after stage t.request host.clearing in
+    held_toggle (core_of device_then) now phase
+    ≡ member_held_toggle (state_of phase) ((core_of device_then).halted || now)
+    (expects_after stage t.request (expected_toggle_of (pair_member device host))))
+    → pair_member device_then (host_after_try fate host t device.control phase)
+    ≡ member_after_try_in fate (pair_member device host) t next
 joint_tried fate device device_then host t phase next sound control_is l parsed home stays state holds =
-    let m = joint device host in
+    let m = pair_member device host in
     let same = same_try fate device host t sound in
     let core = core_of device_then in
-    let s' = befallen_by (items_of m.layout) m.station (brought_deed fate t.ends (control_at m)) in
-    let station : station_of core phase ≡ s' = stays ∙ l.station host.phase parsed ∙ ap (λ (x : Option Deed). befallen_by (items_of m.layout) m.station x) same.deed in
-    let halts : core.halted ≡ s'.halted = sym (halts_so core phase) ∙ ap (λ (s : Station). s.halted) station in
-    let now : HostTransferState → Bool = λ ends. clearing_behind ends.stage t.request host.clearing in
-    let expects : HostTransferState → Bool = λ ends. expects_behind ends.stage t.request (expects_of m) in
+    let s' = state_after_event_if (items_of m.layout) m.link (try_bus_event_of fate t.ends (control_of_member m)) in
+    let link : link_of core phase ≡ s' =
+    stays ∙ l.link host.phase parsed
+    ∙ ap (λ (x : Option BusEvent). state_after_event_if (items_of m.layout) m.link x) same.bus_event in
+    let halts : core.halted ≡ s'.halted = sym (halts_so core phase) ∙ ap (λ (s : LinkState). s.halted) link in
+    let now : HostTransferState → Bool = λ ends. clearing_after ends.stage t.request host.clearing in
+    let expects : HostTransferState → Bool = λ ends. expects_after ends.stage t.request (expected_toggle_of m) in
     parts_same m t device_then.addr core.config core.descriptor core.layout
-    (station_of core phase) s'
-    (endpoint_of device_then.control) (endpoint_of (control_tried core_table fate t.ends (control_at m))) (state_of phase) next (ends_after fate t device.control) (ends_tried_at fate m t)
-    (now (ends_after fate t device.control)) (now (ends_tried_at fate m t))
-    (held_of core (now (ends_after fate t device.control)) phase) (held_at next (s'.halted || now (ends_tried_at fate m t)) (expects (ends_tried_at fate m t))) (record {
+    (link_of core phase) s'
+    (endpoint_of device_then.control) (endpoint_of (control_tried core_table fate t.ends (control_of_member m)))
+    (state_of phase) next (transfer_after_try fate t device.control) (member_transfer_after fate m t)
+    (now (transfer_after_try fate t device.control)) (now (member_transfer_after fate m t))
+    (held_toggle core (now (transfer_after_try fate t device.control)) phase)
+    (member_held_toggle next (s'.halted || now (member_transfer_after fate m t))
+    (expects (member_transfer_after fate m t))) (record {
       home = home;
       config_is = l.config;
       descriptor_is = l.descriptor;
       layout_is = l.layout;
-      station = station;
+      link = link;
       endpoint = ap endpoint_of control_is ∙ same.endpoint;
       host = state;
       ends_are = same.ends;
       clearing = ap now same.ends;
       holds = holds
-          ∙ ap (λ (h : HostState). held_at h (core.halted || now (ends_after fate t device.control)) (expects (ends_after fate t device.control))) state
-          ∙ ap (λ (b : Bool). held_at next (b || now (ends_after fate t device.control)) (expects (ends_after fate t device.control))) halts
-          ∙ ap (λ (e : HostTransferState). held_at next (s'.halted || now e) (expects e)) same.ends;
+          ∙ ap (λ (h : HostState). member_held_toggle h
+          (core.halted || now (transfer_after_try fate t device.control))
+          (expects (transfer_after_try fate t device.control))) state
+          ∙ ap (λ (b : Bool). member_held_toggle next (b || now (transfer_after_try fate t device.control))
+          (expects (transfer_after_try fate t device.control))) halts
+          ∙ ap (λ (e : HostTransferState). member_held_toggle next (s'.halted || now e) (expects e)) same.ends;
     })
 
 -- the one request that ends a halt
@@ -240,72 +269,100 @@ clear_is (requests.SetReport kind id set) is = absurd (cc)
 clear_is requests.Halt is = absurd (cc)
 clear_is requests.EndpointStatus is = absurd (cc)
 
--- what holds behind a try
+-- what holds after a try
 record Tried (fate : Fate) (device device_then : DeviceState) (host host_then : HostEnd) (t : Transfer) (result : Result Progress StackFault) : Type 0 where
-  tries : TriesOnPair fate (joint device host) (Some t) result (joint device_then host_then)
+  tries : TriesOnPair fate (pair_member device host) (Some t) result (pair_member device_then host_then)
   together : StandTogether device_then host_then.clearing host_then.phase
 
 -- what a try needs of its host: a clear that takes effect is pending
 abbrev Pends : Fate → DeviceState → HostEnd → Transfer → Type 0
-Pends fate device host t = brought_deed fate t.ends device.control ≡ Some lives.Clears → host.clearing ≡ true
+Pends fate device host t = try_bus_event_of fate t.ends device.control ≡ Some lives.Clears → host.clearing ≡ true
 
-goes_on : (fate : Fate) (device device_then : DeviceState) (host host_then : HostEnd) (t : Transfer) (progress : Progress) → IsComputed fate host t device.control (Ok progress) host_then device_then.control
-    → progress ≡ progress_of (ends_after fate t device.control).stage
-    → host_then ≡ host_after fate host t device.control (brought_at (ends_after fate t device.control).stage t.request host.addr (core_of device_then) host.phase)
-    → Pends fate device host t → Knows host_then device_then.control → StandTogether device host.clearing host.phase → host.addr ≡ device.addr → device_then.addr ≡ device.addr → IsSound (core_of device_then)
+goes_on : (fate : Fate) (device device_then : DeviceState) (host host_then : HostEnd) (t : Transfer)
+    (progress : Progress) → StepsAsFunction fate host t device.control (Ok progress) host_then device_then.control
+    → progress ≡ progress_of (transfer_after_try fate t device.control).stage
+    → host_then
+    ≡ host_after_try fate host t device.control
+    (phase_after_try (transfer_after_try fate t device.control).stage t.request host.addr
+    (core_of device_then) host.phase)
+    → Pends fate device host t → IsConsistent host_then device_then.control
+    → StandTogether device host.clearing host.phase → host.addr ≡ device.addr → device_then.addr ≡ device.addr
+    → IsSound (core_of device_then)
     → Tried fate device device_then host host_then t (Ok progress)
 goes_on fate device device_then host host_then t progress c told moved pends knows together home stays sound =
     let core = core_of device_then in
-    let stage = (ends_after fate t device.control).stage in
-    let now = clearing_behind stage t.request host.clearing in
-    let phase = brought_at stage t.request host.addr core host.phase in
+    let stage = (transfer_after_try fate t device.control).stage in
+    let now = clearing_after stage t.request host.clearing in
+    let phase = phase_after_try stage t.request host.addr core host.phase in
     let before = sound_of device host.clearing host.phase together in
     let same = same_try fate device host t before in
-    let stage_is : stage ≡ (ends_tried_at fate (joint device host) t).stage = ap (λ (e : HostTransferState). e.stage) same.ends in
+    let stage_is : stage ≡ (member_transfer_after fate (pair_member device host) t).stage =
+    ap (λ (e : HostTransferState). e.stage) same.ends in
     let l = leaves_by fate t.ends device.control core c.brings in
-    let parsed : brought_deed fate t.ends device.control ≡ Some Configures → state_of host.phase ≡ states.Parsed = λ is. c.parsed (brought_configures fate t.ends device.control is) in
+    let parsed : try_bus_event_of fate t.ends device.control ≡ Some Configures → state_of host.phase ≡ states.Parsed =
+    λ is. c.parsed (brought_configures fate t.ends device.control is) in
     let none : state_of host.phase ≡ states.Parsed → NoRounds core = λ is. l.none (unready_none device host.clearing host.phase together is) in
-    let known : KnowsAt phase device_then.addr core = subst (λ (a : ℕ). KnowsAt phase a core) (home ∙ sym stays) (subst (λ (h : HostEnd). KnowsAt h.phase h.addr core) moved knows.by.phase) in
-    let here = still_together device device_then host.clearing host.phase (brought_deed fate t.ends device.control) parsed pends l stays sound together in
+    let known : IsConsistentAt phase device_then.addr core =
+    subst (λ (a : ℕ). IsConsistentAt phase a core) (home ∙ sym stays)
+    (subst (λ (h : HostEnd). IsConsistentAt h.phase h.addr core) moved knows.by.phase) in
+    let here =
+    still_together device device_then host.clearing host.phase
+    (try_bus_event_of fate t.ends device.control) parsed pends l stays sound together in
     record {
       tries = (
         told ∙ ap progress_of stage_is,
-        ap (joint device_then) moved
-            ∙ joint_tried fate device device_then host t phase (state_at stage t.request (state_of host.phase)) before c.device_then l parsed stays
-            (brought_at_station stage t.request host.addr core host.phase c.needs (λ is. (none is).no_round) (λ is done. (c.cleared (clear_is t.request is) done).current)) (state_brought_at stage t.request host.addr core host.phase)
+        ap (pair_member device_then) moved
+            ∙ joint_tried fate device device_then host t phase
+            (host_state_after_try stage t.request (state_of host.phase)) before c.device_then l parsed stays
+            (brought_at_link stage t.request host.addr core host.phase c.needs (λ is. (none is).no_round)
+            (λ is done. (c.cleared (clear_is t.request is) done).current))
+            (state_brought_at stage t.request host.addr core host.phase)
             (holds_at stage t.request device core host.addr host.addr host.transfer host.clearing now host.phase c.needs together)
-            ∙ ap (λ (x : HostStage). tried_to fate (joint device host) t (state_at x t.request (state_of host.phase))) stage_is,
+            ∙ ap (λ (x : HostStage). member_after_try_in fate (pair_member device host) t
+            (host_state_after_try x t.request (state_of host.phase))) stage_is,
       );
       together = subst (λ (h : HostEnd). StandTogether device_then h.clearing h.phase) (sym moved) (goes_together_at stage t.request host.addr device_then host.clearing host.phase c.needs sound none (λ is. c.cleared (clear_is t.request is)) known here);
     }
 
-finds_none : (fate : Fate) (device device_then : DeviceState) (host host_then : HostEnd) (t : Transfer) (fault : StackFault) → IsComputed fate host t device.control (Err fault) host_then device_then.control
-    → fault ≡ Memory → (ends_after fate t device.control).stage ≡ stages.Done → TakesMemory t.request → host_then ≡ host_after fate host t device.control host.phase
+finds_none : (fate : Fate) (device device_then : DeviceState) (host host_then : HostEnd) (t : Transfer)
+    (fault : StackFault) → StepsAsFunction fate host t device.control (Err fault) host_then device_then.control
+    → fault ≡ Memory → (transfer_after_try fate t device.control).stage ≡ stages.Done → TakesMemory t.request
+    → host_then ≡ host_after_try fate host t device.control host.phase
     → Pends fate device host t → StandTogether device host.clearing host.phase → device_then.addr ≡ device.addr → IsSound (core_of device_then) → Tried fate device device_then host host_then t (Err fault)
 finds_none fate device device_then host host_then t fault c memory done takes moved pends together stays sound =
     let before = sound_of device host.clearing host.phase together in
     let same = same_try fate device host t before in
     let core = core_of device_then in
-    let stage = (ends_after fate t device.control).stage in
-    let now = clearing_behind stage t.request host.clearing in
+    let stage = (transfer_after_try fate t device.control).stage in
+    let now = clearing_after stage t.request host.clearing in
     let l = leaves_by fate t.ends device.control (core_of device_then) c.brings in
-    let parsed : brought_deed fate t.ends device.control ≡ Some Configures → state_of host.phase ≡ states.Parsed = λ is. c.parsed (brought_configures fate t.ends device.control is) in
-    let no_clear : now ≡ host.clearing = ap (λ (x : HostStage). clearing_behind x t.request host.clearing) done ∙ takes_no_clear t.request host.clearing takes in
+    let parsed : try_bus_event_of fate t.ends device.control ≡ Some Configures → state_of host.phase ≡ states.Parsed =
+    λ is. c.parsed (brought_configures fate t.ends device.control is) in
+    let no_clear : now ≡ host.clearing =
+    ap (λ (x : HostStage). clearing_after x t.request host.clearing) done
+    ∙ takes_no_clear t.request host.clearing takes in
     record {
       tries = (
         memory,
         (sym (ap (λ (e : HostTransferState). e.stage) same.ends) ∙ done, takes),
-        ap (joint device_then) moved
+        ap (pair_member device_then) moved
             ∙ joint_tried fate device device_then host t host.phase (state_of host.phase) before c.device_then l parsed stays refl refl
-            (holds_none t.request device core host.addr host.transfer host.clearing now (expects_behind stage t.request (expects_of (joint device host))) host.phase c.needs takes),
+            (holds_none t.request device core host.addr host.transfer host.clearing now
+            (expects_after stage t.request
+            (expected_toggle_of (pair_member device host))) host.phase c.needs takes),
       );
       together = subst (λ (h : HostEnd). StandTogether device_then h.clearing h.phase) (sym moved)
           (subst (λ (b : Bool). StandTogether device_then b host.phase) (sym no_clear)
-          (still_together device device_then host.clearing host.phase (brought_deed fate t.ends device.control) parsed pends l stays sound together));
+          (still_together device device_then host.clearing host.phase
+          (try_bus_event_of fate t.ends device.control) parsed pends l stays sound together));
     }
 
-tried_by : (fate : Fate) (device device_then : DeviceState) (host host_then : HostEnd) (t : Transfer) (result : Result Progress StackFault) → IsComputed fate host t device.control result host_then device_then.control
-    → Pends fate device host t → Knows host_then device_then.control → StandTogether device host.clearing host.phase → host.addr ≡ device.addr → device_then.addr ≡ device.addr → IsSound (core_of device_then)
+tried_by : (fate : Fate) (device device_then : DeviceState) (host host_then : HostEnd) (t : Transfer)
+    (result : Result Progress StackFault)
+    → StepsAsFunction fate host t device.control result host_then device_then.control
+    → Pends fate device host t → IsConsistent host_then device_then.control
+    → StandTogether device host.clearing host.phase → host.addr ≡ device.addr → device_then.addr ≡ device.addr
+    → IsSound (core_of device_then)
     → Tried fate device device_then host host_then t result
 tried_by fate device device_then host host_then t (Ok progress) c pends knows together home stays sound = elim c.host_then [
   | inl (told, moved) ↦ goes_on fate device device_then host host_then t progress c (cc) moved pends knows together home stays sound
@@ -317,32 +374,40 @@ tried_by fate device device_then host host_then t (Err fault) c pends knows toge
 ]
 
 -- a configuration takes effect where no round is open
-unready_current : (device : DeviceState) (clearing : Bool) (phase : HostPhase) → StandTogether device clearing phase → state_of phase ≡ states.Parsed → (station_of (core_of device) phase).current ≡ None
+unready_current : (device : DeviceState) (clearing : Bool) (phase : HostPhase) → StandTogether device clearing phase
+    → state_of phase ≡ states.Parsed → (link_of (core_of device) phase).current ≡ None
 unready_current device clearing Cold together is = absurd (cc)
 unready_current device clearing (Described info) together is = absurd (cc)
 unready_current device clearing (Parsed info layout) together is =
     ap (λ (o : Option ℕ). round_between (items_of (core_of device).layout) (core_of device).toggle (core_of device).toggle o (core_of device).piece) together.no_round
 unready_current device clearing (Ready known) together is = absurd (cc)
 
-deed_between : (s : Station) (deed : Option Deed) → (deed ≡ Some Configures → s.current ≡ None) → IsBetween s deed
-deed_between s None none = tt
-deed_between s (Some (Own x)) none = tt
-deed_between s (Some (Idles idle)) none = tt
-deed_between s (Some lives.Halts) none = tt
-deed_between s (Some lives.Clears) none = tt
-deed_between s (Some lives.Resets) none = tt
-deed_between s (Some Configures) none = none refl
+bus_event_between : (s : LinkState) (bus_event : Option BusEvent) → (bus_event ≡ Some Configures → s.current ≡ None)
+    → IsBetween s bus_event
+bus_event_between s None none = tt
+bus_event_between s (Some (Own x)) none = tt
+bus_event_between s (Some (Idles idle)) none = tt
+bus_event_between s (Some lives.Halts) none = tt
+bus_event_between s (Some lives.Clears) none = tt
+bus_event_between s (Some lives.Resets) none = tt
+bus_event_between s (Some Configures) none = none refl
 
-between_rounds : (fate : Fate) (device : DeviceState) (host : HostEnd) (t : Transfer) → (configures fate t.ends device.control ≡ true → state_of host.phase ≡ states.Parsed)
-    → StandTogether device host.clearing host.phase → IsBetween (joint device host).station (brought_deed fate t.ends (control_at (joint device host)))
+between_rounds : (fate : Fate) (device : DeviceState) (host : HostEnd) (t : Transfer)
+    → (try_configures fate t.ends device.control ≡ true → state_of host.phase ≡ states.Parsed)
+    → StandTogether device host.clearing host.phase
+    → IsBetween (pair_member device host).link
+    (try_bus_event_of fate t.ends (control_of_member (pair_member device host)))
 between_rounds fate device host t parsed together =
-    deed_between (joint device host).station (brought_deed fate t.ends (control_at (joint device host)))
-    (λ is. unready_current device host.clearing host.phase together (parsed (brought_configures fate t.ends device.control ((same_try fate device host t (sound_of device host.clearing host.phase together)).deed ∙ is))))
+    bus_event_between (pair_member device host).link
+    (try_bus_event_of fate t.ends (control_of_member (pair_member device host)))
+    (λ is. unready_current device host.clearing host.phase together
+    (parsed (brought_configures fate t.ends device.control
+    ((same_try fate device host t (sound_of device host.clearing host.phase together)).bus_event ∙ is))))
 
--- ---- the open round behind a try
+-- ---- the open round after a try
 
 -- it stays, unless a configuration, a halt or the end of one takes effect, and then none is open
-abbrev pub IsOpenBehind : Option ℕ → Option Deed → Option ℕ → Type 0
+abbrev pub IsOpenBehind : Option ℕ → Option BusEvent → Option ℕ → Type 0
 IsOpenBehind before None now = now ≡ before
 IsOpenBehind before (Some (Own x)) now = Unit {0}
 IsOpenBehind before (Some (Idles idle)) now = now ≡ before
@@ -351,7 +416,9 @@ IsOpenBehind before (Some lives.Halts) now = now ≡ None
 IsOpenBehind before (Some lives.Clears) now = now ≡ None
 IsOpenBehind before (Some lives.Resets) now = Unit {0}
 
-written_opens : (core other : CoreState) (bytes : List ℕ) (pending : Pending) → IsOpenBehind core.current (written_deed core pending) (answering (effected core bytes pending) other).current
+written_opens : (core other : CoreState) (bytes : List ℕ) (pending : PendingWrite)
+    → IsOpenBehind core.current (write_bus_event core pending)
+    (with_answer_of (core_after_write core bytes pending) other).current
 written_opens core other bytes pendings.Nothing = refl
 written_opens core other bytes pendings.Configure = refl
 written_opens core other bytes (pendings.Keep i) = refl
@@ -360,50 +427,62 @@ written_opens core other bytes (pendings.Protocol protocol) = refl
 written_opens core other bytes pendings.Halt = refl
 written_opens core other bytes pendings.Clear = refl
 
-effect_opens : (effect : Effect) (core other : CoreState) → IsOpenBehind core.current (effect_deed effect core) (answering (carried_out effect core) other).current
-effect_opens (Answers answer stage heard) core other = refl
+effect_opens : (effect : Effect) (core other : CoreState)
+    → IsOpenBehind core.current (effect_bus_event effect core)
+    (with_answer_of (core_after_effect effect core) other).current
+effect_opens (Answers answer stage last_packet) core other = refl
 effect_opens (Decides bytes) core other = refl
 effect_opens (Applies bytes) core other = written_opens core other bytes core.pending
 
 brought_opens : (fate : Fate) (ends : HostTransferState) (control : DevControlState CoreState) (other : CoreState)
-    → IsOpenBehind control.requests.current (brought_deed fate ends control) (answering (brought_about fate ends control) other).current
+    → IsOpenBehind control.requests.current (try_bus_event_of fate ends control)
+    (with_answer_of (core_after_try fate ends control) other).current
 brought_opens TokenLost ends control other = refl
 brought_opens Clean ends control other = effect_opens (effect_reached core_table ends control) control.requests other
 brought_opens ReplyLost ends control other = effect_opens (effect_reached core_table ends control) control.requests other
 brought_opens AckLost ends control other = effect_opens (effect_reached core_table ends control) control.requests other
 
-opens_behind : (fate : Fate) (ends : HostTransferState) (control : DevControlState CoreState) (then : CoreState) → then ≡ answering (brought_about fate ends control) then
-    → IsOpenBehind control.requests.current (brought_deed fate ends control) then.current
-opens_behind fate ends control then is = subst (λ (c : CoreState). IsOpenBehind control.requests.current (brought_deed fate ends control) c.current) (sym is) (brought_opens fate ends control then)
+opens_behind : (fate : Fate) (ends : HostTransferState) (control : DevControlState CoreState) (then : CoreState)
+    → then ≡ with_answer_of (core_after_try fate ends control) then
+    → IsOpenBehind control.requests.current (try_bus_event_of fate ends control) then.current
+opens_behind fate ends control then is =
+    subst (λ (c : CoreState). IsOpenBehind control.requests.current (try_bus_event_of fate ends control) c.current)
+    (sym is) (brought_opens fate ends control then)
 
 -- ---- a control step
 
--- the device behind a call of its endpoint 0
+-- the device after a call of its endpoint 0
 abbrev controlled : DeviceState → DevControlState CoreState → DeviceState
-controlled device control = record { addr = device.addr; control = control; waits = false }
+controlled device control = record { addr = device.addr; control = control; awaits_ack = false }
 
--- what holds behind a control step
+-- what holds after a control step
 pub record Steps (fate : Fate) (device : DeviceState) (control : DevControlState CoreState) (host host_then : HostEnd) (o : Option Transfer) (result : Result Progress StackFault) : Type 0 where
-  pub tries : TriesOnPair fate (joint device host) o result (joint (controlled device control) host_then)
-  pub between : IsBetween (joint device host).station (tried_deed fate (joint device host) o)
-  pub cuts : CutsByRequest fate (joint device host) o
+  pub tries : TriesOnPair fate (pair_member device host) o result (pair_member (controlled device control) host_then)
+  pub between : IsBetween (pair_member device host).link (try_bus_event fate (pair_member device host) o)
+  pub aborts : AbortsByRequest fate (pair_member device host) o
   pub together : StandTogether (controlled device control) host_then.clearing host_then.phase
   pub home : host_then.addr ≡ host.addr
   pub layout : control.requests.layout ≡ (core_of device).layout
-  -- the open round behind it, by what befell the device
-  pub open_then : IsOpenBehind (core_of device).current (tried_deed fate (joint device host) o) control.requests.current
+  -- the open round after it, by what befell the device
+  pub open_then : IsOpenBehind (core_of device).current
+      (try_bus_event fate (pair_member device host) o) control.requests.current
 
 -- laws of hosts that know their devices
 abbrev ControlStep : Fate → HostEnd → DevControlState CoreState → Result Progress StackFault → HostEnd → DevControlState CoreState → Type 0
 ControlStep fate host old result after new = ControlSteps (PreparesBy core_table) (AppliesBy core_table) core_table.answer_of fate host old result after new
 
 abbrev StepsKnow : Type 0
-StepsKnow = (fate : Fate) (host after : HostEnd) (old new : DevControlState CoreState) (result : Result Progress StackFault) → IsSound old.requests → Knows host old
-    → ControlStep fate host old result after new → Knows after new × IsNoRefusal result
+StepsKnow =
+    (fate : Fate) (host after : HostEnd) (old new : DevControlState CoreState) (result : Result Progress StackFault)
+    → IsSound old.requests → IsConsistent host old
+    → ControlStep fate host old result after new → IsConsistent after new × IsNoRefusal result
 
 abbrev StepsCompute : Type 0
-StepsCompute = (fate : Fate) (host after : HostEnd) (transfer : Transfer) (old new : DevControlState CoreState) (result : Result Progress StackFault) → IsSound old.requests → Knows host old
-    → running host.transfer ≡ Some transfer → ControlStep fate host old result after new → IsComputed fate host transfer old result after new
+StepsCompute =
+    (fate : Fate) (host after : HostEnd) (transfer : Transfer) (old new : DevControlState CoreState)
+    (result : Result Progress StackFault) → IsSound old.requests → IsConsistent host old
+    → running host.transfer ≡ Some transfer → ControlStep fate host old result after new
+    → StepsAsFunction fate host transfer old result after new
 
 waits_not : (device : DeviceState) (clearing : Bool) (phase : HostPhase) → StandTogether device clearing phase → StandTogether (controlled device device.control) clearing phase
 waits_not device clearing Cold together = record { sound = together.sound; no_round = together.no_round; even = together.even }
@@ -421,7 +500,9 @@ waits_not device clearing (Ready known) pair = record {
   fits = pair.fits;
 }
 
-host_stays_at : (fate : Fate) (device : DeviceState) (control : DevControlState CoreState) (host host_then : HostEnd) (t : Transfer) (result : Result Progress StackFault) → IsComputed fate host t device.control result host_then control → host_then.addr ≡ host.addr
+host_stays_at : (fate : Fate) (device : DeviceState) (control : DevControlState CoreState) (host host_then : HostEnd)
+    (t : Transfer) (result : Result Progress StackFault)
+    → StepsAsFunction fate host t device.control result host_then control → host_then.addr ≡ host.addr
 host_stays_at fate device control host host_then t result c = elim c.host_then [
   | inl (told, moved) ↦ ap (λ (h : HostEnd). h.addr) moved
   | inr (told, done, takes, moved) ↦ ap (λ (h : HostEnd). h.addr) moved
@@ -447,7 +528,8 @@ cuts_so cuts_it asks only none is = let wrong : true ≡ false = sym (only is) �
 
 steps_by : (fate : Fate) (device : DeviceState) (control : DevControlState CoreState) (host host_then : HostEnd) (o : Option Transfer) (result : Result Progress StackFault) → StepsKnow → StepsCompute → running host.transfer ≡ o
     → ControlStep fate host device.control result host_then control
-    → StandTogether device host.clearing host.phase → Knows host device.control → host.addr ≡ device.addr → IsSound control.requests → Steps fate device control host host_then o result
+    → StandTogether device host.clearing host.phase → IsConsistent host device.control → host.addr ≡ device.addr
+    → IsSound control.requests → Steps fate device control host host_then o result
 steps_by fate device control host host_then None result know compute is steps together knows home sound =
     let stays : (result ≡ Err (Control NoTransfer)) × (host_then ≡ host) × (control ≡ device.control)
     = subst (λ (x : Option Transfer). elim x as (λ _. Type 0) [
@@ -455,9 +537,13 @@ steps_by fate device control host host_then None result know compute is steps to
       | Some t ↦ TriesOnce (PreparesBy core_table) (AppliesBy core_table) core_table.answer_of fate host t device.control result host_then control
     ]) is steps in
     record {
-      tries = (stays.0, ap (joint (controlled device control)) stays.1 ∙ ap (λ (x : DevControlState CoreState). joint (controlled device x) host) stays.2);
+      tries = (
+        stays.0,
+        ap (pair_member (controlled device control)) stays.1
+            ∙ ap (λ (x : DevControlState CoreState). pair_member (controlled device x) host) stays.2,
+      );
       between = tt;
-      cuts = tt;
+      aborts = tt;
       together = subst (λ (h : HostEnd). StandTogether (controlled device control) h.clearing h.phase) (sym stays.1)
           (subst (λ (x : DevControlState CoreState). StandTogether (controlled device x) host.clearing host.phase) (sym stays.2) (waits_not device host.clearing host.phase together));
       home = ap (λ (h : HostEnd). h.addr) stays.1;
@@ -474,22 +560,30 @@ steps_by fate device control host host_then (Some t) result know compute is step
     record {
       tries = done.tries;
       between = between_rounds fate device host t c.parsed together;
-      cuts = λ none. subst CutsNone same.deed (brought_cuts fate t.ends device.control (cuts_so (cuts_in fate t.ends device.control) (cuts_round t.request) c.cut none));
+      aborts = λ none. subst AbortsNone same.bus_event
+          (brought_cuts fate t.ends device.control
+          (cuts_so (try_aborts_round fate t.ends device.control) (request_aborts_round t.request) c.aborted none));
       together = done.together;
       home = host_stays_at fate device control host host_then t result c;
       layout = (leaves_by fate t.ends device.control control.requests c.brings).layout;
-      open_then = subst (λ (x : Option Deed). IsOpenBehind (core_of device).current x control.requests.current) same.deed (opens_behind fate t.ends device.control control.requests c.brings);
+      open_then =
+          subst (λ (x : Option BusEvent). IsOpenBehind
+          (core_of device).current x control.requests.current) same.bus_event
+          (opens_behind fate t.ends device.control control.requests c.brings);
     }
 
 pub steps_so : (fate : Fate) (device : DeviceState) (old control : DevControlState CoreState) (host host_then : HostEnd) (result : Result Progress StackFault) → StepsKnow → StepsCompute
     → old ≡ device.control → ControlStep fate host old result host_then control
-    → StandTogether device host.clearing host.phase → Knows host device.control → host.addr ≡ device.addr → IsSound control.requests → Steps fate device control host host_then (running host.transfer) result
+    → StandTogether device host.clearing host.phase → IsConsistent host device.control → host.addr ≡ device.addr
+    → IsSound control.requests → Steps fate device control host host_then (running host.transfer) result
 steps_so fate device old control host host_then result know compute same steps together knows home sound =
     steps_by fate device control host host_then (running host.transfer) result know compute refl
     (subst (λ (x : DevControlState CoreState). ControlStep fate host x result host_then control) same steps) together knows home sound
 
--- and the host knows its device again
+-- after a try the host knows its device
 pub knows_so : (fate : Fate) (device : DeviceState) (old control : DevControlState CoreState) (host host_then : HostEnd) (result : Result Progress StackFault) → StepsKnow
-    → old ≡ device.control → ControlStep fate host old result host_then control → StandTogether device host.clearing host.phase → Knows host device.control → Knows host_then control
+    → old ≡ device.control → ControlStep fate host old result host_then control
+    → StandTogether device host.clearing host.phase → IsConsistent host device.control
+    → IsConsistent host_then control
 knows_so fate device old control host host_then result know same steps together knows =
     (know fate host host_then device.control control result (sound_of device host.clearing host.phase together) knows (subst (λ (x : DevControlState CoreState). ControlStep fate host x result host_then control) same steps)).0

@@ -8,17 +8,18 @@ use Rattle.hid_bus.specs.Rounds.{OwnStep, Polls}
 use Rattle.hid_bus.specs.declared.step.Told.{Told}
 use Rattle.hid_bus.specs.declared.step.Told.TheVariants.{Polled}
 use Rattle.hid_stack.specs.declared.rig.TheConstants.{MAX_DEVICES}
-use Rattle.hid_bus.specs.Rows.{open_at, press, stands_after}
-use Rattle.hid_bus.specs.Stations.{opened}
+use Rattle.hid_bus.specs.HistoryRows.{open_at, press, state_after_own_steps}
+use Rattle.hid_bus.specs.LinkState.{state_at_token}
 use Rattle.hid_layout.specs.Layout.{Contents}
 use Rattle.hid_requests.specs.declared.request.Request.TheVariants.{Clear, Status}
 use Rattle.hid_device.specs.declared.config.Config.{Config}
-use Rattle.hid_stack.specs.Members.{MemberStep, Begins, Controls, fresh_member, got_in, member_after_all, polls_it}
-use Rattle.hid_stack.specs.Tells.{told_by}
+use Rattle.hid_stack.specs.Members.{MemberStep, Begins, Controls, fresh_member, crossed_bytes, member_after_all, polls_it}
+use Rattle.hid_stack.specs.StepResult.{poll_result}
 
--- what a poll tells behind these steps, where the part that is sent has these bytes
+-- what a poll tells after these steps, where the part that is sent has these bytes
 abbrev poll_after : List OwnStep → Fate → List ℕ → Told
-poll_after steps fate report = told_by (opened keyboard (stands_after keyboard steps)) fate report
+poll_after steps fate report =
+    poll_result (state_at_token keyboard (state_after_own_steps keyboard steps)) fate report
 
 abbrev one_key : List ℕ
 one_key = 0 ∷ 0 ∷ 0x04 ∷ 0 ∷ 0 ∷ 0 ∷ 0 ∷ 0 ∷ []
@@ -34,7 +35,7 @@ retried = press 4 4 ∷ Polls AckLost ∷ press 4 5 ∷ []
 first_poll : poll_after (press 4 4 ∷ []) AckLost one_key ≡ Polled (Some (record { items = 0xC3 ∷ one_key })) (Fresh (record { items = one_key }))
 first_poll = refl
 
--- the same bytes again, whatever is pressed meanwhile, and they are thrown away
+-- the second poll brings the bytes of the first one, whatever is pressed meanwhile, and the host drops them
 second_poll : poll_after retried Clean one_key ≡ Polled (Some (record { items = 0xC3 ∷ one_key })) Again
 second_poll = refl
 
@@ -54,17 +55,17 @@ token_lost = refl
 reply_lost : poll_after (press 4 4 ∷ []) ReplyLost one_key ≡ Polled (Some (record { items = 0xC3 ∷ one_key })) Silent
 reply_lost = refl
 
--- of a report of 100 bytes the host has 64 behind the first piece, and none behind the last, with which it was read
-got_first : got_in (replicate 100 7) (open_at 2 0 true) ≡ replicate 64 7
+-- of a report of 100 bytes the host has 64 after the first piece, and none after the last, with which it was read
+got_first : crossed_bytes (replicate 100 7) (open_at 2 0 true) ≡ replicate 64 7
 got_first = refl
 
-got_none : got_in (replicate 100 7) (open_at 2 0 false) ≡ []
+got_none : crossed_bytes (replicate 100 7) (open_at 2 0 false) ≡ []
 got_none = refl
 
-got_before_the_last : got_in (replicate 100 7) (open_at 2 1 false) ≡ replicate 64 7
+got_before_the_last : crossed_bytes (replicate 100 7) (open_at 2 1 false) ≡ replicate 64 7
 got_before_the_last = refl
 
-got_all : got_in (replicate 100 7) (open_at 2 1 true) ≡ []
+got_all : crossed_bytes (replicate 100 7) (open_at 2 1 true) ≡ []
 got_all = refl
 
 -- a Clear of which three tokens are lost has failed (C2); while the status of the device is asked for, it is still pending

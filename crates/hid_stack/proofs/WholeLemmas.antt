@@ -1,34 +1,34 @@
--- Both ends of a request stand where its tries lead, whatever befalls the device between them.
+-- Both ends of a request stand where its tries lead, whatever happens to the device between them.
 use Rattle.std.proofs.Common.{◌≡◌, ◌++◌, ◌∙◌, ◌+◌, ◌<◌, ◌^◌, ℕ, arith, Bool, true, false, List, [], ◌∷◌, Option, Some, None, refl, ap, sym, subst}
 use Rattle.std.specs.Prelude.{if◌then◌else◌}
 use Rattle.usb_transact.specs.declared.transaction.Fate.{Fate}
-use Rattle.usb_control.specs.declared.device.Heard.TheVariants as hears
-use Rattle.usb_control.specs.Meanwhile.{Ends, LeaveAnswers, Meanwhile, StandAt, Tries, Turn, decision_now, ends_tried, is_running, tries_in, turned, turned_all}
+use Rattle.usb_control.specs.declared.device.LastPacket.TheVariants as last_packets
+use Rattle.usb_control.specs.Interleaving.{Ends, LeaveAnswers, Meanwhile, StandAt, Tries, Turn, decision_now, ends_after_turn, ends_after_turns, ends_tried, is_running, tries_in}
 use Rattle.usb_control.specs.declared.setup.Setup.{Setup}
-use Rattle.usb_control.specs.Runs.{acts, effects, run}
-use Rattle.usb_control.specs.Standing.{Stands}
+use Rattle.usb_control.specs.Runs.{acts, effects, place_after_tries}
+use Rattle.usb_control.specs.Positions.{Stands}
 use Rattle.usb_control.specs.Transfer.{Decision, answered_bytes, shape_of, start}
 use Rattle.usb_control.proofs.LawLemmas.{begins, done_is, read_is}
-use Rattle.usb_control.proofs.MeanwhileLemmas.{places_are_run, setup_stays}
+use Rattle.usb_control.proofs.InterleavingLemmas.{places_are_run, setup_stays}
 use Rattle.usb_control.proofs.RunLemmas.{is_once}
 use Rattle.hid_requests.specs.declared.request.Asking.{Asking}
-use Rattle.hid_layout.specs.Laying.{Lays}
+use Rattle.hid_layout.specs.Parsing.{ParsesTo}
 use Rattle.hid_host.specs.declared.fault.StackFault.{StackFault}
-use Rattle.hid_requests.specs.Asking.{FitsRequest, sends_of}
+use Rattle.hid_requests.specs.RequestSetup.{FitsRequest, sends_of}
 use Rattle.hid_requests.proofs.AskedLemmas.{sends_so, spelled_so}
 use Rattle.hid_stack.proofs.LawLemmas.{short_so}
 use Rattle.hid_requests.specs.declared.request.Request.{Request}
 use Rattle.hid_device.specs.Core.{CoreState}
-use Rattle.hid_device.specs.Deciding.{core_table}
+use Rattle.hid_device.specs.RequestTable.{core_table}
 use Rattle.hid_host.specs.declared.host.Transfer.{Transfer}
-use Rattle.hid_stack.specs.Bringing.{answering, is_configure}
+use Rattle.hid_stack.specs.ControlSteps.{is_configure, with_answer_of}
 use Rattle.usb_control.specs.declared.host.HostStage.{HostStage}
 use Rattle.usb_control.specs.declared.host.HostStage.TheVariants as stages
 use Rattle.hid_requests.specs.declared.request.Request.TheVariants.{Configure}
-use Rattle.hid_host.specs.Host.{cuts_round, may_cut, running, running_at, transfer_of}
-use Rattle.hid_stack.specs.Knowing.{asking_of}
+use Rattle.hid_host.specs.Host.{may_abort_round, request_aborts_round, running, running_at, transfer_of}
+use Rattle.hid_stack.specs.HostInvariant.{asking_of}
 use Rattle.hid_stack.specs.Trails.{trail_from}
-use Rattle.hid_stack.specs.Members.{Member, MemberStep, Scheduled, Begins, Controls, Halts, Resets, begin_refusal_at, begun_unless, control_at, core_at, ends_tried_at, halted_if, member_after, member_after_all, tried_of, tried_to, unconcluded_of}
+use Rattle.hid_stack.specs.Members.{Member, MemberStep, Scheduled, Begins, Controls, Halts, Resets, begin_refusal_at, member_after_begin, control_of_member, core_of_member, member_transfer_after, member_after_halt, member_after, member_after_all, member_after_try, member_after_try_in, member_out_of_memory}
 use Rattle.hid_stack.specs.Transfers.{BeginsNone, IsEndedByReset, IsUnconcludedOnce, IsWhole, IsWholeFrom, effects_in, ends_at, more_if, takes_effect_at, setup_at, tries_of, try_at}
 use Rattle.hid_stack.proofs.CountLemmas.{Stood, counted, halted_transfer, runs_as}
 use Rattle.hid_stack.proofs.EffectLemmas.{has_effects}
@@ -37,7 +37,7 @@ use Rattle.hid_stack.proofs.EffectLemmas.{has_effects}
 
 -- what answers requests stands as in this member, but for its answer and what it is to carry out
 abbrev standing_as : Member → Turn CoreState
-standing_as n = Meanwhile (λ core. answering (core_at n) core) (λ heard. hears.Nothing)
+standing_as n = Meanwhile (λ core. with_answer_of (core_of_member n) core) (λ last_packet. last_packets.Nothing)
 
 abbrev turns_by : Member → List MemberStep → List (Turn CoreState)
 turns_by m [] = []
@@ -55,7 +55,7 @@ leave_answers (Begins request ∷ steps) m = leave_answers steps m
 leave_answers (Halts ∷ steps) m = (λ core. refl, leave_answers steps (member_after m Halts))
 leave_answers (Resets ∷ steps) m = leave_answers steps m
 
--- the two ends behind turns
+-- the two ends after turns
 pub record Behind (n : Member) (t : Transfer) (ends : Ends CoreState) : Type 0 where
   pub transfer : Transfer
   pub is : n.transfer ≡ Some transfer
@@ -64,19 +64,22 @@ pub record Behind (n : Member) (t : Transfer) (ends : Ends CoreState) : Type 0 w
 
 -- a try, of a transfer that runs or not
 abbrev tried_if : Fate → Member → Transfer → Member → Bool → Ends CoreState
-tried_if fate m t n b = turned core_table (if b then ends_tried core_table fate (ends_at m t) else ends_at m t) (standing_as n)
+tried_if fate m t n b =
+    ends_after_turn core_table (if b then ends_tried core_table fate (ends_at m t) else ends_at m t) (standing_as n)
 
 try_behind : (fate : Fate) (m : Member) (t : Transfer) (b : Bool) → is_running t.ends.stage ≡ b → m.transfer ≡ Some t → running m.transfer ≡ (if b then Some t else None)
     → Behind (member_after m (Controls fate)) t (tried_if fate m t (member_after m (Controls fate)) (is_running t.ends.stage))
 try_behind fate m t true is has runs =
-    subst (λ (k : Member). Behind k t (tried_if fate m t k (is_running t.ends.stage))) (sym (ap (tried_of fate m) runs)) (record {
-      transfer = record t { ends = ends_tried_at fate m t };
+    subst (λ (k : Member). Behind k t (tried_if fate m t k (is_running t.ends.stage)))
+    (sym (ap (member_after_try fate m) runs)) (record {
+      transfer = record t { ends = member_transfer_after fate m t };
       is = refl;
       of = refl;
-      ends_are = ap (tried_if fate m t (tried_of fate m (Some t))) is;
+      ends_are = ap (tried_if fate m t (member_after_try fate m (Some t))) is;
     })
 try_behind fate m t false is has runs =
-    subst (λ (k : Member). Behind k t (tried_if fate m t k (is_running t.ends.stage))) (sym (ap (tried_of fate m) runs)) (record {
+    subst (λ (k : Member). Behind k t (tried_if fate m t k (is_running t.ends.stage)))
+    (sym (ap (member_after_try fate m) runs)) (record {
       transfer = t;
       is = has;
       of = refl;
@@ -84,13 +87,15 @@ try_behind fate m t false is has runs =
     })
 
 -- a halt of the device leaves them
-halt_behind : (b : Bool) (m : Member) (t : Transfer) → m.transfer ≡ Some t → Behind (halted_if b m) t (turned core_table (ends_at m t) (standing_as (halted_if b m)))
+halt_behind : (b : Bool) (m : Member) (t : Transfer) → m.transfer ≡ Some t
+    → Behind (member_after_halt b m) t
+    (ends_after_turn core_table (ends_at m t) (standing_as (member_after_halt b m)))
 halt_behind true m t has = record { transfer = t; is = has; of = refl; ends_are = refl }
 halt_behind false m t has = record { transfer = t; is = has; of = refl; ends_are = refl }
 
--- both ends, and the tries, behind a list of steps
+-- both ends, and the tries, after a list of steps
 record Follows (m : Member) (t : Transfer) (steps : List MemberStep) : Type 0 where
-  behind : Behind (member_after_all m steps) t (turned_all core_table (ends_at m t) (turns_by m steps))
+  behind : Behind (member_after_all m steps) t (ends_after_turns core_table (ends_at m t) (turns_by m steps))
   tries : tries_in core_table (ends_at m t) (turns_by m steps) ≡ tries_of m steps
 
 follows : (steps : List MemberStep) (m : Member) (t : Transfer) → m.transfer ≡ Some t → BeginsNone steps → Follows m t steps
@@ -109,7 +114,8 @@ follows (Halts ∷ steps) m t has none =
         transfer = b.transfer;
         is = b.is;
         of = b.of ∙ here.of;
-        ends_are = ap (λ (e : Ends CoreState). turned_all core_table e (turns_by n steps)) here.ends_are ∙ b.ends_are;
+        ends_are =
+            ap (λ (e : Ends CoreState). ends_after_turns core_table e (turns_by n steps)) here.ends_are ∙ b.ends_are;
       };
       tries = ap (λ (e : Ends CoreState). tries_in core_table e (turns_by n steps)) here.ends_are ∙ later.tries;
     }
@@ -125,7 +131,8 @@ follows (Controls fate ∷ steps) m t has none =
         transfer = b.transfer;
         is = b.is;
         of = b.of ∙ here.of;
-        ends_are = ap (λ (e : Ends CoreState). turned_all core_table e (turns_by n steps)) here.ends_are ∙ b.ends_are;
+        ends_are =
+            ap (λ (e : Ends CoreState). ends_after_turns core_table e (turns_by n steps)) here.ends_are ∙ b.ends_are;
       };
       tries = ap (λ (xs : List (Fate × Decision)). (fate, decision_now core_table (ends_at m t)) ∷ xs)
           (ap (λ (e : Ends CoreState). tries_in core_table e (turns_by n steps)) here.ends_are ∙ later.tries)
@@ -135,34 +142,56 @@ follows (Controls fate ∷ steps) m t has none =
 -- ---- a request from its begin on
 
 abbrev first_of : Member → Request → Transfer
-first_of m request = transfer_of m.addr (asking_of (core_at m)) request
+first_of m request = transfer_of m.addr (asking_of (core_of_member m)) request
 
-pub whole : (m : Member) (request : Request) (steps : List MemberStep) → Lays m.descriptor m.layout → FitsRequest request → begin_refusal_at m request ≡ None → BeginsNone steps
+pub whole : (m : Member) (request : Request) (steps : List MemberStep) → ParsesTo m.descriptor m.layout
+    → FitsRequest request → begin_refusal_at m request ≡ None → BeginsNone steps
     → IsWhole m request steps
 whole m request steps lays fits allowed none =
-    let asking : Asking = asking_of (core_at m) in
+    let asking : Asking = asking_of (core_of_member m) in
     let of_one : asking.endpoint < 2 ^ 8 = omega arith in
     let t = first_of m request in
-    let begun : Member = begun_unless None m request in
-    let is_begun : member_after m (Begins request) ≡ begun = ap (λ (o : Option StackFault). begun_unless o m request) allowed in
+    let begun : Member = member_after_begin None m request in
+    let is_begun : member_after m (Begins request) ≡ begun =
+    ap (λ (o : Option StackFault). member_after_begin o m request) allowed in
     let f = follows steps begun t refl none in
     let b = f.behind in
     let shape = shape_of (setup_at m request) in
     let turns = turns_by begun steps in
-    let first : StandAt core_table (sends_of request) start (ends_at begun t) = begins core_table.answer_of m.addr (setup_at m request) (sends_of request) (control_at begun) (sends_so request asking) in
+    let first : StandAt core_table (sends_of request) start (ends_at begun t) =
+    begins core_table.answer_of m.addr (setup_at m request) (sends_of request) (control_of_member begun)
+    (sends_so request asking) in
     let stands = places_are_run core_table (sends_of request) start (ends_at begun t) turns (spelled_so request asking fits (short_so m.descriptor m.layout lays) of_one) (leave_answers steps begun) first in
     let asked : b.transfer.ends.setup ≡ setup_at m request = sym (ap (λ (e : Ends CoreState). e.host.setup) b.ends_are) ∙ setup_stays core_table (ends_at begun t) turns in
-    let there : StandAt core_table (sends_of request) (run shape (tries_of begun steps) start) (ends_at (member_after_all begun steps) b.transfer)
-    = subst (λ (xs : List (Fate × Decision)). StandAt core_table (sends_of request) (run shape xs start) (ends_at (member_after_all begun steps) b.transfer)) f.tries
-    (subst (λ (e : Ends CoreState). StandAt core_table (sends_of request) (run shape (tries_in core_table (ends_at begun t) turns) start) e) b.ends_are stands) in
+    let there : StandAt core_table (sends_of request) (place_after_tries shape (tries_of begun steps) start)
+    (ends_at (member_after_all begun steps) b.transfer)
+    = subst (λ (xs : List (Fate × Decision)). StandAt core_table (sends_of request) (place_after_tries shape xs start)
+    (ends_at (member_after_all begun steps) b.transfer)) f.tries
+    (subst (λ (e : Ends CoreState). StandAt core_table (sends_of request)
+    (place_after_tries shape (tries_in core_table (ends_at begun t) turns) start) e) b.ends_are stands) in
     let once = is_once shape (tries_of begun steps) in
-    let none_yet : Stood begun t (trail_from (core_at m)) = record { asked = refl; spelled = spelled_so request asking fits (short_so m.descriptor m.layout lays) of_one; fits = fits; stands = first; decided = λ behind. absurd behind } in
-    let count = counted steps begun t (trail_from (core_at m)) 0 refl none none_yet in
+    let none_yet : Stood begun t (trail_from (core_of_member m)) =
+    record {
+      asked = refl;
+      spelled =
+          spelled_so request asking fits (short_so m.descriptor m.layout lays) of_one;
+      fits = fits;
+      stands =
+          first;
+      decided = λ behind. absurd behind;
+    } in
+    let count = counted steps begun t (trail_from (core_of_member m)) 0 refl none none_yet in
     let all = acts shape (tries_of begun steps) start in
     let took : effects_in begun steps ≡ effects 0 all
     = let zero : effects_in begun steps + 0 ≡ effects_in begun steps = omega arith in sym zero ∙ sym count.took in
-    let stands_there = subst (λ (s : Setup). Stands core_table.answer_of (shape_of s) (sends_of request) (run shape (tries_of begun steps) start) b.transfer.ends (control_at (member_after_all begun steps))) asked there in
-    let is_done = (done_is core_table.answer_of shape (sends_of request) (run shape (tries_of begun steps) start) b.transfer.ends (control_at (member_after_all begun steps)) stands_there).0 in
+    let stands_there =
+    subst (λ (s : Setup). Stands core_table.answer_of (shape_of s) (sends_of request)
+    (place_after_tries shape (tries_of begun steps) start) b.transfer.ends
+    (control_of_member (member_after_all begun steps))) asked there in
+    let is_done =
+    (done_is core_table.answer_of shape (sends_of request)
+    (place_after_tries shape (tries_of begun steps) start) b.transfer.ends
+    (control_of_member (member_after_all begun steps)) stands_there).0 in
     subst (λ (k : Member). IsWholeFrom m request steps k) (sym is_begun) (record {
       transfer = b.transfer;
       is = b.is;
@@ -171,10 +200,12 @@ whole m request steps lays fits allowed none =
       once = once;
       stands = there;
       read = λ done is_read.
-          read_is core_table.answer_of shape (sends_of request) (run shape (tries_of begun steps) start) b.transfer.ends (control_at (member_after_all begun steps)) stands_there (is_done done) is_read
+          read_is core_table.answer_of shape (sends_of request)
+          (place_after_tries shape (tries_of begun steps) start) b.transfer.ends
+          (control_of_member (member_after_all begun steps)) stands_there (is_done done) is_read
           ∙ ap (answered_bytes shape) once.decided;
       took = took;
-      effect = has_effects steps begun t (trail_from (core_at m)) refl none none_yet;
+      effect = has_effects steps begun t (trail_from (core_of_member m)) refl none none_yet;
       written = λ done writes. took ∙ once.once (is_done done) writes;
       configures = count.configures;
       configured = λ is_configured done.
@@ -198,25 +229,30 @@ begins_none fate (Resets ∷ steps) none = absurd none
 begins_none fate (Controls other ∷ steps) none = begins_none fate steps none
 
 -- the transfer ends all the same, but for a request that may cut a round
-same_transfer : (fate : Fate) (n : Member) (runs : Option Transfer) → may_cut runs ≡ false → (tried_of fate n runs).transfer ≡ (unconcluded_of fate n runs).transfer
+same_transfer : (fate : Fate) (n : Member) (runs : Option Transfer) → may_abort_round runs ≡ false
+    → (member_after_try fate n runs).transfer ≡ (member_out_of_memory fate n runs).transfer
 same_transfer fate n None apart = refl
-same_transfer fate n (Some t) apart = sym (ap (λ (b : Bool). (if b then n else tried_to fate n t n.host).transfer) apart)
+same_transfer fate n (Some t) apart =
+    sym (ap (λ (b : Bool). (if b then n else member_after_try_in fate n t n.host).transfer) apart)
 
--- and the device stands behind it so
-same_core : (fate : Fate) (n : Member) (runs : Option Transfer) → may_cut runs ≡ false → core_at (unconcluded_of fate n runs) ≡ core_at (tried_of fate n runs)
+-- the device stands after a try as it does if memory runs out
+same_core : (fate : Fate) (n : Member) (runs : Option Transfer) → may_abort_round runs ≡ false
+    → core_of_member (member_out_of_memory fate n runs) ≡ core_of_member (member_after_try fate n runs)
 same_core fate n None apart = refl
-same_core fate n (Some t) apart = ap (λ (b : Bool). core_at (if b then n else tried_to fate n t n.host)) apart
+same_core fate n (Some t) apart =
+    ap (λ (b : Bool). core_of_member (if b then n else member_after_try_in fate n t n.host)) apart
 
 one_transfer : (a b : Transfer) → Some a ≡ Some b → a ≡ b
 one_transfer a b e = cc
 
-no_cut : (o : Option Transfer) (t : Transfer) → o ≡ Some t → t.request ≡ Configure → may_cut (running o) ≡ false
-no_cut o t is asks = ap (λ (x : Option Transfer). may_cut (running x)) is ∙ by_stage t.ends.stage
+no_cut : (o : Option Transfer) (t : Transfer) → o ≡ Some t → t.request ≡ Configure
+    → may_abort_round (running o) ≡ false
+no_cut o t is asks = ap (λ (x : Option Transfer). may_abort_round (running x)) is ∙ by_stage t.ends.stage
   where
-    none : cuts_round t.request ≡ false
-    none = ap cuts_round asks
+    none : request_aborts_round t.request ≡ false
+    none = ap request_aborts_round asks
 
-    by_stage : (stage : HostStage) → may_cut (running_at t stage) ≡ false
+    by_stage : (stage : HostStage) → may_abort_round (running_at t stage) ≡ false
     by_stage stages.Done = refl
     by_stage (stages.Failed fault) = refl
     by_stage stages.Setup = none
@@ -225,7 +261,8 @@ no_cut o t is asks = ap (λ (x : Option Transfer). may_cut (running x)) is ∙ b
     by_stage stages.StatusIn = none
     by_stage stages.StatusOut = none
 
-pub unconcluded_once : (m : Member) (request : Request) (steps : List MemberStep) → Lays m.descriptor m.layout → FitsRequest request → begin_refusal_at m request ≡ None → BeginsNone steps
+pub unconcluded_once : (m : Member) (request : Request) (steps : List MemberStep) → ParsesTo m.descriptor m.layout
+    → FitsRequest request → begin_refusal_at m request ≡ None → BeginsNone steps
     → IsUnconcludedOnce m request steps
 unconcluded_once m request steps lays fits allowed none fate ended is_configure is done =
     let begun = member_after m (Begins request) in
@@ -255,7 +292,10 @@ effects_append (Controls fate ∷ xs) ys m =
 
 -- where no transfer runs, none takes effect
 idle_try : (fate : Fate) (m : Member) → m.transfer ≡ None → (member_after m (Controls fate) ≡ m) × (takes_effect_at fate m (running m.transfer) ≡ false)
-idle_try fate m none = (ap (λ (o : Option Transfer). tried_of fate m (running o)) none, ap (λ (o : Option Transfer). takes_effect_at fate m (running o)) none)
+idle_try fate m none = (
+  ap (λ (o : Option Transfer). member_after_try fate m (running o)) none,
+  ap (λ (o : Option Transfer). takes_effect_at fate m (running o)) none,
+)
 
 none_take : (xs : List MemberStep) (m : Member) → m.transfer ≡ None → BeginsNone xs → effects_in m xs ≡ 0
 none_take [] m none begins = refl
@@ -269,7 +309,8 @@ none_take (Controls fate ∷ xs) m none begins =
     ∙ ap (λ (n : Member). effects_in n xs) idle.0
     ∙ none_take xs m none begins
 
-pub ended_by_reset : (m : Member) (request : Request) (steps later : List MemberStep) → Lays m.descriptor m.layout → FitsRequest request → begin_refusal_at m request ≡ None → BeginsNone steps → BeginsNone later
+pub ended_by_reset : (m : Member) (request : Request) (steps later : List MemberStep) → ParsesTo m.descriptor m.layout
+    → FitsRequest request → begin_refusal_at m request ≡ None → BeginsNone steps → BeginsNone later
     → IsEndedByReset m request steps later
 ended_by_reset m request steps later lays fits allowed none none_later =
     let begun = member_after m (Begins request) in

@@ -4,7 +4,7 @@ use Rattle.hid_layout.specs.declared.control.ControlId.{ControlId}
 use Rattle.hid_descriptor.specs.declared.limits.TheConstants.{MAX_DESCRIPTOR}
 use Rattle.hid_descriptor.specs.declared.usage.Usage.{Usage}
 use Rattle.hid_layout.specs.Controls.{items_of}
-use Rattle.hid_layout.specs.Finding.{shown_at}
+use Rattle.hid_layout.specs.Finding.{control_usage}
 use Rattle.hid_layout.specs.Layout.{Contents}
 use Rattle.hid_snapshots.specs.declared.change.ChangeFault.TheVariants.{NoSuchControl}
 use Rattle.hid_device.specs.declared.config.Config.{Config}
@@ -13,8 +13,8 @@ use Rattle.hid_requests.specs.declared.fault.DeviceCause.TheVariants as causes
 use Rattle.hid_requests.specs.declared.fault.DeviceFault.{DeviceFault}
 use Rattle.hid_device.specs.Config.{is_config}
 use Rattle.hid_requests.specs.Fault.{is_memory}
-use Rattle.hid_device.specs.Making.{CanServe}
-use Rattle.hid_device.specs.Making as making
+use Rattle.hid_device.specs.Creation.{CanServe}
+use Rattle.hid_device.specs.Creation as making
 use Rattle.hid_host.specs.declared.fault.StackFault.{StackFault}
 use Rattle.hid_host.specs.declared.fault.StackFault.TheVariants.{NoDevice, Refused, BadDescriptor, TooManyDevices, Memory}
 use Rattle.hid_host.specs.declared.fault.DescriptorFault.TheVariants.{Device}
@@ -28,23 +28,23 @@ pub record Suits (addr : ℕ) (config : Config) (descriptor : List ℕ) (layout 
   pub config_fits : is_config addr config descriptor ≡ true
   pub serves : CanServe descriptor layout
 
--- want of memory is not the descriptor's fault
-abbrev pub wants_memory : DeviceCause → Bool
-wants_memory causes.BadConfig = false
-wants_memory (causes.Layout cause) = is_memory cause
-wants_memory causes.NoEmptyCode = false
-wants_memory causes.RelativeWithoutZero = false
-wants_memory causes.Memory = true
+-- running out of memory is not the descriptor's fault
+abbrev pub is_out_of_memory : DeviceCause → Bool
+is_out_of_memory causes.BadConfig = false
+is_out_of_memory (causes.Layout cause) = is_memory cause
+is_out_of_memory causes.NoEmptyCode = false
+is_out_of_memory causes.RelativeWithoutZero = false
+is_out_of_memory causes.Memory = true
 
--- What a device's fault is told as: want of memory is the bus's, and each other cause the descriptor's.
+-- How a bus reports a device's fault: running out of memory is the bus's, and each other cause the descriptor's.
 abbrev pub device_refusal : DeviceFault → StackFault
-device_refusal fault = if wants_memory fault.cause then Memory else BadDescriptor (Device fault)
+device_refusal fault = if is_out_of_memory fault.cause then Memory else BadDescriptor (Device fault)
 
 -- why there is no device, and no host for it: the device is refused, or its address and configuration fit, its
--- descriptor isn't too long, and memory was wanting
+-- descriptor isn't too long, and memory ran out
 abbrev pub IsNoPair : ℕ → Config → List ℕ → StackFault → Type 0
 IsNoPair addr config descriptor (BadDescriptor (Device fault)) =
-    making.Refuses addr config descriptor fault.cause fault.at × (wants_memory fault.cause ≡ false)
+    making.Refuses addr config descriptor fault.cause fault.at × (is_out_of_memory fault.cause ≡ false)
 IsNoPair addr config descriptor Memory =
     (is_config addr config descriptor ≡ true) × (length descriptor ≤ MAX_DESCRIPTOR)
 IsNoPair addr config descriptor _ = ⊥
@@ -80,8 +80,8 @@ IsBefore d c = (d.item < c.item) ⊎ ((d.item ≡ c.item) × (d.index < c.index)
 
 -- the least control of a device with a usage
 pub record IsLeast (layout : Contents) (usage : Usage) (c : ControlId) : Type 0 where
-  pub has_usage : shown_at (items_of layout) c ≡ Some usage
-  pub none_before : (d : ControlId) → IsBefore d c → shown_at (items_of layout) d ≡ Some usage → ⊥
+  pub has_usage : control_usage (items_of layout) c ≡ Some usage
+  pub none_before : (d : ControlId) → IsBefore d c → control_usage (items_of layout) d ≡ Some usage → ⊥
 
 -- Finding a control of a device by its usage.
 abbrev pub Finds : List Member → ℕ → Usage → Result ControlId StackFault → Type 0
@@ -89,5 +89,5 @@ Finds members dev usage (Ok c) = (m : Member) × (member_at members dev ≡ Some
 Finds members dev usage (Err NoDevice) = member_at members dev ≡ None
 Finds members dev usage (Err (Refused NoSuchControl)) =
     (m : Member) × (member_at members dev ≡ Some m)
-    × ((d : ControlId) → shown_at (items_of m.layout) d ≡ Some usage → ⊥)
+    × ((d : ControlId) → control_usage (items_of m.layout) d ≡ Some usage → ⊥)
 Finds members dev usage (Err fault) = ⊥

@@ -1,61 +1,61 @@
 -- What is promised of a device over its own steps, by the rounds of those steps (USB 2.0, 8.5.4, 8.6 and 9.4.7).
 use Rattle.std.specs.Prelude.{◌≡◌, ℕ, true, false, List, ◌++◌, Some, None}
 use Rattle.hid_layout.specs.Controls.{items_of}
-use Rattle.hid_snapshots.specs.declared.cell.Cell.{Cell}
+use Rattle.hid_snapshots.specs.declared.control_state.ControlState.{ControlState}
 use Rattle.hid_snapshots.specs.declared.event.Event.{Event}
-use Rattle.hid_bus.specs.Following.{FollowsLife, StandsByRounds, course_from}
-use Rattle.hid_bus.specs.Lives.{Deed, course_behind, happenings}
+use Rattle.hid_bus.specs.HistoryState.{FollowsHistory, StandsByRounds, history_from}
+use Rattle.hid_bus.specs.DeviceHistory.{BusEvent, history_after_all, outcomes_of_events}
 use Rattle.hid_bus.specs.Rounds.{events_of_epoch}
 use Rattle.hid_bus.specs.declared.step.Step.{Step}
 use Rattle.hid_bus.specs.declared.step.Delivered.{Delivered}
 use Rattle.hid_bus.specs.Delivered.{from_device}
-use Rattle.hid_bus.specs.Stations.{Station, fresh}
+use Rattle.hid_bus.specs.LinkState.{LinkState, initial_link}
 use Rattle.hid_host.specs.declared.phase.HostState.TheVariants.{Ready}
-use Rattle.hid_stack.specs.Members.{Member, deeds_in, polls_it}
-use Rattle.hid_stack.specs.Rig.{HasOnlySchedule, member_at, member_steps, own}
+use Rattle.hid_stack.specs.Members.{Member, bus_events_of_steps, polls_it}
+use Rattle.hid_stack.specs.Rig.{HasOnlySchedule, device_steps, member_at, member_steps}
 
 -- both ends were just configured: the host is ready with its initial view, and no round was opened
-pub record AreFresh (m : Member) (snapshot : List Cell) (idle : List ℕ) : Type 0 where
+pub record AreFresh (m : Member) (snapshot : List ControlState) (idle : List ℕ) : Type 0 where
   pub host : m.host ≡ Ready
   pub clear : m.clearing ≡ false
-  pub station : m.station ≡ fresh (items_of m.layout) snapshot idle
+  pub link : m.link ≡ initial_link (items_of m.layout) snapshot idle
 
 -- The headline: of each device that was just configured the events delivered are exactly the changes between the
 -- successive parts that crossed, in order, none twice. (No request of it is begun or tried meanwhile, and it is neither
 -- halted nor reset: these end rounds.)
 abbrev pub DeliversChanges : List Member → List Step → List Delivered → List Delivered → Type 0
 DeliversChanges before steps old new =
-    (device : ℕ) (m : Member) (snapshot : List Cell) (idle : List ℕ)
+    (device : ℕ) (m : Member) (snapshot : List ControlState) (idle : List ℕ)
     → member_at before device ≡ Some m → AreFresh m snapshot idle
     → HasOnlySchedule device steps
     → from_device device new
-    ≡ from_device device old ++ events_of_epoch (items_of m.layout) snapshot idle (own device steps)
+    ≡ from_device device old ++ events_of_epoch (items_of m.layout) snapshot idle (device_steps device steps)
 
--- Each device whose host polls it, without an open round, stands behind its own steps as the rounds of those steps say;
+-- Each device whose host polls it, without an open round, stands after its own steps as the rounds of those steps say;
 -- nothing else of it changes. Example: after a lost ACK the round is open and has crossed, with DATA0 at the device and
 -- DATA1 at the host
 abbrev pub KeepsToRounds : List Member → List Step → List Member → Type 0
 KeepsToRounds before steps after =
-    (device : ℕ) (m : Member) → member_at before device ≡ Some m → polls_it m ≡ true → m.station.current ≡ None
+    (device : ℕ) (m : Member) → member_at before device ≡ Some m → polls_it m ≡ true → m.link.current ≡ None
     → HasOnlySchedule device steps
-    → (s : Station) × (member_at after device ≡ Some (record m { station = s }))
-    × StandsByRounds (items_of m.layout) m.station (own device steps) s
+    → (s : LinkState) × (member_at after device ≡ Some (record m { link = s }))
+    × StandsByRounds (items_of m.layout) m.link (device_steps device steps) s
 
--- What a device lives through, whatever befalls it: from any state without an open round on, the events delivered of it
--- are those of its rounds that crossed, of its halts and clears, and of its resets, and its station stands as they say;
--- toggles and views are counted since a configuration took effect last, or the bus was reset, and toggles since a
+-- The history of a device, whatever happens to it: from any state without an open round on, the events delivered of it
+-- are those of its rounds that crossed, of its halts and clears, and of its resets, and its link state stands as they
+-- say; toggles and views are counted since a configuration took effect last, or the bus was reset, and toggles since a
 -- clear.
-abbrev pub LivesThrough : Member → List Deed → Member → List Event → Type 0
-LivesThrough m deeds n told =
-    FollowsLife (items_of m.layout) m.station.view m.station.odd
-    (happenings (items_of m.layout) deeds (course_from m.station))
-    (course_behind (items_of m.layout) deeds (course_from m.station)) told n.station
+abbrev pub LivesThrough : Member → List BusEvent → Member → List Event → Type 0
+LivesThrough m bus_events n told =
+    FollowsHistory (items_of m.layout) m.link.view m.link.toggle
+    (outcomes_of_events (items_of m.layout) bus_events (history_from m.link))
+    (history_after_all (items_of m.layout) bus_events (history_from m.link)) told n.link
 
--- Each device of a bus lives through its steps: from any state without an open round on, its events and its station are
--- what its life says.
+-- Each device of a bus follows its history: from any state without an open round on, its events and its link state are
+-- what its history says.
 abbrev pub DevicesLive : List Member → List Step → List Member → List Delivered → List Delivered → Type 0
 DevicesLive before steps after old new =
-    (device : ℕ) (m : Member) → member_at before device ≡ Some m → m.station.current ≡ None
+    (device : ℕ) (m : Member) → member_at before device ≡ Some m → m.link.current ≡ None
     → (n : Member) × (told : List Event) × (member_at after device ≡ Some n)
     × (from_device device new ≡ from_device device old ++ told)
-    × LivesThrough m (deeds_in m (member_steps device steps)) n told
+    × LivesThrough m (bus_events_of_steps m (member_steps device steps)) n told

@@ -5,41 +5,41 @@ use Rattle.std.specs.List.{cons_option}
 use Rattle.std.specs.Option.{option_map}
 use Rattle.hid_layout.specs.Layout.{Contents}
 use Rattle.hid_layout.specs.Controls.{Item, items_of}
-use Rattle.hid_snapshots.specs.declared.cell.Cell.{Cell}
+use Rattle.hid_snapshots.specs.declared.control_state.ControlState.{ControlState}
 use Rattle.hid_snapshots.specs.declared.event.Event.{Event}
 use Rattle.hid_snapshots.specs.Encoded.{part_bytes}
-use Rattle.hid_snapshots.specs.Cells.{blank}
+use Rattle.hid_snapshots.specs.ControlStates.{blank}
 use Rattle.usb_transact.specs.declared.transaction.Fate.{Fate}
 use Rattle.usb_transact.specs.declared.transaction.Fate.TheVariants.{TokenLost}
-use Rattle.usb_control.specs.declared.device.Heard.TheVariants as hears
+use Rattle.usb_control.specs.declared.device.LastPacket.TheVariants as last_packets
 use Rattle.usb_control.specs.declared.device.Stage.{Stage}
 use Rattle.usb_control.specs.declared.device.Stage.TheVariants as stages
 use Rattle.usb_control.specs.declared.host.HostStage.{HostStage}
 use Rattle.usb_control.specs.declared.host.HostStage.TheVariants.{Done}
-use Rattle.usb_control.specs.Computed.{control_tried, effect_reached}
-use Rattle.usb_control.specs.Device.{Applies, DevControlState, Effect, idle}
+use Rattle.usb_control.specs.TryFunctions.{control_tried, effect_reached}
+use Rattle.usb_control.specs.Device.{Applies, DevControlState, Effect, idle_control}
 use Rattle.usb_control.specs.Host.{HostTransferState}
 use Rattle.hid_requests.specs.declared.request.Request.{Request}
 use Rattle.hid_requests.specs.declared.request.Request.TheVariants as requests
 use Rattle.hid_requests.specs.declared.class.Protocol.{Protocol}
-use Rattle.hid_bus.specs.Lives.{Deed, Own, Idles, Configures, befallen, events_on}
-use Rattle.hid_bus.specs.Lives as deeds
-use Rattle.hid_bus.specs.Rounds.{OwnStep, Changes, Frame, Polls, crossed_with}
-use Rattle.hid_bus.specs.Stations.{Open, Station, expected, fresh, is_whole}
+use Rattle.hid_bus.specs.DeviceHistory.{BusEvent, Own, Idles, Configures, state_after, delivered_events}
+use Rattle.hid_bus.specs.DeviceHistory as bus_events
+use Rattle.hid_bus.specs.Rounds.{OwnStep, Changes, Frame, Polls, crossed_count}
+use Rattle.hid_bus.specs.LinkState.{LinkState, Open, expected_toggle, initial_link, is_whole}
 use Rattle.hid_device.specs.declared.config.Config.{Config}
-use Rattle.hid_device.specs.declared.decisions.Pending.{Pending}
-use Rattle.hid_device.specs.declared.decisions.Pending.TheVariants as pendings
+use Rattle.hid_device.specs.declared.decisions.PendingWrite.{PendingWrite}
+use Rattle.hid_device.specs.declared.decisions.PendingWrite.TheVariants as pendings
 use Rattle.hid_device.specs.Core.{CoreState, reset_core}
-use Rattle.hid_device.specs.Deciding.{core_table, idle_set}
+use Rattle.hid_device.specs.RequestTable.{core_table, with_idle_time}
 use Rattle.hid_device.specs.Inputs.{input_count}
-use Rattle.hid_device.specs.Making.{new_core}
+use Rattle.hid_device.specs.Creation.{new_core}
 use Rattle.hid_host.specs.declared.fault.StackFault.{StackFault}
 use Rattle.hid_host.specs.declared.host.Transfer.{Transfer}
 use Rattle.hid_host.specs.declared.phase.HostState.{HostState}
 use Rattle.hid_host.specs.declared.phase.HostState.TheVariants as states
-use Rattle.hid_stack.specs.Bringing.{ends_after}
-use Rattle.hid_host.specs.Host.{begin_refusal_in, clearing_behind, clearing_with, cuts_round, running, transfer_of}
-use Rattle.hid_stack.specs.Knowing.{asking_of}
+use Rattle.hid_stack.specs.ControlSteps.{transfer_after_try}
+use Rattle.hid_host.specs.Host.{begin_refusal_in, clearing_after, clearing_with, request_aborts_round, running, transfer_of}
+use Rattle.hid_stack.specs.HostInvariant.{asking_of}
 use Rattle.hid_host.specs.Phase.{may_poll}
 
 -- What endpoint 0 of a device keeps: whether SET_CONFIGURATION took effect; its protocol, and the Output and Feature
@@ -50,27 +50,27 @@ pub record Endpoint : Type 0 where
   pub protocol : Protocol
   pub outputs : List (List ℕ)
   pub answer : Option (List ℕ)
-  pub pending : Pending
+  pub pending : PendingWrite
   pub stage : Stage
 
--- A device with its host: its address, the configuration and the descriptor that it was made with, its layout, how the
--- two stand, the device's endpoint 0, how far the host has come with it, the transfer that the host began last, whether
--- a clear is pending, and as `held` the toggle that the host expects while the endpoint is halted or a clear is pending.
+-- A device with its host: its address, the configuration and the descriptor that it was made with, its layout, the link
+-- state of the two, the device's endpoint 0, the state of the host, the transfer that the host began last, whether a
+-- clear is pending, and as `held` the toggle that the host expects while the endpoint is halted or a clear is pending.
 -- (Otherwise it follows from the open round.)
 pub record Member : Type 0 where
   pub addr : ℕ
   pub config : Config
   pub descriptor : List ℕ
   pub layout : Contents
-  pub station : Station
+  pub link : LinkState
   pub endpoint : Endpoint
   pub host : HostState
   pub transfer : Option Transfer
   pub clearing : Bool
   pub held : Option Bool
 
--- What a step of the bus is for one device: a step of its schedule, a request of its host, a try of the transfer that
--- runs, a halt by the device itself, or a reset.
+-- A step of the bus for one device: a step of its schedule, a request of its host, a try of the transfer that runs, a
+-- halt by the device itself, or a reset.
 pub data MemberStep : Type 0 where
   Scheduled : OwnStep → MemberStep
   Begins : Request → MemberStep
@@ -91,14 +91,14 @@ new_endpoint is_configured core = record {
   stage = stages.Idle;
 }
 
--- both ends are freshly configured, nothing is pressed and nothing has moved
+-- a device and its host that are freshly configured, with nothing pressed and nothing moved
 abbrev pub fresh_member : ℕ → Config → List ℕ → Contents → Member
 fresh_member addr config descriptor layout = record {
   addr = addr;
   config = config;
   descriptor = descriptor;
   layout = layout;
-  station = fresh (items_of layout) (blank (items_of layout)) (replicate (input_count layout.reports) 0);
+  link = initial_link (items_of layout) (blank (items_of layout)) (replicate (input_count layout.reports) 0);
   endpoint = new_endpoint true (new_core config descriptor layout);
   host = states.Ready;
   transfer = None;
@@ -106,17 +106,17 @@ fresh_member addr config descriptor layout = record {
   held = None;
 }
 
--- the device is as it was made, and its host knows nothing of it
+-- a device as it was made, with a host that knows nothing of it
 abbrev pub cold_member : ℕ → Config → List ℕ → Contents → Member
 cold_member addr config descriptor layout = record {
   addr = addr;
   config = config;
   descriptor = descriptor;
   layout = layout;
-  station = record {
-    standing = (new_core config descriptor layout).standing;
+  link = record {
+    reports = (new_core config descriptor layout).reports;
     current = None;
-    odd = false;
+    toggle = false;
     view = blank (items_of layout);
     halted = false;
   };
@@ -129,46 +129,47 @@ cold_member addr config descriptor layout = record {
 
 -- ---- the open round
 
--- which of its pieces is at hand, from 0, where one is open
+-- the place of the open round's current piece, from 0, if a round is open
 abbrev pub piece_open : Option Open → ℕ
 piece_open None = 0
 piece_open (Some round) = round.piece
 
--- the pieces that crossed of the bytes of a report, until the last one has
-abbrev pub got_in : List ℕ → Open → List ℕ
-got_in bytes round = if is_whole round then [] else take (64 * crossed_with round.piece round.crossed) bytes
+-- of the bytes of a report the pieces that crossed, until the last one has
+abbrev pub crossed_bytes : List ℕ → Open → List ℕ
+crossed_bytes bytes round =
+    if is_whole round then [] else take (64 * crossed_count round.piece round.crossed) bytes
 
--- What a host has of a report that isn't whole yet: of these parts, which were fixed as its round opened, the pieces
--- that crossed. Example: 64 bytes of 100 after the first piece
-abbrev pub got_of : Contents → List Cell → Option Open → List ℕ
-got_of layout parts None = []
-got_of layout parts (Some round) = got_in (part_bytes layout round.report parts) round
+-- What a host has of a report that isn't whole yet: of the parts that were fixed as its round opened, the pieces that
+-- crossed. Example: 64 bytes of 100 after the first piece
+abbrev pub partial_report_of : Contents → List ControlState → Option Open → List ℕ
+partial_report_of layout parts None = []
+partial_report_of layout parts (Some round) = crossed_bytes (part_bytes layout round.report parts) round
 
 -- ---- the device's side of a transfer
 
--- the inside of the device
-abbrev pub core_at : Member → CoreState
-core_at m = record {
+-- the core of the member's device
+abbrev pub core_of_member : Member → CoreState
+core_of_member m = record {
   layout = m.layout;
   config = m.config;
   descriptor = m.descriptor;
   is_configured = m.endpoint.is_configured;
-  standing = m.station.standing;
-  current = option_map (λ round. round.report) m.station.current;
-  piece = piece_open m.station.current;
-  toggle = m.station.odd;
+  reports = m.link.reports;
+  current = option_map (λ round. round.report) m.link.current;
+  piece = piece_open m.link.current;
+  toggle = m.link.toggle;
   protocol = m.endpoint.protocol;
   outputs = m.endpoint.outputs;
   answer = m.endpoint.answer;
   pending = m.endpoint.pending;
-  halted = m.station.halted;
+  halted = m.link.halted;
 }
 
--- the member's endpoint 0 between transactions: a try begins with a token, so what was heard before it doesn't count
-abbrev pub control_at : Member → DevControlState CoreState
-control_at m = record { requests = core_at m; stage = m.endpoint.stage; heard = hears.Nothing }
+-- the member's endpoint 0 between transactions: a try begins with a token, so what was received before doesn't count
+abbrev pub control_of_member : Member → DevControlState CoreState
+control_of_member m = record { requests = core_of_member m; stage = m.endpoint.stage; last_packet = last_packets.Nothing }
 
--- what is kept of endpoint 0
+-- what a member keeps of endpoint 0
 abbrev pub endpoint_of : DevControlState CoreState → Endpoint
 endpoint_of control = record {
   is_configured = control.requests.is_configured;
@@ -179,196 +180,206 @@ endpoint_of control = record {
   stage = control.stage;
 }
 
--- ---- what befalls the device by a step
+-- ---- what happens to the device by a step
 
--- the host of a member polls: it is ready, and no clear is pending
+-- whether the host of a member polls: it is ready, and no clear is pending
 abbrev pub polls_it : Member → Bool
 polls_it m = may_poll m.host m.clearing
 
--- a poll befalls it where its host polls
-abbrev pub polled_deed : Bool → Fate → Option Deed
-polled_deed true fate = Some (Own (Polls fate))
-polled_deed false fate = None
+-- the bus event of a poll, where the host polls
+abbrev pub poll_bus_event : Bool → Fate → Option BusEvent
+poll_bus_event true fate = Some (Own (Polls fate))
+poll_bus_event false fate = None
 
--- a step of its schedule
-abbrev pub scheduled_deed : Bool → OwnStep → Option Deed
-scheduled_deed polls (Changes change) = Some (Own (Changes change))
-scheduled_deed polls Frame = Some (Own Frame)
-scheduled_deed polls (Polls fate) = polled_deed polls fate
+-- the bus event of a step of the device's schedule: a poll has one only where the host polls
+abbrev pub step_bus_event : Bool → OwnStep → Option BusEvent
+step_bus_event polls (Changes change) = Some (Own (Changes change))
+step_bus_event polls Frame = Some (Own Frame)
+step_bus_event polls (Polls fate) = poll_bus_event polls fate
 
--- what a halt by the device itself does to it: one that isn't configured has no endpoint to halt
-abbrev pub halted_deed : Bool → Option Deed
-halted_deed true = Some deeds.Halts
-halted_deed false = None
+-- the bus event of a halt by the device itself: a device that isn't configured has no endpoint to halt
+abbrev pub halt_bus_event_of : Bool → Option BusEvent
+halt_bus_event_of true = Some bus_events.Halts
+halt_bus_event_of false = None
 
--- a write that is carried out: a configuration, idle times that are set, a halt, or the end of one
-abbrev pub written_deed : CoreState → Pending → Option Deed
-written_deed core pendings.Configure = Some Configures
-written_deed core pendings.Halt = Some deeds.Halts
-written_deed core pendings.Clear = Some deeds.Clears
-written_deed core (pendings.Idle report time) = Some (Idles (idle_set core.standing.idle report time))
-written_deed core _ = None
+-- the bus event of a write that is carried out: a configuration, idle times that are set, a halt, or the end of one
+abbrev pub write_bus_event : CoreState → PendingWrite → Option BusEvent
+write_bus_event core pendings.Configure = Some Configures
+write_bus_event core pendings.Halt = Some bus_events.Halts
+write_bus_event core pendings.Clear = Some bus_events.Clears
+write_bus_event core (pendings.Idle report time) = Some (Idles (with_idle_time core.reports.idle report time))
+write_bus_event core _ = None
 
--- what the packets of a try bring about
-abbrev pub effect_deed : Effect → CoreState → Option Deed
-effect_deed (Applies bytes) core = written_deed core core.pending
-effect_deed _ core = None
+-- the bus event of a packet's effect at endpoint 0: only a write that takes effect has one
+abbrev pub effect_bus_event : Effect → CoreState → Option BusEvent
+effect_bus_event (Applies bytes) core = write_bus_event core core.pending
+effect_bus_event _ core = None
 
--- where they arrive
-abbrev pub brought_deed : Fate → HostTransferState → DevControlState CoreState → Option Deed
-brought_deed TokenLost ends control = None
-brought_deed fate ends control = effect_deed (effect_reached core_table ends control) control.requests
+-- the bus event of a try by its fate: only packets that arrive have an effect
+abbrev pub try_bus_event_of : Fate → HostTransferState → DevControlState CoreState → Option BusEvent
+try_bus_event_of TokenLost ends control = None
+try_bus_event_of fate ends control =
+    effect_bus_event (effect_reached core_table ends control) control.requests
 
--- a try of the transfer that runs, where one does
-abbrev pub tried_deed : Fate → Member → Option Transfer → Option Deed
-tried_deed fate m None = None
-tried_deed fate m (Some t) = brought_deed fate t.ends (control_at m)
+-- the bus event of a try of the transfer that runs, if one runs
+abbrev pub try_bus_event : Fate → Member → Option Transfer → Option BusEvent
+try_bus_event fate m None = None
+try_bus_event fate m (Some t) = try_bus_event_of fate t.ends (control_of_member m)
 
--- What befalls a device by a step, where something does.
-abbrev pub deed_at : Member → MemberStep → Option Deed
-deed_at m (Scheduled x) = scheduled_deed (polls_it m) x
-deed_at m (Begins request) = None
-deed_at m (Controls fate) = tried_deed fate m (running m.transfer)
-deed_at m Halts = halted_deed m.endpoint.is_configured
-deed_at m Resets = Some deeds.Resets
+-- The bus event of a step of a device and its host, if it has one.
+abbrev pub bus_event_of_step : Member → MemberStep → Option BusEvent
+bus_event_of_step m (Scheduled x) = step_bus_event (polls_it m) x
+bus_event_of_step m (Begins request) = None
+bus_event_of_step m (Controls fate) = try_bus_event fate m (running m.transfer)
+bus_event_of_step m Halts = halt_bus_event_of m.endpoint.is_configured
+bus_event_of_step m Resets = Some bus_events.Resets
 
--- the station behind it
-abbrev pub befallen_by : List Item → Station → Option Deed → Station
-befallen_by items s None = s
-befallen_by items s (Some deed) = befallen items s deed
+-- the link state after a bus event, if there is one
+abbrev pub state_after_event_if : List Item → LinkState → Option BusEvent → LinkState
+state_after_event_if items s None = s
+state_after_event_if items s (Some bus_event) = state_after items s bus_event
 
--- the events of what befalls a device, if anything does
-abbrev pub events_by : List Item → Station → Option Deed → List Event
-events_by items s None = []
-events_by items s (Some deed) = events_on items s deed
+-- the events that a bus event delivers, if there is one
+abbrev pub events_of_event_if : List Item → LinkState → Option BusEvent → List Event
+events_of_event_if items s None = []
+events_of_event_if items s (Some bus_event) = delivered_events items s bus_event
 
 -- ---- the toggle of its host
 
--- the toggle that the host of a member expects if it is ready: the one that is held, or that of the station. Example:
--- DATA1 after a lost ACK and a halt
-abbrev pub expects_of : Member → Bool
-expects_of m = elim m.held [ Some expects ↦ expects | None ↦ expected m.station ]
+-- the toggle that the host of a member expects if it is ready: the one that is held, or that of the link state.
+-- Example: DATA1 after a lost ACK and a halt
+abbrev pub expected_toggle_of : Member → Bool
+expected_toggle_of m = elim m.held [ Some expects ↦ expects | None ↦ expected_toggle m.link ]
 
--- a toggle is held or not
-abbrev pub held_if : Bool → Bool → Option Bool
-held_if true expects = Some expects
-held_if false expects = None
+-- a toggle, where it is held
+abbrev pub toggle_if_held : Bool → Bool → Option Bool
+toggle_if_held true expects = Some expects
+toggle_if_held false expects = None
 
--- a ready host's is held while the endpoint is halted or a clear is pending
-abbrev pub held_at : HostState → Bool → Bool → Option Bool
-held_at states.Ready holds expects = held_if holds expects
-held_at _ holds expects = None
+-- the toggle that a host holds: a ready host does while the endpoint is halted or a clear is pending
+abbrev pub member_held_toggle : HostState → Bool → Bool → Option Bool
+member_held_toggle states.Ready holds expects = toggle_if_held holds expects
+member_held_toggle _ holds expects = None
 
--- the member where its host expects this
-abbrev pub holding : Bool → Member → Member
-holding expects m = record m { held = held_at m.host (m.station.halted || m.clearing) expects }
+-- the member whose host expects this toggle, which is held or follows from the open round
+abbrev pub with_held_toggle : Bool → Member → Member
+with_held_toggle expects m =
+    record m { held = member_held_toggle m.host (m.link.halted || m.clearing) expects }
 
--- where a configuration or a clear is done it expects DATA0
-abbrev pub expects_behind : HostStage → Request → Bool → Bool
-expects_behind Done requests.Configure expects = false
-expects_behind Done requests.Clear expects = false
-expects_behind stage request expects = expects
+-- the toggle that a host expects after a try: DATA0 once a configuration or a clear is done
+abbrev pub expects_after : HostStage → Request → Bool → Bool
+expects_after Done requests.Configure expects = false
+expects_after Done requests.Clear expects = false
+expects_after stage request expects = expects
 
--- ---- the member behind a step
+-- ---- the member after a step
 
 -- why a request can't begin, memory aside
 abbrev pub begin_refusal_at : Member → Request → Option StackFault
 begin_refusal_at m request = begin_refusal_in m.transfer m.host request
 
--- a request begins unless it is refused: its transfer has yet to make its first try, and a clear is pending from then
--- on
-abbrev pub begun_unless : Option StackFault → Member → Request → Member
-begun_unless (Some fault) m request = m
-begun_unless None m request =
-    holding (expects_of m) (record m {
-      transfer = Some (transfer_of m.addr (asking_of (core_at m)) request);
+-- the member once a request began, unless it is refused: its transfer has yet to make its first try, and a clear is
+-- pending from then on
+abbrev pub member_after_begin : Option StackFault → Member → Request → Member
+member_after_begin (Some fault) m request = m
+member_after_begin None m request =
+    with_held_toggle (expected_toggle_of m) (record m {
+      transfer = Some (transfer_of m.addr (asking_of (core_of_member m)) request);
       clearing = clearing_with request m.clearing;
     })
 
 -- the state to which a request that is done leads
-abbrev pub state_behind : Request → HostState → HostState
-state_behind requests.Config host = states.Described
-state_behind requests.Report host = states.Parsed
-state_behind requests.Configure host = states.Ready
-state_behind _ host = host
+abbrev pub host_state_after : Request → HostState → HostState
+host_state_after requests.Config host = states.Described
+host_state_after requests.Report host = states.Parsed
+host_state_after requests.Configure host = states.Ready
+host_state_after _ host = host
 
 -- the state of the host after a try that leaves its transfer at a stage
-abbrev pub state_at : HostStage → Request → HostState → HostState
-state_at Done request host = state_behind request host
-state_at stage request host = host
+abbrev pub host_state_after_try : HostStage → Request → HostState → HostState
+host_state_after_try Done request host = host_state_after request host
+host_state_after_try stage request host = host
 
 -- the host's side of the transfer after a try
-abbrev pub ends_tried_at : Fate → Member → Transfer → HostTransferState
-ends_tried_at fate m t = ends_after fate t (control_at m)
+abbrev pub member_transfer_after : Fate → Member → Transfer → HostTransferState
+member_transfer_after fate m t = transfer_after_try fate t (control_of_member m)
 
--- the member after a try of a transfer: both ends go on by the functions of a try, and the host is in this state after
--- it
-abbrev pub tried_to : Fate → Member → Transfer → HostState → Member
-tried_to fate m t host = holding (expects_behind (ends_tried_at fate m t).stage t.request (expects_of m)) (record {
-  addr = m.addr;
-  config = m.config;
-  descriptor = m.descriptor;
-  layout = m.layout;
-  station = befallen_by (items_of m.layout) m.station (tried_deed fate m (Some t));
-  endpoint = endpoint_of (control_tried core_table fate t.ends (control_at m));
-  host = host;
-  transfer = Some (record t { ends = ends_tried_at fate m t });
-  clearing = clearing_behind (ends_tried_at fate m t).stage t.request m.clearing;
-  held = None;
-})
+-- the member after a try of a transfer, by the state of its host: both ends go on by the functions of a try
+abbrev pub member_after_try_in : Fate → Member → Transfer → HostState → Member
+member_after_try_in fate m t host =
+    with_held_toggle (expects_after (member_transfer_after fate m t).stage t.request (expected_toggle_of m))
+    (record {
+      addr = m.addr;
+      config = m.config;
+      descriptor = m.descriptor;
+      layout = m.layout;
+      link = state_after_event_if (items_of m.layout) m.link (try_bus_event fate m (Some t));
+      endpoint = endpoint_of (control_tried core_table fate t.ends (control_of_member m));
+      host = host;
+      transfer = Some (record t { ends = member_transfer_after fate m t });
+      clearing = clearing_after (member_transfer_after fate m t).stage t.request m.clearing;
+      held = None;
+    })
 
--- a try of the transfer that runs: where its request is done the host goes on
-abbrev pub tried_of : Fate → Member → Option Transfer → Member
-tried_of fate m None = m
-tried_of fate m (Some t) = tried_to fate m t (state_at (ends_tried_at fate m t).stage t.request m.host)
+-- the member after a try of the transfer that runs: where its request is done the host goes on
+abbrev pub member_after_try : Fate → Member → Option Transfer → Member
+member_after_try fate m None = m
+member_after_try fate m (Some t) =
+    member_after_try_in fate m t
+    (host_state_after_try (member_transfer_after fate m t).stage t.request m.host)
 
--- a halt by the device itself: it ends the round that is open
-abbrev pub halted_if : Bool → Member → Member
-halted_if true m = holding (expects_of m) (record m { station = befallen (items_of m.layout) m.station deeds.Halts })
-halted_if false m = m
+-- the member after a halt by the device itself, which ends the open round
+abbrev pub member_after_halt : Bool → Member → Member
+member_after_halt true m =
+    with_held_toggle (expected_toggle_of m)
+    (record m { link = state_after (items_of m.layout) m.link bus_events.Halts })
+member_after_halt false m = m
 
 -- the member after a reset: the device isn't configured, its host knows nothing of it, and the transfer and what is
 -- pending are forgotten
-abbrev pub reset_of : Member → Member
-reset_of m = record {
+abbrev pub member_after_reset : Member → Member
+member_after_reset m = record {
   addr = m.addr;
   config = m.config;
   descriptor = m.descriptor;
   layout = m.layout;
-  station = befallen (items_of m.layout) m.station deeds.Resets;
-  endpoint = endpoint_of (idle (reset_core (core_at m)));
+  link = state_after (items_of m.layout) m.link bus_events.Resets;
+  endpoint = endpoint_of (idle_control (reset_core (core_of_member m)));
   host = states.Cold;
   transfer = None;
   clearing = false;
   held = None;
 }
 
--- Its member after a step: what is refused changes nothing.
+-- The member after a step: what is refused changes nothing.
 abbrev pub member_after : Member → MemberStep → Member
 member_after m (Scheduled x) =
-    record m { station = befallen_by (items_of m.layout) m.station (scheduled_deed (polls_it m) x) }
-member_after m (Begins request) = begun_unless (begin_refusal_at m request) m request
-member_after m (Controls fate) = tried_of fate m (running m.transfer)
-member_after m Halts = halted_if m.endpoint.is_configured m
-member_after m Resets = reset_of m
+    record m { link = state_after_event_if (items_of m.layout) m.link (step_bus_event (polls_it m) x) }
+member_after m (Begins request) = member_after_begin (begin_refusal_at m request) m request
+member_after m (Controls fate) = member_after_try fate m (running m.transfer)
+member_after m Halts = member_after_halt m.endpoint.is_configured m
+member_after m Resets = member_after_reset m
 
--- The member after a try at which memory is missing: for what may be dropped, and then nothing is tried, or for what a
+-- The member after a try at which memory runs out: for what may be dropped, and then nothing is tried, or for what a
 -- request that is done gives, and then the host stays where it is.
-abbrev pub unconcluded_of : Fate → Member → Option Transfer → Member
-unconcluded_of fate m None = m
-unconcluded_of fate m (Some t) = if cuts_round t.request then m else tried_to fate m t m.host
+abbrev pub member_out_of_memory : Fate → Member → Option Transfer → Member
+member_out_of_memory fate m None = m
+member_out_of_memory fate m (Some t) =
+    if request_aborts_round t.request then m else member_after_try_in fate m t m.host
 
--- what befalls a device at a try that finds no memory for what its request gives
-abbrev pub unconcluded_deed : Fate → Member → Option Transfer → Option Deed
-unconcluded_deed fate m None = None
-unconcluded_deed fate m (Some t) = if cuts_round t.request then None else tried_deed fate m (Some t)
+-- the bus event of a try at which memory runs out for what its request gives
+abbrev pub out_of_memory_bus_event : Fate → Member → Option Transfer → Option BusEvent
+out_of_memory_bus_event fate m None = None
+out_of_memory_bus_event fate m (Some t) =
+    if request_aborts_round t.request then None else try_bus_event fate m (Some t)
 
 -- The member after a list of steps.
 abbrev pub member_after_all : Member → List MemberStep → Member
 member_after_all m [] = m
 member_after_all m (x ∷ steps) = member_after_all (member_after m x) steps
 
--- What befalls a device by a list of steps.
-abbrev pub deeds_in : Member → List MemberStep → List Deed
-deeds_in m [] = []
-deeds_in m (x ∷ steps) = cons_option (deed_at m x) (deeds_in (member_after m x) steps)
+-- The bus events of a list of steps of a device and its host.
+abbrev pub bus_events_of_steps : Member → List MemberStep → List BusEvent
+bus_events_of_steps m [] = []
+bus_events_of_steps m (x ∷ steps) =
+    cons_option (bus_event_of_step m x) (bus_events_of_steps (member_after m x) steps)

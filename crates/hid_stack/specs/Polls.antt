@@ -12,7 +12,7 @@ use Rattle.usb_transact.specs.declared.host.Took.{Took}
 use Rattle.usb_transact.specs.declared.host.Took.TheVariants.{Fresh, Again}
 use Rattle.usb_transact.specs.Bus.{Arrivals, Carries, Replies}
 use Rattle.usb_transact.specs.Host.{token_to}
-use Rattle.usb_transact.specs.Taken.{taken}
+use Rattle.usb_transact.specs.Taken.{reply_outcome}
 use Rattle.hid_device.specs.Core.{IsSound}
 use Rattle.hid_device.specs.Device.{DeviceState, device_after, device_answer, core_of}
 use Rattle.hid_host.specs.declared.fault.StackFault.{StackFault}
@@ -21,8 +21,8 @@ use Rattle.hid_host.specs.declared.phase.HostPhase.{HostPhase}
 use Rattle.hid_host.specs.declared.phase.HostPhase.TheVariants.{Ready}
 use Rattle.hid_bus.specs.declared.step.Told.{Told}
 use Rattle.hid_bus.specs.declared.step.Told.TheVariants.{Polled}
-use Rattle.hid_host.specs.Host.{HostEnd, ready_after}
-use Rattle.hid_host.specs.Ready.{Known, told_of, events_behind}
+use Rattle.hid_host.specs.Host.{HostEnd, host_after_reply}
+use Rattle.hid_host.specs.Ready.{Known, outcome_of, events_after}
 
 -- the payload of a packet is bytes
 abbrev pub HasBytes : Packet → Type 0
@@ -32,42 +32,42 @@ HasBytes packets.Ack = Unit {0}
 HasBytes packets.Nak = Unit {0}
 HasBytes packets.Stall = Unit {0}
 
--- what the device makes of a packet, where one came, and what it answers
-abbrev pub Hears : DeviceState → Option Packet → Option Packet → DeviceState → Type 0
-Hears device None answer after = (answer ≡ None) × (after ≡ device)
-Hears device (Some packet) answer after =
+-- the device receives a packet, if one came, and gives this answer
+abbrev pub Receives : DeviceState → Option Packet → Option Packet → DeviceState → Type 0
+Receives device None answer after = (answer ≡ None) × (after ≡ device)
+Receives device (Some packet) answer after =
     (answer ≡ device_answer device packet) × (after ≡ device_after device packet)
     × IfSome answer (λ _. IsSound (core_of after))
 
--- an answer, where there is one, stands in the bytes
+-- the bytes are those of an answer, if one was given
 abbrev pub IsAnswer : Option Packet → Bool → List ℕ → Type 0
 IsAnswer None answers bytes = answers ≡ false
 IsAnswer (Some packet) answers bytes = (answers ≡ true) × Spells packet bytes
 
--- the device hears a packet, where one came, and its answer, where it gives one, stands in the bytes
+-- the device receives a packet, if one came, and these bytes are those of its answer, if it gives one
 pub record Responds (device : DeviceState) (came : Option Packet) (answers : Bool) (bytes : List ℕ) (after : DeviceState) : Type 0 where
   pub answer : Option Packet
-  pub heard : Hears device came answer after
+  pub receives : Receives device came answer after
   pub of_bytes : IfSome answer HasBytes
   pub written : IsAnswer answer answers bytes
 
--- a token is sent, and the device hears what arrives of it
+-- the device receives what arrives of a token that is sent to it, and answers
 pub record Asks (arrivals : Arrivals) (token : Packet) (device : DeviceState) (answers : Bool) (bytes : List ℕ) (after : DeviceState) : Type 0 where
   pub came : Option Packet
   pub carried : Carries arrivals Token token came
   pub responds : Responds device came answers bytes after
 
--- an ACK is sent, and the device hears what arrives of it
-pub record HearsAck (arrivals : Arrivals) (device after : DeviceState) : Type 0 where
+-- the device receives what arrives of an ACK that is sent to it
+pub record ReceivesAck (arrivals : Arrivals) (device after : DeviceState) : Type 0 where
   pub came : Option Packet
   pub answer : Option Packet
   pub carried : Carries arrivals Acknowledgement packets.Ack came
-  pub heard : Hears device came answer after
+  pub receives : Receives device came answer after
 
 -- data are acknowledged, fresh or not, and nothing else is
 abbrev pub Acknowledges : Arrivals → Took → DeviceState → DeviceState → Type 0
-Acknowledges arrivals (Fresh payload) device after = HearsAck arrivals device after
-Acknowledges arrivals Again device after = HearsAck arrivals device after
+Acknowledges arrivals (Fresh payload) device after = ReceivesAck arrivals device after
+Acknowledges arrivals Again device after = ReceivesAck arrivals device after
 Acknowledges arrivals _ device after = after ≡ device
 
 -- data that the host refuses end the poll
@@ -75,15 +75,15 @@ abbrev pub Ends : Arrivals → Result Took StackFault → DeviceState → Device
 Ends arrivals (Ok took) device after = Acknowledges arrivals took device after
 Ends arrivals (Err fault) device after = after ≡ device
 
--- the bytes of what was sent, where something was
-abbrev pub spelled : Option Packet → Option (ArrayVec ℕ 65 (Unit {0}))
-spelled None = None
-spelled (Some packet) = Some (record { items = spelling packet })
+-- the bytes of the packet that was sent, if one was
+abbrev pub encoded_packet : Option Packet → Option (ArrayVec ℕ 65 (Unit {0}))
+encoded_packet None = None
+encoded_packet (Some packet) = Some (record { items = spelling packet })
 
--- what a poll tells: the bytes that were sent, and what the host took, or why it refused them
-abbrev pub told_with : Option Packet → Result Took StackFault → Result Told StackFault
-told_with answer (Ok took) = Ok (Polled (spelled answer) took)
-told_with answer (Err fault) = Err fault
+-- what a poll returns: the bytes that were sent, and what the host took, or why it refused them
+abbrev pub poll_outcome : Option Packet → Result Took StackFault → Result Told StackFault
+poll_outcome answer (Ok took) = Ok (Polled (encoded_packet answer) took)
+poll_outcome answer (Err fault) = Err fault
 
 -- The poll by its packets: the token, the device's answer, what the host reads of it, and the ACK for data.
 pub record PollsOver (arrivals : Arrivals) (device : DeviceState) (host : HostEnd) (known : Known)
@@ -94,13 +94,13 @@ pub record PollsOver (arrivals : Arrivals) (device : DeviceState) (host : HostEn
   pub between : DeviceState
   pub reply : Option Packet
   pub polled : Carries arrivals Token (token_to known.pipe) token
-  pub heard : Hears device token answer between
+  pub receives : Receives device token answer between
   pub bytes : IfSome answer HasBytes
   pub replied : Replies arrivals Reply answer reply
-  pub told : result ≡ told_with answer (told_of known (taken known.pipe.expects reply))
-  pub host_moved : host_then ≡ ready_after host known (taken known.pipe.expects reply)
-  pub delivers : events ≡ before ++ events_behind known (taken known.pipe.expects reply)
-  pub ended : Ends arrivals (told_of known (taken known.pipe.expects reply)) between device_then
+  pub told : result ≡ poll_outcome answer (outcome_of known (reply_outcome known.pipe.expects reply))
+  pub host_moved : host_then ≡ host_after_reply host known (reply_outcome known.pipe.expects reply)
+  pub delivers : events ≡ before ++ events_after known (reply_outcome known.pipe.expects reply)
+  pub ended : Ends arrivals (outcome_of known (reply_outcome known.pipe.expects reply)) between device_then
 
 -- a host that isn't ready, or whose clear is pending, sends nothing, and nothing changes
 pub record SendsNothing (device : DeviceState) (host : HostEnd)

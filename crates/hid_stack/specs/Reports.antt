@@ -2,38 +2,41 @@
 -- 8.5.4 and 8.6; our choice).
 use Rattle.std.specs.Prelude.{◌≡◌, ◌⊎◌, ◌+◌, Bool, true, false, ◌&&◌, [], Option, Some, None}
 use Rattle.hid_layout.specs.Controls.{items_of}
-use Rattle.hid_snapshots.specs.Views.{seen}
+use Rattle.hid_snapshots.specs.Views.{view_after_part}
 use Rattle.usb_transact.specs.declared.transaction.Fate.{Fate}
 use Rattle.hid_bus.specs.Rounds.{Polls, part_events, reaches_host}
-use Rattle.hid_bus.specs.Stations.{Open, Station, arrived, completes}
-use Rattle.hid_stack.specs.Members.{Member, MemberStep, Scheduled, deed_at, events_by, member_after, polls_it}
+use Rattle.hid_bus.specs.LinkState.{LinkState, Open, completes, state_before_answer}
+use Rattle.hid_stack.specs.Members.{Member, MemberStep, Scheduled, bus_event_of_step, events_of_event_if, member_after, polls_it}
 
 -- a step delivers nothing of a device, and leaves the view of its host
 pub record TellsNothing (m : Member) (x : MemberStep) : Type 0 where
-  pub events : events_by (items_of m.layout) m.station (deed_at m x) ≡ []
-  pub view : (member_after m x).station.view ≡ m.station.view
+  pub events : events_of_event_if (items_of m.layout) m.link (bus_event_of_step m x) ≡ []
+  pub view : (member_after m x).link.view ≡ m.link.view
 
--- the last piece of the open round crosses with a poll: the part that was fixed as that opened is told, and the view
--- sees it
+-- the last piece of the open round crosses with a poll: the events are those of the part that was fixed as the round
+-- opened, and the view takes it
 pub record TellsPart (m : Member) (fate : Fate) : Type 0 where
   pub round : Open
-  pub is_open : (arrived (items_of m.layout) m.station fate).current ≡ Some round
+  pub is_open : (state_before_answer (items_of m.layout) m.link fate).current ≡ Some round
   pub crosses : completes round ≡ true
-  pub events : events_by (items_of m.layout) m.station (deed_at m (Scheduled (Polls fate)))
-      ≡ part_events (items_of m.layout) round.report m.station.view
-      (arrived (items_of m.layout) m.station fate).standing.fixed
-  pub view : (member_after m (Scheduled (Polls fate))).station.view
-      ≡ seen (items_of m.layout) round.report m.station.view (arrived (items_of m.layout) m.station fate).standing.fixed
+  pub events : events_of_event_if (items_of m.layout) m.link (bus_event_of_step m (Scheduled (Polls fate)))
+      ≡ part_events (items_of m.layout) round.report m.link.view
+      (state_before_answer (items_of m.layout) m.link fate).reports.fixed
+  pub view : (member_after m (Scheduled (Polls fate))).link.view
+      ≡ view_after_part (items_of m.layout) round.report m.link.view
+      (state_before_answer (items_of m.layout) m.link fate).reports.fixed
 
--- the piece at hand is the last one of an open round, and hasn't crossed yet
+-- the current piece of the open round is the last one, and hasn't crossed yet
 abbrev pub is_missing_last : Option Open → Bool
 is_missing_last current = elim current [ None ↦ false | Some round ↦ completes round ]
 
--- the last piece of the open round crosses with a poll: the host polls, what is sent reaches it, and it missed that
--- piece alone
+-- the last piece of the open round crosses with a poll: the host polls, what is sent reaches it, and only that piece
+-- was missing
 abbrev pub last_crosses : Member → Fate → Bool
 last_crosses m fate =
-    polls_it m && (reaches_host fate && is_missing_last (arrived (items_of m.layout) m.station fate).current)
+    polls_it m
+    && (reaches_host fate
+    && is_missing_last (state_before_answer (items_of m.layout) m.link fate).current)
 
 -- what a poll delivers, by whether the last piece crosses with it
 abbrev pub TellsBy : Bool → Member → Fate → Type 0
@@ -45,18 +48,18 @@ TellsBy false m fate = TellsNothing m (Scheduled (Polls fate))
 abbrev pub IsWholeOrNothing : Member → Fate → Type 0
 IsWholeOrNothing m fate = TellsBy (last_crosses m fate) m fate
 
--- the open round is the one that it was: of its report, with the part that was fixed as it opened, and the piece at
--- hand is the same or the next one
-pub record IsSameRound (round : Open) (before after : Station) : Type 0 where
+-- the open round is the one that it was: of its report, with the part that was fixed as it opened, and the current
+-- piece is the same or the next one
+pub record IsSameRound (round : Open) (before after : LinkState) : Type 0 where
   pub now : Open
   pub is_open : after.current ≡ Some now
   pub report : now.report ≡ round.report
   pub pieces : now.pieces ≡ round.pieces
   pub piece : (now.piece ≡ round.piece) ⊎ (now.piece ≡ round.piece + 1)
-  pub part : after.standing.fixed ≡ before.standing.fixed
+  pub part : after.reports.fixed ≡ before.reports.fixed
 
 -- Whatever step comes between two pieces, the open round ends with it, or stays of the same report and part.
 abbrev pub KeepsToRound : Member → MemberStep → Type 0
 KeepsToRound m x =
-    (round : Open) → m.station.current ≡ Some round
-    → ((member_after m x).station.current ≡ None) ⊎ IsSameRound round m.station (member_after m x).station
+    (round : Open) → m.link.current ≡ Some round
+    → ((member_after m x).link.current ≡ None) ⊎ IsSameRound round m.link (member_after m x).link

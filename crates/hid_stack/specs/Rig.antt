@@ -3,28 +3,29 @@ use Rattle.std.specs.Prelude.{◌≡◌, ◌⊎◌, ◌<◌, ◌≤◌, ◌+◌,
 use Rattle.std.specs.List.{All, filter_map}
 use Rattle.hid_layout.specs.Controls.{items_of, max_events}
 use Rattle.hid_layout.specs.Layout.{Contents}
-use Rattle.hid_snapshots.specs.declared.cell.Cell.{Cell}
+use Rattle.hid_snapshots.specs.declared.control_state.ControlState.{ControlState}
 use Rattle.hid_snapshots.specs.declared.change.ChangeFault.{ChangeFault}
 use Rattle.hid_snapshots.specs.declared.event.Event.{Event}
-use Rattle.hid_snapshots.specs.Snapshots.{changed}
+use Rattle.hid_snapshots.specs.Snapshots.{snapshot_after}
 use Rattle.usb_transact.specs.declared.transaction.Fate.{Fate}
 use Rattle.usb_control.specs.declared.fault.ControlFault.TheVariants.{NoTransfer}
 use Rattle.usb_control.specs.declared.host.HostStage.TheVariants.{Done}
-use Rattle.hid_requests.specs.Asking.{FitsRequest}
-use Rattle.hid_bus.specs.Lives.{told_in}
+use Rattle.hid_requests.specs.RequestSetup.{FitsRequest}
+use Rattle.hid_bus.specs.DeviceHistory.{events_of_history}
 use Rattle.hid_bus.specs.Rounds.{OwnStep, Changes, Polls}
 use Rattle.hid_bus.specs.Rounds as own_steps
 use Rattle.hid_host.specs.declared.fault.StackFault.{StackFault}
 use Rattle.hid_host.specs.declared.fault.StackFault.TheVariants.{NoDevice, NotReady, Refused, Memory}
 use Rattle.hid_host.specs.declared.fault.StackFault.TheVariants as faults
 use Rattle.hid_host.specs.declared.host.Transfer.{Transfer}
-use Rattle.hid_stack.specs.Bringing.{TakesMemory as TakesMemoryFor}
-use Rattle.hid_host.specs.Host.{may_cut, running}
+use Rattle.hid_stack.specs.declared.fault.RunFault.{RunFault}
+use Rattle.hid_stack.specs.ControlSteps.{TakesMemory as TakesMemoryFor}
+use Rattle.hid_host.specs.Host.{may_abort_round, running}
 use Rattle.hid_bus.specs.declared.step.Step.{Step}
 use Rattle.hid_bus.specs.declared.step.Step.TheVariants.{Change, Frame, Poll, Begin, Control, Halt, Reset}
 use Rattle.hid_bus.specs.declared.step.Delivered.{Delivered}
 use Rattle.hid_bus.specs.Delivered.{from_device}
-use Rattle.hid_stack.specs.Members.{Member, MemberStep, Scheduled, Begins, Controls, Halts, Resets, begin_refusal_at, deed_at, deeds_in, ends_tried_at, events_by, member_after, member_after_all, polls_it, unconcluded_of}
+use Rattle.hid_stack.specs.Members.{Member, MemberStep, Scheduled, Begins, Controls, Halts, Resets, begin_refusal_at, bus_event_of_step, bus_events_of_steps, member_transfer_after, events_of_event_if, member_after, member_after_all, polls_it, member_out_of_memory}
 
 -- the member with this number; devices are numbered from 1
 abbrev pub member_at : List Member → ℕ → Option Member
@@ -34,7 +35,7 @@ member_at members dev = if dev == 0 then None else slice_get members (dev - 1)
 abbrev pub with_member : List Member → ℕ → Member → List Member
 with_member members dev m = slice_set members (dev - 1) m
 
--- a step of one device
+-- the bus after a step of one device
 abbrev pub one_after : List Member → ℕ → MemberStep → List Member
 one_after members dev x =
     elim (member_at members dev) [ None ↦ members | Some m ↦ with_member members dev (member_after m x) ]
@@ -50,25 +51,26 @@ bus_after members (Halt dev) = one_after members dev Halts
 bus_after members (Reset dev) = one_after members dev Resets
 
 -- an event, with the number of the device that it came from
-abbrev pub tagged : ℕ → Event → Delivered
-tagged dev event = record { dev = dev; event = event }
+abbrev pub with_device_number : ℕ → Event → Delivered
+with_device_number dev event = record { dev = dev; event = event }
 
 -- what a step of one device delivers, under its number
-abbrev pub one_delivers : List Member → ℕ → MemberStep → List Delivered
-one_delivers members dev x = elim (member_at members dev) [
+abbrev pub member_deliveries : List Member → ℕ → MemberStep → List Delivered
+member_deliveries members dev x = elim (member_at members dev) [
   | None ↦ []
-  | Some m ↦ map (tagged dev) (events_by (items_of m.layout) m.station (deed_at m x))
+  | Some m ↦
+      map (with_device_number dev) (events_of_event_if (items_of m.layout) m.link (bus_event_of_step m x))
 ]
 
 -- What a step delivers: polls, tries, halts and resets alone deliver events.
-abbrev pub delivered_at : List Member → Step → List Delivered
-delivered_at members (Change dev change) = []
-delivered_at members Frame = []
-delivered_at members (Poll dev fate) = one_delivers members dev (Scheduled (Polls fate))
-delivered_at members (Begin dev request) = []
-delivered_at members (Control dev fate) = one_delivers members dev (Controls fate)
-delivered_at members (Halt dev) = one_delivers members dev Halts
-delivered_at members (Reset dev) = one_delivers members dev Resets
+abbrev pub deliveries_of_step : List Member → Step → List Delivered
+deliveries_of_step members (Change dev change) = []
+deliveries_of_step members Frame = []
+deliveries_of_step members (Poll dev fate) = member_deliveries members dev (Scheduled (Polls fate))
+deliveries_of_step members (Begin dev request) = []
+deliveries_of_step members (Control dev fate) = member_deliveries members dev (Controls fate)
+deliveries_of_step members (Halt dev) = member_deliveries members dev Halts
+deliveries_of_step members (Reset dev) = member_deliveries members dev Resets
 
 -- the bus after a list of steps
 abbrev pub bus_after_all : List Member → List Step → List Member
@@ -76,21 +78,22 @@ bus_after_all members [] = members
 bus_after_all members (x ∷ steps) = bus_after_all (bus_after members x) steps
 
 -- what a list of steps delivers, one after another
-abbrev pub delivered_in : List Member → List Step → List Delivered
-delivered_in members [] = []
-delivered_in members (x ∷ steps) = delivered_at members x ++ delivered_in (bus_after members x) steps
+abbrev pub deliveries_of_steps : List Member → List Step → List Delivered
+deliveries_of_steps members [] = []
+deliveries_of_steps members (x ∷ steps) =
+    deliveries_of_step members x ++ deliveries_of_steps (bus_after members x) steps
 
--- why a change is refused, if it is
-abbrev pub change_refusal : Result (List Cell) ChangeFault → Option StackFault
-change_refusal (Ok cells) = None
+-- why a change is refused, by its result
+abbrev pub change_refusal : Result (List ControlState) ChangeFault → Option StackFault
+change_refusal (Ok item_states) = None
 change_refusal (Err fault) = Some (Refused fault)
 
--- a host polls where it is ready, and no clear is pending
+-- why a poll is refused: the host isn't ready, or a clear is pending
 abbrev pub poll_refusal : Bool → Option StackFault
 poll_refusal true = None
 poll_refusal false = Some NotReady
 
--- there is something to try where a transfer runs
+-- why a try is refused: no transfer runs
 abbrev pub control_refusal : Option Transfer → Option StackFault
 control_refusal (Some t) = None
 control_refusal None = Some (faults.Control NoTransfer)
@@ -101,7 +104,7 @@ control_refusal None = Some (faults.Control NoTransfer)
 abbrev pub refusal : List Member → Step → Option StackFault
 refusal members (Change dev change) = elim (member_at members dev) [
   | None ↦ Some NoDevice
-  | Some m ↦ change_refusal (changed (items_of m.layout) m.station.standing.snapshot change)
+  | Some m ↦ change_refusal (snapshot_after (items_of m.layout) m.link.reports.snapshot change)
 ]
 refusal members Frame = None
 refusal members (Poll dev fate) =
@@ -124,13 +127,13 @@ FitsStep (Halt dev) = Unit {0}
 FitsStep (Reset dev) = Unit {0}
 
 -- a try in which a request is done that gives a layout or a view
-abbrev pub GivesMore : Fate → Member → Option Transfer → Type 0
-GivesMore fate m None = ⊥
-GivesMore fate m (Some t) = ((ends_tried_at fate m t).stage ≡ Done) × TakesMemoryFor t.request
+abbrev pub AllocatesResult : Fate → Member → Option Transfer → Type 0
+AllocatesResult fate m None = ⊥
+AllocatesResult fate m (Some t) = ((member_transfer_after fate m t).stage ≡ Done) × TakesMemoryFor t.request
 
 -- a try that takes memory: it gives more, or it may end a round, for whose motion room is made
 abbrev pub TriesWithMemory : Fate → Member → Option Transfer → Type 0
-TriesWithMemory fate m o = GivesMore fate m o ⊎ (may_cut o ≡ true)
+TriesWithMemory fate m o = AllocatesResult fate m o ⊎ (may_abort_round o ≡ true)
 
 -- What takes memory: the room for what a poll, a halt, its end or a reset delivers, and for the bytes of a request, a
 -- layout and a view.
@@ -154,30 +157,31 @@ MakesNoRoom (Control dev fate) = ⊥
 MakesNoRoom (Halt dev) = ⊥
 MakesNoRoom (Reset dev) = ⊥
 
--- Why a step may be refused: its cause stands, or none does and memory was wanting where it is taken.
+-- Why a step may be refused: its cause stands, or none does and memory ran out where it is taken.
 abbrev pub IsRefusal : List Member → Step → StackFault → Type 0
 IsRefusal members x e =
     (refusal members x ≡ Some e) ⊎ ((refusal members x ≡ None) × (e ≡ Memory) × TakesMemory members x)
 
--- a try of one device, where memory is wanting for what its request gives
+-- the bus after a try of one device at which memory runs out for what its request gives
 abbrev pub one_unconcluded : List Member → ℕ → Fate → List Member
 one_unconcluded members dev fate = elim (member_at members dev) [
   | None ↦ members
-  | Some m ↦ with_member members dev (unconcluded_of fate m (running m.transfer))
+  | Some m ↦ with_member members dev (member_out_of_memory fate m (running m.transfer))
 ]
 
--- What a step that is refused leaves: nothing has changed, but that a try was made that found no memory for what its
--- request gives. (A try of a halt or a clear is made once there is room for what it drops.)
-abbrev pub refused_after : List Member → Step → StackFault → List Member
-refused_after members (Control dev fate) Memory = one_unconcluded members dev fate
-refused_after members x e = members
+-- The bus after a step that is refused: nothing has changed, but that a try was made at which memory ran out for what
+-- its request gives. (A try of a halt or a clear is made once there is room for what it drops.)
+abbrev pub bus_after_refusal : List Member → Step → StackFault → List Member
+bus_after_refusal members (Control dev fate) Memory = one_unconcluded members dev fate
+bus_after_refusal members x e = members
 
--- there is room for what a try drops, or it takes no memory
+-- room for the events that a try may drop is reserved, and the try takes no other memory
 abbrev pub HasRoomToTry : Fate → Member → Option Transfer → ℕ → ℕ → Type 0
 HasRoomToTry fate m o used capacity =
-    (may_cut o ≡ true → used + max_events (items_of m.layout) ≤ capacity) × (GivesMore fate m o → ⊥)
+    (may_abort_round o ≡ true → used + max_events (items_of m.layout) ≤ capacity)
+    × (AllocatesResult fate m o → ⊥)
 
--- there is room for what a step delivers, and it takes no other memory
+-- room for the events of a step is reserved, and the step takes no other memory
 abbrev pub HasRoomFor : List Member → Step → ℕ → ℕ → Type 0
 HasRoomFor members (Change dev change) used capacity = Unit {0}
 HasRoomFor members Frame used capacity = Unit {0}
@@ -191,53 +195,69 @@ HasRoomFor members (Begin dev request) used capacity = ⊥
 HasRoomFor members (Control dev fate) used capacity =
     IfSome (member_at members dev) (λ m. HasRoomToTry fate m (running m.transfer) used capacity)
 
--- how many events a try delivers at most: it drops those of a round that it may end
-abbrev pub most_tried : Contents → Bool → ℕ
-most_tried layout true = max_events (items_of layout)
-most_tried layout false = 0
+-- how many events a try delivers at most: those of a round that it may end
+abbrev pub max_events_of_try : Contents → Bool → ℕ
+max_events_of_try layout true = max_events (items_of layout)
+max_events_of_try layout false = 0
 
 -- how many events a step delivers at most: a poll, a halt, a reset, and a try of a request to halt or to clear those of
 -- its device's layout; any other step none
-abbrev pub most_events : List Member → Step → ℕ
-most_events members (Change dev change) = 0
-most_events members Frame = 0
-most_events members (Poll dev fate) =
+abbrev pub max_events_of_step : List Member → Step → ℕ
+max_events_of_step members (Change dev change) = 0
+max_events_of_step members Frame = 0
+max_events_of_step members (Poll dev fate) =
     elim (member_at members dev) [ None ↦ 0 | Some m ↦ max_events (items_of m.layout) ]
-most_events members (Reset dev) =
+max_events_of_step members (Reset dev) =
     elim (member_at members dev) [ None ↦ 0 | Some m ↦ max_events (items_of m.layout) ]
-most_events members (Halt dev) =
+max_events_of_step members (Halt dev) =
     elim (member_at members dev) [ None ↦ 0 | Some m ↦ max_events (items_of m.layout) ]
-most_events members (Begin dev request) = 0
-most_events members (Control dev fate) =
-    elim (member_at members dev) [ None ↦ 0 | Some m ↦ most_tried m.layout (may_cut (running m.transfer)) ]
+max_events_of_step members (Begin dev request) = 0
+max_events_of_step members (Control dev fate) =
+    elim (member_at members dev) [
+      | None ↦ 0
+      | Some m ↦
+          max_events_of_try m.layout (may_abort_round (running m.transfer))
+    ]
 
 -- how many events a list of steps delivers at most. Example: the mouse, polled twice: 10
-abbrev pub most_in : List Member → List Step → ℕ
-most_in members [] = 0
-most_in members (x ∷ steps) = most_events members x + most_in (bus_after members x) steps
+abbrev pub max_events_of_steps : List Member → List Step → ℕ
+max_events_of_steps members [] = 0
+max_events_of_steps members (x ∷ steps) =
+    max_events_of_step members x + max_events_of_steps (bus_after members x) steps
 
--- There is room at a step of a list, behind all that the steps before it can deliver, and it takes no other memory.
+-- Room for the events of a step of a list is reserved, after all that the steps before can deliver, and the step takes
+-- no other memory.
 abbrev pub HasRoomAt : List Member → List Step → ℕ → ℕ → ℕ → Type 0
 HasRoomAt members steps i used capacity = IfSome (slice_get steps i)
-    (λ x. HasRoomFor (bus_after_all members (take i steps)) x (used + most_in members (take i steps)) capacity)
+    (λ x. HasRoomFor (bus_after_all members (take i steps)) x
+    (used + max_events_of_steps members (take i steps)) capacity)
 
 -- no step of a list is refused where it comes, memory aside
 abbrev pub NoneIsRefused : List Member → List Step → Type 0
 NoneIsRefused members [] = Unit {0}
 NoneIsRefused members (x ∷ steps) = (refusal members x ≡ None) × NoneIsRefused (bus_after members x) steps
 
--- A run stops at the first step that is refused behind those before it.
+-- A run stops at the first step that is refused after those before it.
 abbrev pub StopsAt : List Member → List Step → ℕ → StackFault → Type 0
 StopsAt members steps i e =
     (i < length steps) × NoneIsRefused members (take i steps)
     × IfSome (slice_get steps i) (λ x. IsRefusal (bus_after_all members (take i steps)) x e)
 
--- What the steps of a list before a refused one leave, and that one.
-abbrev pub stopped_after : List Member → List Step → ℕ → StackFault → List Member
-stopped_after members steps i e = elim (slice_get steps i) [
+-- The bus after the steps of a list before a refused one, and after that one.
+abbrev pub bus_after_stop : List Member → List Step → ℕ → StackFault → List Member
+bus_after_stop members steps i e = elim (slice_get steps i) [
   | None ↦ members
-  | Some x ↦ refused_after (bus_after_all members (take i steps)) x e
+  | Some x ↦ bus_after_refusal (bus_after_all members (take i steps)) x e
 ]
+
+-- The steps of a run that were done: all of them, or those before the one that was refused.
+abbrev pub steps_done : {X : Type 0} → Result X RunFault → List Step → List Step
+steps_done (Ok _) steps = steps
+steps_done (Err stopped) steps = take stopped.at steps
+
+-- the bus after the steps of a run that were done
+abbrev pub bus_after_done : {X : Type 0} → List Member → Result X RunFault → List Step → List Member
+bus_after_done members result steps = bus_after_all members (steps_done result steps)
 
 -- The schedule of a device: the changes and polls that name it, and all frames.
 abbrev pub own_step : ℕ → Step → Option OwnStep
@@ -250,10 +270,10 @@ own_step device (Halt dev) = None
 own_step device (Reset dev) = None
 
 -- the own steps of a device in a list of steps, in their order
-abbrev pub own : ℕ → List Step → List OwnStep
-own device steps = filter_map (own_step device) steps
+abbrev pub device_steps : ℕ → List Step → List OwnStep
+device_steps device steps = filter_map (own_step device) steps
 
--- all of its steps: those that name it, and all frames
+-- the step of a device that a step of the bus is: one that names the device, or a frame
 abbrev pub member_step : ℕ → Step → Option MemberStep
 member_step device (Change dev change) = if dev == device then Some (Scheduled (Changes change)) else None
 member_step device Frame = Some (Scheduled own_steps.Frame)
@@ -291,4 +311,4 @@ pub record IsIsolated (before after : List Member) (steps : List Step) (old new 
       → member_at after device ≡ Some (member_after_all m (member_steps device steps))
   pub events : (device : ℕ) (m : Member) → member_at before device ≡ Some m
       → from_device device new ≡ from_device device old
-      ++ told_in (items_of m.layout) m.station (deeds_in m (member_steps device steps))
+      ++ events_of_history (items_of m.layout) m.link (bus_events_of_steps m (member_steps device steps))

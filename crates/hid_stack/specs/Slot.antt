@@ -4,9 +4,9 @@ use Rattle.std.specs.Bool.{beq}
 use Rattle.hid_layout.specs.Layout.{Contents}
 use Rattle.hid_layout.specs.Reports.{IsLayout}
 use Rattle.hid_layout.specs.Controls.{Item, items_of}
-use Rattle.hid_snapshots.specs.declared.cell.Cell.{Cell}
+use Rattle.hid_snapshots.specs.declared.control_state.ControlState.{ControlState}
 use Rattle.hid_snapshots.specs.Pieces.{pieces_of}
-use Rattle.hid_snapshots.specs.Cells.{blank, FitsView}
+use Rattle.hid_snapshots.specs.ControlStates.{blank, FitsView}
 use Rattle.hid_requests.specs.declared.codes.TheConstants.{REPORT_ENDPOINT as ENDPOINT}
 use Rattle.hid_device.specs.Core.{CoreState, IsSound}
 use Rattle.hid_device.specs.Device.{DeviceState, core_of}
@@ -14,7 +14,7 @@ use Rattle.hid_host.specs.declared.phase.HostPhase.{HostPhase}
 use Rattle.hid_host.specs.declared.phase.HostPhase.TheVariants.{Ready}
 use Rattle.hid_host.specs.Host.{HostEnd}
 use Rattle.hid_host.specs.Ready.{Known}
-use Rattle.hid_bus.specs.Stations.{Station, Open}
+use Rattle.hid_bus.specs.LinkState.{LinkState, Open}
 use Rattle.hid_host.specs.Phase.{state_of}
 use Rattle.usb_transact.specs.declared.transaction.Fate.{Fate}
 use Rattle.usb_control.specs.declared.fault.ControlFault.TheVariants.{NoTransfer}
@@ -23,71 +23,71 @@ use Rattle.usb_control.specs.Host.{progress_of}
 use Rattle.hid_host.specs.declared.fault.StackFault.{StackFault}
 use Rattle.hid_host.specs.declared.fault.StackFault.TheVariants.{Control, Memory}
 use Rattle.hid_host.specs.declared.host.Transfer.{Transfer}
-use Rattle.hid_stack.specs.Members.{Member, endpoint_of, ends_tried_at, got_of, held_if, tried_of, tried_to, unconcluded_of}
-use Rattle.hid_stack.specs.Rig.{GivesMore, TriesWithMemory}
+use Rattle.hid_stack.specs.Members.{Member, endpoint_of, member_after_try, member_after_try_in, member_out_of_memory, member_transfer_after, partial_report_of, toggle_if_held}
+use Rattle.hid_stack.specs.Rig.{AllocatesResult, TriesWithMemory}
 
--- the piece at hand of an open round has crossed exactly where the two toggles differ
+-- the open round of a device and its host: its current piece has crossed exactly where the two toggles differ
 abbrev pub round_between : List Item → Bool → Bool → Option ℕ → ℕ → Option Open
 round_between items toggle expects None piece = None
 round_between items toggle expects (Some r) piece =
     Some (record { report = r; pieces = pieces_of items r; piece = piece; crossed = not (beq toggle expects) })
 
--- what a device and its ready host keep together
-abbrev pub joined : CoreState → Known → Station
-joined core known = record {
-  standing = core.standing;
+-- the link state of a device and its ready host
+abbrev pub link_of_pair : CoreState → Known → LinkState
+link_of_pair core known = record {
+  reports = core.reports;
   current = round_between (items_of core.layout) core.toggle known.pipe.expects core.current core.piece;
-  odd = core.toggle;
+  toggle = core.toggle;
   view = known.view;
   halted = core.halted;
 }
 
--- a host that isn't ready has the initial view
-abbrev pub station_of : CoreState → HostPhase → Station
-station_of core (Ready known) = joined core known
-station_of core _ = record {
-  standing = core.standing;
+-- the link state of a device and its host: one that isn't ready has the initial view
+abbrev pub link_of : CoreState → HostPhase → LinkState
+link_of core (Ready known) = link_of_pair core known
+link_of core _ = record {
+  reports = core.reports;
   current = round_between (items_of core.layout) core.toggle core.toggle core.current core.piece;
-  odd = core.toggle;
+  toggle = core.toggle;
   view = blank (items_of core.layout);
   halted = core.halted;
 }
 
--- the toggle that is held: that of a ready host, while the endpoint is halted or a clear is pending
-abbrev pub held_of : CoreState → Bool → HostPhase → Option Bool
-held_of core clearing (Ready known) = held_if (core.halted || clearing) known.pipe.expects
-held_of core clearing _ = None
+-- the toggle that a host holds: a ready host does while the endpoint is halted or a clear is pending
+abbrev pub held_toggle : CoreState → Bool → HostPhase → Option Bool
+held_toggle core clearing (Ready known) = toggle_if_held (core.halted || clearing) known.pipe.expects
+held_toggle core clearing _ = None
 
 -- The member that a device and its host are.
-abbrev pub joint : DeviceState → HostEnd → Member
-joint device host = record {
+abbrev pub pair_member : DeviceState → HostEnd → Member
+pair_member device host = record {
   addr = device.addr;
   config = (core_of device).config;
   descriptor = (core_of device).descriptor;
   layout = (core_of device).layout;
-  station = station_of (core_of device) host.phase;
+  link = link_of (core_of device) host.phase;
   endpoint = endpoint_of device.control;
   host = state_of host.phase;
   transfer = host.transfer;
   clearing = host.clearing;
-  held = held_of (core_of device) host.clearing host.phase;
+  held = held_toggle (core_of device) host.clearing host.phase;
 }
 
--- where no round is open the toggles are the same
-abbrev pub IsEven : Bool → Bool → Option ℕ → Type 0
-IsEven toggle expects None = toggle ≡ expects
-IsEven toggle expects (Some r) = Unit {0}
+-- the toggles of both ends are the same, unless a round is open
+abbrev pub TogglesAgree : Bool → Bool → Option ℕ → Type 0
+TogglesAgree toggle expects None = toggle ≡ expects
+TogglesAgree toggle expects (Some r) = Unit {0}
 
 -- Without an open round the host expects the device's toggle, unless the endpoint is halted or its clear is pending.
-abbrev pub IsEvenUnless : Bool → Bool → Bool → Option ℕ → Type 0
-IsEvenUnless true toggle expects current = Unit {0}
-IsEvenUnless false toggle expects current = IsEven toggle expects current
+abbrev pub TogglesAgreeUnless : Bool → Bool → Bool → Option ℕ → Type 0
+TogglesAgreeUnless true toggle expects current = Unit {0}
+TogglesAgreeUnless false toggle expects current = TogglesAgree toggle expects current
 
 -- The host has got the pieces of the open round that crossed, unless the endpoint is halted or its clear is pending: a
 -- halt may have ended the round that its bytes are of.
-abbrev pub HasGotUnless : Bool → Contents → List Cell → Option Open → List ℕ → Type 0
-HasGotUnless true layout parts current bytes = Unit {0}
-HasGotUnless false layout parts current bytes = bytes ≡ got_of layout parts current
+abbrev pub HasReceivedUnless : Bool → Contents → List ControlState → Option Open → List ℕ → Type 0
+HasReceivedUnless true layout parts current bytes = Unit {0}
+HasReceivedUnless false layout parts current bytes = bytes ≡ partial_report_of layout parts current
 
 -- A device that is configured, and what its ready host keeps, with a clear that is pending or not: the host polls the
 -- device, has its layout, expects the device's toggle where no round is open, and has got the pieces that crossed of
@@ -97,10 +97,10 @@ pub record ArePaired (device : DeviceState) (known : Known) (clearing : Bool) : 
   pub layout : known.layout ≡ (core_of device).layout
   pub addr : known.pipe.addr ≡ device.addr
   pub endp : known.pipe.endp ≡ ENDPOINT
-  pub even : IsEvenUnless ((core_of device).halted || clearing)
+  pub even : TogglesAgreeUnless ((core_of device).halted || clearing)
       (core_of device).toggle known.pipe.expects (core_of device).current
-  pub got : HasGotUnless ((core_of device).halted || clearing) (core_of device).layout
-      (core_of device).standing.fixed (joined (core_of device) known).current known.collected
+  pub got : HasReceivedUnless ((core_of device).halted || clearing) (core_of device).layout
+      (core_of device).reports.fixed (link_of_pair (core_of device) known).current known.collected
   pub sound : IsSound (core_of device)
   pub laid : IsLayout known.layout
   pub fits : FitsView (items_of known.layout) known.view
@@ -116,26 +116,26 @@ pub record IsUntouched (core : CoreState) : Type 0 where
   pub no_round : core.current ≡ None
   pub even : core.toggle ≡ false
 
--- a device and its host stand together: they are such a pair where the host is ready, and before that no round opens
+-- a device and its host stand together: they are paired where the host is ready, and before that no round opens
 abbrev pub StandTogether : DeviceState → Bool → HostPhase → Type 0
 StandTogether device clearing (Ready known) = ArePaired device known clearing
 StandTogether device clearing _ = IsUntouched (core_of device)
 
--- A try of the transfer that runs, at the two ends: both go on, but that the host stays where memory is wanting for
+-- A try of the transfer that runs, at the two ends: both go on, but that the host stays where memory runs out for
 -- what its request gives.
 abbrev pub TriesOnPair : Fate → Member → Option Transfer → Result Progress StackFault → Member → Type 0
 TriesOnPair fate m None result new = (result ≡ Err (Control NoTransfer)) × (new ≡ m)
 TriesOnPair fate m (Some t) (Ok progress) new =
-    (progress ≡ progress_of (ends_tried_at fate m t).stage) × (new ≡ tried_of fate m (Some t))
+    (progress ≡ progress_of (member_transfer_after fate m t).stage) × (new ≡ member_after_try fate m (Some t))
 TriesOnPair fate m (Some t) (Err fault) new =
-    (fault ≡ Memory) × GivesMore fate m (Some t) × (new ≡ tried_to fate m t m.host)
+    (fault ≡ Memory) × AllocatesResult fate m (Some t) × (new ≡ member_after_try_in fate m t m.host)
 
--- A try of the transfer that runs, where one does: both ends go on, but that the host stays where memory is wanting for
--- what its request gives, and that nothing is tried where it is wanting for what may be dropped.
+-- A try of the transfer that runs, where one does: both ends go on, but that the host stays where memory runs out for
+-- what its request gives, and that nothing is tried where it runs out for what may be dropped.
 abbrev pub TriesTransfer :
     Fate → Member → Option Transfer → Result Progress StackFault → Member → Type 0
 TriesTransfer fate m None result new = (result ≡ Err (Control NoTransfer)) × (new ≡ m)
 TriesTransfer fate m (Some t) (Ok progress) new =
-    (progress ≡ progress_of (ends_tried_at fate m t).stage) × (new ≡ tried_of fate m (Some t))
+    (progress ≡ progress_of (member_transfer_after fate m t).stage) × (new ≡ member_after_try fate m (Some t))
 TriesTransfer fate m (Some t) (Err fault) new =
-    (fault ≡ Memory) × TriesWithMemory fate m (Some t) × (new ≡ unconcluded_of fate m (Some t))
+    (fault ≡ Memory) × TriesWithMemory fate m (Some t) × (new ≡ member_out_of_memory fate m (Some t))

@@ -1,11 +1,11 @@
 -- The trail of a transfer with a virtual device: where its tries led, and on what the device decided (USB 2.0, 8.5.3).
 use Rattle.usb_transact.specs.declared.transaction.Fate.{Fate}
 use Rattle.usb_control.specs.Device.{DevControlState}
-use Rattle.usb_control.specs.Meanwhile.{Ends, act_now, decision_now}
-use Rattle.usb_control.specs.Transfer.{Act, Decides, Place, shape_of, start, tried}
+use Rattle.usb_control.specs.Interleaving.{Ends, act_now, decision_now}
+use Rattle.usb_control.specs.Transfer.{Act, Decides, Place, place_after_try, shape_of, start}
 use Rattle.std.specs.Prelude.{Option, Some, None}
 use Rattle.hid_device.specs.Core.{CoreState}
-use Rattle.hid_device.specs.Deciding.{core_table}
+use Rattle.hid_device.specs.RequestTable.{core_table}
 use Rattle.hid_host.specs.declared.host.Transfer.{Transfer}
 
 -- the place to which the tries of a transfer led, and the device as it stood when the last SETUP arrived
@@ -17,23 +17,26 @@ pub record Trail : Type 0 where
 abbrev pub trail_from : CoreState → Trail
 trail_from core = record { place = start; decider = core }
 
--- the device that decided last, behind an act of a device that stands so
-abbrev pub decider_behind : Act → CoreState → CoreState → CoreState
-decider_behind (Decides decision) core decider = core
-decider_behind _ core decider = decider
+-- the device as it stood when it decided last, after one more act of a try
+abbrev pub decider_after : Act → CoreState → CoreState → CoreState
+decider_after (Decides decision) core decider = core
+decider_after _ core decider = decider
 
 -- both ends of a transfer
 abbrev pub ends_with : Transfer → DevControlState CoreState → Ends CoreState
 ends_with t control = record { host = t.ends; control = control }
 
 -- A try leads on by its fate and by how the device stands, which decides where a SETUP arrives.
-abbrev pub trail_tried : Fate → Transfer → DevControlState CoreState → Trail → Trail
-trail_tried fate t control trail = record {
-  place = tried (shape_of t.ends.setup) fate (decision_now core_table (ends_with t control)) trail.place;
-  decider = decider_behind (act_now core_table trail.place fate (ends_with t control)) control.requests trail.decider;
+abbrev pub trail_after_try : Fate → Transfer → DevControlState CoreState → Trail → Trail
+trail_after_try fate t control trail = record {
+  place = place_after_try (shape_of t.ends.setup) fate
+      (decision_now core_table (ends_with t control)) trail.place;
+  decider =
+      decider_after
+      (act_now core_table trail.place fate (ends_with t control)) control.requests trail.decider;
 }
 
 -- a control step leads the trail of the transfer that runs on, if one runs
-abbrev pub trail_behind : Fate → Option Transfer → DevControlState CoreState → Trail → Trail
-trail_behind fate None control trail = trail
-trail_behind fate (Some t) control trail = trail_tried fate t control trail
+abbrev pub trail_after : Fate → Option Transfer → DevControlState CoreState → Trail → Trail
+trail_after fate None control trail = trail
+trail_after fate (Some t) control trail = trail_after_try fate t control trail

@@ -7,11 +7,11 @@
 //!   Step::Control           <---- SETUP, IN or OUT ------------------------------------ control_step: one try
 //!                           ---------------------------->    endpoint 0 answers
 //!   Step::Poll              <---- IN 69 81 00 ----------------------------------------- token
-//!                           ---------------------------->    hear_poll: a round opens if a report is due
-//!                           <---- DATA0 C3 00 00 04 .. ---   poll_answer: armed until it is acknowledged
-//!                           ------------------------------------------------------->   reply_lent
+//!                           ---------------------------->    receive_poll: a round opens if a report is due
+//!                           <---- DATA0 C3 00 00 04 .. ---   poll_response: armed until it is acknowledged
+//!                           ------------------------------------------------------->   reply_ref
 //!                           ---- ACK 0xD2 --------------->   on_packet                 Down 07:04
-//!   Step::Halt   ---------------------------------------->   halt: STALL from then on  tell_cut: Dropped 01:30 5
+//!   Step::Halt   ---------------------------------------->   halt: STALL from then on  drop_aborted_motion: Dropped 01:30 5
 //!   Step::Reset  ---------------------------------------->   reset                     reset: Up 07:04
 //! ```
 //! Each packet goes as its bytes, and is decoded from the bytes that arrive: [`poll`] says so packet by packet, over any bus.

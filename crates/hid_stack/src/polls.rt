@@ -4,18 +4,18 @@ ghost use Rattle.std.specs.Prelude.{◌≡◌, ◌≤◌, ◌+◌, true, false, 
 ghost use Rattle.std.specs.Option.{option_map};
 ghost use Rattle.hid_layout.specs.Controls.{items_of, max_events};
 ghost use Rattle.hid_snapshots.specs.Encoding.{AreBytes};
-ghost use Rattle.usb_packet.specs.Lent.{owned, IsShort};
+ghost use Rattle.usb_packet.specs.PacketRef.{to_owned, IsShort};
 ghost use Rattle.usb_packet.specs.Spelling.{Fits};
-ghost use Rattle.usb_transact.specs.Bus.{arrived};
+ghost use Rattle.usb_transact.specs.Bus.{received_bytes};
 ghost use Rattle.usb_transact.specs.declared.bus.Phase.TheVariants.{Reply};
 ghost use Rattle.hid_bus.specs.Rounds.{Polls};
 ghost use Rattle.hid_host.specs.Phase.{IfReady};
-ghost use Rattle.hid_stack.specs.Slot.{IsPair, joint, station_of};
-ghost use Rattle.hid_stack.specs.Knowing.{Knows};
+ghost use Rattle.hid_stack.specs.Slot.{IsPair, link_of, pair_member};
+ghost use Rattle.hid_stack.specs.HostInvariant.{IsConsistent};
 ghost use Rattle.hid_stack.specs.Members.{Scheduled, member_after};
-ghost use Rattle.hid_stack.specs.Polls.{Hears, HearsAck, HasBytes, Acknowledges, GoesByPackets, Asks, Responds};
-ghost use Rattle.hid_bus.specs.Stations.{events_at};
-ghost use Rattle.hid_stack.specs.Tells.{TellsPoll};
+ghost use Rattle.hid_stack.specs.Polls.{Receives, ReceivesAck, HasBytes, Acknowledges, GoesByPackets, Asks, Responds};
+ghost use Rattle.hid_bus.specs.LinkState.{events_of_step};
+ghost use Rattle.hid_stack.specs.StepResult.{TellsPoll};
 
 use crate::laws::hosts_know_their_devices;
 use arrayvec::ArrayVec;
@@ -23,81 +23,86 @@ use hid_bus::Told;
 use hid_device::Device;
 use hid_host::{HostDevice, StackFault};
 use hid_snapshots::Event;
-use usb_packet::{LentPacket, Packet, spell, spell_lent};
-use usb_transact::{Bus, Fate, Phase, Took, read_arrived};
+use usb_packet::{Packet, PacketRef, encode_into, encode_ref_into};
+use usb_transact::{Bus, Fate, Phase, Took, decode_received};
 
-// The numbers of a byte string are bytes.
+// For the prover: the numbers of a byte string are bytes.
 fn are_bytes(bytes: &[u8])
     ensures { AreBytes bytes.now }
 {
     let _bytes = bytes;
 }
 
-// Lets the device hear a packet, where one came, and gives its answer.
-fn hear_packet(device: &mut Device, packet: Option<LentPacket>) -> Option<Packet>
+// Gives the device a packet, where one came, and returns its answer.
+fn receive_packet(device: &mut Device, packet: Option<PacketRef>) -> Option<Packet>
     requires { IfSome packet IsShort }
-    ensures hears { Hears device.old (option_map owned packet.entry) result device.new }
+    ensures hears { Receives device.old (option_map to_owned packet.entry) result device.new }
     ensures fits { IfSome result Fits }
     ensures bytes { IfSome result HasBytes }
 {
-    let packet = packet?.owned();
+    let packet = packet?.to_owned();
     let answer = device.on_packet(&packet);
     if let Some(Packet::Data { payload, .. }) = &answer {
+        // For the prover: its payload is bytes.
         are_bytes(payload.as_slice());
     }
     answer
 }
 
-// The payload of a packet is bytes.
-fn has_bytes(packet: LentPacket)
-    ensures { HasBytes (owned packet.entry) }
+// For the prover: the payload of a packet is bytes.
+fn has_bytes(packet: PacketRef)
+    ensures { HasBytes (to_owned packet.entry) }
 {
-    if let LentPacket::Data { payload, .. } = packet {
+    if let PacketRef::Data { payload, .. } = packet {
+        // For the prover: its payload is bytes.
         are_bytes(payload);
     }
 }
 
-// Lets the device hear a poll, and writes the bytes of its answer.
+// Gives the device a poll, and writes the bytes of its answer.
 #[tactic(auto, using(hid_device::proofs::DeviceLemmas::polled_configured, hid_device::proofs::DeviceLemmas::opening_configured))]
-fn answer_poll(device: &mut Device, packet: LentPacket, bytes: &mut ArrayVec<u8, 65>)
-    requires polls { is_poll device.old (owned packet) ≡ true }
+fn answer_poll(device: &mut Device, packet: PacketRef, bytes: &mut ArrayVec<u8, 65>)
+    requires polls { is_poll device.old (to_owned packet) ≡ true }
     requires empty { bytes.old.items ≡ [] }
-    ensures { Responds device.old (Some (owned packet.entry)) true bytes.new.items device.new }
+    ensures { Responds device.old (Some (to_owned packet.entry)) true bytes.new.items device.new }
 {
-    device.hear_poll();
-    let answer = device.poll_answer();
+    device.receive_poll();
+    let answer = device.poll_response();
+    // For the prover: its payload is bytes.
     has_bytes(answer);
-    spell_lent(answer, bytes);
+    encode_ref_into(answer, bytes);
 }
 
-// Lets the device hear any packet, where one came, and writes the bytes of its answer, where it gives one.
+// Gives the device a packet, where one came, and writes the bytes of its answer, where it gives one.
 #[inline(never)] // it makes room for packets that polls don't need
 fn answer_packet(
     device: &mut Device,
-    packet: Option<LentPacket>,
+    packet: Option<PacketRef>,
     bytes: &mut ArrayVec<u8, 65>,
 ) -> bool
     requires short { IfSome packet IsShort }
     requires empty { bytes.old.items ≡ [] }
-    ensures { Responds device.old (option_map owned packet.entry) result bytes.new.items device.new }
+    ensures { Responds device.old
+        (option_map to_owned packet.entry) result bytes.new.items device.new }
 {
-    match hear_packet(device, packet) {
+    match receive_packet(device, packet) {
         Some(answer) => {
-            spell(&answer, bytes);
+            encode_into(&answer, bytes);
             true
         }
         None => false,
     }
 }
 
-// The same, by whether it is a poll.
-fn respond(device: &mut Device, packet: Option<LentPacket>, bytes: &mut ArrayVec<u8, 65>) -> bool
+// Gives the device a packet, by whether it is a poll, and writes the bytes of its answer.
+fn respond(device: &mut Device, packet: Option<PacketRef>, bytes: &mut ArrayVec<u8, 65>) -> bool
     requires short { IfSome packet IsShort }
     requires empty { bytes.old.items ≡ [] }
-    ensures { Responds device.old (option_map owned packet.entry) result bytes.new.items device.new }
+    ensures { Responds device.old
+        (option_map to_owned packet.entry) result bytes.new.items device.new }
 {
     if let Some(token) = packet {
-        if device.is_polled_by(token) {
+        if device.is_poll(token) {
             answer_poll(device, token, bytes);
             return true;
         }
@@ -105,7 +110,7 @@ fn respond(device: &mut Device, packet: Option<LentPacket>, bytes: &mut ArrayVec
     answer_packet(device, packet, bytes)
 }
 
-// Sends a token, lets the device hear what arrives of it, and writes the bytes of its answer, where it gives one.
+// Sends a token, gives the device what arrives of it, and writes the bytes of its answer, where it gives one.
 fn send_token<B: Bus>(
     bus: &B,
     token: &Packet,
@@ -117,21 +122,21 @@ fn send_token<B: Bus>(
     ensures { Asks (B.arrives bus.now) token.now device.old result bytes.new.items device.new }
 {
     let mut sent = ArrayVec::new();
-    spell(token, &mut sent);
-    let has_come = bus.hand_on(Phase::Token, &mut sent);
-    let came = read_arrived(has_come, &sent);
+    encode_into(token, &mut sent);
+    let has_come = bus.transmit(Phase::Token, &mut sent);
+    let came = decode_received(has_come, &sent);
     respond(device, came, bytes)
 }
 
 // Hands the bytes of an answer on, where there is one.
-fn hand_on_answer<B: Bus>(bus: &B, answers: bool, bytes: &mut ArrayVec<u8, 65>) -> bool
-    ensures { arrived result bytes.new.items
+fn transmit_answer<B: Bus>(bus: &B, answers: bool, bytes: &mut ArrayVec<u8, 65>) -> bool
+    ensures { received_bytes result bytes.new.items
         ≡ (if answers then B.arrives bus.now Reply bytes.old.items else None) }
 {
-    answers && bus.hand_on(Phase::Reply, bytes)
+    answers && bus.transmit(Phase::Reply, bytes)
 }
 
-// Sends ACK for data, fresh or not, and lets the device hear what arrives of it.
+// Sends ACK for data, fresh or not, and gives the device what arrives of it.
 fn acknowledge<B: Bus>(bus: &B, took: &Took, device: &mut Device)
     ensures { Acknowledges (B.arrives bus.now) took.now device.old device.new }
 {
@@ -141,14 +146,14 @@ fn acknowledge<B: Bus>(bus: &B, took: &Took, device: &mut Device)
     }
 }
 
-// Sends ACK, and lets the device hear what arrives of it.
+// Sends ACK, and gives the device what arrives of it.
 fn send_ack<B: Bus>(bus: &B, device: &mut Device)
-    ensures { HearsAck (B.arrives bus.now) device.old device.new }
+    ensures { ReceivesAck (B.arrives bus.now) device.old device.new }
 {
     let mut bytes = ArrayVec::new();
-    spell_lent(LentPacket::Ack, &mut bytes);
-    let has_arrived = bus.hand_on(Phase::Acknowledgement, &mut bytes);
-    let _ = hear_packet(device, read_arrived(has_arrived, &bytes));
+    encode_ref_into(PacketRef::Ack, &mut bytes);
+    let has_arrived = bus.transmit(Phase::Acknowledgement, &mut bytes);
+    let _ = receive_packet(device, decode_received(has_arrived, &bytes));
 }
 
 /// One poll over any bus: the host's IN token, the device's answer, and ACK for data, fresh or not. Each packet goes as
@@ -166,7 +171,7 @@ pub fn poll<B: Bus>(
 ) -> Result<Told, StackFault>
     requires room { IfReady host.old.phase (λ known. vec_len out.old
         + max_events (items_of known.layout) ≤ vec_capacity out.old) }
-    // Packet by packet.
+    // Each packet is the one that is due, and each end acts on the bytes that arrive of it.
     ensures packets { GoesByPackets (B.arrives bus.now) device.old host.old host.old.clearing
         host.old.phase result device.new host.new out.old.items out.new.items }
 
@@ -179,8 +184,8 @@ pub fn poll<B: Bus>(
     let answers = send_token(bus, &token, device, &mut reply);
     let mut back = ArrayVec::new();
     back.try_extend_from_slice(&reply).unwrap();
-    let is_back = hand_on_answer(bus, answers, &mut back);
-    let took = host.reply_lent(read_arrived(is_back, &back), out)?;
+    let is_back = transmit_answer(bus, answers, &mut back);
+    let took = host.reply_ref(decode_received(is_back, &back), out)?;
     acknowledge(bus, &took, device);
     Ok(Told::Polled {
         reply: if answers { Some(reply) } else { None },
@@ -188,7 +193,7 @@ pub fn poll<B: Bus>(
     })
 }
 
-/// A poll of a device by its own host, of which this fate befalls the packets.
+/// A poll of a device by its own host, whose packets have this fate.
 pub(crate) fn poll_pair(
     fate: Fate,
     device: &mut Device,
@@ -199,19 +204,23 @@ pub(crate) fn poll_pair(
     requires free { host.old.clearing ≡ false }
     requires room { max_events (items_of (core_of device.old).layout) ≤ vec_capacity events.old }
     ensures told { TellsPoll (core_of device.old).layout
-        (station_of (core_of device.old) host.old.phase) fate result }
-    ensures after { joint device.new host.new
-        ≡ member_after (joint device.old host.old) (Scheduled (Polls fate)) }
+        (link_of (core_of device.old) host.old.phase) fate result }
+    ensures after { pair_member device.new host.new
+        ≡ member_after (pair_member device.old host.old) (Scheduled (Polls fate)) }
     ensures pair { IsPair device.new host.new.clearing host.new.phase }
-    ensures knows { Knows host.old device.old.control → Knows host.new device.new.control }
+    ensures knows { IsConsistent host.old device.old.control
+        → IsConsistent host.new device.new.control }
     ensures home { host.new.addr ≡ host.old.addr }
     ensures events { events.new.items
-        ≡ events_at (items_of (core_of device.old).layout) (station_of (core_of device.old) host.old.phase)
+        ≡ events_of_step (items_of (core_of device.old).layout)
+        (link_of (core_of device.old) host.old.phase)
         (Polls fate) }
     ensures few { length events.new.items ≤ max_events (items_of (core_of device.old).layout) }
     ensures capacity { vec_capacity events.new ≡ vec_capacity events.old }
 {
+    // For the prover: the answer to a poll leaves what a host knows of its device.
     hosts_know_their_devices();
+
     events.clear();
     match poll(&fate, device, host, events) {
         Ok(told) => told,

@@ -1,17 +1,17 @@
-//! The rig: the devices of a bus with their hosts, and the steps that befall them.
-ghost use Rattle.std.specs.Prelude.{◌≡◌, ◌≢◌, ◌≤◌, ◌+◌, ◌++◌, ◌<◌, List, [], ◌∷◌, Ok, Err, Some, length, map, take, IfOk, OnOk, IfErr, OnErr, vec_len, vec_capacity};
+//! The rig: the devices of a bus with their hosts, and the steps that happen to them.
+ghost use Rattle.std.specs.Prelude.{◌≡◌, ◌≢◌, ◌≤◌, ◌+◌, ◌++◌, ◌<◌, List, [], ◌∷◌, Ok, Err, Some, length, map, IfOk, OnOk, IfErr, OnErr, vec_len, vec_capacity};
 ghost use Rattle.std.specs.List.{All};
 ghost use Rattle.hid_bus.specs.Rounds.{Frame as FrameStep};
 ghost use Rattle.hid_host.specs.declared.fault.StackFault.{StackFault};
 ghost use Rattle.hid_stack.specs.Attaching.{Attaches, IsAttached, Finds};
-ghost use Rattle.hid_stack.specs.Expecting.{HostsExpectParity};
+ghost use Rattle.hid_stack.specs.ExpectedToggles.{HostsExpectParity};
 ghost use Rattle.hid_stack.specs.Headline.{DeliversChanges, DevicesLive, KeepsToRounds};
 ghost use Rattle.hid_stack.specs.Members.{Scheduled, member_after};
-ghost use Rattle.hid_stack.specs.Rig.{AreScheduled, FitsStep, NoneIsRefused, member_at, bus_after, delivered_at, bus_after_all, delivered_in, refusal, refused_after, stopped_after, IsRefusal, StopsAt, HasRoomAt, HasRoomFor, MakesNoRoom, most_events, most_in, IsIsolated};
-ghost use Rattle.hid_stack.specs.Showing.{GivesOf, ShowsDevice, ShowsHost, ShowsTransfer};
-ghost use Rattle.hid_stack.specs.Steps.{TellsNothingUnready, named_by};
-ghost use Rattle.hid_stack.specs.Sums.{ConfiguresBetweenRounds, OnlyHaltsCut, SumsUp};
-ghost use Rattle.hid_stack.specs.Tells.{Tells};
+ghost use Rattle.hid_stack.specs.Rig.{AreScheduled, FitsStep, NoneIsRefused, member_at, bus_after, deliveries_of_step, bus_after_all, bus_after_done, deliveries_of_steps, steps_done, refusal, bus_after_refusal, bus_after_stop, IsRefusal, StopsAt, HasRoomAt, HasRoomFor, MakesNoRoom, max_events_of_step, max_events_of_steps, IsIsolated};
+ghost use Rattle.hid_stack.specs.Accessors.{GivesOf, ShowsDevice, ShowsHost, ShowsTransfer};
+ghost use Rattle.hid_stack.specs.Steps.{TellsNothingUnready, device_of_step};
+ghost use Rattle.hid_stack.specs.Sums.{ConfiguresBetweenRounds, OnlyHaltsAbort, SumsUp};
+ghost use Rattle.hid_stack.specs.StepResult.{Tells};
 
 use crate::fault::RunFault;
 use crate::slot::Slot;
@@ -36,7 +36,7 @@ pub struct Rig {
 
 impl Model for Rig {
     ghost use Rattle.std.specs.Prelude.{List, ◌≡◌, ◌≤◌, length, vec_capacity};
-    ghost use Rattle.hid_stack.specs.Expecting.{AllHoldToggles};
+    ghost use Rattle.hid_stack.specs.ExpectedToggles.{AllHoldToggles};
     ghost use Rattle.hid_stack.specs.Members.{Member};
     ghost use Rattle.hid_stack.specs.Sums.{AllHaveMotions};
     ghost use Rattle.hid_stack.specs.declared.rig.TheConstants.{MAX_DEVICES};
@@ -169,11 +169,11 @@ impl Rig {
     /// else where a layout or a view finds none.
     #[inline(always)] // a caller that knows the sort of its step pays for no other
     pub fn step(&mut self, step: &Step, out: &mut Vec<Delivered>) -> Result<Told, StackFault>
-        // What it tells, where the bus stands after it, and what it delivers.
+        // What a step tells, where the bus stands after it, and what it delivers.
         ensures told { IfOk result (λ told. Tells self.old step.now told) }
         ensures after { OnOk result (self.new ≡ bus_after self.old step.now) }
         ensures events { OnOk result (out.new.items
-            ≡ out.old.items ++ delivered_at self.old step.now) }
+            ≡ out.old.items ++ deliveries_of_step self.old step.now) }
 
         // A host that isn't ready has told nothing, so a reset takes nothing back, and no other step of its device tells.
         ensures unready { TellsNothingUnready self.old step.now out.old.items out.new.items }
@@ -184,18 +184,18 @@ impl Rig {
         // Each refusal comes exactly where its cause stands, memory aside, and changes nothing but by a try.
         ensures refused { (e : StackFault) → refusal self.old step.now ≡ Some e → result ≡ Err e }
         ensures only { IfErr result (λ e. IsRefusal self.old step.now e) }
-        ensures err { IfErr result (λ e. self.new ≡ refused_after self.old step.now e) }
+        ensures err { IfErr result (λ e. self.new ≡ bus_after_refusal self.old step.now e) }
         ensures err_events { OnErr result (out.new.items ≡ out.old.items) }
 
         // A configuration takes effect between the rounds of its device, and only a request to halt or to clear ends one.
         ensures between { ConfiguresBetweenRounds self.old (step.now ∷ []) }
-        ensures cuts { OnlyHaltsCut self.old step.now }
+        ensures aborts { OnlyHaltsAbort self.old step.now }
 
-        // With room for what a poll, a halt, its end or a reset delivers, memory is never wanting. A step fills no more than
-        // that, and gives none back.
+        // With room for what a poll, a halt, its end or a reset delivers, memory never runs out. A step fills no more
+        // than that, and gives none back.
         ensures room { HasRoomFor self.old step.now (vec_len out.old) (vec_capacity out.old)
             → result ≢ Err StackFault.Memory }
-        ensures few { vec_len out.new ≤ vec_len out.old + most_events self.old step.now }
+        ensures few { vec_len out.new ≤ vec_len out.old + max_events_of_step self.old step.now }
         ensures capacity { vec_capacity out.old ≤ vec_capacity out.new }
         // A change and a frame take no memory: the room for what is delivered stays, and so does all that a rig keeps.
         ensures keeps { MakesNoRoom step.now → vec_capacity out.new ≡ vec_capacity out.old }
@@ -207,7 +207,9 @@ impl Rig {
             }
             Some(dev) => {
                 let i = self.place(dev)?;
-                self.slots[i].tells_once_ready();
+                // For the prover: a host that isn't ready has told nothing.
+                let _ = self.slots[i].host();
+
                 self.slots[i].step(step, out)
             }
         }
@@ -221,71 +223,56 @@ impl Rig {
         // Of a device that was just configured the events delivered are exactly the changes between the successive
         // parts that crossed, in order, none twice. No request of it is begun or tried meanwhile, and it is neither
         // halted nor reset.
-        ensures headline { OnOk result
-            (DeliversChanges self.old steps.now out.old.items out.new.items) }
+        ensures headline { DeliversChanges self.old (steps_done result steps.now)
+            out.old.items out.new.items }
 
         // A device that is polled, without an open round, stands as the rounds of its own steps say: with the open round,
         // the view of the parts that crossed, and toggles by the numbers of rounds closed and crossed.
-        ensures rounds { OnOk result (KeepsToRounds self.old steps.now self.new) }
+        ensures rounds { KeepsToRounds self.old (steps_done result steps.now)
+            (bus_after_done self.old result steps.now) }
 
-        // The same of any device without an open round, whatever befalls it: a configuration that takes effect begins
-        // its rounds, its toggles and its view anew, and so does a reset, which tells what changes with it; a halt and a
-        // clear end the open round, whose report is due then, and a clear begins the toggles anew.
-        ensures lives { OnOk result
-            (DevicesLive self.old steps.now self.new out.old.items out.new.items) }
+        // A device without an open round delivers what its history says, whatever happens to it: a configuration that
+        // takes effect begins its rounds, its toggles and its view again, and so does a reset, which tells what changes
+        // with it; a halt and a clear end the open round, whose report is due then, and a clear begins the toggles again.
+        ensures lives { DevicesLive self.old (steps_done result steps.now)
+            (bus_after_done self.old result steps.now) out.old.items out.new.items }
 
         // The toggle of each host: while it may poll, also while the endpoint is halted, it expects the parity of the
         // pieces that crossed since the configuration or the last clear.
-        ensures toggles { OnOk result (HostsExpectParity self.old steps.now self.new) }
+        ensures toggles { HostsExpectParity self.old (steps_done result steps.now)
+            (bus_after_done self.old result steps.now) }
 
-        // No step was refused, and each request that began fits its setup.
+        // Each device and what is delivered of it is a function of its own steps. Motion is neither lost nor doubled.
+        ensures isolated { IsIsolated self.old (bus_after_done self.old result steps.now)
+            (steps_done result steps.now) out.old.items out.new.items }
+        ensures conserves { SumsUp self.old self.new (steps_done result steps.now)
+            out.old.items out.new.items }
+
+        // What the steps that were done delivered. Each request that began fits its setup.
+        ensures events { out.new.items
+            ≡ out.old.items ++ deliveries_of_steps self.old (steps_done result steps.now) }
+        ensures fits { All FitsStep (steps_done result steps.now) }
+
+        // A run whose steps are all done had none that is refused. Else it stops at the first, and leaves the bus as that
+        // one does.
         ensures goes_on { OnOk result (NoneIsRefused self.old steps.now) }
-        ensures fits { OnOk result (All FitsStep steps.now) }
-
-        // Where the bus stands, and what was delivered.
         ensures after { OnOk result (self.new ≡ bus_after_all self.old steps.now) }
-        ensures events { OnOk result (out.new.items
-            ≡ out.old.items ++ delivered_in self.old steps.now) }
-
-        // Each device by itself.
-        ensures isolated { OnOk result
-            (IsIsolated self.old self.new steps.now out.old.items out.new.items) }
-
-        // Motion is neither lost nor doubled.
-        ensures conserves { OnOk result
-            (SumsUp self.old self.new steps.now out.old.items out.new.items) }
-        ensures err_conserves { IfErr result
-            (λ e. SumsUp self.old self.new (take e.at steps.now) out.old.items out.new.items) }
-
-        // A run stops at its first refusal, and the steps before it stand; then the bus is as that one leaves it.
         ensures stops { IfErr result (λ e. StopsAt self.old steps.now e.at e.fault) }
-        ensures err_fits { IfErr result (λ e. All FitsStep (take e.at steps.now)) }
         ensures err_after { IfErr result
-            (λ e. self.new ≡ stopped_after self.old steps.now e.at e.fault) }
-        ensures err_events { IfErr result (λ e. out.new.items
-            ≡ out.old.items ++ delivered_in self.old (take e.at steps.now)) }
-        ensures err_headline { IfErr result
-            (λ e. DeliversChanges self.old (take e.at steps.now) out.old.items out.new.items) }
-        ensures err_rounds { IfErr result (λ e. KeepsToRounds self.old (take e.at steps.now)
-            (bus_after_all self.old (take e.at steps.now))) }
-        ensures err_lives { IfErr result (λ e. DevicesLive self.old (take e.at steps.now)
-            (bus_after_all self.old (take e.at steps.now)) out.old.items out.new.items) }
-        ensures err_toggles { IfErr result (λ e. HostsExpectParity self.old (take e.at steps.now)
-            (bus_after_all self.old (take e.at steps.now))) }
-        ensures err_isolated { IfErr result (λ e. IsIsolated self.old
-            (bus_after_all self.old (take e.at steps.now)) (take e.at steps.now) out.old.items out.new.items) }
+            (λ e. self.new ≡ bus_after_stop self.old steps.now e.at e.fault) }
 
-        // Memory is never wanting at a step for which there is room behind all that the steps before it can deliver.
+        // Memory never runs out at a step for which there is room after all that the steps before it can deliver. With
+        // room for all that the polls can deliver it never does where no request is begun or tried, and nothing is
+        // halted or reset.
         ensures room { IfErr result (λ e. HasRoomAt self.old steps.now e.at
             (vec_len out.old) (vec_capacity out.old) → e.fault ≢ StackFault.Memory) }
-
-        // So it never is with room for all that its polls can deliver, where no request is begun or tried, and nothing is
-        // halted or reset.
         ensures room_for_all { AreScheduled steps.now
-            → vec_len out.old + most_in self.old steps.now ≤ vec_capacity out.old
+            → vec_len out.old + max_events_of_steps self.old steps.now ≤ vec_capacity out.old
             → IfErr result (λ e. e.fault ≢ StackFault.Memory) }
     {
-        let _slots = &self.slots;
+        // For the prover: what holds of every rig.
+        let _ = &self.slots;
+
         for (at, step) in steps.iter().enumerate() {
             match self.step(step, out) {
                 Ok(_) => {}
@@ -308,7 +295,7 @@ fn frame_all(slots: &mut [Slot])
 /// The device that a step names.
 #[inline(always)] // as `Rig::step`
 fn device_of(step: &Step) -> Option<u8>
-    ensures { result ≡ named_by step.now }
+    ensures { result ≡ device_of_step step.now }
 {
     match *step {
         Step::Frame => None,

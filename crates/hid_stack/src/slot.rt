@@ -9,25 +9,24 @@ ghost use Rattle.hid_bus.specs.Rounds.{Polls, Changes as ChangeStep, Frame as Fr
 ghost use Rattle.hid_device.specs.declared.config.Config.{Config as ConfigValue};
 ghost use Rattle.hid_device.specs.Core.{IsSound};
 ghost use Rattle.hid_requests.specs.Fault.{is_memory};
-ghost use Rattle.hid_device.specs.Making.{MakesDevice, Refuses};
+ghost use Rattle.hid_device.specs.Creation.{MakesDevice, Refuses};
 ghost use Rattle.usb_packet.specs.declared.packet.TheConstants.{MAX_ADDRESS as GREATEST};
-ghost use Rattle.hid_requests.specs.Asking.{FitsRequest};
+ghost use Rattle.hid_requests.specs.RequestSetup.{FitsRequest};
 ghost use Rattle.hid_stack.specs.Attaching.{Suits, IsNoPair, device_refusal, member_at_start};
 ghost use Rattle.hid_host.specs.declared.fault.StackFault.{StackFault as Refusal};
-ghost use Rattle.hid_host.specs.Host.{may_cut, running};
+ghost use Rattle.hid_host.specs.Host.{may_abort_round, running};
 ghost use Rattle.hid_host.specs.declared.phase.HostState.TheVariants.{Ready as ReadyState};
-ghost use Rattle.hid_stack.specs.Members.{Member, Scheduled, Begins, Controls, Halts, Resets, begin_refusal_at, cold_member, deed_at, events_by, fresh_member, member_after, polls_it};
-ghost use Rattle.hid_stack.specs.Knowing.{Knows};
-ghost use Rattle.hid_stack.specs.Slot.{StandTogether, TriesTransfer, joint};
+ghost use Rattle.hid_stack.specs.Members.{Member, Scheduled, Begins, Controls, Halts, Resets, begin_refusal_at, cold_member, bus_event_of_step, events_of_event_if, fresh_member, member_after, polls_it};
+ghost use Rattle.hid_stack.specs.HostInvariant.{IsConsistent};
+ghost use Rattle.hid_stack.specs.Slot.{StandTogether, TriesTransfer, pair_member};
 ghost use Rattle.hid_bus.specs.declared.step.Told.TheVariants as Tellings;
-ghost use Rattle.hid_stack.specs.Rig.{HasRoomToTry, MakesNoRoom, member_at, most_tried, poll_refusal, tagged, with_member};
-ghost use Rattle.hid_stack.specs.Steps.{IsUntold, StepsTo, named_by};
-ghost use Rattle.hid_stack.specs.Sums.{CutsByRequest, IsBetween};
-ghost use Rattle.hid_stack.specs.Showing.{ShowsDevice, ShowsHost};
-ghost use Rattle.hid_stack.specs.Tells.{TellsPoll};
+ghost use Rattle.hid_stack.specs.Rig.{HasRoomToTry, MakesNoRoom, max_events_of_try, member_at, poll_refusal, with_device_number, with_member};
+ghost use Rattle.hid_stack.specs.Steps.{IsUntold, StepsTo, device_of_step};
+ghost use Rattle.hid_stack.specs.Sums.{AbortsByRequest, IsBetween};
+ghost use Rattle.hid_stack.specs.Accessors.{ShowsDevice, ShowsHost};
+ghost use Rattle.hid_stack.specs.StepResult.{TellsPoll};
 
 use crate::halts::halt_pair;
-use crate::laws::{devices_leave_transfers, hosts_know_their_devices};
 use crate::polls::poll_pair;
 use crate::resets::reset_pair;
 use crate::transfers::control_pair;
@@ -57,21 +56,22 @@ pub struct Slot {
 impl Model for Slot {
     ghost use Rattle.std.specs.Prelude.{◌≡◌, vec_capacity};
     ghost use Rattle.hid_layout.specs.Controls.{items_of, max_events};
-    ghost use Rattle.hid_stack.specs.Knowing.{Knows};
+    ghost use Rattle.hid_stack.specs.HostInvariant.{IsConsistent};
     ghost use Rattle.hid_stack.specs.Members.{Member};
-    ghost use Rattle.hid_stack.specs.Slot.{StandTogether, joint};
+    ghost use Rattle.hid_stack.specs.Slot.{StandTogether, pair_member};
 
     ghost Value = { Member };
 
-    ghost view = { λ s. joint s.device s.host };
+    ghost view = { λ s. pair_member s.device s.host };
 
-    ghost invariant = { λ s. StandTogether s.device s.host.clearing s.host.phase × Knows s.host s.device.control
+    ghost invariant = { λ s. StandTogether s.device s.host.clearing s.host.phase
+        × IsConsistent s.host s.device.control
         × (s.host.addr ≡ s.device.addr)
         × (vec_capacity s.events ≡ max_events (items_of s.device.control.requests.layout))
         × (s.most_events ≡ max_events (items_of s.device.control.requests.layout)) };
 }
 
-/// What a want of a device is told as.
+/// The fault of a rig that can't make a device.
 fn no_device(fault: DeviceFault) -> StackFault
     ensures told { result ≡ device_refusal fault }
     ensures explained { (addr : ℕ) (config : ConfigValue) (bytes : List ℕ)
@@ -79,7 +79,7 @@ fn no_device(fault: DeviceFault) -> StackFault
 {
     let is_memory = match fault.cause {
         DeviceCause::Memory => true,
-        DeviceCause::Layout(cause) => wants_memory(cause),
+        DeviceCause::Layout(cause) => is_out_of_memory(cause),
         DeviceCause::BadConfig | DeviceCause::NoEmptyCode | DeviceCause::RelativeWithoutZero =>
             false,
     };
@@ -90,7 +90,7 @@ fn no_device(fault: DeviceFault) -> StackFault
     }
 }
 
-fn wants_memory(cause: Cause) -> bool
+fn is_out_of_memory(cause: Cause) -> bool
     ensures { result ≡ is_memory cause }
 {
     match cause {
@@ -100,7 +100,12 @@ fn wants_memory(cause: Cause) -> bool
 }
 
 /// A new device.
-fn made(alloc: Global, addr: u8, config: &Config, descriptor: &[u8]) -> Result<Device, StackFault>
+fn new_device(
+    alloc: Global,
+    addr: u8,
+    config: &Config,
+    descriptor: &[u8],
+) -> Result<Device, StackFault>
     ensures made { IfOk result (λ device. MakesDevice addr config.now descriptor.now (Ok device)) }
     ensures sound { IfOk result (λ device. IsSound (core_of device)) }
     ensures address { IfOk result (λ _. (0 < addr) × (addr ≤ GREATEST)) }
@@ -108,14 +113,16 @@ fn made(alloc: Global, addr: u8, config: &Config, descriptor: &[u8]) -> Result<D
 {
     match Device::new(alloc, addr, config, descriptor) {
         Ok(device) => {
+            // For the prover: what holds of every device.
             is_sound(&device);
+
             Ok(device)
         }
         Err(fault) => Err(no_device(fault)),
     }
 }
 
-// What holds of every device.
+// For the prover: what holds of every device.
 pub(crate) fn is_sound(device: &Device)
     ensures { IsSound (core_of device.now) }
 {
@@ -123,7 +130,7 @@ pub(crate) fn is_sound(device: &Device)
 }
 
 impl Slot {
-    /// A device at this address and its host, which begin so.
+    /// A device at this address and its host, configured or cold as `start` says.
     pub(crate) fn new(
         alloc: Global,
         addr: u8,
@@ -154,12 +161,16 @@ impl Slot {
             × (slot ≡ fresh_member addr config.now descriptor.now layout)) }
         ensures refused { IfErr result (λ fault. IsNoPair addr config.now descriptor.now fault) }
     {
+        // For the prover: both ends read the descriptor in one way.
         one_reading();
         accepted_or_refused();
-        hosts_know_their_devices();
-        let mut device = made(alloc, addr, config, descriptor)?;
+
+        let mut device = new_device(alloc, addr, config, descriptor)?;
         device.configure();
+
+        // For the prover: what holds of every device.
         is_sound(&device);
+
         match HostDevice::ready(alloc, addr, descriptor) {
             Ok(host) => Slot::of(alloc, device, host),
             Err(fault) => {
@@ -176,18 +187,17 @@ impl Slot {
             × (slot ≡ cold_member addr config.now descriptor.now layout)) }
         ensures refused { IfErr result (λ fault. IsNoPair addr config.now descriptor.now fault) }
     {
-        hosts_know_their_devices();
-        let device = made(alloc, addr, config, descriptor)?;
+        let device = new_device(alloc, addr, config, descriptor)?;
         Slot::of(alloc, device, HostDevice::cold(alloc, addr))
     }
 
     /// A device and its host, with room for what a step of the two gives.
     fn of(alloc: Global, device: Device, host: HostDevice) -> Result<Slot, StackFault>
         requires together { StandTogether device host.clearing host.phase }
-        requires knows { Knows host device.control }
+        requires knows { IsConsistent host device.control }
         requires home { host.addr ≡ device.addr }
-        ensures joins { IfOk result (λ slot. slot ≡ joint device host) }
-        ensures wanting { IfErr result (λ fault. fault ≡ Refusal.Memory) }
+        ensures joins { IfOk result (λ slot. slot ≡ pair_member device host) }
+        ensures memory { IfErr result (λ fault. fault ≡ Refusal.Memory) }
     {
         let most_events = device.layout().max_events();
         match Vec::with_capacity(alloc, most_events) {
@@ -208,25 +218,18 @@ impl Slot {
     /// Changes a control of the device. A change that is refused changes nothing.
     pub(crate) fn change(&mut self, change: Change) -> Result<(), ChangeFault>
         ensures changes { Changes
-            (items_of self.old.layout) self.old.station.standing.snapshot change result
-            self.new.station.standing.snapshot }
+            (items_of self.old.layout) self.old.link.reports.snapshot change result
+            self.new.link.reports.snapshot }
         ensures after { self.new ≡ member_after self.old (Scheduled (ChangeStep change)) }
     {
-        hosts_know_their_devices();
-        devices_leave_transfers();
-        let result = self.device.change(change);
-        is_sound(&self.device);
-        result
+        self.device.change(change)
     }
 
     /// A frame passes.
     pub(crate) fn frame(&mut self)
         ensures { self.new ≡ member_after self.old (Scheduled FrameStep) }
     {
-        hosts_know_their_devices();
-        devices_leave_transfers();
         self.device.frame();
-        is_sound(&self.device);
     }
 
     /// The layout of the device's reports.
@@ -243,32 +246,27 @@ impl Slot {
         &self.device
     }
 
-    /// Its host.
+    /// The host of the device.
+    #[inline(always)] // as `Rig::step`
     pub(crate) fn host(&self) -> &HostDevice
-        ensures { ShowsHost self.now result.now }
+        ensures shows { ShowsHost self.now result.now }
+        // A host that isn't ready has told nothing.
+        ensures unready { self.now.host ≢ ReadyState → IsUntold self.now }
     {
         &self.host
-    }
-
-    // A host that isn't ready has told nothing.
-    #[inline(always)] // as `Rig::step`
-    pub(crate) fn tells_once_ready(&self)
-        ensures { self.now.host ≢ ReadyState → IsUntold self.now }
-    {
-        let _host = &self.host;
     }
 
     /// A step of the bus that names this device. In a step that names none a frame passes.
     #[inline(always)] // as `Rig::step`
     pub(crate) fn step(&mut self, step: &Step, out: &mut Vec<Delivered>) -> Result<Told, StackFault>
         ensures steps { (members : List Member) (dev : ℕ)
-            → named_by step.now ≡ Some dev → member_at members dev ≡ Some self.old
+            → device_of_step step.now ≡ Some dev → member_at members dev ≡ Some self.old
             → StepsTo members (with_member members dev self.new) step.now result
             out.old.items out.new.items (vec_len out.old) (vec_len out.new)
             (vec_capacity out.old) (vec_capacity out.new) }
         ensures keeps { MakesNoRoom step.now → vec_capacity out.new ≡ vec_capacity out.old }
-        ensures motions { HasMotions (items_of self.old.layout) self.old.station
-            → HasMotions (items_of self.new.layout) self.new.station }
+        ensures motions { HasMotions (items_of self.old.layout) self.old.link
+            → HasMotions (items_of self.new.layout) self.new.link }
     {
         match *step {
             Step::Change { change, .. } => match self.change(change) {
@@ -293,9 +291,9 @@ impl Slot {
         }
     }
 
-    // A step of one sort makes no room for what those of another sort need.
+    // `inline(never)` below: so a step has only its own locals on the stack.
 
-    /// The host polls the device, and this fate befalls the poll. The room for what it gives is reserved first.
+    /// The host polls the device, and the poll has this fate. The room for what it gives is reserved first.
     #[inline(never)]
     pub(crate) fn poll(
         &mut self,
@@ -303,11 +301,13 @@ impl Slot {
         fate: Fate,
         out: &mut Vec<Delivered>,
     ) -> Result<Told, StackFault>
-        ensures told { IfOk result (λ told. TellsPoll self.old.layout self.old.station fate told) }
+        ensures told { IfOk result (λ told. TellsPoll self.old.layout self.old.link fate told) }
         ensures after { OnOk result (self.new ≡ member_after self.old (Scheduled (Polls fate))) }
         ensures events { OnOk result (out.new.items
-            ≡ out.old.items ++ map (tagged dev) (events_by (items_of self.old.layout) self.old.station
-            (deed_at self.old (Scheduled (Polls fate))))) }
+            ≡ out.old.items
+            ++ map (with_device_number dev)
+            (events_of_event_if (items_of self.old.layout) self.old.link
+            (bus_event_of_step self.old (Scheduled (Polls fate))))) }
         ensures refused { (e : Refusal) → poll_refusal (polls_it self.old) ≡ Some e → result ≡ Err e }
         ensures only { IfErr result (λ fault. (poll_refusal (polls_it self.old) ≡ Some fault)
             ⊎ ((poll_refusal (polls_it self.old) ≡ None) × (fault ≡ Refusal.Memory))) }
@@ -324,7 +324,7 @@ impl Slot {
             return Err(StackFault::Memory);
         }
         let told = poll_pair(fate, &mut self.device, &mut self.host, &mut self.events);
-        hand_over(dev, &self.events, out);
+        deliver(dev, &self.events, out);
         Ok(told)
     }
 
@@ -334,8 +334,10 @@ impl Slot {
         ensures told { IfOk result (λ told. told ≡ Tellings.Quiet) }
         ensures after { OnOk result (self.new ≡ member_after self.old Resets) }
         ensures events { OnOk result (out.new.items
-            ≡ out.old.items ++ map (tagged dev) (events_by (items_of self.old.layout) self.old.station
-            (deed_at self.old Resets))) }
+            ≡ out.old.items
+            ++ map (with_device_number dev)
+            (events_of_event_if (items_of self.old.layout) self.old.link
+            (bus_event_of_step self.old Resets))) }
         ensures only { IfErr result (λ fault. fault ≡ Refusal.Memory) }
         ensures err { OnErr result ((self.new ≡ self.old) × (out.new.items ≡ out.old.items)) }
         ensures room { vec_len out.old + max_events (items_of self.old.layout)
@@ -347,7 +349,7 @@ impl Slot {
             return Err(StackFault::Memory);
         }
         reset_pair(&mut self.device, &mut self.host, &mut self.events);
-        hand_over(dev, &self.events, out);
+        deliver(dev, &self.events, out);
         Ok(Told::Quiet)
     }
 
@@ -357,8 +359,10 @@ impl Slot {
         ensures told { IfOk result (λ told. told ≡ Tellings.Quiet) }
         ensures after { OnOk result (self.new ≡ member_after self.old Halts) }
         ensures events { OnOk result (out.new.items
-            ≡ out.old.items ++ map (tagged dev) (events_by (items_of self.old.layout) self.old.station
-            (deed_at self.old Halts))) }
+            ≡ out.old.items
+            ++ map (with_device_number dev)
+            (events_of_event_if (items_of self.old.layout) self.old.link
+            (bus_event_of_step self.old Halts))) }
         ensures only { IfErr result (λ fault. fault ≡ Refusal.Memory) }
         ensures err { OnErr result ((self.new ≡ self.old) × (out.new.items ≡ out.old.items)) }
         ensures room { vec_len out.old + max_events (items_of self.old.layout)
@@ -370,7 +374,7 @@ impl Slot {
             return Err(StackFault::Memory);
         }
         halt_pair(&mut self.device, &self.host, &mut self.events);
-        hand_over(dev, &self.events, out);
+        deliver(dev, &self.events, out);
         Ok(Told::Quiet)
     }
 
@@ -384,12 +388,11 @@ impl Slot {
         ensures err { OnErr result (self.new ≡ self.old) }
         ensures fits { IfOk result (λ _. FitsRequest request.now) }
     {
-        hosts_know_their_devices();
         self.host.begin(request)
     }
 
-    /// The host makes a try of the transfer that runs, and this fate befalls it. Where a round may be ended by it, the room
-    /// for what is dropped then is reserved first.
+    /// The host makes a try of the transfer that runs, and this fate happens to it. Where a round may be ended by it,
+    /// the room for what is dropped then is reserved first.
     #[inline(never)]
     pub(crate) fn control(
         &mut self,
@@ -398,31 +401,34 @@ impl Slot {
         out: &mut Vec<Delivered>,
     ) -> Result<Progress, StackFault>
         ensures tries { TriesTransfer fate self.old (running self.old.transfer) result self.new }
-        ensures between { IsBetween self.old.station (deed_at self.old (Controls fate)) }
-        ensures cuts { CutsByRequest fate self.old (running self.old.transfer) }
+        ensures between { IsBetween self.old.link (bus_event_of_step self.old (Controls fate)) }
+        ensures aborts { AbortsByRequest fate self.old (running self.old.transfer) }
         ensures events { OnOk result (out.new.items
-            ≡ out.old.items ++ map (tagged dev) (events_by (items_of self.old.layout) self.old.station
-            (deed_at self.old (Controls fate)))) }
+            ≡ out.old.items
+            ++ map (with_device_number dev)
+            (events_of_event_if (items_of self.old.layout) self.old.link
+            (bus_event_of_step self.old (Controls fate)))) }
         ensures err_events { OnErr result (out.new.items ≡ out.old.items) }
         ensures room { HasRoomToTry fate self.old (running self.old.transfer) (vec_len out.old)
             (vec_capacity out.old) → result ≢ Err Refusal.Memory }
         ensures few { vec_len out.new
-            ≤ vec_len out.old + most_tried self.old.layout (may_cut (running self.old.transfer)) }
+            ≤ vec_len out.old + max_events_of_try self.old.layout
+            (may_abort_round (running self.old.transfer)) }
         ensures capacity { vec_capacity out.old ≤ vec_capacity out.new }
     {
-        if self.host.may_cut() && out.reserve(self.most_events).is_err() {
+        if self.host.may_abort_round() && out.reserve(self.most_events).is_err() {
             return Err(StackFault::Memory);
         }
         let result = control_pair(fate, &mut self.device, &mut self.host, &mut self.events);
-        hand_over(dev, &self.events, out);
+        deliver(dev, &self.events, out);
         result
     }
 }
 
 /// Hands events on under their device's number, into reserved room.
-fn hand_over(dev: u8, events: &[Event], out: &mut Vec<Delivered>)
+fn deliver(dev: u8, events: &[Event], out: &mut Vec<Delivered>)
     requires { vec_len out.old + length events.now ≤ vec_capacity out.old }
-    ensures items { out.new.items ≡ out.old.items ++ map (tagged dev) events.now }
+    ensures items { out.new.items ≡ out.old.items ++ map (with_device_number dev) events.now }
     ensures len { vec_len out.new ≡ vec_len out.old + length events.now }
     ensures capacity { vec_capacity out.new ≡ vec_capacity out.old }
 {

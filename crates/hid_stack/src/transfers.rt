@@ -7,12 +7,12 @@ ghost use Rattle.hid_layout.specs.Controls.{items_of, max_events};
 ghost use Rattle.hid_snapshots.specs.Parts.{IsInput};
 ghost use Rattle.hid_device.specs.Core.{round_of};
 ghost use Rattle.hid_device.specs.Device.{core_of};
-ghost use Rattle.hid_host.specs.Host.{may_cut, running};
-ghost use Rattle.hid_stack.specs.Knowing.{Knows};
-ghost use Rattle.hid_stack.specs.Members.{events_by, tried_deed};
-ghost use Rattle.hid_stack.specs.Slot.{StandTogether, TriesOnPair, joint, station_of};
-ghost use Rattle.hid_stack.specs.Tells.{awaited_of, told_behind};
-ghost use Rattle.hid_stack.specs.Sums.{CutsByRequest, IsBetween};
+ghost use Rattle.hid_host.specs.Host.{may_abort_round, running};
+ghost use Rattle.hid_stack.specs.HostInvariant.{IsConsistent};
+ghost use Rattle.hid_stack.specs.Members.{events_of_event_if, try_bus_event};
+ghost use Rattle.hid_stack.specs.Slot.{StandTogether, TriesOnPair, link_of, pair_member};
+ghost use Rattle.hid_stack.specs.StepResult.{awaited_of, drops_after_try};
+ghost use Rattle.hid_stack.specs.Sums.{AbortsByRequest, IsBetween};
 
 use crate::laws::{control_steps_are_computed, hosts_know_their_devices, rounds_suit_their_hosts};
 use crate::slot::is_sound;
@@ -31,30 +31,37 @@ pub(crate) fn control_pair(
     events: &mut Vec<Event>,
 ) -> Result<Progress, StackFault>
     requires together { StandTogether device.old host.old.clearing host.old.phase }
-    requires knows { Knows host.old device.old.control }
+    requires knows { IsConsistent host.old device.old.control }
     requires home { host.old.addr ≡ device.old.addr }
     requires room { max_events (items_of (core_of device.old).layout) ≤ vec_capacity events.old }
-    ensures tries { TriesOnPair fate (joint device.old host.old) (running host.old.transfer) result
-        (joint device.new host.new) }
-    ensures between { IsBetween (station_of (core_of device.old) host.old.phase)
-        (tried_deed fate (joint device.old host.old) (running host.old.transfer)) }
-    ensures cuts { CutsByRequest fate (joint device.old host.old) (running host.old.transfer) }
+    ensures tries { TriesOnPair fate (pair_member device.old host.old)
+        (running host.old.transfer) result
+        (pair_member device.new host.new) }
+    ensures between { IsBetween (link_of (core_of device.old) host.old.phase)
+        (try_bus_event fate (pair_member device.old host.old) (running host.old.transfer)) }
+    ensures aborts { AbortsByRequest fate (pair_member device.old host.old)
+        (running host.old.transfer) }
     ensures together { StandTogether device.new host.new.clearing host.new.phase }
-    ensures knows { Knows host.new device.new.control }
+    ensures knows { IsConsistent host.new device.new.control }
     ensures home { (host.new.addr ≡ host.old.addr) × (device.new.addr ≡ device.old.addr) }
     ensures layout { (core_of device.new).layout ≡ (core_of device.old).layout }
-    ensures events { events.new.items ≡ events_by (items_of (core_of device.old).layout)
-        (station_of (core_of device.old) host.old.phase)
-        (tried_deed fate (joint device.old host.old) (running host.old.transfer)) }
-    ensures none { may_cut (running host.old.transfer) ≡ false → length events.new.items ≡ 0 }
+    ensures events { events.new.items ≡ events_of_event_if (items_of (core_of device.old).layout)
+        (link_of (core_of device.old) host.old.phase)
+        (try_bus_event fate (pair_member device.old host.old) (running host.old.transfer)) }
+    ensures none { may_abort_round (running host.old.transfer) ≡ false
+        → length events.new.items ≡ 0 }
     ensures few { length events.new.items ≤ max_events (items_of (core_of device.old).layout) }
     ensures capacity { vec_capacity events.new ≡ vec_capacity events.old }
 {
+    // For the prover: what a host knows of its device, and that a try is a function of both ends.
     hosts_know_their_devices();
     control_steps_are_computed();
+
     let awaited = awaited_round(device, host);
     let result = host.control_step(device.control(), fate);
+    // For the prover: what holds of every device.
     is_sound(device);
+
     tell_dropped(awaited, device, host, events);
     result
 }
@@ -62,13 +69,15 @@ pub(crate) fn control_pair(
 /// The report of the open round of a device, where its host hasn't got all of its data.
 fn awaited_round(device: &Device, host: &HostDevice) -> Option<usize>
     requires together { StandTogether device.now host.now.clearing host.now.phase }
-    requires knows { Knows host.now device.now.control }
-    ensures awaited { result ≡ awaited_of (station_of (core_of device.now) host.now.phase) }
+    requires knows { IsConsistent host.now device.now.control }
+    ensures awaited { result ≡ awaited_of (link_of (core_of device.now) host.now.phase) }
     ensures input { IfSome result (λ report. IsInput (core_of device.now).layout report) }
 {
+    // For the prover: what holds of every device, and that its open round suits its host.
     rounds_suit_their_hosts();
     is_sound(device);
-    host.awaited(device.open_round(), device.piece())
+
+    host.awaited_report(device.open_round(), device.piece())
 }
 
 /// Tells what a try dropped: the motion of the round that was awaited before it, where none is open any more.
@@ -76,8 +85,8 @@ fn tell_dropped(awaited: Option<usize>, device: &Device, host: &HostDevice, even
     requires together { StandTogether device.now host.now.clearing host.now.phase }
     requires input { IfSome awaited (λ report. IsInput (core_of device.now).layout report) }
     requires room { max_events (items_of (core_of device.now).layout) ≤ vec_capacity events.old }
-    ensures events { events.new.items ≡ told_behind awaited (round_of (core_of device.now))
-        host.now.phase (core_of device.now).standing.fixed }
+    ensures events { events.new.items ≡ drops_after_try awaited (round_of (core_of device.now))
+        host.now.phase (core_of device.now).reports.fixed }
     ensures few { length events.new.items ≤ max_events (items_of (core_of device.now).layout) }
     ensures capacity { vec_capacity events.new ≡ vec_capacity events.old }
 {

@@ -1,4 +1,4 @@
-use Rattle.hid_stack.proofs.BringingLemmas.{steps_computed}
+use Rattle.hid_stack.proofs.ControlStepLemmas.{steps_computed}
 use Rattle.hid_stack.proofs.LawLemmas.{short_so}
 use Rattle.hid_stack.proofs.laws.control_steps_are_computed.Goals as goal
 

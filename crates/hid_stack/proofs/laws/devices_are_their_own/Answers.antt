@@ -1,5 +1,5 @@
 use Rattle.hid_stack.proofs.CarryLemmas.{end_no_rounds}
-use Rattle.hid_stack.proofs.StoryLemmas.{its_own}
+use Rattle.hid_stack.proofs.BusHistoryLemmas.{its_own}
 use Rattle.hid_stack.proofs.laws.devices_are_their_own.Goals as goal
 
 pub returns-clause-own : goal.returns-clause-own

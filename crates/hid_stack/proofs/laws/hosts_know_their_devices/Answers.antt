@@ -1,9 +1,11 @@
-use Rattle.std.proofs.Common.{refl}
-use Rattle.hid_stack.proofs.LawLemmas.{begins_know, leaves_know, replies_know, short_so, steps_know}
+use Rattle.hid_stack.proofs.LawLemmas.{begins_know, cold_knows, leaves_know, ready_knows, replies_know, short_so, steps_know}
 use Rattle.hid_stack.proofs.laws.hosts_know_their_devices.Goals as goal
 
+pub returns-clause-cold : goal.returns-clause-cold
+returns-clause-cold c = cold_knows
+
 pub returns-clause-ready : goal.returns-clause-ready
-returns-clause-ready c = λ trail addr control configured. record { phase = (refl, configured, refl, refl); transfer = tt; clears = tt }
+returns-clause-ready c = ready_knows
 
 pub returns-clause-begins : goal.returns-clause-begins
 returns-clause-begins c = begins_know

@@ -10,7 +10,8 @@ pub returns-clause-unconcluded : goal.returns-clause-unconcluded
 returns-clause-unconcluded c = unconcluded_once
 
 pub returns-clause-reset : goal.returns-clause-reset
-returns-clause-reset c = ended_by_reset
+returns-clause-reset c = λ m request steps lays fits none begins later others.
+    ended_by_reset m request steps later lays fits none begins others
 
 pub returns-clause-clears : goal.returns-clause-clears
 returns-clause-clears c = clears_so

@@ -1,7 +1,7 @@
 use Rattle.hid_device.specs.Device.{core_of}
 use Rattle.std.proofs.Common.{◌≡◌, ◌∙◌, Ok, Err, sym}
 use Rattle.usb_transact.specs.Fate.{arrives_under}
-use Rattle.hid_stack.specs.Slot.{station_of}
+use Rattle.hid_stack.specs.Slot.{link_of}
 use Rattle.hid_stack.proofs.TrailLemmas.{some_meanwhile, some_replies}
 use Rattle.hid_stack.proofs.StepLemmas.{polls_by, polled_to, polls_know, told_is, home_stays, few_of}
 use Rattle.hid_stack.proofs.polls.poll_pair.Goals as goal
@@ -14,7 +14,8 @@ unreachable-requires c =
 pub returns-clause-told : goal.returns-clause-told
 returns-clause-told c =
     let done = polls_by c.args.fate c.args.device.now c.args.host.now c.poll.result c.poll.new.device c.poll.new.host c.clear.new.self.items c.poll.new.out.items c.requires.pair c.requires.free c.clear.ensures.items c.poll.ensures.packets in
-    told_is (core_of c.args.device.now).layout (station_of (core_of c.args.device.now) c.args.host.now.phase) c.args.fate c.poll.result c.in-Ok.told c.in-Ok.is done.told
+    told_is (core_of c.args.device.now).layout
+    (link_of (core_of c.args.device.now) c.args.host.now.phase) c.args.fate c.poll.result c.in-Ok.told c.in-Ok.is done.told
 
 pub returns-clause-after : goal.returns-clause-after
 returns-clause-after c =

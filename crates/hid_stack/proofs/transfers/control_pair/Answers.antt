@@ -7,8 +7,8 @@ use Rattle.hid_snapshots.specs.Parts.{IsInput}
 use Rattle.hid_host.specs.Host.{running}
 use Rattle.hid_device.specs.Core.{round_of}
 use Rattle.hid_device.specs.Device.{DeviceState, core_of}
-use Rattle.hid_stack.specs.Slot.{joint}
-use Rattle.hid_stack.specs.Tells.{told_behind}
+use Rattle.hid_stack.specs.Slot.{pair_member}
+use Rattle.hid_stack.specs.StepResult.{drops_after_try}
 use Rattle.hid_stack.proofs.TrailLemmas.{some_steps}
 use Rattle.hid_stack.proofs.DropLemmas.{told_at_try, untold_at_try}
 use Rattle.hid_stack.proofs.TryLemmas.{knows_so, steps_so}
@@ -45,11 +45,11 @@ returns-clause-between c =
     (some_steps c.hosts_know_their_devices.ensures.steps) c.control_steps_are_computed.ensures c.control.ensures.now c.control_step-result.ensures c.requires.together c.requires.knows c.requires.home c.is_sound.ensures in
     step.between
 
-pub returns-clause-cuts : goal.returns-clause-cuts
-returns-clause-cuts c =
+pub returns-clause-aborts : goal.returns-clause-aborts
+returns-clause-aborts c =
     let step = steps_so c.args.fate c.args.device.now c.control.result.now c.control_step-result.new.control c.args.host.now c.control_step-result.new.self c.control_step-result.result
     (some_steps c.hosts_know_their_devices.ensures.steps) c.control_steps_are_computed.ensures c.control.ensures.now c.control_step-result.ensures c.requires.together c.requires.knows c.requires.home c.is_sound.ensures in
-    step.cuts
+    step.aborts
 
 pub returns-clause-together : goal.returns-clause-together
 returns-clause-together c =
@@ -72,12 +72,13 @@ pub returns-clause-events : goal.returns-clause-events
 returns-clause-events c =
     let step = steps_so c.args.fate c.args.device.now c.control.result.now c.control_step-result.new.control c.args.host.now c.control_step-result.new.self c.control_step-result.result
     (some_steps c.hosts_know_their_devices.ensures.steps) c.control_steps_are_computed.ensures c.control.ensures.now c.control_step-result.ensures c.requires.together c.requires.knows c.requires.home c.is_sound.ensures in
-    let device_then : DeviceState = record { addr = c.args.device.now.addr; control = c.control_step-result.new.control; waits = false } in
+    let device_then : DeviceState = record { addr = c.args.device.now.addr; control = c.control_step-result.new.control; awaits_ack = false } in
     let host_then = c.control_step-result.new.self in
     c.tell_dropped.ensures.events
-    ∙ ap (λ (a : Option ℕ). told_behind a (round_of (core_of device_then)) host_then.phase (core_of device_then).standing.fixed) c.awaited_round-awaited.ensures.awaited
+    ∙ ap (λ (a : Option ℕ). drops_after_try a (round_of (core_of device_then)) host_then.phase
+    (core_of device_then).reports.fixed) c.awaited_round-awaited.ensures.awaited
     ∙ told_at_try c.args.fate c.args.device.now device_then c.args.host.now host_then (running c.args.host.now.transfer) c.control_step-result.result
-    step.tries step.cuts step.between step.open_then c.requires.together step.together step.layout
+    step.tries step.aborts step.between step.open_then c.requires.together step.together step.layout
 
 pub returns-clause-home : goal.returns-clause-home
 returns-clause-home c =
@@ -90,7 +91,9 @@ returns-clause-none c uncut =
     let step = steps_so c.args.fate c.args.device.now c.control.result.now c.control_step-result.new.control c.args.host.now c.control_step-result.new.self c.control_step-result.result
     (some_steps c.hosts_know_their_devices.ensures.steps) c.control_steps_are_computed.ensures c.control.ensures.now c.control_step-result.ensures c.requires.together c.requires.knows c.requires.home c.is_sound.ensures in
     ap (λ (es : List Event). length es)
-    (returns-clause-events c ∙ untold_at_try c.args.fate (joint c.args.device.now c.args.host.now) (running c.args.host.now.transfer) step.cuts uncut)
+    (returns-clause-events c
+    ∙ untold_at_try c.args.fate (pair_member c.args.device.now c.args.host.now)
+    (running c.args.host.now.transfer) step.aborts uncut)
 
 pub returns-clause-few : goal.returns-clause-few
 returns-clause-few c =

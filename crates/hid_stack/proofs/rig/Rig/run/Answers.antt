@@ -3,8 +3,8 @@ use Rattle.std.proofs.lemmas.List.{take_all}
 use Rattle.std.proofs.lemmas.List.Elements.{All-more}
 use Rattle.hid_bus.specs.declared.step.Step.{Step}
 use Rattle.std.specs.List.{All}
-use Rattle.hid_stack.specs.Rig.{FitsStep, HasRoomFor, IsRefusal, NoneIsRefused, bus_after, bus_after_all, delivered_at, delivered_in, most_events, refusal, refused_after}
-use Rattle.hid_stack.specs.Expecting.{AllHoldToggles}
+use Rattle.hid_stack.specs.Rig.{FitsStep, HasRoomFor, IsRefusal, NoneIsRefused, bus_after, bus_after_all, bus_after_refusal, deliveries_of_step, deliveries_of_steps, max_events_of_step, refusal}
+use Rattle.hid_stack.specs.ExpectedToggles.{AllHoldToggles}
 use Rattle.hid_stack.specs.Sums.{AllHaveMotions, ConfiguresBetweenRounds}
 use Rattle.hid_stack.proofs.Isolation.{ran_more, told_more, devices_live, headline, isolated, keeps_to_rounds}
 use Rattle.hid_stack.proofs.RoomLemmas.{fits_of, goes_on_more, most_more, not_refused, room_at, room_here, stopped, stops_at}
@@ -18,9 +18,10 @@ loop-at-preserved c =
     record {
       now = ran_more _ _ _ _ _ _ c.loop-at-test.true c.loop-at.invariant.now (c.in-Ok.ensures.after ∙ ap (bus_after c.loop-at.self) is);
       told = told_more _ _ _ _ _ _ _ _ c.loop-at-test.true c.loop-at.invariant.now c.loop-at.invariant.told
-          (c.in-Ok.ensures.events ∙ ap (λ (x : Step). c.loop-at.out.items ++ delivered_at c.loop-at.self x) is);
+          (c.in-Ok.ensures.events ∙ ap (λ (x : Step). c.loop-at.out.items ++ deliveries_of_step c.loop-at.self x) is);
       few = most_more _ _ _ _ _ _ _ _ c.loop-at-test.true c.loop-at.invariant.now c.loop-at.invariant.few
-          (subst (λ (x : Step). vec_len c.step.new.out ≤ vec_len c.loop-at.out + most_events c.loop-at.self x) is c.step.ensures.few);
+          (subst (λ
+          (x : Step). vec_len c.step.new.out ≤ vec_len c.loop-at.out + max_events_of_step c.loop-at.self x) is c.step.ensures.few);
       goes_on = goes_on_more _ _ _ _ _ c.loop-at-test.true c.loop-at.invariant.now c.loop-at.invariant.goes_on
           (subst (λ (x : Step). refusal c.loop-at.self x ≡ None) is (not_refused _ c.step.result c.in-Ok.field-0 c.in-Ok.is c.step.ensures.refused));
       between = between_more _ _ _ _ _ c.loop-at-test.true c.loop-at.invariant.now c.loop-at.invariant.between
@@ -38,45 +39,48 @@ returns-clause-after c =
 pub returns-clause-events : goal.returns-clause-events
 returns-clause-events c =
     let whole : take c.loop-at.at c.args.steps.now ≡ c.args.steps.now = take_all c.loop-at.at c.args.steps.now c.loop-at-test.false in
-    c.loop-at.invariant.told ∙ ap (λ (xs : List Step). c.args.out.now.items ++ delivered_in c.args.self.now xs) whole
+    c.loop-at.invariant.told
+    ∙ ap (λ (xs : List Step). c.args.out.now.items ++ deliveries_of_steps c.args.self.now xs) whole
 
 pub returns-clause-headline : goal.returns-clause-headline
 returns-clause-headline c =
     let whole : take c.loop-at.at c.args.steps.now ≡ c.args.steps.now = take_all c.loop-at.at c.args.steps.now c.loop-at-test.false in
-    let told = c.loop-at.invariant.told ∙ ap (λ (xs : List Step). c.args.out.now.items ++ delivered_in c.args.self.now xs) whole in
+    let told =
+    c.loop-at.invariant.told
+    ∙ ap (λ (xs : List Step). c.args.out.now.items ++ deliveries_of_steps c.args.self.now xs) whole in
     headline c.args.self.now c.args.steps.now c.args.out.now.items c.loop-at.out.items told
 
 pub returns-clause-rounds : goal.returns-clause-rounds
 returns-clause-rounds c =
-    let whole : take c.loop-at.at c.args.steps.now ≡ c.args.steps.now = take_all c.loop-at.at c.args.steps.now c.loop-at-test.false in
-    let stands = c.loop-at.invariant.now ∙ ap (bus_after_all c.args.self.now) whole in
-    keeps_to_rounds c.args.self.now c.loop-at.self c.args.steps.now stands
+    keeps_to_rounds c.args.self.now (bus_after_all c.args.self.now c.args.steps.now) c.args.steps.now refl
 
 pub returns-clause-lives : goal.returns-clause-lives
 returns-clause-lives c =
     let whole : take c.loop-at.at c.args.steps.now ≡ c.args.steps.now = take_all c.loop-at.at c.args.steps.now c.loop-at-test.false in
-    let stands = c.loop-at.invariant.now ∙ ap (bus_after_all c.args.self.now) whole in
-    let told = c.loop-at.invariant.told ∙ ap (λ (xs : List Step). c.args.out.now.items ++ delivered_in c.args.self.now xs) whole in
-    devices_live c.args.self.now c.loop-at.self c.args.steps.now c.args.out.now.items c.loop-at.out.items stands told
+    let told =
+    c.loop-at.invariant.told
+    ∙ ap (λ (xs : List Step). c.args.out.now.items ++ deliveries_of_steps c.args.self.now xs) whole in
+    devices_live c.args.self.now (bus_after_all c.args.self.now c.args.steps.now) c.args.steps.now c.args.out.now.items c.loop-at.out.items refl told
 
 pub returns-clause-toggles : goal.returns-clause-toggles
 returns-clause-toggles c =
-    let whole : take c.loop-at.at c.args.steps.now ≡ c.args.steps.now = take_all c.loop-at.at c.args.steps.now c.loop-at-test.false in
-    let stands = c.loop-at.invariant.now ∙ ap (bus_after_all c.args.self.now) whole in
-    hosts_expect c.args.self.now c.loop-at.self c.args.steps.now (subst AllHoldToggles c.self.view_is c.self.invariant.3) stands
+    hosts_expect c.args.self.now (bus_after_all c.args.self.now c.args.steps.now) c.args.steps.now (subst AllHoldToggles c.self.view_is c.self.invariant.3) refl
 
 pub returns-clause-isolated : goal.returns-clause-isolated
 returns-clause-isolated c =
     let whole : take c.loop-at.at c.args.steps.now ≡ c.args.steps.now = take_all c.loop-at.at c.args.steps.now c.loop-at-test.false in
-    let stands = c.loop-at.invariant.now ∙ ap (bus_after_all c.args.self.now) whole in
-    let told = c.loop-at.invariant.told ∙ ap (λ (xs : List Step). c.args.out.now.items ++ delivered_in c.args.self.now xs) whole in
-    isolated c.args.self.now c.loop-at.self c.args.steps.now c.args.out.now.items c.loop-at.out.items stands told
+    let told =
+    c.loop-at.invariant.told
+    ∙ ap (λ (xs : List Step). c.args.out.now.items ++ deliveries_of_steps c.args.self.now xs) whole in
+    isolated c.args.self.now (bus_after_all c.args.self.now c.args.steps.now) c.args.steps.now c.args.out.now.items c.loop-at.out.items refl told
 
 pub returns-clause-conserves : goal.returns-clause-conserves
 returns-clause-conserves c =
     let whole : take c.loop-at.at c.args.steps.now ≡ c.args.steps.now = take_all c.loop-at.at c.args.steps.now c.loop-at-test.false in
     let stands = c.loop-at.invariant.now ∙ ap (bus_after_all c.args.self.now) whole in
-    let told = c.loop-at.invariant.told ∙ ap (λ (xs : List Step). c.args.out.now.items ++ delivered_in c.args.self.now xs) whole in
+    let told =
+    c.loop-at.invariant.told
+    ∙ ap (λ (xs : List Step). c.args.out.now.items ++ deliveries_of_steps c.args.self.now xs) whole in
     sums_up c.args.self.now c.loop-at.self c.args.steps.now c.args.out.now.items c.loop-at.out.items (subst AllHaveMotions c.self.view_is c.self.invariant.2)
     (subst (ConfiguresBetweenRounds c.args.self.now) whole c.loop-at.invariant.between) stands told
 
@@ -99,35 +103,35 @@ returns-in-Err-clause-stops c = stops_at _ _ _ _ _ _ c.loop-at-test.true c.loop-
 pub returns-in-Err-clause-err_after : goal.returns-in-Err-clause-err_after
 returns-in-Err-clause-err_after c =
     stopped _ _ _ _ _ _ _ c.loop-at-test.true c.loop-at.invariant.now
-    (c.in-Err.ensures.err ∙ ap (λ (x : Step). refused_after c.loop-at.self x c.in-Err.fault) c.index-steps-at.is)
+    (c.in-Err.ensures.err ∙ ap (λ (x : Step). bus_after_refusal c.loop-at.self x c.in-Err.fault) c.index-steps-at.is)
 
-pub returns-in-Err-clause-err_headline : goal.returns-in-Err-clause-err_headline
-returns-in-Err-clause-err_headline c =
+pub returns-in-Err-clause-headline : goal.returns-in-Err-clause-headline
+returns-in-Err-clause-headline c =
     headline c.args.self.now (take c.loop-at.at c.args.steps.now) c.args.out.now.items c.step.new.out.items (c.in-Err.ensures.err_events ∙ c.loop-at.invariant.told)
 
-pub returns-in-Err-clause-err_rounds : goal.returns-in-Err-clause-err_rounds
-returns-in-Err-clause-err_rounds c =
+pub returns-in-Err-clause-rounds : goal.returns-in-Err-clause-rounds
+returns-in-Err-clause-rounds c =
     keeps_to_rounds c.args.self.now (bus_after_all c.args.self.now (take c.loop-at.at c.args.steps.now)) (take c.loop-at.at c.args.steps.now) refl
 
-pub returns-in-Err-clause-err_lives : goal.returns-in-Err-clause-err_lives
-returns-in-Err-clause-err_lives c =
+pub returns-in-Err-clause-lives : goal.returns-in-Err-clause-lives
+returns-in-Err-clause-lives c =
     devices_live c.args.self.now (bus_after_all c.args.self.now (take c.loop-at.at c.args.steps.now)) (take c.loop-at.at c.args.steps.now) c.args.out.now.items c.step.new.out.items refl
     (c.in-Err.ensures.err_events ∙ c.loop-at.invariant.told)
 
-pub returns-in-Err-clause-err_toggles : goal.returns-in-Err-clause-err_toggles
-returns-in-Err-clause-err_toggles c =
+pub returns-in-Err-clause-toggles : goal.returns-in-Err-clause-toggles
+returns-in-Err-clause-toggles c =
     hosts_expect c.args.self.now (bus_after_all c.args.self.now (take c.loop-at.at c.args.steps.now)) (take c.loop-at.at c.args.steps.now)
     (subst AllHoldToggles c.self.view_is c.self.invariant.3) refl
 
-pub returns-in-Err-clause-err_isolated : goal.returns-in-Err-clause-err_isolated
-returns-in-Err-clause-err_isolated c =
+pub returns-in-Err-clause-isolated : goal.returns-in-Err-clause-isolated
+returns-in-Err-clause-isolated c =
     isolated c.args.self.now (bus_after_all c.args.self.now (take c.loop-at.at c.args.steps.now)) (take c.loop-at.at c.args.steps.now) c.args.out.now.items c.step.new.out.items refl
     (c.in-Err.ensures.err_events ∙ c.loop-at.invariant.told)
 
-pub returns-in-Err-clause-err_conserves : goal.returns-in-Err-clause-err_conserves
-returns-in-Err-clause-err_conserves c =
+pub returns-in-Err-clause-conserves : goal.returns-in-Err-clause-conserves
+returns-in-Err-clause-conserves c =
     sums_stop c.args.self.now c.loop-at.self c.step.new.self (take c.loop-at.at c.args.steps.now) _ _ c.args.out.now.items c.step.new.out.items
-    (subst AllHaveMotions c.self.view_is c.self.invariant.2) c.loop-at.invariant.between c.step.ensures.between c.step.ensures.cuts c.loop-at.invariant.now (c.in-Err.ensures.err_events ∙ c.loop-at.invariant.told) c.in-Err.ensures.err
+    (subst AllHaveMotions c.self.view_is c.self.invariant.2) c.loop-at.invariant.between c.step.ensures.between c.step.ensures.aborts c.loop-at.invariant.now (c.in-Err.ensures.err_events ∙ c.loop-at.invariant.told) c.in-Err.ensures.err
 
 pub returns-in-Err-clause-room : goal.returns-in-Err-clause-room
 returns-in-Err-clause-room c has memory =

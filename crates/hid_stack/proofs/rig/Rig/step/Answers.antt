@@ -4,7 +4,7 @@ use Rattle.std.proofs.lemmas.List.{length-set}
 use Rattle.hid_host.specs.declared.fault.StackFault.TheVariants.{NoDevice}
 use Rattle.hid_bus.specs.Rounds.{Frame}
 use Rattle.hid_stack.specs.declared.rig.TheConstants.{MAX_DEVICES}
-use Rattle.hid_stack.specs.Expecting.{AllHoldToggles}
+use Rattle.hid_stack.specs.ExpectedToggles.{AllHoldToggles}
 use Rattle.hid_stack.specs.Members.{Member, Scheduled, member_after}
 use Rattle.hid_stack.proofs.HoldLemmas.{stepped_hold}
 use Rattle.hid_stack.proofs.NamedLemmas.{named}
@@ -46,7 +46,7 @@ returns-in-None c =
       err = s.err;
       err_events = s.err_events;
       between = s.between;
-      cuts = s.cuts;
+      aborts = s.aborts;
       room = s.room;
       few = s.few;
       capacity = s.capacity;
@@ -70,7 +70,7 @@ returns-in_err-i-in-Some c =
       err = s.err;
       err_events = s.err_events;
       between = s.between;
-      cuts = s.cuts;
+      aborts = s.aborts;
       room = s.room;
       few = s.few;
       capacity = s.capacity;
@@ -88,14 +88,14 @@ returns-in_ok-i-in-Some c =
       events = s.events;
       unready = tells_nothing c.args.self.now c.args.step.now c.in-Some.dev c.index.result.now c.step.result c.args.out.now.items c.step.new.out.items (sym c.device_of.ensures ∙ c.in-Some.is)
           (named c.self.inside.slots.items c.args.self.now c.in-Some.dev c.in_ok-i-in-Some.i c.index.result.now c.self.view_is c.in_ok-i-in-Some.ensures.place.0 c.in_ok-i-in-Some.ensures.place.1 c.index.ensures).here
-          c.tells_once_ready.ensures s.events s.err_events;
+          c.host.ensures.unready s.events s.err_events;
       fits = s.fits;
       refused = s.refused;
       only = s.only;
       err = s.err;
       err_events = s.err_events;
       between = s.between;
-      cuts = s.cuts;
+      aborts = s.aborts;
       room = s.room;
       few = s.few;
       capacity = s.capacity;

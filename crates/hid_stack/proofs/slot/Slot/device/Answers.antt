@@ -1,6 +1,6 @@
 use Rattle.std.proofs.Common.{subst}
 use Rattle.hid_stack.specs.Members.{Member}
-use Rattle.hid_stack.specs.Showing.{ShowsDevice}
+use Rattle.hid_stack.specs.Accessors.{ShowsDevice}
 use Rattle.hid_stack.proofs.ShowLemmas.{shows_device}
 use Rattle.hid_stack.proofs.slot.Slot.device.Goals as goal
 

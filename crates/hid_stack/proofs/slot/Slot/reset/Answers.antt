@@ -2,9 +2,9 @@ use Rattle.std.proofs.Common.{◌+◌, ◌++◌, ◌∙◌, List, length, map, a
 use Rattle.hid_layout.specs.Controls.{items_of}
 use Rattle.hid_snapshots.specs.declared.event.Event.{Event}
 use Rattle.hid_bus.specs.declared.step.Delivered.{Delivered}
-use Rattle.hid_stack.specs.Members.{Member, Resets, deed_at, events_by, member_after}
-use Rattle.hid_stack.specs.Rig.{tagged}
-use Rattle.hid_stack.specs.Slot.{joint}
+use Rattle.hid_stack.specs.Members.{Member, Resets, bus_event_of_step, events_of_event_if, member_after}
+use Rattle.hid_stack.specs.Rig.{with_device_number}
+use Rattle.hid_stack.specs.Slot.{pair_member}
 use Rattle.hid_stack.proofs.SlotLemmas.{few_handed, holds_by}
 use Rattle.hid_stack.proofs.slot.Slot.reset.Goals as goal
 
@@ -14,14 +14,19 @@ invariant_of-self c =
 
 pub returns-clause-few : goal.returns-clause-few
 returns-clause-few c =
-    few_handed (joint c.self.inside.device c.self.inside.host) c.args.self.now _ _ _ (length c.reset_pair.new.events.items) c.self.view_is c.reserve.ensures.len
-    (c.hand_over.ensures.len ∙ ap (λ (events : List Event). vec_len c.reserve.new.self + length events) c.deref.ensures.value) c.reset_pair.ensures.few
+    few_handed (pair_member c.self.inside.device c.self.inside.host) c.args.self.now _ _ _
+    (length c.reset_pair.new.events.items) c.self.view_is c.reserve.ensures.len
+    (c.deliver.ensures.len
+    ∙ ap (λ (events : List Event). vec_len c.reserve.new.self + length events) c.deref.ensures.value) c.reset_pair.ensures.few
 
 pub returns-clause-after : goal.returns-clause-after
 returns-clause-after c = c.reset_pair.ensures.after ∙ ap (λ (m : Member). member_after m Resets) c.self.view_is
 
 pub returns-clause-events : goal.returns-clause-events
 returns-clause-events c =
-    c.hand_over.ensures.items ∙ ap (λ (out : List Delivered). out ++ map (tagged c.args.dev) c.deref.result.now) c.reserve.ensures.items
-    ∙ ap (λ (events : List Event). c.args.out.now.items ++ map (tagged c.args.dev) events) (c.deref.ensures.value ∙ c.reset_pair.ensures.events
-    ∙ ap (λ (m : Member). events_by (items_of m.layout) m.station (deed_at m Resets)) c.self.view_is)
+    c.deliver.ensures.items
+    ∙ ap (λ (out : List Delivered). out
+    ++ map (with_device_number c.args.dev) c.deref.result.now) c.reserve.ensures.items
+    ∙ ap (λ (events : List Event). c.args.out.now.items ++ map (with_device_number c.args.dev) events)
+    (c.deref.ensures.value ∙ c.reset_pair.ensures.events
+    ∙ ap (λ (m : Member). events_of_event_if (items_of m.layout) m.link (bus_event_of_step m Resets)) c.self.view_is)

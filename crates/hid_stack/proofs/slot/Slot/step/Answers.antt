@@ -54,7 +54,7 @@ pub returns-in-Err-begin-clause-keeps : goal.returns-in-Err-begin-clause-keeps
 returns-in-Err-begin-clause-keeps c makes = absurd (subst MakesNoRoom c.in-Begin.is makes)
 
 pub returns-in-Ok-control-clause-steps : goal.returns-in-Ok-control-clause-steps
-returns-in-Ok-control-clause-steps c = control_serves c.args.self.now c.control.new.self c.in-Control.dev c.in-Control.fate c.args.step.now c.control.result _ c.args.out.now.items c.control.new.out.items (vec_len c.args.out.now) (vec_len c.control.new.out) (vec_capacity c.args.out.now) (vec_capacity c.control.new.out) c.in-Control.is c.control.ensures.tries c.control.ensures.between c.control.ensures.cuts c.control.ensures.events c.control.ensures.err_events c.control.ensures.room c.control.ensures.few c.control.ensures.capacity (sym (ap control_told c.in-Ok-control.is))
+returns-in-Ok-control-clause-steps c = control_serves c.args.self.now c.control.new.self c.in-Control.dev c.in-Control.fate c.args.step.now c.control.result _ c.args.out.now.items c.control.new.out.items (vec_len c.args.out.now) (vec_len c.control.new.out) (vec_capacity c.args.out.now) (vec_capacity c.control.new.out) c.in-Control.is c.control.ensures.tries c.control.ensures.between c.control.ensures.aborts c.control.ensures.events c.control.ensures.err_events c.control.ensures.room c.control.ensures.few c.control.ensures.capacity (sym (ap control_told c.in-Ok-control.is))
 
 pub returns-in-Ok-control-clause-motions : goal.returns-in-Ok-control-clause-motions
 returns-in-Ok-control-clause-motions c = tried c.in-Control.fate c.args.self.now c.control.new.self c.control.result c.control.ensures.tries
@@ -63,7 +63,7 @@ pub returns-in-Ok-control-clause-keeps : goal.returns-in-Ok-control-clause-keeps
 returns-in-Ok-control-clause-keeps c makes = absurd (subst MakesNoRoom c.in-Control.is makes)
 
 pub returns-in-Err-control-clause-steps : goal.returns-in-Err-control-clause-steps
-returns-in-Err-control-clause-steps c = control_serves c.args.self.now c.control.new.self c.in-Control.dev c.in-Control.fate c.args.step.now c.control.result _ c.args.out.now.items c.control.new.out.items (vec_len c.args.out.now) (vec_len c.control.new.out) (vec_capacity c.args.out.now) (vec_capacity c.control.new.out) c.in-Control.is c.control.ensures.tries c.control.ensures.between c.control.ensures.cuts c.control.ensures.events c.control.ensures.err_events c.control.ensures.room c.control.ensures.few c.control.ensures.capacity (sym (ap control_told c.in-Err-control.is))
+returns-in-Err-control-clause-steps c = control_serves c.args.self.now c.control.new.self c.in-Control.dev c.in-Control.fate c.args.step.now c.control.result _ c.args.out.now.items c.control.new.out.items (vec_len c.args.out.now) (vec_len c.control.new.out) (vec_capacity c.args.out.now) (vec_capacity c.control.new.out) c.in-Control.is c.control.ensures.tries c.control.ensures.between c.control.ensures.aborts c.control.ensures.events c.control.ensures.err_events c.control.ensures.room c.control.ensures.few c.control.ensures.capacity (sym (ap control_told c.in-Err-control.is))
 
 pub returns-in-Err-control-clause-motions : goal.returns-in-Err-control-clause-motions
 returns-in-Err-control-clause-motions c = tried c.in-Control.fate c.args.self.now c.control.new.self c.control.result c.control.ensures.tries

@@ -12,43 +12,42 @@ use Rattle.hid_host.specs.declared.phase.HostPhase.{HostPhase}
 use Rattle.hid_host.specs.declared.phase.HostPhase.TheVariants.{Cold, Described, Parsed, Ready}
 use Rattle.hid_host.specs.Phase.{IsReady, state_of}
 use Rattle.hid_host.specs.Ready.{Known}
-use Rattle.hid_device.specs.Deciding.{config_info}
-use Rattle.hid_stack.specs.Members.{Member, endpoint_of, expects_of, got_of}
+use Rattle.hid_device.specs.RequestTable.{config_info}
+use Rattle.hid_stack.specs.Members.{Member, endpoint_of, expected_toggle_of, partial_report_of}
 use Rattle.hid_stack.specs.Rig.{member_at}
 
--- The device of a member: it was made as the member says and stands as its station does, the round that is open there
--- is open here, with the same piece at hand, its toggle is set where the pieces closed are odd in number, it is halted
--- where the station is, and its endpoint 0 is the member's.
+-- The device of a member: it was made as the member says, it stands as the link state does, with the same open round
+-- and current piece, the same toggle and the same halt, and its endpoint 0 is the member's.
 pub record ShowsDevice (m : Member) (d : DeviceState) : Type 0 where
   pub home : d.addr ≡ m.addr
   pub config : (core_of d).config ≡ m.config
   pub descriptor : (core_of d).descriptor ≡ m.descriptor
   pub layout : (core_of d).layout ≡ m.layout
-  pub standing : (core_of d).standing ≡ m.station.standing
-  pub open_report : (core_of d).current ≡ option_map (λ round. round.report) m.station.current
-  pub open_piece : piece_at (core_of d) ≡ option_map (λ round. round.piece) m.station.current
-  pub toggle : (core_of d).toggle ≡ m.station.odd
-  pub halted : (core_of d).halted ≡ m.station.halted
+  pub reports : (core_of d).reports ≡ m.link.reports
+  pub open_report : (core_of d).current ≡ option_map (λ round. round.report) m.link.current
+  pub open_piece : piece_at (core_of d) ≡ option_map (λ round. round.piece) m.link.current
+  pub toggle : (core_of d).toggle ≡ m.link.toggle
+  pub halted : (core_of d).halted ≡ m.link.halted
   pub endpoint : endpoint_of d.control ≡ m.endpoint
 
--- What its ready host keeps: the toggle that it expects is the other one exactly while the piece at hand has crossed,
--- or the one that is held. Where none is held it has got of the open round the pieces that crossed, while not all have,
--- and nothing of any other.
+-- What the ready host of a member keeps: the toggle that it expects is the device's other one exactly while the current
+-- piece has crossed, or the one that is held. Where none is held it has got of the open round the pieces that crossed,
+-- while not all have, and nothing of any other.
 pub record ShowsKnown (m : Member) (known : Known) : Type 0 where
   pub layout : known.layout ≡ m.layout
-  pub polls : known.pipe ≡ record { addr = m.addr; endp = ENDPOINT; expects = expects_of m }
-  pub view : known.view ≡ m.station.view
-  pub got : m.held ≡ None → known.collected ≡ got_of m.layout m.station.standing.fixed m.station.current
+  pub polls : known.pipe ≡ record { addr = m.addr; endp = ENDPOINT; expects = expected_toggle_of m }
+  pub view : known.view ≡ m.link.view
+  pub got : m.held ≡ None → known.collected ≡ partial_report_of m.layout m.link.reports.fixed m.link.current
 
--- what a host knows that isn't ready yet: what the configuration says of the device, and then its layout
+-- what the host of a member knows: before it is ready what the configuration says of the device, and then its layout
 abbrev pub ShowsPhase : Member → HostPhase → Type 0
 ShowsPhase m Cold = Unit {0}
 ShowsPhase m (Described info) = info ≡ config_info m.config (length m.descriptor)
 ShowsPhase m (Parsed info layout) = (info ≡ config_info m.config (length m.descriptor)) × (layout ≡ m.layout)
 ShowsPhase m (Ready known) = ShowsKnown m known
 
--- The host of a member: it is the one of the device at the member's address, has come as far, and knows what is so
--- there. It is ready only while the device is configured, and then has its layout.
+-- The host of a member: it is the one of the device at the member's address, is in the member's state, and knows what
+-- is so of the device. It is ready only while the device is configured, and then has its layout.
 pub record ShowsHost (m : Member) (h : HostEnd) : Type 0 where
   pub home : h.addr ≡ m.addr
   pub state : state_of h.phase ≡ m.host
@@ -57,7 +56,7 @@ pub record ShowsHost (m : Member) (h : HostEnd) : Type 0 where
   pub transfer : h.transfer ≡ m.transfer
   pub clearing : h.clearing ≡ m.clearing
 
--- what a member gives, where there is one
+-- what the member with a number gives, if one has it
 abbrev pub GivesOf : {A : Type 0} → (Member → A → Type 0) → List Member → ℕ → A → Type 0
 GivesOf shows members dev given = (m : Member) × (member_at members dev ≡ Some m) × shows m given
 

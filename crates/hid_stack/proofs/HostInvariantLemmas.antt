@@ -4,20 +4,20 @@ use Rattle.std.specs.Prelude.{if◌then◌else◌}
 use Rattle.usb_transact.specs.declared.transaction.Fate.{Fate}
 use Rattle.usb_transact.specs.declared.transaction.Fate.TheVariants.{Clean, TokenLost, ReplyLost, AckLost}
 use Rattle.usb_control.specs.declared.setup.Setup.{Setup as Request'}
-use Rattle.usb_control.specs.Computed.{AppliesBy, PreparesBy}
-use Rattle.usb_control.specs.Transfer.{Act, Acts, Decides, Nothing, TakesEffect, Shape, shape_of, Decision, Accepted, Refused, decision_of, Position, Setup, Piece, Status, Past, Place, act_at, tried_at, setup_tried, piece_tried, applies, data_pieces, decided}
+use Rattle.usb_control.specs.TryFunctions.{AppliesBy, PreparesBy}
+use Rattle.usb_control.specs.Transfer.{Act, Acts, Decides, Nothing, TakesEffect, Shape, shape_of, Decision, Accepted, Refused, decision_of, Position, Setup, Piece, Status, Past, Place, act_at, place_after_try_at, place_after_setup, place_after_piece, applies, data_pieces, place_after_decision}
 use Rattle.hid_requests.specs.declared.request.Request.{Request}
 use Rattle.hid_requests.specs.declared.request.Request.TheVariants as requests
 use Rattle.hid_requests.specs.declared.request.Asking.{Asking}
-use Rattle.hid_requests.specs.Asking.{FitsRequest, IsOfReports, row_of, setup_for}
+use Rattle.hid_requests.specs.RequestSetup.{FitsRequest, IsOfReports, row_of, setup_for}
 use Rattle.hid_requests.proofs.AskedLemmas.{asked_so}
-use Rattle.hid_device.specs.declared.decisions.Pending.{Pending}
-use Rattle.hid_device.specs.declared.decisions.Pending.TheVariants as pendings
+use Rattle.hid_device.specs.declared.decisions.PendingWrite.{PendingWrite}
+use Rattle.hid_device.specs.declared.decisions.PendingWrite.TheVariants as pendings
 use Rattle.hid_device.specs.Core.{CoreState}
-use Rattle.hid_device.specs.Decisions.{Decided, Refuses, Reads, Writes, is_accepted, writes_if}
-use Rattle.hid_device.specs.Deciding.{core_table, decide, decided_on, decided_row, effected, left_by}
-use Rattle.hid_stack.specs.Knowing.{BeginsAnew, IsBehindSetup, IsDecided, IsDecidedBy}
-use Rattle.hid_stack.specs.Trails.{decider_behind}
+use Rattle.hid_device.specs.RequestDecisions.{RequestDecision, Refuses, Reads, Writes, is_accepted, writes_if}
+use Rattle.hid_device.specs.RequestTable.{core_after_decision, core_after_write, core_table, decide, decision_on, row_decision}
+use Rattle.hid_stack.specs.HostInvariant.{IsAfterSetup, IsDecided, IsDecidedBy, StartsAtData0}
+use Rattle.hid_stack.specs.Trails.{decider_after}
 use Rattle.hid_stack.proofs.PlacesLemmas.{accepted_reaches, piece_decision, refused_applied, silent_host, silent_stays}
 
 -- what a device was made with stays, and so does its configuration
@@ -30,12 +30,13 @@ pub record Goes (old new : CoreState) : Type 0 where
 goes_nowhere : (core : CoreState) → Goes core core
 goes_nowhere core = record { layout = refl; config = refl; descriptor = refl; configured = λ h. h }
 
-left_goes : (core : CoreState) (d : Decided) → Goes core (left_by core d)
+left_goes : (core : CoreState) (d : RequestDecision) → Goes core (core_after_decision core d)
 left_goes core Refuses = record { layout = refl; config = refl; descriptor = refl; configured = λ h. h }
 left_goes core (Reads bytes) = record { layout = refl; config = refl; descriptor = refl; configured = λ h. h }
 left_goes core (Writes pending) = record { layout = refl; config = refl; descriptor = refl; configured = λ h. h }
 
-effect_goes : (core : CoreState) (bytes : List ℕ) (pending : Pending) → Goes core (effected core bytes pending)
+effect_goes : (core : CoreState) (bytes : List ℕ) (pending : PendingWrite)
+    → Goes core (core_after_write core bytes pending)
 effect_goes core bytes pendings.Nothing = goes_nowhere core
 effect_goes core bytes pendings.Configure = record { layout = refl; config = refl; descriptor = refl; configured = λ h. refl }
 effect_goes core bytes (pendings.Keep i) = record { layout = refl; config = refl; descriptor = refl; configured = λ h. h }
@@ -52,37 +53,42 @@ acts_go setup bytes Nothing old new same = subst (λ (c : CoreState). Goes old c
 acts_go setup bytes (Decides decision) old new (said, gives, is) = subst (λ (c : CoreState). Goes old c) (sym gives.1) (left_goes old (decide old setup))
 acts_go setup bytes TakesEffect old new same = subst (λ (c : CoreState). Goes old c) (sym same) (effect_goes old bytes old.pending)
 
--- ---- what is decided behind SETUP
+-- ---- what is decided after SETUP
 
-by_row : (core : CoreState) (d : Decided) → IsDecidedBy d (decision_of (is_accepted d) (left_by core d).answer) (left_by core d).pending
+by_row : (core : CoreState) (d : RequestDecision)
+    → IsDecidedBy d (decision_of (is_accepted d) (core_after_decision core d).answer)
+    (core_after_decision core d).pending
 by_row core Refuses = (refl, refl)
 by_row core (Reads bytes) = (refl, refl)
 by_row core (Writes pending) = (refl, refl)
 
 -- what is decided on the setup of a request is what its row says
-decide_is : (request : Request) (asking : Asking) (core : CoreState) → FitsRequest request → IsOfReports request asking → decide core (setup_for request asking) ≡ decided_row core (row_of request)
+decide_is : (request : Request) (asking : Asking) (core : CoreState) → FitsRequest request
+    → IsOfReports request asking → decide core (setup_for request asking) ≡ row_decision core (row_of request)
 unfolding decide
-decide_is request asking core fits known = ap (decided_on core) (asked_so request asking fits known)
+decide_is request asking core fits known = ap (decision_on core) (asked_so request asking fits known)
 
 decided_so : (request : Request) (asking : Asking) (setup : Request') (old new : CoreState) (said : Bool) (decision : Decision) → FitsRequest request → IsOfReports request asking → setup ≡ setup_for request asking
-    → said ≡ is_accepted (decide old setup) → new ≡ left_by old (decide old setup) → decision ≡ decision_of said new.answer → IsDecided request old new decision
+    → said ≡ is_accepted (decide old setup) → new ≡ core_after_decision old (decide old setup)
+    → decision ≡ decision_of said new.answer → IsDecided request old new decision
 decided_so request asking setup old new said decision fits known asks accepts leaves is =
-    let d = decided_row old (row_of request) in
+    let d = row_decision old (row_of request) in
     let row : decide old setup ≡ d = ap (decide old) asks ∙ decide_is request asking old fits known in
-    let left : new ≡ left_by old d = leaves ∙ ap (left_by old) row in
+    let left : new ≡ core_after_decision old d = leaves ∙ ap (core_after_decision old) row in
     let says : said ≡ is_accepted d = accepts ∙ ap is_accepted row in
-    let decides : decision ≡ decision_of (is_accepted d) (left_by old d).answer
+    let decides : decision ≡ decision_of (is_accepted d) (core_after_decision old d).answer
     = is ∙ ap (λ (b : Bool). decision_of b new.answer) says ∙ ap (λ (c : CoreState). decision_of (is_accepted d) c.answer) left in
     let goes = left_goes old d in
     subst (λ (c : CoreState). IsDecided request old c decision) (sym left) (record {
       same = record { layout = goes.layout; config = goes.config; descriptor = goes.descriptor };
-      by = subst (λ (x : Decision). IsDecidedBy d x (left_by old d).pending) (sym decides) (by_row old d);
+      by = subst (λ (x : Decision). IsDecidedBy d x (core_after_decision old d).pending) (sym decides) (by_row old d);
     })
 
--- ---- what stays behind it
+-- ---- what stays after it
 
 -- an effect leaves what was pending
-pends_on : (core : CoreState) (bytes : List ℕ) (pending : Pending) → (effected core bytes pending).pending ≡ core.pending
+pends_on : (core : CoreState) (bytes : List ℕ) (pending : PendingWrite)
+    → (core_after_write core bytes pending).pending ≡ core.pending
 pends_on core bytes pendings.Nothing = refl
 pends_on core bytes pendings.Configure = refl
 pends_on core bytes (pendings.Keep i) = refl
@@ -104,7 +110,7 @@ quiet_pends setup bytes TakesEffect old new quiet same = ap (λ (c : CoreState).
 pub decided_stays : (request : Request) (decider old new : CoreState) (decision : Decision) → Goes old new → new.pending ≡ old.pending → IsDecided request decider old decision → IsDecided request decider new decision
 decided_stays request decider old new decision goes pends h = record {
   same = record { layout = goes.layout ∙ h.same.layout; config = goes.config ∙ h.same.config; descriptor = goes.descriptor ∙ h.same.descriptor };
-  by = subst (λ (p : Pending). IsDecidedBy (decided_row decider (row_of request)) decision p) (sym pends) h.by;
+  by = subst (λ (p : PendingWrite). IsDecidedBy (row_decision decider (row_of request)) decision p) (sym pends) h.by;
 }
 
 piece_quiet : (k : ℕ) (shape : Shape) (fate : Fate) (decision q : Decision) (a : Bool) → IsQuiet (act_at (Piece k) shape fate decision q a)
@@ -142,42 +148,52 @@ behind_at Status shape fate decision apart q a = status_quiet shape fate decisio
 behind_at Past shape fate decision apart q a = past_quiet shape fate decision q a
 
 -- a SETUP without its handshake keeps the host there
-setup_behind : (fate : Fate) (count : ℕ) (decision : Decision) (place : Place) → place.host ≡ Setup → IsBehindSetup (setup_tried fate count decision place).host → fate ≡ Clean
-setup_behind TokenLost count decision place at behind = absurd (subst IsBehindSetup (silent_host place ∙ at) behind)
-setup_behind ReplyLost count decision place at behind = absurd (subst IsBehindSetup (silent_host (decided count decision place) ∙ at) behind)
-setup_behind AckLost count decision place at behind = absurd (subst IsBehindSetup (silent_host (decided count decision place) ∙ at) behind)
+setup_behind : (fate : Fate) (count : ℕ) (decision : Decision) (place : Place) → place.host ≡ Setup
+    → IsAfterSetup (place_after_setup fate count decision place).host → fate ≡ Clean
+setup_behind TokenLost count decision place at behind = absurd (subst IsAfterSetup (silent_host place ∙ at) behind)
+setup_behind ReplyLost count decision place at behind =
+    absurd (subst IsAfterSetup (silent_host (place_after_decision count decision place) ∙ at) behind)
+setup_behind AckLost count decision place at behind =
+    absurd (subst IsAfterSetup (silent_host (place_after_decision count decision place) ∙ at) behind)
 setup_behind Clean count decision place at behind = refl
 
 by_setup : (request : Request) (asking : Asking) (setup : Request') (bytes : List ℕ) (fate : Fate) (decision : Decision) (place : Place) (decider old new : CoreState) → FitsRequest request → IsOfReports request asking → setup ≡ setup_for request asking
     → ActsOn setup bytes (act_at Setup (shape_of setup) fate decision place.decision place.applied) old new → fate ≡ Clean
-    → IsDecided request (decider_behind (act_at Setup (shape_of setup) fate decision place.decision place.applied) old decider) new (setup_tried fate (data_pieces (shape_of setup) decision) decision place).decision
+    → IsDecided request
+    (decider_after (act_at Setup (shape_of setup) fate decision place.decision place.applied) old decider) new
+    (place_after_setup fate (data_pieces (shape_of setup) decision) decision place).decision
 by_setup request asking setup bytes Clean decision place decider old new fits known asks (said, gives, is) clean = decided_so request asking setup old new said decision fits known asks gives.0 gives.1 is
 by_setup request asking setup bytes TokenLost decision place decider old new fits known asks acts clean = absurd (cc)
 by_setup request asking setup bytes ReplyLost decision place decider old new fits known asks acts clean = absurd (cc)
 by_setup request asking setup bytes AckLost decision place decider old new fits known asks acts clean = absurd (cc)
 
 -- a device that decides nothing decided before
-quiet_decider : (act : Act) (core decider : CoreState) → IsQuiet act → decider_behind act core decider ≡ decider
+quiet_decider : (act : Act) (core decider : CoreState) → IsQuiet act → decider_after act core decider ≡ decider
 quiet_decider Nothing core decider quiet = refl
 quiet_decider (Decides decision) core decider quiet = absurd quiet
 quiet_decider TakesEffect core decider quiet = refl
 
 later : (request : Request) (setup : Request') (bytes : List ℕ) (fate : Fate) (decision : Decision) (p : Position) (place : Place) (decider old new : CoreState) → p ≢ Setup
     → ActsOn setup bytes (act_at p (shape_of setup) fate decision place.decision place.applied) old new → IsDecided request decider old place.decision
-    → IsDecided request (decider_behind (act_at p (shape_of setup) fate decision place.decision place.applied) old decider) new (piece_tried (shape_of setup) fate place.decision place).decision
+    → IsDecided request
+    (decider_after (act_at p (shape_of setup) fate decision place.decision place.applied) old decider) new
+    (place_after_piece (shape_of setup) fate place.decision place).decision
 later request setup bytes fate decision p place decider old new apart acts h =
     let act = act_at p (shape_of setup) fate decision place.decision place.applied in
     let quiet = behind_at p (shape_of setup) fate decision apart place.decision place.applied in
-    subst (λ (d : Decision). IsDecided request (decider_behind act old decider) new d) (sym (piece_decision (shape_of setup) fate place.decision place))
+    subst (λ (d : Decision). IsDecided request (decider_after act old decider) new d)
+    (sym (piece_decision (shape_of setup) fate place.decision place))
     (subst (λ (c : CoreState). IsDecided request c new place.decision) (sym (quiet_decider act old decider quiet))
     (decided_stays request decider old new place.decision (acts_go setup bytes act old new acts) (quiet_pends setup bytes act old new quiet acts) h))
 
--- what was decided behind SETUP, after a try
+-- what was decided after SETUP, after a try
 pub decided_behind : (request : Request) (asking : Asking) (setup : Request') (bytes : List ℕ) (fate : Fate) (decision : Decision) (p : Position) (place : Place) (decider old new : CoreState)
     → FitsRequest request → IsOfReports request asking → setup ≡ setup_for request asking → place.host ≡ p → ActsOn setup bytes (act_at p (shape_of setup) fate decision place.decision place.applied) old new
-    → (IsBehindSetup p → IsDecided request decider old place.decision)
-    → IsBehindSetup (tried_at p (shape_of setup) fate decision place).host
-    → IsDecided request (decider_behind (act_at p (shape_of setup) fate decision place.decision place.applied) old decider) new (tried_at p (shape_of setup) fate decision place).decision
+    → (IsAfterSetup p → IsDecided request decider old place.decision)
+    → IsAfterSetup (place_after_try_at p (shape_of setup) fate decision place).host
+    → IsDecided request
+    (decider_after (act_at p (shape_of setup) fate decision place.decision place.applied) old decider) new
+    (place_after_try_at p (shape_of setup) fate decision place).decision
 decided_behind request asking setup bytes fate decision Setup place decider old new fits known asks at acts before behind =
     by_setup request asking setup bytes fate decision place decider old new fits known asks acts (setup_behind fate (data_pieces (shape_of setup) decision) decision place at behind)
 decided_behind request asking setup bytes fate decision (Piece k) place decider old new fits known asks at acts before behind =
@@ -189,20 +205,20 @@ decided_behind request asking setup bytes fate decision Past place decider old n
 
 -- ---- what took effect
 
--- what a write brings about: it holds behind its effect, and behind what is decided later
-pub record Brings (pending : Pending) (holds : CoreState → Type 0) : Type 0 where
-  pub effect : (core : CoreState) (bytes : List ℕ) → holds (effected core bytes pending)
-  pub left : (core : CoreState) (d : Decided) → holds core → holds (left_by core d)
+-- what a write brings about: it holds after its effect, and after what is decided later
+pub record Brings (pending : PendingWrite) (holds : CoreState → Type 0) : Type 0 where
+  pub effect : (core : CoreState) (bytes : List ℕ) → holds (core_after_write core bytes pending)
+  pub left : (core : CoreState) (d : RequestDecision) → holds core → holds (core_after_decision core d)
 
 pub configure_brings : Brings pendings.Configure (λ core. core.is_configured ≡ true)
 configure_brings = record { effect = λ core bytes. refl; left = λ core d h. (left_goes core d).configured h }
 
-left_anew : (core : CoreState) (d : Decided) → BeginsAnew core → BeginsAnew (left_by core d)
+left_anew : (core : CoreState) (d : RequestDecision) → StartsAtData0 core → StartsAtData0 (core_after_decision core d)
 left_anew core Refuses h = record { current = h.current; toggle = h.toggle }
 left_anew core (Reads bytes) h = record { current = h.current; toggle = h.toggle }
 left_anew core (Writes pending) h = record { current = h.current; toggle = h.toggle }
 
-pub clear_brings : Brings pendings.Clear BeginsAnew
+pub clear_brings : Brings pendings.Clear StartsAtData0
 clear_brings = record { effect = λ core bytes. record { current = refl; toggle = refl }; left = left_anew }
 
 -- a request was accepted
@@ -210,8 +226,9 @@ abbrev pub IsAccepted : Decision → Type 0
 IsAccepted Refused = ⊥
 IsAccepted (Accepted answer) = Unit {0}
 
--- what is pending behind the SETUP of a write that is accepted
-pub pends_where : (b : Bool) (wanted pending : Pending) (q : Decision) → IsAccepted q → IsDecidedBy (writes_if b wanted) q pending → pending ≡ wanted
+-- what is pending after the SETUP of a write that is accepted
+pub pends_where : (b : Bool) (wanted pending : PendingWrite) (q : Decision) → IsAccepted q
+    → IsDecidedBy (writes_if b wanted) q pending → pending ≡ wanted
 pends_where true wanted pending q accepted h = h.1
 pends_where false wanted pending Refused accepted h = absurd accepted
 pends_where false wanted pending (Accepted answer) accepted h = let wrong = h.0 in absurd (cc)
@@ -225,7 +242,9 @@ IsKeeping Nothing = Unit {0}
 IsKeeping (Decides decision) = Unit {0}
 IsKeeping TakesEffect = ⊥
 
-acts_keep : {pending : Pending} {holds : CoreState → Type 0} → Brings pending holds → (setup : Request') (bytes : List ℕ) (act : Act) (old new : CoreState) → IsKeeping act → ActsOn setup bytes act old new
+acts_keep : {pending : PendingWrite} {holds : CoreState → Type 0} → Brings pending holds
+    → (setup : Request') (bytes : List ℕ) (act : Act) (old new : CoreState) → IsKeeping act
+    → ActsOn setup bytes act old new
     → holds old → holds new
 acts_keep {pending} {holds} brings setup bytes Nothing old new keeps same h = subst holds (sym same) h
 acts_keep {pending} {holds} brings setup bytes (Decides decision) old new keeps (said, gives, is) h = subst holds (sym gives.1) (brings.left old (decide old setup) h)
@@ -255,14 +274,19 @@ refused_keeps shape Clean decision a = tt
 refused_keeps shape ReplyLost decision a = tt
 refused_keeps shape AckLost decision a = tt
 
-effect_by : {pending : Pending} {holds : CoreState → Type 0} → Brings pending holds → (shape : Shape) (setup : Request') (bytes : List ℕ) (old new : CoreState) → shape.reads ≡ false → old.pending ≡ pending
+effect_by : {pending : PendingWrite} {holds : CoreState → Type 0} → Brings pending holds
+    → (shape : Shape) (setup : Request') (bytes : List ℕ) (old new : CoreState) → shape.reads ≡ false
+    → old.pending ≡ pending
     → ActsOn setup bytes (if shape.reads then Nothing else TakesEffect) old new → holds new
 effect_by {pending} {holds} brings shape setup bytes old new writes pends acts =
-    let same : new ≡ effected old bytes old.pending = subst (λ (b : Bool). ActsOn setup bytes (if b then Nothing else TakesEffect) old new) writes acts in
-    subst holds (sym (same ∙ ap (effected old bytes) pends)) (brings.effect old bytes)
+    let same : new ≡ core_after_write old bytes old.pending =
+    subst (λ (b : Bool). ActsOn setup bytes (if b then Nothing else TakesEffect) old new) writes acts in
+    subst holds (sym (same ∙ ap (core_after_write old bytes) pends)) (brings.effect old bytes)
 
 -- the status of a write that arrives
-status_effect : {pending : Pending} {holds : CoreState → Type 0} → Brings pending holds → (shape : Shape) (setup : Request') (bytes : List ℕ) (fate : Fate) (answer : Option (List ℕ)) (decision : Decision) (a : Bool) (old new : CoreState)
+status_effect : {pending : PendingWrite} {holds : CoreState → Type 0} → Brings pending holds
+    → (shape : Shape) (setup : Request') (bytes : List ℕ) (fate : Fate) (answer : Option (List ℕ))
+    (decision : Decision) (a : Bool) (old new : CoreState)
     → shape.reads ≡ false → old.pending ≡ pending → (a ≡ true → holds old)
     → ActsOn setup bytes (act_at Status shape fate decision (Accepted answer) a) old new → applies shape fate Status || a ≡ true → holds new
 status_effect brings shape setup bytes TokenLost answer decision a old new writes pends effect acts h = acts_keep brings setup bytes Nothing old new tt acts (effect h)
@@ -288,39 +312,54 @@ applies_past shape AckLost = refl
 or_false : (x a : Bool) → x ≡ false → x || a ≡ true → a ≡ true
 or_false x a none h = sym (ap (λ (b : Bool). b || a) none) ∙ h
 
-setup_effect : (fate : Fate) (count : ℕ) (decision : Decision) (place : Place) → (setup_tried fate count decision place).applied ≡ true → (fate ≡ TokenLost) × (place.applied ≡ true)
+setup_effect : (fate : Fate) (count : ℕ) (decision : Decision) (place : Place)
+    → (place_after_setup fate count decision place).applied ≡ true → (fate ≡ TokenLost) × (place.applied ≡ true)
 setup_effect TokenLost count decision place h = (refl, sym (silent_stays place).applied ∙ h)
-setup_effect ReplyLost count decision place h = let none : false ≡ true = sym (silent_stays (decided count decision place)).applied ∙ h in absurd (cc)
-setup_effect AckLost count decision place h = let none : false ≡ true = sym (silent_stays (decided count decision place)).applied ∙ h in absurd (cc)
+setup_effect ReplyLost count decision place h = let none : false ≡ true =
+    sym (silent_stays (place_after_decision count decision place)).applied ∙ h in absurd (cc)
+setup_effect AckLost count decision place h = let none : false ≡ true =
+    sym (silent_stays (place_after_decision count decision place)).applied ∙ h in absurd (cc)
 setup_effect Clean count decision place h = absurd (cc)
 
-pub effect_at : {pending : Pending} {holds : CoreState → Type 0} → Brings pending holds → (setup : Request') (bytes : List ℕ) (fate : Fate) (p : Position) (decision q : Decision) (place : Place) (old new : CoreState)
-    → (shape_of setup).reads ≡ false → place.host ≡ p → place.decision ≡ q → (IsBehindSetup p → IsAccepted q → old.pending ≡ pending) → (place.applied ≡ true → holds old)
+pub effect_at : {pending : PendingWrite} {holds : CoreState → Type 0} → Brings pending holds
+    → (setup : Request') (bytes : List ℕ) (fate : Fate) (p : Position) (decision q : Decision) (place : Place)
+    (old new : CoreState)
+    → (shape_of setup).reads ≡ false → place.host ≡ p → place.decision ≡ q
+    → (IsAfterSetup p → IsAccepted q → old.pending ≡ pending) → (place.applied ≡ true → holds old)
     → ActsOn setup bytes (act_at p (shape_of setup) fate decision q place.applied) old new
-    → (tried_at p (shape_of setup) fate decision place).applied ≡ true → holds new
+    → (place_after_try_at p (shape_of setup) fate decision place).applied ≡ true → holds new
 effect_at brings setup bytes fate Setup decision q place old new writes at held pends effect acts h =
     let e = setup_effect fate (data_pieces (shape_of setup) decision) decision place h in
     acts_keep brings setup bytes (act_at Setup (shape_of setup) fate decision q place.applied) old new (setup_keeps (shape_of setup) fate decision q place.applied) acts (effect e.1)
 effect_at brings setup bytes fate (Piece k) decision Refused place old new writes at held pends effect acts h =
     acts_keep brings setup bytes (act_at (Piece k) (shape_of setup) fate decision Refused place.applied) old new (piece_keeps k (shape_of setup) fate decision Refused place.applied) acts
-    (effect (sym (refused_applied (shape_of setup) fate place) ∙ ap (λ (d : Decision). (piece_tried (shape_of setup) fate d place).applied) (sym held) ∙ h))
+    (effect (sym (refused_applied (shape_of setup) fate place)
+    ∙ ap (λ (d : Decision). (place_after_piece (shape_of setup) fate d place).applied) (sym held) ∙ h))
 effect_at brings setup bytes fate Status decision Refused place old new writes at held pends effect acts h =
     acts_keep brings setup bytes (act_at Status (shape_of setup) fate decision Refused place.applied) old new (refused_keeps (shape_of setup) fate decision place.applied) acts
-    (effect (sym (refused_applied (shape_of setup) fate place) ∙ ap (λ (d : Decision). (piece_tried (shape_of setup) fate d place).applied) (sym held) ∙ h))
+    (effect (sym (refused_applied (shape_of setup) fate place)
+    ∙ ap (λ (d : Decision). (place_after_piece (shape_of setup) fate d place).applied) (sym held) ∙ h))
 effect_at brings setup bytes fate Past decision Refused place old new writes at held pends effect acts h =
     acts_keep brings setup bytes (act_at Past (shape_of setup) fate decision Refused place.applied) old new (past_keeps (shape_of setup) fate decision Refused place.applied) acts
-    (effect (sym (refused_applied (shape_of setup) fate place) ∙ ap (λ (d : Decision). (piece_tried (shape_of setup) fate d place).applied) (sym held) ∙ h))
+    (effect (sym (refused_applied (shape_of setup) fate place)
+    ∙ ap (λ (d : Decision). (place_after_piece (shape_of setup) fate d place).applied) (sym held) ∙ h))
 effect_at brings setup bytes fate (Piece k) decision (Accepted answer) place old new writes at held pends effect acts h =
-    let took = sym (accepted_reaches (shape_of setup) fate answer place).applied ∙ ap (λ (d : Decision). (piece_tried (shape_of setup) fate d place).applied) (sym held) ∙ h in
+    let took =
+    sym (accepted_reaches (shape_of setup) fate answer place).applied
+    ∙ ap (λ (d : Decision). (place_after_piece (shape_of setup) fate d place).applied) (sym held) ∙ h in
     let here : applies (shape_of setup) fate (Piece k) || place.applied ≡ true = sym (ap (λ (x : Position). applies (shape_of setup) fate x || place.applied) at) ∙ took in
     acts_keep brings setup bytes (act_at (Piece k) (shape_of setup) fate decision (Accepted answer) place.applied) old new (piece_keeps k (shape_of setup) fate decision (Accepted answer) place.applied) acts
     (effect (or_false (applies (shape_of setup) fate (Piece k)) place.applied (applies_piece (shape_of setup) fate k) here))
 effect_at brings setup bytes fate Past decision (Accepted answer) place old new writes at held pends effect acts h =
-    let took = sym (accepted_reaches (shape_of setup) fate answer place).applied ∙ ap (λ (d : Decision). (piece_tried (shape_of setup) fate d place).applied) (sym held) ∙ h in
+    let took =
+    sym (accepted_reaches (shape_of setup) fate answer place).applied
+    ∙ ap (λ (d : Decision). (place_after_piece (shape_of setup) fate d place).applied) (sym held) ∙ h in
     let here : applies (shape_of setup) fate Past || place.applied ≡ true = sym (ap (λ (x : Position). applies (shape_of setup) fate x || place.applied) at) ∙ took in
     acts_keep brings setup bytes (act_at Past (shape_of setup) fate decision (Accepted answer) place.applied) old new (past_keeps (shape_of setup) fate decision (Accepted answer) place.applied) acts
     (effect (or_false (applies (shape_of setup) fate Past) place.applied (applies_past (shape_of setup) fate) here))
 effect_at brings setup bytes fate Status decision (Accepted answer) place old new writes at held pends effect acts h =
-    let took = sym (accepted_reaches (shape_of setup) fate answer place).applied ∙ ap (λ (d : Decision). (piece_tried (shape_of setup) fate d place).applied) (sym held) ∙ h in
+    let took =
+    sym (accepted_reaches (shape_of setup) fate answer place).applied
+    ∙ ap (λ (d : Decision). (place_after_piece (shape_of setup) fate d place).applied) (sym held) ∙ h in
     let here : applies (shape_of setup) fate Status || place.applied ≡ true = sym (ap (λ (x : Position). applies (shape_of setup) fate x || place.applied) at) ∙ took in
     status_effect brings (shape_of setup) setup bytes fate answer decision place.applied old new writes (pends tt tt) effect acts here

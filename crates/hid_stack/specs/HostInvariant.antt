@@ -6,18 +6,18 @@ use Rattle.usb_control.specs.declared.host.Progress.{Progress}
 use Rattle.usb_control.specs.Device.{DevControlState}
 use Rattle.usb_control.specs.Host.{IsRunning}
 use Rattle.usb_control.specs.Runs.{IsDone}
-use Rattle.usb_control.specs.Standing.{Stands}
+use Rattle.usb_control.specs.Positions.{Stands}
 use Rattle.usb_control.specs.Transfer.{Decision, Accepted, Refused, Position, Setup, shape_of}
 use Rattle.hid_requests.specs.declared.request.Asking.{Asking}
 use Rattle.hid_requests.specs.declared.request.Request.{Request}
 use Rattle.hid_requests.specs.declared.request.Request.TheVariants as requests
-use Rattle.hid_requests.specs.Asking.{FitsRequest, row_of, sends_of, setup_for}
-use Rattle.hid_device.specs.declared.decisions.Pending.{Pending}
-use Rattle.hid_device.specs.declared.decisions.Pending.TheVariants.{Nothing}
+use Rattle.hid_requests.specs.RequestSetup.{FitsRequest, row_of, sends_of, setup_for}
+use Rattle.hid_device.specs.declared.decisions.PendingWrite.{PendingWrite}
+use Rattle.hid_device.specs.declared.decisions.PendingWrite.TheVariants.{Nothing}
 use Rattle.hid_requests.specs.declared.codes.TheConstants.{REPORT_ENDPOINT as ENDPOINT}
 use Rattle.hid_device.specs.Core.{CoreState}
-use Rattle.hid_device.specs.Deciding.{config_info, core_table, decided_row}
-use Rattle.hid_device.specs.Decisions.{Decided, Reads, Refuses, Writes}
+use Rattle.hid_device.specs.RequestTable.{config_info, core_table, row_decision}
+use Rattle.hid_device.specs.RequestDecisions.{Reads, Refuses, RequestDecision, Writes}
 use Rattle.hid_host.specs.declared.fault.StackFault.{StackFault}
 use Rattle.hid_host.specs.declared.fault.StackFault.TheVariants.{BadDescriptor}
 use Rattle.hid_host.specs.declared.host.Transfer.{Transfer}
@@ -33,20 +33,20 @@ info_of core = config_info core.config (length core.descriptor)
 
 -- What the host knows is so: the configuration says it, the layout is the device's, and a device that is polled is
 -- configured.
-abbrev pub KnowsAt : HostPhase → ℕ → CoreState → Type 0
-KnowsAt Cold addr core = Unit {0}
-KnowsAt (Described info) addr core = info ≡ info_of core
-KnowsAt (Parsed info layout) addr core = (info ≡ info_of core) × (layout ≡ core.layout)
-KnowsAt (Ready known) addr core =
+abbrev pub IsConsistentAt : HostPhase → ℕ → CoreState → Type 0
+IsConsistentAt Cold addr core = Unit {0}
+IsConsistentAt (Described info) addr core = info ≡ info_of core
+IsConsistentAt (Parsed info layout) addr core = (info ≡ info_of core) × (layout ≡ core.layout)
+IsConsistentAt (Ready known) addr core =
     (known.layout ≡ core.layout) × (core.is_configured ≡ true) × (known.pipe.addr ≡ addr) × (known.pipe.endp ≡ ENDPOINT)
 
 -- the host has the handshake of SETUP
-abbrev pub IsBehindSetup : Position → Type 0
-IsBehindSetup Setup = ⊥
-IsBehindSetup _ = Unit {0}
+abbrev pub IsAfterSetup : Position → Type 0
+IsAfterSetup Setup = ⊥
+IsAfterSetup _ = Unit {0}
 
 -- what is decided by a row of requests: its answer, and what is to be carried out
-abbrev pub IsDecidedBy : Decided → Decision → Pending → Type 0
+abbrev pub IsDecidedBy : RequestDecision → Decision → PendingWrite → Type 0
 IsDecidedBy Refuses decision pending = (decision ≡ Refused) × (pending ≡ Nothing)
 IsDecidedBy (Reads bytes) decision pending = (decision ≡ Accepted (Some bytes)) × (pending ≡ Nothing)
 IsDecidedBy (Writes effect) decision pending = (decision ≡ Accepted None) × (pending ≡ effect)
@@ -60,17 +60,17 @@ pub record IsSameDevice (core other : CoreState) : Type 0 where
 -- what was decided on a request is what its row says of the device as it stood then, as it was made
 pub record IsDecided (request : Request) (decider core : CoreState) (decision : Decision) : Type 0 where
   pub same : IsSameDevice core decider
-  pub by : IsDecidedBy (decided_row decider (row_of request)) decision core.pending
+  pub by : IsDecidedBy (row_decision decider (row_of request)) decision core.pending
 
 -- no round is open, and the next one begins with DATA0
-pub record BeginsAnew (core : CoreState) : Type 0 where
+pub record StartsAtData0 (core : CoreState) : Type 0 where
   pub current : core.current ≡ None
   pub toggle : core.toggle ≡ false
 
 -- what a write that took effect has brought about, where a host relies on it: a configuration, and the end of a halt
 abbrev pub HasEffect : Request → CoreState → Type 0
 HasEffect requests.Configure core = core.is_configured ≡ true
-HasEffect requests.Clear core = BeginsAnew core
+HasEffect requests.Clear core = StartsAtData0 core
 HasEffect _ core = Unit {0}
 
 -- what the host asked with: the length of the report descriptor and the endpoint of Input reports, as the device has
@@ -79,7 +79,7 @@ abbrev pub asking_of : CoreState → Asking
 asking_of core = record { report_length = length core.descriptor; endpoint = ENDPOINT }
 
 -- A transfer is the one of its request, and both ends stand where its trail leads.
-pub record Carries (trail : Trail) (phase : HostPhase) (transfer : Transfer)
+pub record FollowsTrail (trail : Trail) (phase : HostPhase) (transfer : Transfer)
     (control : DevControlState CoreState) : Type 0 where
   pub stands : Stands core_table.answer_of (shape_of transfer.ends.setup) (sends_of transfer.request) trail.place
       transfer.ends control
@@ -89,7 +89,7 @@ pub record Carries (trail : Trail) (phase : HostPhase) (transfer : Transfer)
   pub needs : IsRunning transfer.ends.stage → may_begin transfer.request (state_of phase) ≡ true
   -- what the device decided at the last SETUP that arrived, as it stood then, and has done while it runs where it took
   -- effect, as it has where the write is done
-  pub decided : IsBehindSetup trail.place.host
+  pub decided : IsAfterSetup trail.place.host
       → IsDecided transfer.request trail.decider control.requests trail.place.decision
   pub effect : IsRunning transfer.ends.stage → trail.place.applied ≡ true
       → HasEffect transfer.request control.requests
@@ -100,23 +100,24 @@ abbrev pub IsPending : Bool → Transfer → Type 0
 IsPending clearing transfer = transfer.request ≡ requests.Clear → IsRunning transfer.ends.stage → clearing ≡ true
 
 -- A host knows its device, with which its transfer came by this trail, and holds its polls back while it ends a halt.
-pub record KnowsBy (trail : Trail) (host : HostEnd) (control : DevControlState CoreState) : Type 0 where
-  pub phase : KnowsAt host.phase host.addr control.requests
-  pub transfer : IfSome host.transfer (λ transfer. Carries trail host.phase transfer control)
+pub record IsConsistentBy (trail : Trail) (host : HostEnd)
+    (control : DevControlState CoreState) : Type 0 where
+  pub phase : IsConsistentAt host.phase host.addr control.requests
+  pub transfer : IfSome host.transfer (λ transfer. FollowsTrail trail host.phase transfer control)
   pub clears : IfSome host.transfer (IsPending host.clearing)
 
 -- a host knows its device by some trail of its transfer
-pub record Knows (host : HostEnd) (control : DevControlState CoreState) : Type 0 where
+pub record IsConsistent (host : HostEnd) (control : DevControlState CoreState) : Type 0 where
   pub trail : Trail
-  pub by : KnowsBy trail host control
+  pub by : IsConsistentBy trail host control
 
 -- nothing of a virtual device is refused
 abbrev pub IsNoRefusal : Result Progress StackFault → Type 0
 IsNoRefusal (Err (BadDescriptor fault)) = ⊥
 IsNoRefusal result = Unit {0}
 
--- What befalls a device beside its endpoint 0 leaves what it was made with, its configuration, and the request that was
--- decided on last. While a Clear is pending it leaves a pipe that begins anew so, too.
+-- What happens to a device beside its endpoint 0 leaves what it was made with, its configuration, and the request
+-- that was decided on last. While a Clear is pending it leaves a pipe that starts again so, too.
 pub record LeavesTransfers (clearing : Bool) (old new : DevControlState CoreState) : Type 0 where
   pub layout : new.requests.layout ≡ old.requests.layout
   pub config : new.requests.config ≡ old.requests.config
@@ -125,8 +126,8 @@ pub record LeavesTransfers (clearing : Bool) (old new : DevControlState CoreStat
   pub answer : new.requests.answer ≡ old.requests.answer
   pub pending : new.requests.pending ≡ old.requests.pending
   pub stage : new.stage ≡ old.stage
-  pub anew : clearing ≡ true → BeginsAnew old.requests → BeginsAnew new.requests
+  pub restarts : clearing ≡ true → StartsAtData0 old.requests → StartsAtData0 new.requests
 
--- endpoint 0 with another inside
+-- endpoint 0 of a device with another core
 abbrev pub with_core : DevControlState CoreState → CoreState → DevControlState CoreState
-with_core control core = record { requests = core; stage = control.stage; heard = control.heard }
+with_core control core = record { requests = core; stage = control.stage; last_packet = control.last_packet }

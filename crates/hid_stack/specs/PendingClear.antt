@@ -12,7 +12,7 @@ abbrev pub IsClearDone : Option Transfer → Type 0
 IsClearDone None = ⊥
 IsClearDone (Some t) = (t.request ≡ Clear) × (t.ends.stage ≡ Done)
 
--- a step that leaves a member so is no reset, and no Clear is done by it
+-- a step that leaves a Clear pending: no reset, and none by which a Clear is done
 abbrev pub LeavesPending : MemberStep → Member → Type 0
 LeavesPending Resets n = ⊥
 LeavesPending x n = IsClearDone n.transfer → ⊥
@@ -24,7 +24,7 @@ LeavePending m [] = Unit {0}
 LeavePending m (x ∷ steps) = LeavesPending x (member_after m x) × LeavePending (member_after m x) steps
 
 -- From the begin of a Clear until one is done or the bus is reset the host polls nothing: also while the Clear has failed,
--- and other requests begin and end. Where a try ends one, both ends begin anew.
+-- and other requests begin and end. Where a try ends one, both ends start again.
 abbrev pub IsPendingUntilDone : Member → List MemberStep → Type 0
 IsPendingUntilDone m steps =
     let begun = member_after m (Begins Clear) in let n = member_after_all begun steps in LeavePending begun steps

@@ -1,10 +1,10 @@
 use Rattle.std.proofs.Common.{◌≡◌, ◌++◌, ◌+◌, take, map, vec_len, vec_capacity}
-use Rattle.hid_stack.specs.Rig.{tagged}
-use Rattle.hid_stack.proofs.slot.hand_over.Given as goal
+use Rattle.hid_stack.specs.Rig.{with_device_number}
+use Rattle.hid_stack.proofs.slot.deliver.Given as goal
 
 abbrev pub invariant-loop-event : goal.invariant-loop-event
 invariant-loop-event l = record {
-  copied : l.out.items ≡ l.fn.out.items ++ map (tagged l.dev) (take l.event-index l.events);
+  copied : l.out.items ≡ l.fn.out.items ++ map (with_device_number l.dev) (take l.event-index l.events);
   len : vec_len l.out ≡ vec_len l.fn.out + l.event-index;
   capacity : vec_capacity l.out ≡ vec_capacity l.fn.out;
 }

@@ -1,6 +1,6 @@
 use Rattle.std.proofs.Common.{◌∙◌, arith}
 use Rattle.hid_stack.proofs.SlotLemmas.{handed_more}
-use Rattle.hid_stack.proofs.slot.hand_over.Goals as goal
+use Rattle.hid_stack.proofs.slot.deliver.Goals as goal
 
 pub loop-event-preserved : goal.loop-event-preserved
 loop-event-preserved c = record {
