@@ -28,9 +28,9 @@ use Rattle.hid_script.specs.declared.wanted.Wanted.{Wanted}
 use Rattle.hid_script.specs.declared.wanted.Wanted.TheVariants as wanted
 use Rattle.hid_text.specs.Line.{meaning_of}
 use Rattle.hid_script.specs.Output.{IsFront}
-use Rattle.hid_script.specs.Session.{Session, Outcome, accepted, refused, at_first, Repeats}
-use Rattle.hid_script.specs.Steps.{TellsLayout, TellsDevice, TellsStep, TellsFound, TellsChange, valued, read_report, change_of}
-use Rattle.hid_script.specs.Telling.{TellsShort, Once, times, Means, LineTells, LineBegins, Begins, BeginsMeant}
+use Rattle.hid_script.specs.Session.{Session, Outcome, success, failure, at_first, Repeats}
+use Rattle.hid_script.specs.Steps.{TellsLayout, TellsDevice, TellsStep, TellsFound, TellsChange, values_outcome, read_report, change_of}
+use Rattle.hid_script.specs.LineOutput.{TellsShort, Once, times, Means, LineTells, LineBegins, Begins, BeginsMeant}
 use Rattle.hid_script.specs.Runs.{Ending, Refusal, Want, Cut, Silence, ending_of, EndsAs, Ends, FirstTells, FirstBegins, RunsTo, Stops, line_of, AppendsScript}
 use Rattle.hid_script.specs.Place.{Place, Advances, RunsFrom, lines_at, AppendsFrom}
 use Rattle.hid_script.proofs.PlaceLemmas.{first_begins, broken_run}
@@ -41,22 +41,24 @@ use Rattle.hid_script.proofs.PlaceLemmas.{first_begins, broken_run}
 abbrev PrintsNothing : (Session → Outcome → Type 0) → Type 0
 PrintsNothing Part = (session : Session) (text : List ℕ) (cause : Cause) → Part session (record { text = text; end = Err cause }) → text ≡ []
 
--- how a part ended: refused with this text
+-- the outcome of a part that was refused after this text
 abbrev refused_with : List ℕ → Cause → Outcome
 refused_with text cause = record { text = text; end = Err cause }
 
-not_accepted : (text other : List ℕ) (cause : Cause) (session : Session) → refused_with text cause ≡ accepted other session → text ≡ []
+not_accepted : (text other : List ℕ) (cause : Cause) (session : Session)
+    → refused_with text cause ≡ success other session → text ≡ []
 not_accepted text other cause session e =
     let ends : (let r : Result Session Cause = Err cause in r) ≡ Ok session = ap (λ (o : Outcome). o.end) e in absurd (cc)
 
-no_text : (text : List ℕ) (cause why : Cause) → refused_with text cause ≡ refused why → text ≡ []
+no_text : (text : List ℕ) (cause why : Cause) → refused_with text cause ≡ failure why → text ≡ []
 no_text text cause why e = ap (λ (o : Outcome). o.text) e
 
 no_report : (session : Session) (layout : Contents) (bytes text : List ℕ) (cause : Cause) (r : Result ℕ ReportFault) → refused_with text cause ≡ read_report session layout bytes r → text ≡ []
 no_report session layout bytes text cause (Ok r) e = not_accepted text _ cause session e
 no_report session layout bytes text cause (Err fault) e = no_text text cause _ e
 
-no_values : (session : Session) (bytes text : List ℕ) (cause : Cause) (layout : Option Contents) → refused_with text cause ≡ valued session bytes layout → text ≡ []
+no_values : (session : Session) (bytes text : List ℕ) (cause : Cause) (layout : Option Contents)
+    → refused_with text cause ≡ values_outcome session bytes layout → text ≡ []
 no_values session bytes text cause None e = no_text text cause _ e
 no_values session bytes text cause (Some layout) e = no_report session layout bytes text cause (report_named layout bytes) e
 
@@ -106,16 +108,20 @@ once_prints_nothing (line.Step said) session text cause h = short_prints_nothing
 repeats_begin : (Part : Session → Outcome → Type 0) → PrintsNothing Part → (n : ℕ) (session : Session) (text : List ℕ) (cause : Cause) → Repeats n Part session (refused_with text cause) → Begins n Part session text
 unfolding Repeats
 repeats_begin Part nothing zero session text cause h =
-    let none = not_accepted text [] cause session h in (0, session, omega arith, ap (λ t. accepted t session) none)
+    let none = not_accepted text [] cause session h in (0, session, omega arith, ap (λ t. success t session) none)
 repeats_begin Part nothing (suc n) session text cause (inr h) =
     let none : text ≡ [] = ap (λ (o : Outcome). o.text) h.3 ∙ nothing session h.0 h.1 h.2 in
-    (0, session, omega arith, ap (λ t. accepted t session) none)
+    (0, session, omega arith, ap (λ t. success t session) none)
 repeats_begin Part nothing (suc n) session text cause (inl h) =
     let ends : (let r : Result Session Cause = Err cause in r) ≡ h.2.end = ap (λ (o : Outcome). o.end) h.5 in
     let whole : text ≡ h.0 ++ h.2.text = ap (λ (o : Outcome). o.text) h.5 in
     let rest : Repeats n Part h.1 (refused_with h.2.text cause) = subst (λ e. Repeats n Part h.1 (record { text = h.2.text; end = e })) (sym ends) h.4 in
-    let more = repeats_begin Part nothing n h.1 h.2.text cause rest in
-    (suc more.0, more.1, omega (arith, more.2), inl (h.0, h.1, accepted h.2.text more.1, h.3, more.3, ap (λ t. accepted t more.1) whole))
+    let more = repeats_begin Part nothing n h.1 h.2.text cause rest in (
+      suc more.0,
+      more.1,
+      omega (arith, more.2),
+      inl (h.0, h.1, success h.2.text more.1, h.3, more.3, ap (λ t. success t more.1) whole),
+    )
 
 meant_begins : (session : Session) (meaning : Result Line LineFault) (text : List ℕ) (cause : Cause) → Means session meaning (refused_with text cause) → BeginsMeant session meaning text
 meant_begins session (Ok said) text cause h = repeats_begin (Once said) (once_prints_nothing said) (times said) session text cause h
@@ -147,7 +153,7 @@ cut_there Want session script part cause h = (part, h, ([], sym (append-nil part
 cut_there Cut session script part cause h = h
 cut_there Silence session script part cause h = ([], first_begins session script, rw h ([], refl))
 
--- of what was begun only a writer cuts something off
+-- only a writer cuts something off the text that a line began to tell
 pub begun_there : (session : Session) (script : List (List ℕ)) (part : List ℕ) (cause : Cause) → Ends (FirstTells session script) (FirstBegins session script) part cause
     → (cut : List ℕ) × FirstBegins session script (part ++ cut) × ((cause ≡ causes.Write) ⊎ (cut ≡ []))
 unfolding ending_of
@@ -177,7 +183,7 @@ cut_stops session script before written first fault at is h = record {
   whole = h.whole;
 }
 
--- and behind the last line nothing is told that could be cut
+-- a run whose lines were all run ends after the last line, where no text is cut off
 cut_at_end : (session : Session) (script : List (List ℕ)) (written : List ℕ) (result : Result Summary ScriptFault) (fault : ScriptFault) → fault.line ≡ line_of result → fault.cause ≡ causes.Write
     → RunsTo session script 0 written result → Stops session script 0 written fault
 unfolding ending_of
@@ -195,7 +201,7 @@ cut_at_end session script written (Ok summary) fault at is h = record {
   whole = sym (append-nil written);
 }
 
--- ---- what was told is flushed
+-- ---- what was reported is flushed
 
 pub kept_written : (a b c : Option (List ℕ)) (written : List ℕ) → Appends a b written → Keeps b c → Appends a c written
 kept_written None b c written h k = tt
@@ -213,7 +219,7 @@ pub never_flushed : (options : Options) (a c d e : Option (List ℕ)) (result : 
 never_flushed options None c d e result fault at is h k = tt
 never_flushed options (Some script) c d e result fault at is h k = (h.0, kept_written c d e h.0 h.1 k, cut_at_end (at_first options) (lines script) h.0 result fault at is h.2)
 
--- one before a read did
+-- a flush before a read failed
 cut_here : (place : Place) (more : List ℕ) (fault : ScriptFault) → fault.cause ≡ causes.Write → fault.line ≡ place.lines + 1 → RunsFrom place more [] (Err fault)
 unfolding ending_of
 cut_here place more fault is at = record {

@@ -2,7 +2,7 @@ pub mod OutputLemmas
 pub mod PlaceLemmas
 pub mod SessionLemmas
 pub mod RepeatLemmas
-pub mod TellingLemmas
+pub mod LineOutputLemmas
 pub mod FlushLemmas
 pub mod PrintingLemmas
 pub mod StreamLemmas

@@ -1,108 +1,72 @@
 -- Lines of a script that comes in pieces, and what a run of them wrote.
-use Rattle.std.proofs.Common.{◌≡◌, ℕ, ◌+◌, ◌-◌, ◌<◌, ◌≤◌, Bool, true, false, List, [], ◌∷◌, ◌++◌, length, length-append, take, drop, take-append-drop, refl, sym, ap, ◌∙◌, arith, append-nil, append_assoc, subst, Result, Ok, Err, Option, None, Some, IfSome, IsErrAnd, cond, nat_eq, nat_lt, get_or}
-use Rattle.std.specs.Prelude.{OnOk, OnErr}
-use Rattle.std.specs.List.{slice_split, onto_first, All}
-use Rattle.arrayvec.specs.declared.array_vec.ArrayVec.{ArrayVec}
-use Rattle.std.specs.Str.Lines.{lines, lines_of_parts, strip_carriage_return}
+use Rattle.std.proofs.Common.{◌≡◌, ℕ, ◌+◌, ◌<◌, List, [], ◌∷◌, ◌++◌, length, length-append, refl, sym, ap, ◌∙◌, arith, append-nil, append_assoc, subst, Result, Ok, Err, Option, None, Some, IfSome, IsErrAnd, nat_lt}
+use Rattle.std.specs.Str.Lines.{lines, strip_carriage_return}
 use Rattle.std.specs.Io.KnownBytes.{Appends, Consumes, IsAtEnd}
-use Rattle.std.proofs.lemmas.List.Splits.{slice_split_none, slice_split-cons_no}
-use Rattle.std.proofs.lemmas.List.Elements.{All-head, All-tail, All-append, All-from_get_or}
-use Rattle.std.proofs.lemmas.List.{length-take, length-take-le, length-drop, take_all, get_or-take, drop_more}
-use Rattle.std.proofs.lemmas.Bool.{cond-true, cond-false, cond_both, lt-ltb, ne_eqb, eqb-true}
+use Rattle.std.proofs.lemmas.Bool.{cond-true, lt-ltb}
 use Rattle.std.proofs.KnownBytes.{Consumes-trans, Consumes-whole, Appends-trans, Appends-nil}
-use Rattle.memchr.specs.Find.{IsFirstByte, is_byte}
 use Rattle.hid_script.specs.declared.fault.Cause.{Cause}
 use Rattle.hid_script.specs.declared.fault.Cause.TheVariants as causes
 use Rattle.hid_script.specs.declared.fault.ScriptFault.{ScriptFault}
 use Rattle.hid_script.specs.declared.fault.Summary.{Summary}
-use Rattle.hid_text.proofs.LineLemmas.{lines_first, some_part}
+use Rattle.hid_text.specs.Lines.{IsUnbroken}
+use Rattle.hid_text.proofs.PieceLemmas.{gives_nothing, gives_more, gives_none, gives_line, last_line, long_line}
 use Rattle.hid_text.specs.Words.{words_of}
-use Rattle.hid_text.specs.Line.{meaning_of, words_said}
+use Rattle.hid_text.specs.Line.{line_meaning, meaning_of}
 use Rattle.hid_script.specs.declared.fault.Options.{Options}
-use Rattle.hid_script.specs.Session.{Session, accepted, refused, at_first, Repeats}
+use Rattle.hid_script.specs.Session.{Session, success, failure, at_first, Repeats}
 use Rattle.hid_text.specs.declared.fault.LineFault.{LineFault}
 use Rattle.hid_text.specs.declared.fault.LineFault.TheVariants as line_faults
 use Rattle.hid_text.specs.declared.line.Line.{Line}
-use Rattle.hid_script.specs.Telling.{LineTells, LineBegins, BeginsMeant, Means}
+use Rattle.hid_script.specs.LineOutput.{LineTells, LineBegins, BeginsMeant, Means}
 use Rattle.hid_script.specs.Runs.{Silence, ending_of, EndsAs, Ends, FirstTells, FirstBegins, AllTell, RunsTo, AppendsScript}
-use Rattle.hid_script.specs.Place.{Place, IsUnbroken, lines_at, Writes, Advances, RunsFrom, Takes, AppendsFrom}
-
--- ---- lines
-
--- what has no line feed is the last line, if it has a byte
-lines_last : (line : List ℕ) → IsUnbroken line → lines line ≡ cond (nat_eq (length line) 0) [] (line ∷ [])
-lines_last line whole = ap lines_of_parts (slice_split_none (λ b. nat_eq b 10) line whole)
-
--- the first part goes on with what comes before any line feed
-split_front : (p : ℕ → Bool) (front rest y : List ℕ) (ys : List (List ℕ)) → All (λ b. p b ≡ false) front → slice_split p rest ≡ y ∷ ys → slice_split p (front ++ rest) ≡ (front ++ y) ∷ ys
-split_front p [] rest y ys whole e = e
-split_front p (x ∷ front) rest y ys whole e =
-    slice_split-cons_no p x (front ++ rest) (All-head (λ b. p b ≡ false) x front whole) ∙ ap (onto_first x) (split_front p front rest y ys (All-tail (λ b. p b ≡ false) x front whole) e)
-
-strip_long : (line : List ℕ) → 1025 < length line → 1024 < length (strip_carriage_return line)
-strip_long line long = cond_both (nat_eq (get_or line (length line - 1) 0) 13) (take (length line - 1) line) line (λ l. 1024 < length l)
-    (λ _. omega (arith, length-take-le (length line - 1) line (omega arith))) (λ _. omega arith)
-
-long_part : (line : List ℕ) (ys : List (List ℕ)) → 1025 < length line → (l : List ℕ) × (ls : List (List ℕ)) × (lines_of_parts (line ∷ ys) ≡ l ∷ ls) × (1024 < length l)
-long_part line [] long = (line, [], cond-false _ _ _ (ne_eqb (length line) 0 (λ none. omega arith)), omega arith)
-long_part line (y ∷ ys) long = (strip_carriage_return line, lines_of_parts (y ∷ ys), refl, strip_long line long)
-
--- what begins with more bytes than a line has is a long line, whatever comes then
-long_first : (front rest : List ℕ) → IsUnbroken front → 1025 < length front → (l : List ℕ) × (ls : List (List ℕ)) × (lines (front ++ rest) ≡ l ∷ ls) × (1024 < length l)
-long_first front rest whole long =
-    let part = some_part (λ b. nat_eq b 10) rest in
-    let first = long_part (front ++ part.0) part.1 (omega (arith, length-append front part.0)) in
-    (first.0, first.1, ap lines_of_parts (split_front (λ b. nat_eq b 10) front rest part.0 part.1 whole part.2) ∙ first.2, first.3)
+use Rattle.hid_script.specs.Place.{Place, lines_at, Writes, Advances, RunsFrom, Takes, AppendsFrom}
 
 -- ---- what lines tell, one after the other
 
--- two texts before a third
+-- a text that is two others, before a third
 after_both : (a b c t u : List ℕ) → t ≡ a ++ b → t ++ u ≡ a ++ (b ++ u)
 after_both a b c t u e = ap (λ l. l ++ u) e ∙ append_assoc a b u
 
--- lines behind lines
+-- lines that are reported after other lines
 all_more : (session middle last : Session) (first more : List (List ℕ)) (text rest : List ℕ) → AllTell session first text middle → AllTell middle more rest last → AllTell session (first ++ more) (text ++ rest) last
 all_more session middle last [] more text rest h k =
     subst (λ (s : Session). AllTell s more (text ++ rest) last) h.1 (subst (λ t. AllTell middle more (t ++ rest) last) (sym h.0) k)
 all_more session middle last (line ∷ first) more text rest h k =
     (h.0, h.1, h.2 ++ rest, h.3, all_more h.1 middle last first more h.2 rest h.4 k, after_both h.0 h.2 [] text rest h.5)
 
--- one line
-one_tells : (session next : Session) (line text : List ℕ) → LineTells session line (accepted text next) → AllTell session (line ∷ []) text next
+-- one line that was reported
+one_tells : (session next : Session) (line text : List ℕ) → LineTells session line (success text next)
+    → AllTell session (line ∷ []) text next
 one_tells session next line text h = (text, next, [], h, (refl, refl), sym (append-nil text))
 
 -- ---- pieces
 
 pub advances_nothing : (p : Place) → Advances p [] [] p
-advances_nothing p = record { ended = []; all = (refl, refl); count = omega arith; split = λ more. refl }
+advances_nothing p = record { ended = []; all = (refl, refl); count = omega arith; split = gives_nothing p.begun }
 
 pub advances_more : (p q r : Place) (a b v w : List ℕ) → Advances p a v q → Advances q b w r → Advances p (a ++ b) (v ++ w) r
 advances_more p q r a b v w h k = record {
   ended = h.ended ++ k.ended;
   all = all_more p.session q.session r.session h.ended k.ended v w h.all k.all;
   count = omega (arith, h.count, k.count, length-append h.ended k.ended);
-  split = λ more. ap (lines_at p) (append_assoc a b more) ∙ h.split (b ++ more) ∙ ap (λ l. h.ended ++ l) (k.split more) ∙ sym (append_assoc h.ended k.ended (lines_at r more));
+  split = gives_more p.begun q.begun r.begun a b h.ended k.ended h.split k.split;
 }
 
--- a line feed, where the line was told whole
-pub advances_line : (session next : Session) (begun line : List ℕ) (n : ℕ) (written : List ℕ) → IsUnbroken begun → line ≡ strip_carriage_return begun → LineTells session line (accepted written next)
-    → Advances (record { session = session; begun = begun; lines = n }) (10 ∷ []) written (record { session = next; begun = []; lines = n + 1 })
-advances_line session next begun line n written whole same told = record {
+-- bytes that end no line
+pub advances_kept : (session : Session) (begun bytes left : List ℕ) (n : ℕ) → left ≡ begun ++ bytes
+    → Advances (record { session = session; begun = begun; lines = n }) bytes [] (record { session = session; begun = left; lines = n })
+advances_kept session begun bytes left n same = rw same (record { ended = []; all = (refl, refl); count = omega arith; split = gives_none begun bytes })
+
+-- the last bytes of a line and its line feed, where the line was told whole
+pub advances_line : (session next : Session) (begun last line : List ℕ) (n : ℕ) (written : List ℕ) → IsUnbroken begun → IsUnbroken last
+    → line ≡ strip_carriage_return (begun ++ last) → LineTells session line (success written next)
+    → Advances (record { session = session; begun = begun; lines = n }) (last ++ 10 ∷ []) written (record { session = next; begun = []; lines = n + 1 })
+advances_line session next begun last line n written whole apart same told = record {
   ended = line ∷ [];
   all = one_tells session next line written told;
   count = omega arith;
-  split = λ more. lines_first begun more whole ∙ ap (λ l. l ∷ lines more) (sym same);
+  split = gives_line begun last line whole apart same;
 }
-
--- a whole line with its line feed, where none had begun
-pub advances_whole : (session next : Session) (begun bytes line : List ℕ) (n : ℕ) (written : List ℕ) → begun ≡ [] → IsUnbroken bytes → line ≡ strip_carriage_return bytes → LineTells session line (accepted written next)
-    → Advances (record { session = session; begun = begun; lines = n }) (bytes ++ 10 ∷ []) written (record { session = next; begun = begun; lines = n + 1 })
-advances_whole session next begun bytes line n written first whole same told = rw first (record {
-  ended = line ∷ [];
-  all = one_tells session next line written told;
-  count = omega arith;
-  split = λ more. ap lines (append_assoc bytes (10 ∷ []) more) ∙ lines_first bytes more whole ∙ ap (λ l. l ∷ lines more) (sym same);
-})
 
 -- ---- ends
 
@@ -122,7 +86,7 @@ line_stops session script others before line part cause fault e at is h = record
   whole = refl;
 }
 
--- what runs on behind lines that were told
+-- what runs on after lines that were reported
 runs_more : (session middle : Session) (first others : List (List ℕ)) (before after : ℕ) (text rest : List ℕ) (result : Result Summary ScriptFault) → AllTell session first text middle → after ≡ before + length first
     → RunsTo middle others after rest result → RunsTo session (first ++ others) before (text ++ rest) result
 runs_more session middle first others before after text rest (Ok summary) h at k = record {
@@ -155,57 +119,28 @@ pub long_stops : (place : Place) (bytes more : List ℕ) (fault : ScriptFault) �
     → RunsFrom place (bytes ++ more) [] (Err fault)
 unfolding LineTells meaning_of ending_of
 long_stops place bytes more fault whole apart long at is =
-    let first = long_first (place.begun ++ bytes) more (All-append (λ x. nat_eq x 10 ≡ false) place.begun bytes whole apart) (omega (arith, length-append place.begun bytes)) in
-    let meant : meaning_of first.0 ≡ Err line_faults.LineTooLong = cond-true (nat_lt 1024 (length first.0)) (Err line_faults.LineTooLong) (words_said (words_of first.0)) (lt-ltb 1024 (length first.0) first.3) in
-    line_stops place.session (lines_at place (bytes ++ more)) first.1 place.lines first.0 [] causes.LineTooLong fault (ap lines (sym (append_assoc place.begun bytes more)) ∙ first.2) at is
-    (subst (λ m. Means place.session m (refused causes.LineTooLong)) (sym meant) refl)
+    let first = long_line 1024 place.begun bytes more whole apart long in
+    let meant : meaning_of first.0 ≡ Err line_faults.LineTooLong =
+    cond-true (nat_lt 1024 (length first.0)) (Err line_faults.LineTooLong) (line_meaning (words_of first.0))
+    (lt-ltb 1024 (length first.0) first.3) in
+    line_stops place.session (lines_at place (bytes ++ more)) first.1 place.lines first.0 [] causes.LineTooLong fault first.2 at is
+    (subst (λ m. Means place.session m (failure causes.LineTooLong)) (sym meant) refl)
+
+-- one whose line feed came too
+pub long_line_stops : (place : Place) (last more : List ℕ) (fault : ScriptFault) → IsUnbroken place.begun → IsUnbroken last → 1025 < length place.begun + length last → fault.line ≡ place.lines + 1 → fault.cause ≡ causes.LineTooLong
+    → RunsFrom place ((last ++ 10 ∷ []) ++ more) [] (Err fault)
+long_line_stops place last more fault whole apart long at is =
+    subst (λ all. RunsFrom place all [] (Err fault)) (sym (append_assoc last (10 ∷ []) more)) (long_stops place last (10 ∷ more) fault whole apart long at is)
 
 -- a line that ended the run at its line feed
-pub line_feed_stops : (place : Place) (next : Session) (line more written : List ℕ) (cause : Cause) (fault : ScriptFault) → IsUnbroken place.begun → line ≡ strip_carriage_return place.begun
-    → Writes (LineTells place.session line) (LineBegins place.session line) written (Err cause) next → fault.line ≡ place.lines + 1 → fault.cause ≡ cause → RunsFrom place (10 ∷ more) written (Err fault)
-line_feed_stops place next line more written cause fault whole same told at is =
-    line_stops place.session (lines_at place (10 ∷ more)) (lines more) place.lines line written cause fault (lines_first place.begun more whole ∙ ap (λ l. l ∷ lines more) (sym same)) at is told
-
--- a whole line that ended the run, where none had begun
-pub whole_stops : (place : Place) (next : Session) (bytes line more written : List ℕ) (cause : Cause) (fault : ScriptFault) → place.begun ≡ [] → IsUnbroken bytes → line ≡ strip_carriage_return bytes
-    → Writes (LineTells place.session line) (LineBegins place.session line) written (Err cause) next → fault.line ≡ place.lines + 1 → fault.cause ≡ cause → RunsFrom place ((bytes ++ 10 ∷ []) ++ more) written (Err fault)
-whole_stops place next bytes line more written cause fault first whole same told at is =
-    line_stops place.session (lines_at place ((bytes ++ 10 ∷ []) ++ more)) (lines more) place.lines line written cause fault
-    (ap (λ l. lines (l ++ ((bytes ++ 10 ∷ []) ++ more))) first ∙ ap lines (append_assoc bytes (10 ∷ []) more) ∙ lines_first bytes more whole ∙ ap (λ l. l ∷ lines more) (sym same)) at is told
+pub line_feed_stops : (place : Place) (next : Session) (last line more written : List ℕ) (cause : Cause) (fault : ScriptFault) → IsUnbroken place.begun → IsUnbroken last → line ≡ strip_carriage_return (place.begun ++ last)
+    → Writes (LineTells place.session line) (LineBegins place.session line) written (Err cause) next → fault.line ≡ place.lines + 1 → fault.cause ≡ cause → RunsFrom place ((last ++ 10 ∷ []) ++ more) written (Err fault)
+line_feed_stops place next last line more written cause fault whole apart same told at is =
+    line_stops place.session (lines_at place ((last ++ 10 ∷ []) ++ more)) (lines more) place.lines line written cause fault (gives_line place.begun last line whole apart same more) at is told
 
 -- ---- piece by piece
 
-not_passing : (b : Bool) → (b ≡ true → ⊥) → b ≡ false
-not_passing true h = absurd (h refl)
-not_passing false h = refl
-
--- what stands before the first line feed
-pub unbroken_before : (bytes : List ℕ) (end : ℕ) → IsFirstByte (is_byte 10) bytes (Some end) → IsUnbroken (take end bytes)
-unbroken_before bytes end first = All-from_get_or (λ b. nat_eq b 10 ≡ false) (take end bytes) 0 (λ i below.
-    let near : i < end = omega (arith, below, length-take end bytes) in
-    rw (get_or-take end bytes i 0 near) (not_passing (nat_eq (get_or bytes i 0) 10) (first.0.before i (omega arith) near)))
-
--- all bytes, where there is none
-pub unbroken_all : (bytes : List ℕ) → IsFirstByte (is_byte 10) bytes None → IsUnbroken bytes
-unbroken_all bytes nowhere = All-from_get_or (λ b. nat_eq b 10 ≡ false) bytes 0 (λ i below. not_passing (nat_eq (get_or bytes i 0) 10) (nowhere i (omega arith) below))
-
--- a piece up to its first line feed, and what is left
-pub piece_parts : (bytes : List ℕ) (end : ℕ) → IsFirstByte (is_byte 10) bytes (Some end) → bytes ≡ (take end bytes ++ 10 ∷ []) ++ drop (end + 1) bytes
-piece_parts bytes end first =
-    let feed : get_or bytes end 0 ≡ 10 = eqb-true (get_or bytes end 0) 10 first.1 in
-    sym (take-append-drop end bytes) ∙ ap (λ l. take end bytes ++ l) (drop_more bytes end 0 first.0.high ∙ ap (λ b. b ∷ drop (end + 1) bytes) feed) ∙ sym (append_assoc (take end bytes) (10 ∷ []) (drop (end + 1) bytes))
-
--- what is left behind the first line feed
-pub left_parts : (bytes before rest : List ℕ) (end : ℕ) → bytes ≡ before ++ rest → IsFirstByte (is_byte 10) rest (Some end)
-    → bytes ≡ (before ++ (take end rest ++ 10 ∷ [])) ++ take (length rest - (end + 1)) (drop (end + 1) rest)
-left_parts bytes before rest end parts first =
-    let left : take (length rest - (end + 1)) (drop (end + 1) rest) ≡ drop (end + 1) rest = take_all (length rest - (end + 1)) (drop (end + 1) rest) (omega (arith, length-drop (end + 1) rest)) in
-    rw left (parts ∙ ap (λ l. before ++ l) (piece_parts rest end first) ∙ sym (append_assoc before (take end rest ++ 10 ∷ []) (drop (end + 1) rest)))
-
-pub left_length : (rest : List ℕ) (end : ℕ) → IsFirstByte (is_byte 10) rest (Some end) → length (take (length rest - (end + 1)) (drop (end + 1) rest)) + 1 ≤ length rest
-left_length rest end first = omega (arith, first.0.high, length-take (length rest - (end + 1)) (drop (end + 1) rest), length-drop (end + 1) rest)
-
--- bytes that were taken behind others
+-- bytes that were taken after others
 pub takes_more : (p q r : Place) (before bytes v w : List ℕ) (result : Result (Unit {0}) ScriptFault) → Advances p before v q → Takes q bytes w result r → Takes p (before ++ bytes) (v ++ w) result r
 takes_more p q r before bytes v w (Ok u) h k = advances_more p q r before bytes v w h k
 takes_more p q r before bytes v w (Err fault) h k = λ more.
@@ -246,30 +181,27 @@ known_rest None b read P h f = tt
 known_rest (Some xs) None read P h f = absurd h
 known_rest (Some xs) (Some ys) read P h f = subst P (sym h) (f ys)
 
--- the last line, which no line feed ends
-last_line : (place : Place) → IsUnbroken place.begun → 0 < length place.begun → lines_at place [] ≡ place.begun ∷ []
-last_line place whole some = ap lines (append-nil place.begun) ∙ lines_last place.begun whole ∙ cond-false _ _ _ (ne_eqb (length place.begun) 0 (λ none. omega arith))
-
-pub last_line_told : (place : Place) (next : Session) (written : List ℕ) (summary : Summary) → IsUnbroken place.begun → 0 < length place.begun → LineTells place.session place.begun (accepted written next)
+pub last_line_told : (place : Place) (next : Session) (written : List ℕ) (summary : Summary) → IsUnbroken place.begun
+    → 0 < length place.begun → LineTells place.session place.begun (success written next)
     → summary.lines ≡ place.lines + 1 → summary.events ≡ next.events → RunsFrom place [] written (Ok summary)
 last_line_told place next written summary whole some told lines' events' =
-    rw (last_line place whole some) (record { last = next; all = one_tells place.session next place.begun written told; lines = omega (arith, lines'); events = events' })
+    rw (last_line place.begun whole some) (record { last = next; all = one_tells place.session next place.begun written told; lines = omega (arith, lines'); events = events' })
 
 pub last_line_stops : (place : Place) (next : Session) (written : List ℕ) (cause : Cause) (fault : ScriptFault) → IsUnbroken place.begun → 0 < length place.begun → Writes (LineTells place.session place.begun) (LineBegins place.session place.begun) written (Err cause) next
     → fault.line ≡ place.lines + 1 → fault.cause ≡ cause → RunsFrom place [] written (Err fault)
 last_line_stops place next written cause fault whole some told at is =
-    line_stops place.session (lines_at place []) [] place.lines place.begun written cause fault (last_line place whole some) at is told
+    line_stops place.session (lines_at place []) [] place.lines place.begun written cause fault (last_line place.begun whole some) at is told
 
 pub no_last_line : (place : Place) (summary : Summary) → place.begun ≡ [] → summary.lines ≡ place.lines → summary.events ≡ place.session.events → RunsFrom place [] [] (Ok summary)
 no_last_line place summary none lines' events' =
     let all : lines_at place [] ≡ [] = ap (λ bytes. lines (bytes ++ [])) none in
     rw all (record { last = place.session; all = (refl, refl); lines = omega (arith, lines'); events = events' })
 
--- nothing has come
+-- the place of a script of which nothing has come
 abbrev pub start : Options → Place
 start options = record { session = at_first options; begun = []; lines = 0 }
 
--- all that there was has come
+-- a run to the end of all that the reader had
 pub whole_run : (place : Place) (a b c d e f : Option (List ℕ)) (read written text none : List ℕ) (now : Place) (result : Result Summary ScriptFault)
     → Consumes a b read → Appends c d written → Advances place read written now → Consumes b e none → none ≡ [] → IsAtEnd e → Appends d f text → RunsFrom now [] text result
     → AppendsFrom place a c f result
@@ -277,7 +209,7 @@ whole_run place a b c d e f read written text none now result from grew taken mo
     Consumes-whole a e (read ++ none) _ (Consumes-trans a b e read none from more) end
     (written ++ text, Appends-trans c d f written text grew last, rw nothing (runs_after place now read [] written text result taken runs))
 
--- the run broke off
+-- a run that broke off
 pub broken_run : (place : Place) (a b c d f : Option (List ℕ)) (read written text : List ℕ) (now : Place) (result : Result Summary ScriptFault)
     → Consumes a b read → Appends c d written → Advances place read written now → Appends d f text → ((more : List ℕ) → RunsFrom now more text result)
     → AppendsFrom place a c f result
@@ -333,13 +265,7 @@ no_line_run options script fault at is = record {
   whole = refl;
 }
 
--- memory for the devices was wanting before the first read
+-- memory for the devices ran out before the first read
 pub never_begun : (options : Options) (a c : Option (List ℕ)) (fault : ScriptFault) → fault.line ≡ 1 → fault.cause ≡ causes.Memory → AppendsScript options a c c (Err fault)
 never_begun options None c fault at is = tt
 never_begun options (Some script) c fault at is = ([], Appends-nil c, no_line_run options script fault at is)
-
--- what is kept of a line has no line feed, whether more of it was taken or not
-pub stays_unbroken : {E : Type 0} (n : ℕ) (old new : ArrayVec ℕ n (Unit {0})) (bytes : List ℕ) (r : Result (Unit {0}) E) → IsUnbroken old.items → IsUnbroken bytes
-    → OnOk r (new.items ≡ old.items ++ bytes) → OnErr r (new ≡ old) → IsUnbroken new.items
-stays_unbroken {E} n old new bytes (Ok _) whole more ok err = subst IsUnbroken (sym ok) (All-append (λ b. nat_eq b 10 ≡ false) old.items bytes whole more)
-stays_unbroken {E} n old new bytes (Err e) whole more ok err = subst (λ (v : ArrayVec ℕ n (Unit {0})). IsUnbroken v.items) (sym err) whole

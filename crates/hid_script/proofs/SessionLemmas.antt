@@ -28,8 +28,8 @@ use Rattle.hid_bus.specs.declared.step.Told.{Told}
 use Rattle.hid_bus.specs.declared.step.Delivered.{Delivered}
 use Rattle.hid_stack.specs.declared.rig.TheConstants.{MAX_DEVICES}
 use Rattle.hid_stack.specs.Members.{Member}
-use Rattle.hid_stack.specs.Rig.{member_at, refusal, IsRefusal, bus_after, delivered_at}
-use Rattle.hid_stack.specs.Tells.{Tells}
+use Rattle.hid_stack.specs.Rig.{member_at, refusal, IsRefusal, bus_after, deliveries_of_step}
+use Rattle.hid_stack.specs.StepResult.{Tells}
 use Rattle.hid_stack.specs.Attaching.{Attaches, Finds, member_at_start}
 use Rattle.hid_script.specs.declared.fault.Cause.{Cause}
 use Rattle.hid_script.specs.declared.fault.Cause.TheVariants as causes
@@ -43,30 +43,33 @@ use Rattle.hid_script.proofs.RepeatLemmas.{no_times, one_more}
 use Rattle.hid_text.specs.LayoutText.{layout_text}
 use Rattle.hid_text.specs.ValuesText.{values_text}
 use Rattle.hid_text.specs.StepText.{step_text}
-use Rattle.hid_script.specs.Session.{Session, Outcome, accepted, refused}
-use Rattle.hid_script.specs.Steps.{TellsLayout, TellsValues, TellsDevice, TellsStep, TellsChange, lays_out, valued, read_report, refuses_step, config_of, attaches, counted, got_by, stepped, change_of}
-use Rattle.hid_script.specs.Telling.{Once, times, BeginsMeant, LineTells, LineBegins, Means, CarriesOut, line_cause, cause_from, cause_of, stack_cause}
+use Rattle.hid_script.specs.Session.{Session, Outcome, success, failure}
+use Rattle.hid_script.specs.Steps.{TellsLayout, TellsValues, TellsDevice, TellsStep, TellsChange, lays_out, values_outcome, read_report, refuses_step, config_of, attaches, saturating_sum, finished_read, step_outcome, change_of}
+use Rattle.hid_script.specs.LineOutput.{Once, times, BeginsMeant, LineTells, LineBegins, Means, CarriesOut, line_cause, cause_from, cause_of, stack_cause}
 use Rattle.hid_script.specs.Output.{AppendsFront}
 use Rattle.hid_script.specs.Runs.{Ending, Refusal, Want, Cut, Silence, ending_of, EndsAs, Ends}
 use Rattle.hid_script.specs.Place.{AppendsTold, AppendsOnce, OnceEndsAs, IsBegun}
 use Rattle.hid_script.proofs.PlaceLemmas.{begins_nothing}
 
--- ---- a part that is told once
+-- ---- a part that is reported once
 
--- a want of memory writes nothing
+-- running out of memory writes nothing
 pub memory_ends : (old : Option (List ℕ)) (Tells : Outcome → Type 0) (r : Result (Unit {0}) Cause) (next : Session) → IsErrAnd r (λ e. e ≡ causes.Memory) → AppendsOnce old old Tells r next
 unfolding ending_of
 memory_ends old Tells (Ok u) next is = absurd is
 memory_ends old Tells (Err e) next is = ([], Appends-nil old, subst (λ c. OnceEndsAs (ending_of c) Tells [] c) (sym is) (inl refl))
 
 -- a part that is refused writes nothing
-pub refusal_ends : (old : Option (List ℕ)) (Tells : Outcome → Type 0) (r : Result (Unit {0}) Cause) (cause : Cause) (next : Session) → IsErrAnd r (λ e. e ≡ cause) → ending_of cause ≡ Refusal → Tells (refused cause) → AppendsOnce old old Tells r next
+pub refusal_ends : (old : Option (List ℕ)) (Tells : Outcome → Type 0) (r : Result (Unit {0}) Cause) (cause : Cause)
+    (next : Session) → IsErrAnd r (λ e. e ≡ cause) → ending_of cause ≡ Refusal → Tells (failure cause)
+    → AppendsOnce old old Tells r next
 refusal_ends old Tells (Ok u) cause next is kind h = absurd is
 refusal_ends old Tells (Err e) cause next is kind h =
     ([], Appends-nil old, subst (λ c. OnceEndsAs (ending_of c) Tells [] c) (sym is) (subst (λ k. OnceEndsAs k Tells [] cause) (sym kind) h))
 
--- a text that was told is written, or a front of it
-pub text_written : (old new : Option (List ℕ)) (Tells : Outcome → Type 0) (text : List ℕ) (r : Result (Unit {0}) Cause) (next : Session) → Tells (accepted text next)
+-- a text that was reported is written, or a front of it
+pub text_written : (old new : Option (List ℕ)) (Tells : Outcome → Type 0) (text : List ℕ)
+    (r : Result (Unit {0}) Cause) (next : Session) → Tells (success text next)
     → OnOk r (Appends old new text) → IfErr r (λ cause. cause ≡ causes.Write) → AppendsFront old new text → AppendsOnce old new Tells r next
 unfolding ending_of
 text_written old new Tells text (Ok u) next told ok cause front = (text, ok, told)
@@ -89,7 +92,8 @@ nothing_told old session = ([], Appends-nil old, one_more 0 (Once lines.Nothing)
 pub nothing_written : (old : Option (List ℕ)) (session : Session) (bytes : List ℕ) → meaning_of bytes ≡ Ok lines.Nothing → AppendsTold old old (LineTells session bytes) (LineBegins session bytes) (Ok tt) session
 nothing_written old session bytes means = line_written old old session bytes lines.Nothing (Ok tt) session means (nothing_told old session)
 
-refusal_left : (ending : Ending) (Tells : Outcome → Type 0) (Begun : List ℕ → Type 0) (cause : Cause) → Begun [] → Tells (refused cause) → EndsAs ending Tells Begun [] cause
+refusal_left : (ending : Ending) (Tells : Outcome → Type 0) (Begun : List ℕ → Type 0) (cause : Cause) → Begun []
+    → Tells (failure cause) → EndsAs ending Tells Begun [] cause
 refusal_left Refusal Tells Begun cause begun h = h
 refusal_left Want Tells Begun cause begun h = begun
 refusal_left Cut Tells Begun cause begun h = ([], begun, ([], refl))
@@ -104,12 +108,14 @@ line_refused old session bytes fault (Err e) next meant is = (
   [],
   Appends-nil old,
   subst (λ c. Ends (LineTells session bytes) (LineBegins session bytes) [] c) (sym is)
-      (refusal_left (ending_of (line_cause fault)) (LineTells session bytes) (LineBegins session bytes) (line_cause fault) (begins_nothing session bytes) (subst (λ m. Means session m (refused (line_cause fault))) (sym meant) refl)),
+      (refusal_left (ending_of (line_cause fault)) (LineTells session bytes) (LineBegins session bytes)
+      (line_cause fault) (begins_nothing session bytes)
+      (subst (λ m. Means session m (failure (line_cause fault))) (sym meant) refl)),
 )
 
 -- ---- layouts
 
--- a descriptor that gives no layout is refused, or memory was wanting
+-- a descriptor that gives no layout is refused, or memory ran out
 layout_ends : (old : Option (List ℕ)) (bytes : List ℕ) (session : Session) (why : layouts.Cause) (at : ℕ) (r : Result (Unit {0}) Cause) (next : Session) → Explains bytes why at → IsErrAnd r (λ c. c ≡ cause_from why (record { cause = why; at = at }))
     → AppendsOnce old old (TellsLayout bytes session) r next
 unfolding ending_of
@@ -125,7 +131,8 @@ layout_refused old bytes session fault r next told is = layout_ends old bytes se
 pub layout_written : (old new : Option (List ℕ)) (bytes : List ℕ) (session : Session) (layout : Contents) (text : List ℕ) (r : Result (Unit {0}) Cause) → ((items : List Spelled) × Accepts bytes items × (layout ≡ layout_of items)) → text ≡ layout_text layout
     → OnOk r (Appends old new text) → IfErr r (λ cause. cause ≡ causes.Write) → AppendsFront old new text → AppendsOnce old new (TellsLayout bytes session) r (record session { layout = Some layout })
 layout_written old new bytes session layout text r told said ok cause front =
-    let shown : (accepted text (record session { layout = Some layout })) ≡ lays_out session (layout_of told.0) = rw said (ap (lays_out session) told.2) in
+    let shown : (success text (record session { layout = Some layout })) ≡ lays_out session (layout_of told.0) =
+    rw said (ap (lays_out session) told.2) in
     text_written old new (TellsLayout bytes session) text r (record session { layout = Some layout }) (inl (told.0, (told.1, shown))) ok cause front
 
 -- ---- values
@@ -156,7 +163,9 @@ long_enough_report layout bytes r e = by_numbered layout.numbered (sym e)
 pub values_written : (old new : Option (List ℕ)) (session : Session) (bytes : List ℕ) (layout : Contents) (report : ℕ) (text : List ℕ) (r : Result (Unit {0}) Cause) → session.layout ≡ Some layout → Ok report ≡ report_named layout bytes
     → text ≡ values_text layout report bytes → OnOk r (Appends old new text) → IfErr r (λ cause. cause ≡ causes.Write) → AppendsFront old new text → AppendsOnce old new (TellsValues bytes session) r session
 values_written old new session bytes layout report text r stands found said ok cause front =
-    let told : TellsValues bytes session (accepted text session) = rw said (sym (ap (valued session bytes) stands ∙ ap (read_report session layout bytes) (sym found))) in
+    let told : TellsValues bytes session (success text session) =
+    rw said (sym
+    (ap (values_outcome session bytes) stands ∙ ap (read_report session layout bytes) (sym found))) in
     text_written old new (TellsValues bytes session) text r session told ok cause front
 
 -- bytes that are no Input report
@@ -164,20 +173,23 @@ pub report_refused : (old : Option (List ℕ)) (session : Session) (bytes : List
     → IsErrAnd r (λ c. c ≡ causes.Step (faults.Report fault)) → AppendsOnce old old (TellsValues bytes session) r next
 unfolding ending_of
 report_refused old session bytes layout fault r next stands found is =
-    refusal_ends old (TellsValues bytes session) r (causes.Step (faults.Report fault)) next is refl (sym (ap (valued session bytes) stands ∙ ap (read_report session layout bytes) (sym found)))
+    refusal_ends old (TellsValues bytes session) r (causes.Step (faults.Report fault)) next is refl
+    (sym (ap (values_outcome session bytes) stands ∙ ap (read_report session layout bytes) (sym found)))
 
 -- no layout stands
 pub no_layout : (old : Option (List ℕ)) (session : Session) (bytes : List ℕ) (next : Session) → session.layout ≡ None → AppendsOnce old old (TellsValues bytes session) (Err causes.NoLayout) next
 unfolding ending_of
-no_layout old session bytes next none = refusal_ends old (TellsValues bytes session) (Err causes.NoLayout) causes.NoLayout next refl refl (sym (ap (valued session bytes) none))
+no_layout old session bytes next none =
+    refusal_ends old (TellsValues bytes session) (Err causes.NoLayout) causes.NoLayout next refl refl
+    (sym (ap (values_outcome session bytes) none))
 
 -- ---- steps of the bus
 
 not_refused : (o : Option StackFault) (r : Result Told StackFault) (shown : Told) → ((e : StackFault) → o ≡ Some e → r ≡ Err e) → r ≡ Ok shown → o ≡ None
 not_refused None r shown h e = refl
-not_refused (Some fault) r shown h e = let refused = h fault refl in cc
+not_refused (Some fault) r shown h e = let failure = h fault refl in cc
 
--- a fault of the stack is told, or memory was wanting
+-- a fault of the stack is told, or memory ran out
 fault_ends : (old : Option (List ℕ)) (Tells : Outcome → Type 0) (fault : StackFault) (r : Result (Unit {0}) Cause) (next : Session) → IsErrAnd r (λ c. c ≡ stack_cause fault) → (fault ≡ stack.Memory) ⊎ Tells (refuses_step fault) → AppendsOnce old old Tells r next
 unfolding ending_of
 fault_ends old Tells stack.Memory r next is told = memory_ends old Tells r next is
@@ -193,12 +205,14 @@ step_refused old session step fault r next (inr none) is = fault_ends old (Tells
 -- a step that is taken
 pub step_written : (old new : Option (List ℕ)) (session : Session) (step : Step) (shown : Told) (answer : Result Told StackFault) (delivered : List Delivered) (members : List Member) (events : ℕ) (got text : List ℕ) (r : Result (Unit {0}) Cause)
     → ((e : StackFault) → refusal session.members step ≡ Some e → answer ≡ Err e) → answer ≡ Ok shown → Tells session.members step shown
-    → members ≡ bus_after session.members step → delivered ≡ delivered_at session.members step
-    → got ≡ got_by members step → text ≡ step_text session.options.trace step shown got delivered → events ≡ counted session.events (length delivered)
+    → members ≡ bus_after session.members step → delivered ≡ deliveries_of_step session.members step
+    → got ≡ finished_read members step → text ≡ step_text session.options.trace step shown got delivered
+    → events ≡ saturating_sum session.events (length delivered)
     → OnOk r (Appends old new text) → IfErr r (λ cause. cause ≡ causes.Write) → AppendsFront old new text
     → AppendsOnce old new (TellsStep step session) r (record session { members = members; events = events })
 step_written old new session step shown answer delivered members events got text r refuses is told after gave gets said counts ok cause front =
-    let outcome : (accepted text (record session { members = members; events = events })) ≡ stepped session step shown = rw (said, counts, gets, after, gave) refl in
+    let outcome : (success text (record session { members = members; events = events }))
+    ≡ step_outcome session step shown = rw (said, counts, gets, after, gave) refl in
     text_written old new (TellsStep step session) text r (record session { members = members; events = events }) (inl (shown, not_refused (refusal session.members step) answer shown refuses is, told, outcome)) ok cause front
 
 -- ---- changes
@@ -210,7 +224,7 @@ not_found old session dev usage wanted fault r next found is = fault_ends old (T
 
 begun_so : (P Q : Outcome → Type 0) (text : List ℕ) → ((o : Outcome) → P o → Q o) → IsBegun P text → IsBegun Q text
 begun_so P Q text f (inl none) = inl none
-begun_so P Q text f (inr told) = inr (told.0, f (accepted text told.0) told.1)
+begun_so P Q text f (inr told) = inr (told.0, f (success text told.0) told.1)
 
 ends_so : (ending : Ending) (P Q : Outcome → Type 0) (written : List ℕ) (cause : Cause) → ((o : Outcome) → P o → Q o) → OnceEndsAs ending P written cause → OnceEndsAs ending Q written cause
 ends_so Refusal P Q written cause f h = f (record { text = written; end = Err cause }) h
@@ -220,7 +234,7 @@ ends_so Silence P Q written cause f h = h
 
 -- what is told of one part is told of another
 pub told_so : (old new : Option (List ℕ)) (P Q : Outcome → Type 0) (r : Result (Unit {0}) Cause) (next : Session) → ((o : Outcome) → P o → Q o) → AppendsOnce old new P r next → AppendsOnce old new Q r next
-told_so old new P Q (Ok u) next f h = (h.0, h.1, f (accepted h.0 next) h.2)
+told_so old new P Q (Ok u) next f h = (h.0, h.1, f (success h.0 next) h.2)
 told_so old new P Q (Err cause) next f h = (h.0, h.1, ends_so (ending_of cause) P Q h.0 cause f h.2)
 
 -- the control that was found changes
@@ -241,7 +255,7 @@ device_refused old session start boot bytes fault after r next h is = fault_ends
 pub device_quiet : (old : Option (List ℕ)) (session : Session) (start : Start) (boot : Boot) (bytes : List ℕ) (dev : ℕ) (after : List Member) → session.options.layout ≡ false → Attaches MAX_DEVICES (config_of boot) bytes start session.members (Ok dev) after
     → AppendsOnce old old (TellsDevice start boot bytes session) (Ok tt) (record session { members = after })
 device_quiet old session start boot bytes dev after quiet h =
-    let outcome : (accepted [] (record session { members = after })) ≡ attaches session h.2.0 after = rw quiet refl in
+    let outcome : (success [] (record session { members = after })) ≡ attaches session h.2.0 after = rw quiet refl in
     ([], Appends-nil old, inl (dev, h.2.0, after, h, h.2.2, outcome))
 
 pub at_last : (members : List Member) (m : Member) → slice_get (members ++ m ∷ []) (length members) ≡ Some m
@@ -266,7 +280,7 @@ device_there members after start boot bytes dev h =
 pub device_missing : (members after : List Member) (start : Start) (boot : Boot) (bytes : List ℕ) (dev : ℕ) → Attaches MAX_DEVICES (config_of boot) bytes start members (Ok dev) after → member_at after dev ≡ None → ⊥
 device_missing members after start boot bytes dev h none = let there = device_there members after start boot bytes dev h in cc
 
--- its layout is printed
+-- the layout of a device that is attached is printed
 pub device_written : (old new : Option (List ℕ)) (session : Session) (start : Start) (boot : Boot) (bytes : List ℕ) (dev : ℕ) (after : List Member) (layout : Contents) (text : List ℕ) (r : Result (Unit {0}) Cause) → session.options.layout ≡ true
     → Attaches MAX_DEVICES (config_of boot) bytes start session.members (Ok dev) after → (m : Member) → member_at after dev ≡ Some m → layout ≡ m.layout → text ≡ layout_text layout
     → OnOk r (Appends old new text) → IfErr r (λ cause. cause ≡ causes.Write) → AppendsFront old new text → AppendsOnce old new (TellsDevice start boot bytes session) r (record session { members = after })
@@ -274,7 +288,8 @@ device_written old new session start boot bytes dev after layout text r asked h 
     let found = device_there session.members after start boot bytes dev h in
     let same : m ≡ member_at_start start dev (config_of boot) bytes h.2.0 = some_same m (member_at_start start dev (config_of boot) bytes h.2.0) (sym there ∙ found) in
     let laid : layout ≡ h.2.0 = shows ∙ ap (λ (x : Member). x.layout) same ∙ layout_at_start start dev (config_of boot) bytes h.2.0 in
-    let outcome : (accepted text (record session { members = after })) ≡ attaches session h.2.0 after = rw (asked, said, laid) refl in
+    let outcome : (success text (record session { members = after })) ≡ attaches session h.2.0 after =
+    rw (asked, said, laid) refl in
     text_written old new (TellsDevice start boot bytes session) text r (record session { members = after }) (inl (dev, h.2.0, after, h, h.2.2, outcome)) ok cause front
   where
     some_same : (a b : Member) → (let o : Option Member = Some a in o) ≡ Some b → a ≡ b

@@ -1,7 +1,7 @@
 pub mod FaultText
 pub mod Session
 pub mod Steps
-pub mod Telling
+pub mod LineOutput
 pub mod Output
 pub mod Runs
 pub mod Laws

@@ -1,4 +1,4 @@
--- What the lines of a script do to its bus, and what the text that they print tells of each device (our choice:
+-- What the lines of a script do to its bus, and what the text that they print reports of each device (our choice:
 -- docs/SCRIPT.md; USB 2.0, 8.5.4, 8.6 and 9.4.7).
 use Rattle.std.specs.Prelude.{◌≡◌, ◌⊎◌, ℕ, ◌+◌, List, [], ◌∷◌, ◌++◌, length, map, replicate, Some, None, Result, Ok, Err}
 use Rattle.hid_descriptor.specs.declared.usage.Usage.{Usage}
@@ -12,7 +12,7 @@ use Rattle.hid_stack.specs.Attaching.{Attaches, Finds}
 use Rattle.hid_stack.specs.Headline.{LivesThrough}
 use Rattle.hid_stack.specs.Members.{Member}
 use Rattle.hid_stack.specs.Rig.{member_at}
-use Rattle.hid_stack.specs.Stories.{Act, Attached, Taken, bus_behind, deeds_by, next_number, own_story}
+use Rattle.hid_stack.specs.BusHistory.{Action, Attached, Taken, bus_after_actions, bus_events_of_actions, device_actions, next_number}
 use Rattle.hid_text.specs.declared.line.Line.{Line}
 use Rattle.hid_text.specs.declared.line.Line.TheVariants as line
 use Rattle.hid_text.specs.declared.short.ShortLine.{ShortLine}
@@ -30,19 +30,19 @@ use Rattle.hid_script.specs.Steps.{config_of, change_of}
 -- ---- what a script does to its bus
 
 -- the device is attached under the next number
-abbrev pub AttachesOne : Start → Boot → List ℕ → List Member → List Act → Type 0
+abbrev pub AttachesOne : Start → Boot → List ℕ → List Member → List Action → Type 0
 AttachesOne start boot bytes members acts =
     (dev : ℕ) × (m : Member) × Attaches MAX_DEVICES (config_of boot) bytes start members (Ok dev) (members ++ m ∷ [])
     × (acts ≡ Attached m ∷ [])
 
 -- the least control with the usage changes
-abbrev pub ChangesOne : ℕ → Usage → Wanted → List Member → List Act → Type 0
+abbrev pub ChangesOne : ℕ → Usage → Wanted → List Member → List Action → Type 0
 ChangesOne dev usage wanted members acts =
     (control : ControlId) × Finds members dev usage (Ok control)
     × (acts ≡ Taken (step.Change dev (change_of wanted control)) ∷ [])
 
 -- what a short line does, by its form
-unfoldable pub DoesShort : ShortLine → List Member → List Act → Type 0
+unfoldable pub DoesShort : ShortLine → List Member → List Action → Type 0
 DoesShort (short.Press dev usage) members acts = ChangesOne dev usage wanted.Press members acts
 DoesShort (short.Release dev usage) members acts = ChangesOne dev usage wanted.Release members acts
 DoesShort (short.Null dev usage) members acts = ChangesOne dev usage wanted.Null members acts
@@ -55,7 +55,7 @@ DoesShort (short.Reset dev) members acts = acts ≡ Taken (step.Reset dev) ∷ [
 DoesShort (short.Halt dev) members acts = acts ≡ Taken (step.Halt dev) ∷ []
 
 -- What a line does, by its form.
-unfoldable pub Does : Line → List Member → List Act → Type 0
+unfoldable pub Does : Line → List Member → List Action → Type 0
 Does line.Nothing members acts = acts ≡ []
 Does (line.Layout bytes) members acts = acts ≡ []
 Does (line.Values bytes) members acts = acts ≡ []
@@ -64,40 +64,44 @@ Does (line.Begin dev request) members acts = acts ≡ Taken (step.Begin dev requ
 Does (line.Step said) members acts = DoesShort said members acts
 
 -- what lines do to the bus, one after the other
-abbrev pub AllDo : List Member → List (List ℕ) → List Act → Type 0
+abbrev pub AllDo : List Member → List (List ℕ) → List Action → Type 0
 AllDo members [] acts = acts ≡ []
 AllDo members (bytes ∷ more) acts =
-    (said : Line) × (first : List Act) × (rest : List Act)
-    × (meaning_of bytes ≡ Ok said) × Does said members first × AllDo (bus_behind members first) more rest
+    (said : Line) × (first : List Action) × (rest : List Action)
+    × (meaning_of bytes ≡ Ok said) × Does said members first
+    × AllDo (bus_after_actions members first) more rest
     × (acts ≡ first ++ rest)
 
 -- what the first of these lines begins to do: nothing, or the first of the steps that it takes
-abbrev pub BeginsToDo : List Member → List (List ℕ) → List Act → Type 0
+abbrev pub BeginsToDo : List Member → List (List ℕ) → List Action → Type 0
 BeginsToDo members [] acts = acts ≡ []
 BeginsToDo members (bytes ∷ more) acts = (acts ≡ [])
-    ⊎ ((said : Line) × (others : List Act) × (meaning_of bytes ≡ Ok said) × Does said members (acts ++ others))
+    ⊎ ((said : Line) × (others : List Action) × (meaning_of bytes ≡ Ok said)
+    × Does said members (acts ++ others))
 
 -- what lines do from the first of a script on, and what the next begins to do
-abbrev pub DoUpTo : List (List ℕ) → List (List ℕ) → List Act → Type 0
+abbrev pub DoUpTo : List (List ℕ) → List (List ℕ) → List Action → Type 0
 DoUpTo script next acts =
-    (all : List Act) × (begun : List Act) × AllDo [] script all × BeginsToDo (bus_behind [] all) next begun × (acts ≡ all ++ begun)
+    (all : List Action) × (begun : List Action) × AllDo [] script all
+    × BeginsToDo (bus_after_actions [] all) next begun × (acts ≡ all ++ begun)
 
 -- ---- the headline, of the text that is printed
 
--- What a script prints of each device that it attaches: the lines of its events are, in order, the texts of all that is
--- told in its life, which its own steps behind its attach make. There are none of a device that isn't attached.
-pub record PrintsLives (Did : List Act → Type 0) (text : List ℕ) (members : List Member) : Type 0 where
-  pub acts : List Act
+-- What a script prints of each device that it attaches: the lines of its events are, in order, the texts of all that
+-- is reported in its history, which its own steps after its attach make. There are none of a device that isn't
+-- attached.
+pub record PrintsLives (Did : List Action → Type 0) (text : List ℕ) (members : List Member) : Type 0 where
+  pub acts : List Action
   pub done : Did acts
-  pub bus : members ≡ bus_behind [] acts
-  pub lives : (before since : List Act) (m : Member) → acts ≡ before ++ Attached m ∷ since
+  pub bus : members ≡ bus_after_actions [] acts
+  pub lives : (before since : List Action) (m : Member) → acts ≡ before ++ Attached m ∷ since
       → (n : Member) × (told : List Event) × (member_at members (next_number before) ≡ Some n)
       × (event_lines (next_number before) text ≡ map (event_text (next_number before)) told)
-      × LivesThrough m (deeds_by m (own_story before since)) n told
+      × LivesThrough m (bus_events_of_actions m (device_actions before since)) n told
   pub none : (dev : ℕ) → member_at members dev ≡ None → event_lines dev text ≡ []
 
--- What a run prints of the lives of its devices: by all its lines; or by those before the one at which it ends, and by
--- the first times of that one, of which only a writer cuts something off.
+-- What a run prints of the histories of its devices: by all its lines; or by those before the one at which it ends,
+-- and by the first times of that one, of which only a writer cuts something off.
 abbrev pub RunPrintsLives : List (List ℕ) → List ℕ → Result Summary ScriptFault → Type 0
 RunPrintsLives script written (Ok summary) = (last : List Member) × PrintsLives (AllDo [] script) written last
 RunPrintsLives script written (Err fault) =

@@ -1,4 +1,4 @@
--- What a run wrote and answered, of what a script tells (our choice: docs/SCRIPT.md).
+-- What a run of a script wrote and answered (our choice: docs/SCRIPT.md).
 use Rattle.std.specs.Prelude.{◌≡◌, ℕ, ◌+◌, List, [], ◌∷◌, ◌++◌, length, Result, Ok, Err, Option, IfSome}
 use Rattle.std.specs.Str.Lines.{lines}
 use Rattle.std.specs.Io.KnownBytes.{Appends}
@@ -8,10 +8,10 @@ use Rattle.hid_script.specs.declared.fault.Options.{Options}
 use Rattle.hid_script.specs.declared.fault.ScriptFault.{ScriptFault}
 use Rattle.hid_script.specs.declared.fault.Summary.{Summary}
 use Rattle.hid_script.specs.Output.{IsFront}
-use Rattle.hid_script.specs.Session.{Session, Outcome, accepted, at_first}
-use Rattle.hid_script.specs.Telling.{LineTells, LineBegins}
+use Rattle.hid_script.specs.Session.{Session, Outcome, success, at_first}
+use Rattle.hid_script.specs.LineOutput.{LineTells, LineBegins}
 
--- How a run ends early: its line is refused; memory was wanting in it; the writer cut its text off; or it wasn't run
+-- How a run ends early: its line is refused; memory ran out in it; the writer cut its text off; or it wasn't run
 -- at all.
 pub data Ending : Type 0 where
   Refusal : Ending
@@ -31,8 +31,8 @@ ending_of Write = Cut
 ending_of Read = Silence
 ending_of TooManyReads = Silence
 
--- What was written of the line at which the run ended: what it tells up to its refusal; what its first times tell; a
--- front of that; or nothing.
+-- What was written of the line at which the run ended: its text up to its refusal; the text of its first times; a front
+-- of that; or nothing.
 abbrev pub EndsAs : Ending → (Outcome → Type 0) → (List ℕ → Type 0) → List ℕ → Cause → Type 0
 EndsAs Refusal Tells Begun written cause = Tells (record { text = written; end = Err cause })
 EndsAs Want Tells Begun written cause = Begun written
@@ -43,26 +43,26 @@ EndsAs Silence Tells Begun written cause = written ≡ []
 abbrev pub Ends : (Outcome → Type 0) → (List ℕ → Type 0) → List ℕ → Cause → Type 0
 Ends Tells Begun written cause = EndsAs (ending_of cause) Tells Begun written cause
 
--- what the first of these lines tells
+-- the outcome of the first of these lines
 abbrev pub FirstTells : Session → List (List ℕ) → Outcome → Type 0
 FirstTells session [] o = ⊥
 FirstTells session (line ∷ more) o = LineTells session line o
 
--- what it begins to tell; where there is none, nothing
+-- what may be printed of the first of these lines when a run ends in it; nothing where there is none
 abbrev pub FirstBegins : Session → List (List ℕ) → List ℕ → Type 0
 FirstBegins session [] text = text ≡ []
 FirstBegins session (line ∷ more) text = LineBegins session line text
 
--- these lines are accepted one after the other, and their texts, joined, are this text
+-- all lines of a list are accepted, one after the other, and their texts, joined, are this text
 abbrev pub AllTell : Session → List (List ℕ) → List ℕ → Session → Type 0
 AllTell session [] text last = (text ≡ []) × (last ≡ session)
 AllTell session (line ∷ more) text last =
     (first : List ℕ) × (next : Session) × (rest : List ℕ)
-    × LineTells session line (accepted first next)
+    × LineTells session line (success first next)
     × AllTell next more rest last
     × (text ≡ first ++ rest)
 
--- All these lines were run. The summary counts them, with this many lines before them, and the events that were
+-- All lines of a script were run. The summary counts them, with this many lines before them, and the events that were
 -- delivered.
 pub record Finishes (session : Session) (script : List (List ℕ)) (before : ℕ) (written : List ℕ)
     (summary : Summary) : Type 0 where
@@ -71,8 +71,8 @@ pub record Finishes (session : Session) (script : List (List ℕ)) (before : ℕ
   pub lines : summary.lines ≡ before + length script
   pub events : summary.events ≡ last.events
 
--- The run ended at the line behind the first ones: the whole text of those was written, and what the end leaves of that
--- line's.
+-- A run ended at the line after the first ones: the whole text of the first lines was written, and what the end leaves
+-- of the text of that line.
 pub record Stops (session : Session) (script : List (List ℕ)) (before : ℕ) (written : List ℕ)
     (fault : ScriptFault) : Type 0 where
   pub first : List (List ℕ)
@@ -96,7 +96,7 @@ abbrev pub line_of : Result Summary ScriptFault → ℕ
 line_of (Ok summary) = summary.lines + 1
 line_of (Err fault) = fault.line
 
--- the writer's bytes grew by what a run of the reader's bytes writes, where both tell their bytes
+-- the writer's bytes grew by what a run of the reader's bytes writes, if the bytes of both are known
 abbrev pub AppendsScript : Options → Option (List ℕ) → Option (List ℕ) → Option (List ℕ)
     → Result Summary ScriptFault → Type 0
 AppendsScript options reader old new result =

@@ -5,4 +5,4 @@ use Rattle.hid_script.specs.Place.{Place}
 
 -- the place at which a script stands
 abbrev pub place_of : Script → Place
-place_of s = record { session = session_of s.interpreter; begun = s.begun.items; lines = s.lines }
+place_of s = record { session = session_of s.interpreter; begun = s.buffer.bytes.items; lines = s.lines }

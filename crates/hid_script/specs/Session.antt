@@ -1,5 +1,5 @@
--- What stands between two lines of a script, and what a part of a script tells: the text that it prints, and where it
--- leaves the session (our choice: docs/SCRIPT.md).
+-- What stands between two lines of a script, and the outcome of a part of a script: the text that it prints, and where
+-- it leaves the session (our choice: docs/SCRIPT.md).
 use Rattle.std.specs.Prelude.{◌≡◌, ◌⊎◌, ℕ, zero, suc, List, [], ◌++◌, Option, None, Result, Ok, Err}
 use Rattle.hid_layout.specs.Layout.{Contents}
 use Rattle.hid_stack.specs.Members.{Member}
@@ -23,12 +23,12 @@ pub record Outcome : Type 0 where
   pub end : Result Session Cause
 
 -- a part that prints this, and leaves this session
-abbrev pub accepted : List ℕ → Session → Outcome
-accepted text session = record { text = text; end = Ok session }
+abbrev pub success : List ℕ → Session → Outcome
+success text session = record { text = text; end = Ok session }
 
 -- the outcome of a part of a script that is refused: nothing is printed
-abbrev pub refused : Cause → Outcome
-refused cause = record { text = []; end = Err cause }
+abbrev pub failure : Cause → Outcome
+failure cause = record { text = []; end = Err cause }
 
 -- a text before what is printed
 abbrev pub after_text : List ℕ → Outcome → Outcome
@@ -38,11 +38,11 @@ after_text text o = record o { text = text ++ o.text }
 abbrev pub Joins : (Outcome → Type 0) → (Session → Outcome → Type 0) → Outcome → Type 0
 Joins First Next o =
     ((text : List ℕ) × (next : Session) × (rest : Outcome)
-    × First (accepted text next) × Next next rest × (o ≡ after_text text rest))
+    × First (success text next) × Next next rest × (o ≡ after_text text rest))
     ⊎ ((text : List ℕ) × (cause : Cause)
     × First (record { text = text; end = Err cause }) × (o ≡ record { text = text; end = Err cause }))
 
--- A part so many times over, up to the first time that it is refused.
+-- A part n times over, up to the first time that it is refused.
 unfoldable pub Repeats : ℕ → (Session → Outcome → Type 0) → Session → Outcome → Type 0
-Repeats zero Once session o = o ≡ accepted [] session
+Repeats zero Once session o = o ≡ success [] session
 Repeats (suc n) Once session o = Joins (Once session) (Repeats n Once) o

@@ -1,4 +1,4 @@
--- What the parts of a script tell: layouts, values, devices, and steps of the bus (our choice: docs/SCRIPT.md).
+-- The outcomes of the parts of a script: layouts, values, devices, and steps of the bus (our choice: docs/SCRIPT.md).
 use Rattle.std.specs.Prelude.{◌≡◌, ◌≢◌, ◌⊎◌, ◌∷◌, ◌++◌, ℕ, ◌+◌, ◌-◌, ◌^◌, min, List, [], length, if◌then◌else◌, Option, None, Some, Result, Ok, Err}
 use Rattle.hid_descriptor.specs.Items.{Spelled}
 use Rattle.hid_layout.specs.Layout.{Contents, layout_of}
@@ -18,15 +18,15 @@ use Rattle.hid_bus.specs.declared.step.Step.{Step}
 use Rattle.hid_bus.specs.declared.step.Step.TheVariants.{Change, Control}
 use Rattle.hid_bus.specs.declared.step.Told.{Told}
 use Rattle.hid_stack.specs.Members.{Member}
-use Rattle.hid_stack.specs.Rig.{member_at, refusal, bus_after, delivered_at}
-use Rattle.hid_stack.specs.Tells.{Tells}
+use Rattle.hid_stack.specs.Rig.{member_at, refusal, bus_after, deliveries_of_step}
+use Rattle.hid_stack.specs.StepResult.{Tells}
 use Rattle.hid_stack.specs.declared.rig.TheConstants.{MAX_DEVICES}
 use Rattle.hid_host.specs.declared.fault.StackFault.TheVariants as stack
 use Rattle.hid_stack.specs.Attaching.{Attaches, Finds, member_at_start}
 use Rattle.usb_control.specs.declared.host.HostStage.{HostStage}
 use Rattle.usb_control.specs.declared.host.HostStage.TheVariants.{Done}
 use Rattle.hid_host.specs.declared.host.Transfer.{Transfer}
-use Rattle.hid_host.specs.Host.{bytes_got}
+use Rattle.hid_host.specs.Host.{read_bytes_of}
 use Rattle.hid_script.specs.declared.fault.Cause.TheVariants as causes
 use Rattle.hid_script.specs.declared.fault.StepFault.TheVariants as faults
 use Rattle.hid_script.specs.declared.wanted.Wanted.{Wanted}
@@ -34,19 +34,19 @@ use Rattle.hid_script.specs.declared.wanted.Wanted.TheVariants.{Press, Release, 
 use Rattle.hid_text.specs.LayoutText.{layout_text}
 use Rattle.hid_text.specs.ValuesText.{values_text}
 use Rattle.hid_text.specs.StepText.{step_text}
-use Rattle.hid_script.specs.Session.{Session, Outcome, accepted, refused}
+use Rattle.hid_script.specs.Session.{Session, Outcome, success, failure}
 
 -- ---- layout and values
 
--- an accepted layout is printed, and stands from now on
+-- a layout that is accepted is printed, and stands from then on
 abbrev pub lays_out : Session → Contents → Outcome
-lays_out session layout = accepted (layout_text layout) (record session { layout = Some layout })
+lays_out session layout = success (layout_text layout) (record session { layout = Some layout })
 
--- a descriptor that is refused
+-- what a descriptor that is refused tells
 abbrev pub refuses_layout : LayoutFault → Outcome
-refuses_layout fault = refused (causes.Step (faults.Layout fault))
+refuses_layout fault = failure (causes.Step (faults.Layout fault))
 
--- the descriptor is accepted, with these items, or it is refused
+-- a layout line tells the layout of its descriptor, which is accepted, or the cause for which it is refused
 abbrev pub TellsLayout : List ℕ → Session → Outcome → Type 0
 TellsLayout bytes session o =
     ((items : List Spelled) × (Accepts bytes items × (o ≡ lays_out session (layout_of items))))
@@ -54,35 +54,35 @@ TellsLayout bytes session o =
 
 -- the values of a report, or why the bytes are none
 abbrev pub read_report : Session → Contents → List ℕ → Result ℕ ReportFault → Outcome
-read_report session layout bytes (Ok r) = accepted (values_text layout r bytes) session
-read_report session layout bytes (Err fault) = refused (causes.Step (faults.Report fault))
+read_report session layout bytes (Ok r) = success (values_text layout r bytes) session
+read_report session layout bytes (Err fault) = failure (causes.Step (faults.Report fault))
 
 -- the values of an Input report of the layout that stands
-abbrev pub valued : Session → List ℕ → Option Contents → Outcome
-valued session bytes None = refused causes.NoLayout
-valued session bytes (Some layout) = read_report session layout bytes (report_named layout bytes)
+abbrev pub values_outcome : Session → List ℕ → Option Contents → Outcome
+values_outcome session bytes None = failure causes.NoLayout
+values_outcome session bytes (Some layout) = read_report session layout bytes (report_named layout bytes)
 
--- a line of values tells that
+-- the outcome of a line of values, by the layout that stands
 abbrev pub TellsValues : List ℕ → Session → Outcome → Type 0
-TellsValues bytes session o = o ≡ valued session bytes session.layout
+TellsValues bytes session o = o ≡ values_outcome session bytes session.layout
 
 -- ---- devices
 
--- what the standard descriptors of a script's devices tell (our choice)
+-- what the standard descriptors of a script's devices say (our choice)
 abbrev pub config_of : Boot → Config
 config_of boot = record { vendor = 0xFFFF; product = 0x0001; interval = 10; boot = boot }
 
 -- what the stack refuses
 abbrev pub refuses_step : StackFault → Outcome
-refuses_step fault = refused (causes.Step (faults.Stack fault))
+refuses_step fault = failure (causes.Step (faults.Stack fault))
 
 -- a device is attached, and its layout is printed where layouts are asked for
 abbrev pub attaches : Session → Contents → List Member → Outcome
 attaches session layout members =
-    accepted (if session.options.layout then layout_text layout else []) (record session { members = members })
+    success (if session.options.layout then layout_text layout else []) (record session { members = members })
 
--- The next number is the device's, and its descriptor suits; or there is no such device, and want of memory is no
--- reason.
+-- The next number is the device's, and its descriptor suits; or there is no such device, and running out of memory is
+-- no reason.
 abbrev pub TellsDevice : Start → Boot → List ℕ → Session → Outcome → Type 0
 TellsDevice start boot bytes session o =
     ((dev : ℕ) × (layout : Contents) × (after : List Member)
@@ -96,8 +96,8 @@ TellsDevice start boot bytes session o =
 -- ---- steps of the bus
 
 -- a count stops at the greatest number of 64 bits
-abbrev pub counted : ℕ → ℕ → ℕ
-counted events more = min (events + more) (2 ^ 64 - 1)
+abbrev pub saturating_sum : ℕ → ℕ → ℕ
+saturating_sum events more = min (events + more) (2 ^ 64 - 1)
 
 -- the bytes of a transfer that is done, where it reads
 abbrev pub done_bytes : HostStage → List ℕ → List ℕ
@@ -107,29 +107,29 @@ done_bytes stage bytes = []
 -- the bytes of the read that a host began last, if it is done
 abbrev pub last_bytes : Option Transfer → List ℕ
 last_bytes None = []
-last_bytes (Some transfer) = done_bytes transfer.ends.stage (bytes_got transfer.ends)
+last_bytes (Some transfer) = done_bytes transfer.ends.stage (read_bytes_of transfer.ends)
 
--- the bytes of a read that a step ended, by the bus behind it; none where it ended no read
-unfoldable pub got_by : List Member → Step → List ℕ
-got_by members (Control dev fate) =
+-- the bytes of a read that a step ended, by the bus after it; none where it ended no read
+unfoldable pub finished_read : List Member → Step → List ℕ
+finished_read members (Control dev fate) =
     elim (member_at members dev) [ None ↦ [] | Some m ↦ last_bytes m.transfer ]
-got_by members step = []
+finished_read members step = []
 
--- what a step prints, and the session behind it
-abbrev pub stepped : Session → Step → Told → Outcome
-stepped session step shown = accepted
-    (step_text session.options.trace step shown (got_by (bus_after session.members step) step)
-    (delivered_at session.members step))
+-- what a step prints, and the session after it
+abbrev pub step_outcome : Session → Step → Told → Outcome
+step_outcome session step shown = success
+    (step_text session.options.trace step shown (finished_read (bus_after session.members step) step)
+    (deliveries_of_step session.members step))
     (record session {
       members = bus_after session.members step;
-      events = counted session.events (length (delivered_at session.members step));
+      events = saturating_sum session.events (length (deliveries_of_step session.members step));
     })
 
 -- a step is taken, or it is refused
 abbrev pub TellsStep : Step → Session → Outcome → Type 0
 TellsStep step session o =
     ((shown : Told) × (refusal session.members step ≡ None) × Tells session.members step shown
-    × (o ≡ stepped session step shown))
+    × (o ≡ step_outcome session step shown))
     ⊎ ((fault : StackFault) × (refusal session.members step ≡ Some fault) × (o ≡ refuses_step fault))
 
 -- the change that is wanted of a control
@@ -140,7 +140,7 @@ change_of Null control = changes.Null control
 change_of (Set value) control = changes.Set control value
 change_of (Move by) control = changes.Move control by
 
--- a control that was found changes; where there is none, that is told
+-- a control that was found changes; where there is none, that is reported
 abbrev pub TellsFound : ℕ → Wanted → Result ControlId StackFault → Session → Outcome → Type 0
 TellsFound dev wanted (Ok control) session o = TellsStep (Change dev (change_of wanted control)) session o
 TellsFound dev wanted (Err fault) session o = o ≡ refuses_step fault

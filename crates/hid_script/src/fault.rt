@@ -18,7 +18,7 @@ pub struct Options {
     pub trace: bool,
 }
 
-/// What was run.
+/// What a run that was not cut short counted.
 #[derive(Clone, Copy, Debug, PartialEq, Eq)]
 pub struct Summary {
     /// All lines, empty ones and comments too.
@@ -55,7 +55,7 @@ pub enum Cause {
     Read,
     /// X6: the writer failed, or took no byte.
     Write,
-    /// X7: memory was wanting.
+    /// X7: memory ran out.
     Memory,
     /// X8: the script wasn't at its end after 1,000,000 reads.
     TooManyReads,
@@ -64,7 +64,7 @@ pub enum Cause {
 }
 
 impl From<LineFault> for Cause {
-    ghost use Rattle.hid_script.specs.Telling.{line_cause};
+    ghost use Rattle.hid_script.specs.LineOutput.{line_cause};
 
     ghost from_gives = { λ fault cause. cause ≡ line_cause fault };
 
@@ -78,7 +78,7 @@ impl From<LineFault> for Cause {
 }
 
 impl From<LayoutFault> for Cause {
-    ghost use Rattle.hid_script.specs.Telling.{cause_of};
+    ghost use Rattle.hid_script.specs.LineOutput.{cause_of};
 
     ghost from_gives = { λ fault cause. cause ≡ cause_of fault };
 
@@ -102,7 +102,7 @@ impl From<ReportFault> for Cause {
 }
 
 impl From<StackFault> for Cause {
-    ghost use Rattle.hid_script.specs.Telling.{stack_cause};
+    ghost use Rattle.hid_script.specs.LineOutput.{stack_cause};
 
     ghost from_gives = { λ fault cause. cause ≡ stack_cause fault };
 
@@ -130,6 +130,6 @@ impl From<AllocError> for Cause {
 pub struct ScriptFault {
     /// The line that was being read or run, from 1.
     pub line: usize,
-    /// Why it was the last.
+    /// Why the run ended at that line.
     pub cause: Cause,
 }

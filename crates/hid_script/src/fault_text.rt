@@ -38,18 +38,21 @@ impl fmt::Display for Cause {
     }
 }
 
-/// The line that names a fault, with its end: `line 2: X4 U8`. Where memory is wanting, X7 of the same line is answered.
+/// The line that names a fault, with its end: `line 2: X4 U8`.
+///
+/// # Errors
+/// If memory runs out: X7 at the line of the fault.
 pub fn fault_line(alloc: Global, fault: &ScriptFault) -> Result<Vec<u8>, ScriptFault>
     ensures ok { IfOk result (λ text. text.items ≡ fault_text fault.now) }
     ensures memory { IfErr result (λ e. e ≡ record fault.now { cause = Cause.Memory }) }
 {
-    written(alloc, fault).map_err(|_| ScriptFault {
+    write_fault_line(alloc, fault).map_err(|_| ScriptFault {
         line: fault.line,
         cause: Cause::Memory,
     })
 }
 
-fn written(alloc: Global, fault: &ScriptFault) -> Result<Vec<u8>, AllocError>
+fn write_fault_line(alloc: Global, fault: &ScriptFault) -> Result<Vec<u8>, AllocError>
     ensures { IfOk result (λ text. text.items ≡ fault_text fault.now) }
 {
     let ScriptFault { line, cause } = *fault;

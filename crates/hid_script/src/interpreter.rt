@@ -2,8 +2,8 @@
 
 ghost use Rattle.std.specs.Prelude.{◌≡◌};
 ghost use Rattle.hid_script.specs.Session.{at_first, Repeats};
-ghost use Rattle.hid_script.specs.Steps.{TellsLayout, TellsValues, TellsDevice, TellsStep, TellsChange, got_by};
-ghost use Rattle.hid_script.specs.Telling.{TellsShort, Once, short_times, times, CarriesOut, Begins, LineTells, LineBegins};
+ghost use Rattle.hid_script.specs.Steps.{TellsLayout, TellsValues, TellsDevice, TellsStep, TellsChange, finished_read};
+ghost use Rattle.hid_script.specs.LineOutput.{TellsShort, Once, short_times, times, CarriesOut, Begins, LineTells, LineBegins};
 ghost use Rattle.hid_script.specs.Place.{AppendsTold, AppendsOnce};
 ghost use Rattle.hid_script.specs.Streams.{EndsText};
 ghost use Rattle.hid_bus.specs.declared.step.Step.TheVariants as Taking;
@@ -46,7 +46,7 @@ pub struct Interpreter {
 }
 
 /// How many times a short line is carried out.
-#[tactic(auto, unfolding(crate::specs::Telling::short_times))]
+#[tactic(auto, unfolding(crate::specs::LineOutput::short_times))]
 fn short_times(line: &ShortLine) -> u16
     ensures { result ≡ short_times line.now }
 {
@@ -66,9 +66,9 @@ fn short_times(line: &ShortLine) -> u16
 
 /// The bytes of a read that a step ended; none where it ended no read.
 #[inline(always)]
-#[tactic(auto, unfolding(crate::specs::Steps::got_by))]
-fn got_by<'a>(rig: &'a Rig, step: &Step) -> &'a [u8]
-    ensures { result.now ≡ got_by rig.now step.now }
+#[tactic(auto, unfolding(crate::specs::Steps::finished_read))]
+fn finished_read<'a>(rig: &'a Rig, step: &Step) -> &'a [u8]
+    ensures { result.now ≡ finished_read rig.now step.now }
 {
     let Step::Control { dev, .. } = *step else {
         return &[];
@@ -83,6 +83,10 @@ impl Interpreter {
     ghost use Rattle.std.specs.Prelude.{IfOk, IfErr};
     ghost use Rattle.hid_script.specs.Interpreter.{session_of};
 
+    /// An interpreter that has carried out no line.
+    ///
+    /// # Errors
+    /// X7, if memory runs out.
     pub fn new(alloc: Global, options: Options) -> Result<Self, Cause>
         ensures new { IfOk result (λ interpreter. session_of interpreter ≡ at_first options) }
         ensures memory { IfErr result (λ cause. cause ≡ Cause.Memory) }
@@ -109,11 +113,14 @@ impl Interpreter {
     }
 
     /// Carries out a line, without its end.
+    ///
+    /// # Errors
+    /// The cause for which the line is refused, X6 if its text was not written whole, or X7.
     pub fn line<W: Sink>(&mut self, line: &[u8], writer: &mut W) -> Result<(), Cause>
         ensures told { AppendsTold (W.contents writer.old) (W.contents writer.new)
             (LineTells (session_of self.old) line.now)
             (LineBegins (session_of self.old) line.now) result (session_of self.new) }
-        ensures outside { EndsText W.calls writer.new result }
+        ensures outside { EndsText W.calls writer.old writer.new result }
     {
         if says_nothing(line) {
             return Ok(());
@@ -121,13 +128,13 @@ impl Interpreter {
         self.run_line(line, writer)
     }
 
-    /// The same of any line.
+    /// Carries out any line, without its end.
     #[inline(never)] // an empty line makes no room for what a line says
     fn run_line<W: Sink>(&mut self, line: &[u8], writer: &mut W) -> Result<(), Cause>
         ensures told { AppendsTold (W.contents writer.old) (W.contents writer.new)
             (LineTells (session_of self.old) line.now)
             (LineBegins (session_of self.old) line.now) result (session_of self.new) }
-        ensures outside { EndsText W.calls writer.new result }
+        ensures outside { EndsText W.calls writer.old writer.new result }
     {
         match read_short(line) {
             Some(line) => self.repeat(&line, writer),
@@ -135,13 +142,13 @@ impl Interpreter {
         }
     }
 
-    /// The same, with room for the bytes of hex words.
+    /// Carries out a line that isn't short, with room for the bytes of hex words.
     #[inline(never)] // a short line makes none
     fn run_any<W: Sink>(&mut self, line: &[u8], writer: &mut W) -> Result<(), Cause>
         ensures told { AppendsTold (W.contents writer.old) (W.contents writer.new)
             (LineTells (session_of self.old) line.now)
             (LineBegins (session_of self.old) line.now) result (session_of self.new) }
-        ensures outside { EndsText W.calls writer.new result }
+        ensures outside { EndsText W.calls writer.old writer.new result }
     {
         match &read_line(line) {
             Ok(line) => self.carry_out(line, writer),
@@ -156,12 +163,12 @@ impl Interpreter {
             (CarriesOut (session_of self.old) line.now)
             (Begins (times line.now) (Once line.now) (session_of self.old)) result
             (session_of self.new) }
-        ensures outside { EndsText W.calls writer.new result }
+        ensures outside { EndsText W.calls writer.old writer.new result }
     {
         match line {
             Line::Nothing => Ok(()),
             Line::Layout { bytes } => self.lay_out(bytes.as_slice(), writer),
-            Line::Values { bytes } => self.tell_values(bytes.as_slice(), writer),
+            Line::Values { bytes } => self.print_values_of(bytes.as_slice(), writer),
             Line::Device { start, boot, bytes } => self.attach(
                 *start,
                 *boot,
@@ -173,13 +180,13 @@ impl Interpreter {
         }
     }
 
-    /// The same of a short line.
+    /// Carries out a short line as often as it says.
     fn repeat<W: Sink>(&mut self, line: &ShortLine, writer: &mut W) -> Result<(), Cause>
         ensures told { AppendsTold (W.contents writer.old) (W.contents writer.new)
             (Repeats (short_times line.now) (TellsShort line.now) (session_of self.old))
             (Begins (short_times line.now) (TellsShort line.now) (session_of self.old)) result
             (session_of self.new) }
-        ensures outside { EndsText W.calls writer.new result }
+        ensures outside { EndsText W.calls writer.old writer.new result }
     {
         for _ in 0..short_times(line) {
             self.carry_out_once(line, writer)?;
@@ -188,11 +195,11 @@ impl Interpreter {
     }
 
     /// What a short line tells each time.
-    #[tactic(auto, unfolding(crate::specs::Telling::TellsShort))]
+    #[tactic(auto, unfolding(crate::specs::LineOutput::TellsShort))]
     fn carry_out_once<W: Sink>(&mut self, line: &ShortLine, writer: &mut W) -> Result<(), Cause>
         ensures told { AppendsOnce (W.contents writer.old) (W.contents writer.new)
             (TellsShort line.now (session_of self.old)) result (session_of self.new) }
-        ensures outside { EndsText W.calls writer.new result }
+        ensures outside { EndsText W.calls writer.old writer.new result }
     {
         match line {
             ShortLine::Press { dev, usage } => self.change(*dev, *usage, Wanted::Press, writer),
@@ -223,7 +230,7 @@ impl Interpreter {
     fn lay_out<W: Sink>(&mut self, descriptor: &[u8], writer: &mut W) -> Result<(), Cause>
         ensures told { AppendsOnce (W.contents writer.old) (W.contents writer.new)
             (TellsLayout descriptor.now (session_of self.old)) result (session_of self.new) }
-        ensures outside { EndsText W.calls writer.new result }
+        ensures outside { EndsText W.calls writer.old writer.new result }
     {
         let layout = Layout::parse(self.alloc, descriptor)?;
         self.text.clear();
@@ -237,10 +244,10 @@ impl Interpreter {
 
     /// Prints the values of a report of the layout that is kept.
     #[inline(never)]
-    fn tell_values<W: Sink>(&mut self, bytes: &[u8], writer: &mut W) -> Result<(), Cause>
+    fn print_values_of<W: Sink>(&mut self, bytes: &[u8], writer: &mut W) -> Result<(), Cause>
         ensures told { AppendsOnce (W.contents writer.old) (W.contents writer.new)
             (TellsValues bytes.now (session_of self.old)) result (session_of self.new) }
-        ensures outside { EndsText W.calls writer.new result }
+        ensures outside { EndsText W.calls writer.old writer.new result }
     {
         let Some(layout) = &self.layout else {
             return Err(Cause::NoLayout);
@@ -263,7 +270,7 @@ impl Interpreter {
         ensures told { AppendsOnce (W.contents writer.old) (W.contents writer.new)
             (TellsDevice start boot descriptor.now (session_of self.old)) result
             (session_of self.new) }
-        ensures outside { EndsText W.calls writer.new result }
+        ensures outside { EndsText W.calls writer.old writer.new result }
     {
         let config = Config {
             vendor: VENDOR,
@@ -292,21 +299,21 @@ impl Interpreter {
     ) -> Result<(), Cause>
         ensures told { AppendsOnce (W.contents writer.old) (W.contents writer.new)
             (TellsChange dev usage wanted (session_of self.old)) result (session_of self.new) }
-        ensures outside { EndsText W.calls writer.new result }
+        ensures outside { EndsText W.calls writer.old writer.new result }
     {
         let control = self.rig.find(dev, usage)?;
         let change = change_of(wanted, control);
         self.step(&Step::Change { dev, change }, writer)
     }
 
-    // A step has room for a report that is set, so each sort of them is made in a function of its own.
+    // `inline(never)` below: so a step has only its own locals on the stack.
 
     /// A frame passes.
     #[inline(never)]
     fn frame<W: Sink>(&mut self, writer: &mut W) -> Result<(), Cause>
         ensures told { AppendsOnce (W.contents writer.old) (W.contents writer.new)
             (TellsStep (Taking.Frame) (session_of self.old)) result (session_of self.new) }
-        ensures outside { EndsText W.calls writer.new result }
+        ensures outside { EndsText W.calls writer.old writer.new result }
     {
         self.step(&Step::Frame, writer)
     }
@@ -316,7 +323,7 @@ impl Interpreter {
     fn poll<W: Sink>(&mut self, dev: u8, fate: Fate, writer: &mut W) -> Result<(), Cause>
         ensures told { AppendsOnce (W.contents writer.old) (W.contents writer.new)
             (TellsStep (Taking.Poll dev fate) (session_of self.old)) result (session_of self.new) }
-        ensures outside { EndsText W.calls writer.new result }
+        ensures outside { EndsText W.calls writer.old writer.new result }
     {
         self.step(&Step::Poll { dev, fate }, writer)
     }
@@ -326,7 +333,7 @@ impl Interpreter {
     fn control<W: Sink>(&mut self, dev: u8, fate: Fate, writer: &mut W) -> Result<(), Cause>
         ensures told { AppendsOnce (W.contents writer.old) (W.contents writer.new)
             (TellsStep (Taking.Control dev fate) (session_of self.old)) result (session_of self.new) }
-        ensures outside { EndsText W.calls writer.new result }
+        ensures outside { EndsText W.calls writer.old writer.new result }
     {
         self.step(&Step::Control { dev, fate }, writer)
     }
@@ -336,7 +343,7 @@ impl Interpreter {
     fn begin<W: Sink>(&mut self, dev: u8, request: &Request, writer: &mut W) -> Result<(), Cause>
         ensures told { AppendsOnce (W.contents writer.old) (W.contents writer.new)
             (TellsStep (Taking.Begin dev request.now) (session_of self.old)) result (session_of self.new) }
-        ensures outside { EndsText W.calls writer.new result }
+        ensures outside { EndsText W.calls writer.old writer.new result }
     {
         let request = request.copied();
         self.step(&Step::Begin { dev, request }, writer)
@@ -347,7 +354,7 @@ impl Interpreter {
     fn reset<W: Sink>(&mut self, dev: u8, writer: &mut W) -> Result<(), Cause>
         ensures told { AppendsOnce (W.contents writer.old) (W.contents writer.new)
             (TellsStep (Taking.Reset dev) (session_of self.old)) result (session_of self.new) }
-        ensures outside { EndsText W.calls writer.new result }
+        ensures outside { EndsText W.calls writer.old writer.new result }
     {
         self.step(&Step::Reset { dev }, writer)
     }
@@ -357,7 +364,7 @@ impl Interpreter {
     fn halt<W: Sink>(&mut self, dev: u8, writer: &mut W) -> Result<(), Cause>
         ensures told { AppendsOnce (W.contents writer.old) (W.contents writer.new)
             (TellsStep (Taking.Halt dev) (session_of self.old)) result (session_of self.new) }
-        ensures outside { EndsText W.calls writer.new result }
+        ensures outside { EndsText W.calls writer.old writer.new result }
     {
         self.step(&Step::Halt { dev }, writer)
     }
@@ -367,13 +374,13 @@ impl Interpreter {
     fn step<W: Sink>(&mut self, step: &Step, writer: &mut W) -> Result<(), Cause>
         ensures told { AppendsOnce (W.contents writer.old) (W.contents writer.new)
             (TellsStep step.now (session_of self.old)) result (session_of self.new) }
-        ensures outside { EndsText W.calls writer.new result }
+        ensures outside { EndsText W.calls writer.old writer.new result }
     {
         self.delivered.clear();
         let told = self.rig.step(step, &mut self.delivered)?;
         self.text.clear();
         let delivered = self.delivered.as_slice();
-        let got = got_by(&self.rig, step);
+        let got = finished_read(&self.rig, step);
         print_step(
             &mut self.text,
             self.options.trace,

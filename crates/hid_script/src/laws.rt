@@ -24,7 +24,7 @@ pub fn one_text()
     one_outcome();
 }
 
-/// What a want of memory or the writer leaves of a line's text is a front of it.
+/// What running out of memory or the writer leaves of a line's text is a front of it.
 pub fn fronts()
     ensures { BeginsWithFronts }
 {
@@ -37,8 +37,8 @@ pub fn fronts()
 }
 
 /// The headline, of the text that is printed: over all lines of a script, or all before the one at which a run ends and the
-/// first times of that one, the lines printed of a device's events are, in order, the texts of the events of its life from
-/// its attach on, with whatever befalls it there; of no other device are there any.
+/// first times of that one, the lines printed of a device's events are, in order, the texts of the events of its
+/// history from its attach on, with whatever happens to it there; of no other device are there any.
 pub fn lives_are_printed()
     ensures lines { LinesPrintLives }
     ensures runs { RunsPrintLives }

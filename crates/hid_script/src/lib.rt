@@ -39,4 +39,4 @@ pub use fault_text::fault_line;
 pub use hid_text::{Line, ShortLine};
 pub use line::parse_line;
 pub use runs::{READS, run};
-pub use streams::{Given, Lost, Sink, Source};
+pub use streams::{Lost, ReadResult, Sink, Source};

@@ -2,7 +2,7 @@
 
 ghost use Rattle.std.specs.Prelude.{◌≡◌};
 ghost use Rattle.hid_text.specs.Line.{meaning_of};
-ghost use Rattle.hid_script.specs.Telling.{line_or_cause};
+ghost use Rattle.hid_script.specs.LineOutput.{line_or_cause};
 
 use super::fault::Cause;
 use hid_text::{Line, read_line};

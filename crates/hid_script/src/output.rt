@@ -3,16 +3,19 @@
 ghost use Rattle.std.specs.Prelude.{◌≡◌, [], OnOk, IfErr};
 ghost use Rattle.std.specs.Io.KnownBytes.{Appends};
 ghost use Rattle.hid_script.specs.Output.{AppendsFront};
-ghost use Rattle.hid_script.specs.Streams.{Lost as Losing, StandsBehind};
+ghost use Rattle.hid_script.specs.Streams.{EndsText};
 
 use super::fault::Cause;
 use super::streams::{Lost, Sink};
 
-/// Writes all the bytes. At a fault, which no text of no bytes has, a front of them is written.
+/// Writes all bytes of a text. Of a text of no bytes no call is made.
+///
+/// # Errors
+/// X6 at the first write that fails or takes no byte. A front of the text is written then.
 pub fn write_text<W: Sink>(writer: &mut W, text: &[u8]) -> Result<(), Cause>
     ensures ok { OnOk result (Appends (W.contents writer.old) (W.contents writer.new) text.now) }
     ensures cause { IfErr result (λ cause. cause ≡ Cause.Write) }
-    ensures lost { IfErr result (λ _. StandsBehind W.calls Losing writer.new) }
+    ensures outside { EndsText W.calls writer.old writer.new result }
     ensures nothing { text.now ≡ [] → result ≡ Ok tt }
     ensures front { AppendsFront (W.contents writer.old) (W.contents writer.new) text.now }
 {

@@ -4,27 +4,27 @@ ghost use Rattle.std.specs.Prelude.{◌≡◌, ◌≤◌, ◌*◌, [], IfOk};
 ghost use Rattle.hid_script.specs.Runs.{AppendsScript, line_of};
 ghost use Rattle.hid_script.specs.Place.{AppendsFrom};
 ghost use Rattle.hid_script.specs.Script.{place_of};
-ghost use Rattle.hid_script.specs.Streams.{EndsByReads, EndsByWrites, EndsFlushed, LosesText};
+ghost use Rattle.hid_script.specs.Streams.{ReadsTo, EndsByReads, EndsByWrites, TurnsTo, EndsByTurns};
 
 use super::fault::{Cause, Options, ScriptFault, Summary};
 use super::interpreter::Interpreter;
 use super::script::Script;
-use super::streams::{Given, Lost, Sink, Source};
+use super::streams::{Lost, ReadResult, Sink, Source};
 use std::alloc::Global;
 
-/// How often the reader is asked at most.
+/// How many reads a run makes at most.
 pub const READS: u32 = 1_000_000;
 
-/// For how many bytes the reader is asked at most.
+/// How many bytes a read is asked for.
 const PIECE: usize = 4096;
 
 /// Runs the script that the reader gives, and writes what it tells. A read of 0 bytes ends the script, and so does
-/// the first line that is refused. A read that is interrupted is tried again. What was told is flushed before each read
-/// and at the end, also at a fault, so `writer` may be a buffer.
+/// the first line that is refused. A read that is interrupted is tried again. What was reported is flushed before
+/// each read and at the end, also at a fault, so `writer` may be a buffer.
 ///
 /// # Errors
-/// The first fault, at its line. Where the last flush fails, X6 at that line, whatever the fault was: what was told would
-/// else be lost without a word. Of a script that is accepted the line is the one behind the last.
+/// The first fault, at its line. Where the last flush fails, X6 at that line, whatever the fault was: what was
+/// reported would else be lost without a word. Of a script that is accepted the line is the one after the last.
 pub fn run<R: Source, W: Sink>(
     alloc: Global,
     reader: &mut R,
@@ -33,10 +33,11 @@ pub fn run<R: Source, W: Sink>(
 ) -> Result<Summary, ScriptFault>
     ensures ran { AppendsScript options (R.remaining reader.old) (W.contents writer.old)
         (W.contents writer.new) result }
-    // A fault from outside comes only where a call of the reader or the writer answered so.
+    // What the calls of the reader and of the writer answered: where a read failed it is X5, where a write or a flush
+    // failed it is X6, and each read came after a flush.
     ensures reads { EndsByReads R.reads reader.old reader.new result }
-    ensures writes { EndsByWrites W.calls writer.new result }
-    ensures flushed { EndsFlushed W.calls writer.new result }
+    ensures writes { EndsByWrites W.calls writer.old writer.new result }
+    ensures turns { EndsByTurns R.reads W.calls reader.old writer.old reader.new writer.new result }
 {
     let end = run_lines(alloc, reader, writer, options);
     match writer.flush() {
@@ -48,7 +49,7 @@ pub fn run<R: Source, W: Sink>(
     }
 }
 
-/// The line at which a run ended: behind the last one, where all were run.
+/// The line at which a run ended: after the last one, where all were run.
 fn line_of(end: &Result<Summary, ScriptFault>) -> usize
     requires { IfOk end.now (λ summary. summary.lines ≤ 4096 * 1000000) }
     ensures { result ≡ line_of end.now }
@@ -59,7 +60,7 @@ fn line_of(end: &Result<Summary, ScriptFault>) -> usize
     }
 }
 
-/// The same, without the last flush.
+/// Runs a script from its first line on, without the last flush.
 fn run_lines<R: Source, W: Sink>(
     alloc: Global,
     reader: &mut R,
@@ -69,8 +70,8 @@ fn run_lines<R: Source, W: Sink>(
     ensures ran { AppendsScript options (R.remaining reader.old) (W.contents writer.old)
         (W.contents writer.new) result }
     ensures count { IfOk result (λ summary. summary.lines ≤ 4096 * 1000000) }
-    ensures reads { EndsByReads R.reads reader.old reader.new result }
-    ensures writes { LosesText W.calls writer.new result }
+    ensures reads { ReadsTo R.reads reader.old reader.new result }
+    ensures turns { TurnsTo R.reads W.calls reader.old writer.old reader.new writer.new result }
 {
     match Interpreter::new(alloc, options) {
         Ok(interpreter) => {
@@ -83,19 +84,19 @@ fn run_lines<R: Source, W: Sink>(
     }
 }
 
-/// Runs what the reader gives.
+/// Runs the lines that the reader gives, without the last flush.
 fn run_pieces<R: Source, W: Sink>(
     script: &mut Script,
     reader: &mut R,
     writer: &mut W,
 ) -> Result<Summary, ScriptFault>
     requires first { script.old.lines ≡ 0 }
-    requires none { script.old.begun.items ≡ [] }
+    requires none { script.old.buffer.bytes.items ≡ [] }
     ensures ran { AppendsFrom (place_of script.old) (R.remaining reader.old) (W.contents writer.old)
         (W.contents writer.new) result }
     ensures count { IfOk result (λ summary. summary.lines ≤ 4096 * 1000000) }
-    ensures reads { EndsByReads R.reads reader.old reader.new result }
-    ensures writes { LosesText W.calls writer.new result }
+    ensures reads { ReadsTo R.reads reader.old reader.new result }
+    ensures turns { TurnsTo R.reads W.calls reader.old writer.old reader.new writer.new result }
 {
     let mut piece = [0u8; PIECE];
     for _ in 0..READS {
@@ -103,10 +104,10 @@ fn run_pieces<R: Source, W: Sink>(
             return Err(script.fault(Cause::Write));
         }
         match reader.read(&mut piece) {
-            Given::Bytes(0) => return script.finish(writer),
-            Given::Bytes(n) => script.feed(&piece[..n], writer)?,
-            Given::Interrupted => {}
-            Given::Failed => return Err(script.fault(Cause::Read)),
+            ReadResult::Bytes(0) => return script.finish(writer),
+            ReadResult::Bytes(n) => script.feed(&piece[..n], writer)?,
+            ReadResult::Interrupted => {}
+            ReadResult::Failed => return Err(script.fault(Cause::Read)),
         }
     }
     Err(script.fault(Cause::TooManyReads))

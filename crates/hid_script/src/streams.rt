@@ -9,12 +9,12 @@ use std::io::{ErrorKind, Read, Write};
 
 /// What a read answered.
 #[derive(Clone, Copy)]
-pub enum Given {
-    /// So many bytes stand first in the buffer. None end a script.
+pub enum ReadResult {
+    /// So many bytes stand first in the buffer. A read of no byte ends a script.
     Bytes(usize),
-    /// It was interrupted, and may be tried again.
+    /// The read was interrupted, and may be tried again.
     Interrupted,
-    /// It failed.
+    /// The read failed.
     Failed,
 }
 
@@ -22,16 +22,16 @@ pub enum Given {
 #[derive(Clone, Copy)]
 pub struct Lost;
 
-/// A reader, of which contracts name what each read answered. Each [`Read`] is one.
+/// A reader, of which contracts name what each read answered. Each [`Read`] is a `Source`.
 pub trait Source {
     // The bytes that reads will give from here on, where they are known.
     ghost remaining: { Self → Option (List ℕ) } = { λ _. None };
 
-    // A read from one state may answer so, and leave the other.
+    // A read in one state of the reader may give an answer and leave another state.
     ghost reads: { Self → Answer → Self → Type 0 };
 
     /// Reads some bytes into the first places of a buffer.
-    fn read(&mut self, buf: &mut [u8]) -> Given
+    fn read(&mut self, buf: &mut [u8]) -> ReadResult
         ensures bound { ReadsAtMost (count_of result) buf.new }
         ensures bytes { ReadConsumes (remaining self.old) (remaining self.new) (count_of result) buf.new }
         ensures answer { reads self.old (answer_of result buf.new) self.new };
@@ -42,31 +42,37 @@ impl<R: Read> Source for R {
 
     ghost reads = { λ before answer after. TellsAnswer (R.remaining before) answer (R.remaining after) };
 
-    fn read(&mut self, buf: &mut [u8]) -> Given {
+    fn read(&mut self, buf: &mut [u8]) -> ReadResult {
         match Read::read(self, buf) {
-            Ok(n) => Given::Bytes(n),
-            Err(error) if error.kind() == ErrorKind::Interrupted => Given::Interrupted,
-            Err(_) => Given::Failed,
+            Ok(n) => ReadResult::Bytes(n),
+            Err(error) if error.kind() == ErrorKind::Interrupted => ReadResult::Interrupted,
+            Err(_) => ReadResult::Failed,
         }
     }
 }
 
-/// A writer, of which contracts name what each call answered. Each [`Write`] is one.
+/// A writer, of which contracts name what each call answered. Each [`Write`] is a `Sink`.
 pub trait Sink {
     // The bytes that the writer holds, where they are known.
     ghost contents: { Self → Option (List ℕ) } = { λ _. None };
 
-    // A call in one state may answer so, and leave the other.
+    // A call in one state of the writer may give a reply and leave another state.
     ghost calls: { Self → Reply → Self → Type 0 };
 
     /// Takes some of the first bytes of a text, one at least.
+    ///
+    /// # Errors
+    /// [`Lost`], if the write failed or took no byte.
     fn write(&mut self, text: &[u8]) -> Result<usize, Lost>
         ensures bound { WritesAtMost result text.now }
         ensures some { IfOk result (λ n. 0 < n) }
         ensures bytes { WriteAppends (contents self.old) (contents self.new) result text.now }
         ensures call { calls self.old (write_reply result text.now) self.new };
 
-    /// Hands on all that it took.
+    /// Hands on all bytes that the writer took.
+    ///
+    /// # Errors
+    /// [`Lost`], if the flush failed.
     fn flush(&mut self) -> Result<(), Lost>
         ensures bytes { Keeps (contents self.old) (contents self.new) }
         ensures call { calls self.old (flush_reply result) self.new };

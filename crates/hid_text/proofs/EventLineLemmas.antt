@@ -1,4 +1,4 @@
--- Lines of events are told by how they begin.
+-- Lines of events are reported by how they begin.
 use Rattle.std.proofs.Common.{◌≡◌, ℕ, zero, suc, ◌+◌, ◌/◌, ◌%◌, ◌<◌, ◌≤◌, Bool, true, false, ◌&&◌, ◌||◌, nat_le, nat_lt, nat_eq, List, [], ◌∷◌, ◌++◌, refl, sym, ap, ◌∙◌, subst, inl, inr, arith, map, drop}
 use Rattle.std.specs.List.{list_any}
 use Rattle.std.specs.Fmt.{decimal, digits, digits_onto, digit_glyph}
@@ -132,7 +132,7 @@ numbered dev d tail = any_apart bare_words (decimal dev) (decimal d) tail (decim
 pub other_word : (dev d : ℕ) (tail : List ℕ) → has_word tail ≡ false → is_event_line dev (decimal d ++ 32 ∷ tail) ≡ false
 other_word dev d tail none = numbered dev d tail ∙ and_right _ _ none
 
--- nor is one that doesn't begin with a digit
+-- a line that doesn't begin with a digit is of no event
 no_number : (c : ℕ) (ds word line : List ℕ) → 57 < c → first_digit ds ≡ true → begins_with (ds ++ word) (c ∷ line) ≡ false
 no_number c [] word line above h = absurd (cc)
 no_number c (b ∷ ds) word line above h =

@@ -1,4 +1,4 @@
--- The lines of a layout, one behind the other, and those of the reports and items that are there.
+-- The lines of a layout, one after the other, and those of the reports and items that are there.
 use Rattle.std.proofs.Common.{◌≡◌, ℕ, ◌+◌, ◌<◌, ◌≤◌, false, Some, Result, OnOk, List, [], ◌∷◌, ◌++◌, length, get_or, take, add-one, append_assoc, refl, sym, ap, ◌∙◌}
 use Rattle.std.specs.Prelude.{◌==◌, slice_get, codes}
 use Rattle.std.specs.List.{flat_map}
@@ -10,15 +10,17 @@ use Rattle.hid_descriptor.specs.Usages.{Entry}
 use Rattle.hid_layout.specs.declared.main_item.MainItem.{MainItem}
 use Rattle.hid_layout.specs.Layout.{Contents}
 use Rattle.hid_layout.specs.Reports.{IsLayout, report_bytes}
-use Rattle.hid_notation.specs.Text.{joined_below}
+use Rattle.hid_notation.specs.Text.{concat_below}
 use Rattle.hid_text.specs.LayoutText.{report_line, report_at, item_line, item_at, collection_text, path_text, layout_lines}
 use Rattle.hid_text.proofs.ValueLemmas.{same_stands}
 
--- one line more behind those that stand
-pub joined_next : (text : ℕ → List ℕ) (n : ℕ) (start old new : List ℕ) → old ≡ start ++ joined_below n text → new ≡ old ++ text n → new ≡ start ++ joined_below (n + 1) text
-joined_next text n start old new so_far more = more ∙ ap (λ l. l ++ text n) so_far ∙ append_assoc start (joined_below n text) (text n) ∙ rw add-one refl
+-- one line more after those that stand
+pub joined_next : (text : ℕ → List ℕ) (n : ℕ) (start old new : List ℕ) → old ≡ start ++ concat_below n text
+    → new ≡ old ++ text n → new ≡ start ++ concat_below (n + 1) text
+joined_next text n start old new so_far more =
+    more ∙ ap (λ l. l ++ text n) so_far ∙ append_assoc start (concat_below n text) (text n) ∙ rw add-one refl
 
--- one word more, behind a space
+-- one word more, after a space
 pub word_next : {A : Type 0} (text : A → List ℕ) (xs : List A) (i : ℕ) (d : A) (start old spaced new : List ℕ) → i < length xs → old ≡ start ++ flat_map (λ x. 32 ∷ text x) (take i xs) → spaced ≡ old ++ 32 ∷ []
     → new ≡ spaced ++ text (get_or xs i d) → new ≡ start ++ flat_map (λ x. 32 ∷ text x) (take (i + 1) xs)
 word_next text xs i d start old spaced new below so_far space more =
@@ -34,7 +36,8 @@ path_whole (collection ∷ inner) i old new some all is =
 
 -- a layout's lines are those of its reports and of its items
 pub lines_whole : (layout : Contents) (n : ℕ) (old new : List ℕ) → n ≡ length layout.items
-    → new ≡ (old ++ joined_below (length layout.reports) (λ r. report_at layout r (slice_get layout.reports r))) ++ joined_below n (λ i. item_at layout i (slice_get layout.items i))
+    → new ≡ (old ++ concat_below (length layout.reports) (λ r. report_at layout r (slice_get layout.reports r)))
+    ++ concat_below n (λ i. item_at layout i (slice_get layout.items i))
     → new ≡ old ++ layout_lines layout
 unfolding layout_lines
 lines_whole layout n old new all is = is ∙ rw all (append_assoc old _ _)

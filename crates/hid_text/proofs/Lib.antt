@@ -9,5 +9,6 @@ pub mod PollLemmas
 pub mod PlainLemmas
 pub mod EventLineLemmas
 pub mod LineLemmas
+pub mod PieceLemmas
 pub mod ShownLemmas
 mod Vectors

@@ -38,6 +38,6 @@ kept_line (b ∷ line) h =
     let last = All-get_or (λ b. nat_eq b 13 ≡ false) (b ∷ line) (length (b ∷ line) - 1) 0 (omega arith) (other_bytes 13 (omega arith) (b ∷ line) h) in
     cond-false _ _ _ last
 
--- and so it stands there as it is, where it has no control characters
+-- a line without control characters stands first among the lines as it is
 pub plain_first : (line rest : List ℕ) → is_plain line ≡ true → lines (line ++ 10 ∷ rest) ≡ line ∷ lines rest
 plain_first line rest h = lines_first line rest (other_bytes 10 (omega arith) line h) ∙ ap (λ l. l ∷ lines rest) (kept_line line h)

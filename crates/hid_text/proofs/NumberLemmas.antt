@@ -70,7 +70,7 @@ short_number base k word r value some short small is e =
 pub short_value : (n : ℕ) → n < 10 ^ 18 → to_z w64 n ≡ pos n
 short_value n small = to_z_pos w64 n (omega (arith, small))
 
--- and so is its negative
+-- the negative of a number of 18 digits fits where it is signed
 minus_fits : (n : ℕ) → n < 10 ^ 18 → SFits w64 (neg_ℤ (pos n))
 minus_fits zero small = omega arith
 minus_fits (suc n) small = omega (arith, small)
@@ -81,7 +81,7 @@ short_minus n small =
     let is : pos 0 -ℤ to_z w64 n ≡ neg_ℤ (pos n) = ap (λ z. pos 0 -ℤ z) (short_value n small) ∙ +ℤ_idl (neg_ℤ (pos n)) in
     ap (λ z. to_z w64 (of_z w64 z)) is ∙ to_z-of_z w64 (neg_ℤ (pos n)) (minus_fits n small)
 
--- the digits behind a minus
+-- the digits after a minus
 pub minus_number : (word : List ℕ) (digits : Option ℕ) → 1 ≤ length word → get_or word 0 0 ≡ 45 → digits ≡ short_number_of (take (length word - 1) (drop 1 word)) → option_map (λ n. neg_ℤ (pos n)) digits ≡ signed_of word
 unfolding signed_of
 minus_number [] digits some first is = absurd (omega arith)

@@ -1,4 +1,4 @@
--- The first word of a text, and the words behind it.
+-- The first word of a text, and the words after it.
 use Rattle.std.proofs.Common.{◌≡◌, ℕ, ◌-◌, ◌<◌, ◌≤◌, Bool, true, false, List, [], ◌∷◌, length, take, drop, nat_lt, refl, sym, ap, subst, ◌∙◌, arith, not, nat_eq, cond, Option, None, Some, Ok, Err, IfSome, get_or, ⊎_elim}
 use Rattle.std.proofs.lemmas.Bool.{cases_Bool, cases_lt, cond-true, cond-false, lt-ltb, le-ltb, ltb-true, ne_eqb, eq-eqb, true≢false}
 use Rattle.std.proofs.lemmas.Option.{cond_some}
@@ -16,8 +16,8 @@ use Rattle.hid_text.specs.declared.line.Line.TheVariants.{Nothing, Step}
 use Rattle.hid_text.specs.declared.short.ShortLine.{ShortLine}
 use Rattle.hid_text.specs.declared.fault.LineFault.TheVariants.{LineTooLong}
 use Rattle.hid_text.specs.Arguments.{or_syntax}
-use Rattle.hid_text.specs.Short.{short_said}
-use Rattle.hid_text.specs.Line.{meaning_of, words_said, said_by, keyword_said, keyword_of}
+use Rattle.hid_text.specs.Short.{short_meaning}
+use Rattle.hid_text.specs.Line.{meaning_of, line_meaning, words_meaning, keyword_meaning, keyword_of}
 use Rattle.hid_text.specs.Words.{Word, is_blank, is_no_blank, words_of}
 
 -- blanks before the first word are none of it
@@ -27,7 +27,7 @@ behind_blanks (b ∷ text) = ⊎_elim
     (λ (blank : is_blank b ≡ true). rw blank (behind_blanks text ∙ ap (λ k. words_of (drop k (b ∷ text))) (sym (one-add (position_or_len is_no_blank text)))))
     (λ (byte : is_blank b ≡ false). rw byte (rw byte refl)) (cases_Bool (is_blank b))
 
--- the part up to the first blank, and the words behind that
+-- the part up to the first blank, and the words after that
 pub first_part : (text : List ℕ) → (parts : List Word) × (slice_split is_blank text ≡ take (position_or_len is_blank text) text ∷ parts)
     × (filter (λ word. not (nat_eq (length word) 0)) parts ≡ words_of (drop (position_or_len is_blank text) text))
 first_part [] = ([], refl, refl)
@@ -64,7 +64,7 @@ pub some_byte : (word : List ℕ) → 0 < length word → not (nat_eq (length wo
 some_byte [] some = absurd (omega arith)
 some_byte (b ∷ word) some = rw (ne_eqb (length (b ∷ word)) 0 (λ e. omega (arith, some, e))) refl
 
--- the first word, where a text has one, and the words behind it
+-- the first word, where a text has one, and the words after it
 pub one_word : (text rest : List ℕ) (start : ℕ) → position is_no_blank text ≡ Some start → rest ≡ drop start text
     → (words_of text ≡ take (position_or_len is_blank rest) rest ∷ words_of (drop (position_or_len is_blank rest) rest)) × (0 < position_or_len is_blank rest)
 one_word text rest start found is =
@@ -90,7 +90,7 @@ part_end rest end is =
     (λ (all : length rest ≤ n). is ∙ ap (λ o. unwrap_or o (length rest)) (cond-false (nat_lt n (length rest)) (Some n) None (le-ltb n (length rest) all)) ∙ (omega (arith, all, prefix_len-le-length (λ b. not (is_blank b)) rest)))
     (cases_lt n (length rest))
 
--- a word that is found by the place of its first byte and by the blank behind it
+-- a word that is found by the place of its first byte and by the blank after it
 pub found_word : (text part : List ℕ) (start end : ℕ) → position is_no_blank text ≡ Some start → part ≡ take (length text - start) (drop start text)
     → end ≡ unwrap_or (position is_blank part) (length part)
     → (words_of text ≡ take end part ∷ words_of (take (length part - end) (drop end part))) × (0 < length (take end part))
@@ -103,44 +103,53 @@ found_word text part start end found is ends =
 
 -- ---- lines that say nothing
 
-short_line : (line : List ℕ) → length line ≤ 1024 → meaning_of line ≡ words_said (words_of line)
+short_line : (line : List ℕ) → length line ≤ 1024 → meaning_of line ≡ line_meaning (words_of line)
 unfolding meaning_of
-short_line line short = cond-false (nat_lt 1024 (length line)) (Err LineTooLong) (words_said (words_of line)) (le-ltb 1024 (length line) short)
+short_line line short =
+    cond-false (nat_lt 1024 (length line)) (Err LineTooLong) (line_meaning (words_of line))
+    (le-ltb 1024 (length line) short)
 
 -- a line of blanks
 pub empty_line : (line : List ℕ) → length line ≤ 1024 → position is_no_blank line ≡ None → meaning_of line ≡ Ok Nothing
-unfolding words_said
-empty_line line short none = short_line line short ∙ ap words_said (no_word line none)
+unfolding line_meaning
+empty_line line short none = short_line line short ∙ ap line_meaning (no_word line none)
 
 -- a comment
 pub comment_line : (line : List ℕ) (start : ℕ) → length line ≤ 1024 → position is_no_blank line ≡ Some start → get_or line start 0 ≡ 35 → meaning_of line ≡ Ok Nothing
-unfolding words_said
+unfolding line_meaning
 comment_line line start short found mark =
     let rest = drop start line in
     let end = position_or_len is_blank rest in
     let word = one_word line rest start found refl in
     let first : slice_index (take end rest) 0 ≡ 35 = get_or-take end rest 0 0 word.1 ∙ get_or-drop start line 0 0 ∙ rw (add-zero start) mark in
-    short_line line short ∙ ap words_said word.0
-    ∙ cond-true (nat_eq (slice_index (take end rest) 0) 35) (Ok Nothing) (keyword_said (keyword_of (take end rest)) (words_of (drop end rest))) (eq-eqb _ 35 first)
+    short_line line short ∙ ap line_meaning word.0
+    ∙ cond-true (nat_eq (slice_index (take end rest) 0) 35) (Ok Nothing)
+    (keyword_meaning (keyword_of (take end rest)) (words_of (drop end rest))) (eq-eqb _ 35 first)
 
 -- ---- lines that begin with a keyword
 
--- a line says what stands behind its keyword
-pub keyword_first : (words : List Word) (first : Word) (rest : List Word) (keyword : Keyword) → words ≡ first ∷ rest → (slice_index first 0 ≡ 35 → ⊥) → keyword_of first ≡ Some keyword → words_said words ≡ said_by keyword rest
-unfolding words_said
-keyword_first words first rest keyword is other key = ap words_said is ∙ cond-false (nat_eq (slice_index first 0) 35) (Ok Nothing) _ (ne_eqb (slice_index first 0) 35 other) ∙ ap (λ k. keyword_said k rest) key
+-- a line says what stands after its keyword
+pub keyword_first : (words : List Word) (first : Word) (rest : List Word) (keyword : Keyword) → words ≡ first ∷ rest
+    → (slice_index first 0 ≡ 35 → ⊥) → keyword_of first ≡ Some keyword
+    → line_meaning words ≡ words_meaning keyword rest
+unfolding line_meaning
+keyword_first words first rest keyword is other key =
+    ap line_meaning is
+    ∙ cond-false (nat_eq (slice_index first 0) 35) (Ok Nothing) _ (ne_eqb (slice_index first 0) 35 other)
+    ∙ ap (λ k. keyword_meaning k rest) key
 
--- what stands behind the keyword of a short line is a step
-short_keyword : (keyword : Keyword) (words : List Word) (short : ShortLine) → short_said keyword words ≡ Some short → said_by keyword words ≡ Ok (Step short)
-unfolding said_by short_said
+-- what stands after the keyword of a short line is a step
+short_keyword : (keyword : Keyword) (words : List Word) (short : ShortLine) → short_meaning keyword words ≡ Some short
+    → words_meaning keyword words ≡ Ok (Step short)
+unfolding words_meaning short_meaning
 short_keyword keywords.Layout words short is = absurd (cc)
 short_keyword keywords.Values words short is = absurd (cc)
 short_keyword keywords.Device words short is = absurd (cc)
 short_keyword keywords.Begin words short is = absurd (cc)
 short_keyword keyword words short is = ap (or_syntax Step) is
 
--- and so is the line
+-- a line with the keyword of a short line and its words is a step
 pub short_first : (words : List Word) (first : Word) (rest : List Word) (keyword : Keyword) (short : Option ShortLine) → words ≡ first ∷ rest → (slice_index first 0 ≡ 35 → ⊥) → keyword_of first ≡ Some keyword
-    → short ≡ short_said keyword rest → IfSome short (λ line. words_said words ≡ Ok (Step line))
+    → short ≡ short_meaning keyword rest → IfSome short (λ line. line_meaning words ≡ Ok (Step line))
 short_first words first rest keyword None is other key said = tt
 short_first words first rest keyword (Some line) is other key said = keyword_first words first rest keyword is other key ∙ short_keyword keyword rest line (sym said)

@@ -38,7 +38,7 @@ use Rattle.hid_bus.specs.declared.step.Told.TheVariants.{Quiet, Polled, Transfer
 use Rattle.hid_bus.specs.declared.step.Delivered.{Delivered}
 use Rattle.hid_bus.specs.Delivered.{from_device}
 use Rattle.hid_bus.proofs.DeliveredLemmas.{from_append}
-use Rattle.hid_notation.specs.Text.{bytes_text, usage_or_dash, range_text, joined_below}
+use Rattle.hid_notation.specs.Text.{bytes_text, usage_or_dash, range_text, concat_below}
 use Rattle.hid_text.specs.EventLines.{AreFew, ShowsEvents, is_event_line, event_lines}
 use Rattle.hid_text.specs.EventText.{event_text}
 use Rattle.hid_text.specs.LayoutText.{kind_word, report_name, report_line, shape_word, range_words, entries_text, details_text, collection_text, path_text, item_head, item_line, report_at, item_in, item_at, layout_lines, layout_text}
@@ -74,7 +74,7 @@ quiet_line body plain none dev rest = first_is dev body rest plain ∙ ap (λ b.
 starts_with : (c : ℕ) (body : List ℕ) → 57 < c → is_plain (c ∷ body) ≡ true → ShowsEvents ((c ∷ body) ++ 10 ∷ []) []
 starts_with c body above plain = quiet_line (c ∷ body) plain (λ dev. other_start dev c body above)
 
--- another word stands behind the number
+-- another word stands after the number
 has_other_word : (d : ℕ) (tail body : List ℕ) → body ≡ decimal d ++ 32 ∷ tail → is_plain tail ≡ true → has_word tail ≡ false → ShowsEvents (body ++ 10 ∷ []) []
 has_other_word d tail body is plain none =
     subst (λ l. ShowsEvents (l ++ 10 ∷ []) []) (sym is)
@@ -99,9 +99,10 @@ shows_events (d ∷ ds) few = shows_both (event_text d.dev d.event ++ 10 ∷ [])
 
 -- ---- layouts and values
 
-shows_joined : (n : ℕ) (text : ℕ → List ℕ) → ((i : ℕ) → ShowsEvents (text i) []) → ShowsEvents (joined_below n text) []
+shows_joined : (n : ℕ) (text : ℕ → List ℕ) → ((i : ℕ) → ShowsEvents (text i) [])
+    → ShowsEvents (concat_below n text) []
 shows_joined zero text h = shows_nothing
-shows_joined (suc n) text h = shows_both (joined_below n text) (text n) [] [] (shows_joined n text h) (h n)
+shows_joined (suc n) text h = shows_both (concat_below n text) (text n) [] [] (shows_joined n text h) (h n)
 
 plain_kind : (kind : ReportKind) → is_plain (kind_word kind) ≡ true
 plain_kind Input = refl
@@ -198,7 +199,8 @@ shows_item_at layout i (Some item) = shows_item_in layout i item (slice_get layo
 shows_lines : (layout : Contents) → ShowsEvents (layout_lines layout) []
 unfolding layout_lines
 shows_lines layout =
-    shows_both (joined_below (length layout.reports) (λ r. report_at layout r (slice_get layout.reports r))) (joined_below (length layout.items) (λ i. item_at layout i (slice_get layout.items i))) [] []
+    shows_both (concat_below (length layout.reports) (λ r. report_at layout r (slice_get layout.reports r)))
+    (concat_below (length layout.items) (λ i. item_at layout i (slice_get layout.items i))) [] []
     (shows_joined (length layout.reports) (λ r. report_at layout r (slice_get layout.reports r)) (λ r. shows_report_at layout r (slice_get layout.reports r)))
     (shows_joined (length layout.items) (λ i. item_at layout i (slice_get layout.items i)) (λ i. shows_item_at layout i (slice_get layout.items i)))
 
@@ -236,7 +238,7 @@ shows_value_at layout bytes i j = shows_value_in layout bytes i j (slice_get lay
 shows_values_in : (layout : Contents) (r : ℕ) (bytes : List ℕ) (i : ℕ) (o : Option MainItem) → ShowsEvents (values_in layout r bytes i o) []
 shows_values_in layout r bytes i None = shows_nothing
 shows_values_in layout r bytes i (Some item) =
-    cond_both (nat_eq item.report r) (joined_below item.count (value_at layout bytes i)) [] (λ t. ShowsEvents t [])
+    cond_both (nat_eq item.report r) (concat_below item.count (value_at layout bytes i)) [] (λ t. ShowsEvents t [])
     (λ _. shows_joined item.count (value_at layout bytes i) (shows_value_at layout bytes i)) (λ _. shows_nothing)
 
 shows_values_at : (layout : Contents) (r : ℕ) (bytes : List ℕ) (i : ℕ) → ShowsEvents (values_at layout r bytes i) []

@@ -6,7 +6,7 @@ use Rattle.std.proofs.lemmas.Bool.{cond-true, cond-false}
 use Rattle.std.specs.Str.{bytes_eq}
 use Rattle.hid_text.specs.Words.{Word, look_up}
 
--- an entry, and those behind it
+-- an entry, and those after it
 entry_first : {E X : Type 0} (read : E → Word × X) (table : List E) (i : ℕ) (entry : E) (word : Word) → i < length table → entry ≡ get_or table i entry
     → look_up (map read (drop i table)) word ≡ look_up (read entry ∷ map read (drop (i + 1) table)) word
 entry_first read table i entry word below is =

@@ -13,7 +13,7 @@ use Rattle.hid_descriptor.specs.Fields.{is_padding}
 use Rattle.hid_layout.specs.Layout.{Contents}
 use Rattle.hid_descriptor.specs.Usages.{Entry, usage_list}
 use Rattle.hid_usages.specs.Reading.{IsInside, element_number}
-use Rattle.hid_notation.specs.Text.{joined_below}
+use Rattle.hid_notation.specs.Text.{concat_below}
 use Rattle.hid_text.specs.ValuesText.{usage_shown, value_line, value_at, element_line, values_in, values_at}
 use Rattle.hid_layout.specs.Reports.{IsLayout, report_bytes, field_at, element_in, element_of}
 
@@ -74,7 +74,7 @@ item_whole layout bytes r i items d is below in_it enough = rw (same_stands layo
 
 -- its lines, and none of an item that stands elsewhere
 pub values_found : (layout : Contents) (bytes : List ℕ) (r i : ℕ) (items : List MainItem) (d : MainItem) → items ≡ layout.items → i < length layout.items → (get_or items i d).report ≡ r
-    → values_at layout r bytes i ≡ joined_below (get_or items i d).count (value_at layout bytes i)
+    → values_at layout r bytes i ≡ concat_below (get_or items i d).count (value_at layout bytes i)
 unfolding values_at
 values_found layout bytes r i items d is below in_it =
     ap (values_in layout r bytes i) (same_stands layout.items items i d is below) ∙ cond-true _ _ _ (eq-eqb (get_or items i d).report r in_it)

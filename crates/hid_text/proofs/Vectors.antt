@@ -40,7 +40,7 @@ three_lost_tokens : transfer_text false 1 (Failed BusFault) [] ≡ codes "1 cont
 unfolding transfer_text digits
 three_lost_tokens = refl
 
--- a try behind which there is another to make
+-- a try after which there is another to make
 one_try : transfer_text true 1 Running [] ≡ codes "1 control running" ++ 10 ∷ []
 unfolding transfer_text digits
 one_try = refl

@@ -1,4 +1,4 @@
--- What the words behind a line's first one say: a device alone or with a usage, a number, a fate and a count, each with
+-- What the words after a line's first one say: a device alone or with a usage, a number, a fate and a count, each with
 -- the values that it may have (our choice: the script language of docs/SCRIPT.md). Example: poll 1 ack 2 is device 1, a
 -- lost acknowledgement, twice; halt 8 is X1
 use Rattle.std.specs.Prelude.{ℕ, List, [], ◌∷◌, Option, None, Some, Result, Ok, Err, codes, ℤ}
@@ -29,7 +29,7 @@ fate_of = look_up (
     (codes "clean", Clean) ∷ (codes "token", TokenLost) ∷ (codes "reply", ReplyLost)
     ∷ (codes "ack", AckLost) ∷ [])
 
--- words that are all understood, or no line of the script's
+-- what words say that are all understood, or that they are no line of the script's
 abbrev pub or_syntax : {A B : Type 0} → (A → B) → Option A → Result B LineFault
 or_syntax make None = Err Syntax
 or_syntax make (Some said) = Ok (make said)
@@ -53,41 +53,41 @@ three (Some a) None c = None
 three None b c = None
 
 -- D U
-unfoldable pub control_said : List Word → Option (ℕ × Usage)
-control_said (dev ∷ usage ∷ []) = two (device_of dev) (usage_of usage)
-control_said _ = None
+unfoldable pub control_meaning : List Word → Option (ℕ × Usage)
+control_meaning (dev ∷ usage ∷ []) = two (device_of dev) (usage_of usage)
+control_meaning _ = None
 
 -- D U N, of a value
-unfoldable pub set_said : List Word → Option (ℕ × Usage × ℤ)
-set_said (dev ∷ usage ∷ value ∷ []) = three (device_of dev) (usage_of usage) (signed_of value)
-set_said _ = None
+unfoldable pub set_meaning : List Word → Option (ℕ × Usage × ℤ)
+set_meaning (dev ∷ usage ∷ value ∷ []) = three (device_of dev) (usage_of usage) (signed_of value)
+set_meaning _ = None
 
 -- D U N, of a motion
-unfoldable pub move_said : List Word → Option (ℕ × Usage × ℤ)
-move_said (dev ∷ usage ∷ by ∷ []) = three (device_of dev) (usage_of usage) (amount_of by)
-move_said _ = None
+unfoldable pub move_meaning : List Word → Option (ℕ × Usage × ℤ)
+move_meaning (dev ∷ usage ∷ by ∷ []) = three (device_of dev) (usage_of usage) (amount_of by)
+move_meaning _ = None
 
 -- [COUNT]
-unfoldable pub frame_said : List Word → Option ℕ
-frame_said [] = Some 1
-frame_said (count ∷ []) = count_of count
-frame_said _ = None
+unfoldable pub frame_meaning : List Word → Option ℕ
+frame_meaning [] = Some 1
+frame_meaning (count ∷ []) = count_of count
+frame_meaning _ = None
 
 -- [FATE [COUNT]]
-unfoldable pub tries_said : List Word → Option (Fate × ℕ)
-tries_said [] = Some (Clean, 1)
-tries_said (fate ∷ []) = two (fate_of fate) (Some 1)
-tries_said (fate ∷ count ∷ []) = two (fate_of fate) (count_of count)
-tries_said _ = None
+unfoldable pub tries_meaning : List Word → Option (Fate × ℕ)
+tries_meaning [] = Some (Clean, 1)
+tries_meaning (fate ∷ []) = two (fate_of fate) (Some 1)
+tries_meaning (fate ∷ count ∷ []) = two (fate_of fate) (count_of count)
+tries_meaning _ = None
 
 -- D [FATE [COUNT]]
-unfoldable pub poll_said : List Word → Option (ℕ × Fate × ℕ)
-poll_said (dev ∷ []) = three (device_of dev) (Some Clean) (Some 1)
-poll_said (dev ∷ fate ∷ []) = three (device_of dev) (fate_of fate) (Some 1)
-poll_said (dev ∷ fate ∷ count ∷ []) = three (device_of dev) (fate_of fate) (count_of count)
-poll_said _ = None
+unfoldable pub poll_meaning : List Word → Option (ℕ × Fate × ℕ)
+poll_meaning (dev ∷ []) = three (device_of dev) (Some Clean) (Some 1)
+poll_meaning (dev ∷ fate ∷ []) = three (device_of dev) (fate_of fate) (Some 1)
+poll_meaning (dev ∷ fate ∷ count ∷ []) = three (device_of dev) (fate_of fate) (count_of count)
+poll_meaning _ = None
 
 -- D
-unfoldable pub one_device_said : List Word → Option ℕ
-one_device_said (dev ∷ []) = device_of dev
-one_device_said _ = None
+unfoldable pub one_device_meaning : List Word → Option ℕ
+one_device_meaning (dev ∷ []) = device_of dev
+one_device_meaning _ = None

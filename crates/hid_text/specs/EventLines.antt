@@ -23,7 +23,7 @@ words_of_events =
 abbrev pub is_event_line : ℕ → List ℕ → Bool
 is_event_line dev line = list_any (λ word. begins_with (decimal dev ++ word) line) words_of_events
 
--- those lines of a text
+-- the lines of a text that are of a device's events
 abbrev pub event_lines : ℕ → List ℕ → List (List ℕ)
 event_lines dev text = filter (is_event_line dev) (lines text)
 

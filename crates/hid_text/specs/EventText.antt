@@ -5,7 +5,7 @@ use Rattle.hid_snapshots.specs.declared.event.Event.{Event}
 use Rattle.hid_snapshots.specs.declared.event.Event.TheVariants.{Down, Up, Value, Null, Motion, Dropped}
 use Rattle.hid_notation.specs.Text.{usage_text}
 
--- what happened, behind the device's number
+-- what happened, after the device's number
 abbrev pub event_words : Event → List ℕ
 event_words (Down control usage) = codes " down " ++ usage_text usage
 event_words (Up control usage) = codes " up " ++ usage_text usage

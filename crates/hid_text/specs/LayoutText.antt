@@ -13,7 +13,7 @@ use Rattle.hid_layout.specs.Layout.{Contents}
 use Rattle.hid_descriptor.specs.Flags.{has_flag, RELATIVE, NULL_STATE}
 use Rattle.hid_layout.specs.Reports.{report_bytes}
 use Rattle.hid_descriptor.specs.Usages.{Entry}
-use Rattle.hid_notation.specs.Text.{usage_or_dash, range_text, joined_below}
+use Rattle.hid_notation.specs.Text.{usage_or_dash, range_text, concat_below}
 
 -- the name of a kind of reports
 abbrev pub kind_word : ReportKind → List ℕ
@@ -35,13 +35,13 @@ shape_word Padding relative = codes "padding"
 shape_word Array relative = codes "array"
 shape_word Variable relative = if relative then codes "relative" else codes "variable"
 
--- the range of an item, behind ` null` where Null State is set
+-- the range of an item, after ` null` where Null State is set
 abbrev pub range_words : MainItem → List ℕ
 range_words item =
     (if has_flag NULL_STATE item.flags.0 then codes " null" else [])
     ++ 32 ∷ signed_decimal item.min ++ codes ".." ++ signed_decimal item.max
 
--- each usage entry behind a space
+-- each usage entry after a space
 abbrev pub entries_text : List Entry → List ℕ
 entries_text entries = flat_map (λ entry. 32 ∷ range_text entry) entries
 
@@ -92,8 +92,8 @@ item_at layout i (Some item) =
 -- a line for each report, and then one for each item
 unfoldable pub layout_lines : Contents → List ℕ
 layout_lines layout =
-    joined_below (length layout.reports) (λ r. report_at layout r (slice_get layout.reports r))
-    ++ joined_below (length layout.items) (λ i. item_at layout i (slice_get layout.items i))
+    concat_below (length layout.reports) (λ r. report_at layout r (slice_get layout.reports r))
+    ++ concat_below (length layout.items) (λ i. item_at layout i (slice_get layout.items i))
 
 -- the text of a layout: a line for each report, then a line for each item; no reports if there is none. Example: item 0
 -- input 0 at 0 1x3 variable 0..1 09:01-09:03 in 1/01:02 0/-

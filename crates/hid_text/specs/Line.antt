@@ -10,8 +10,8 @@ use Rattle.hid_text.specs.declared.fault.LineFault.{LineFault}
 use Rattle.hid_text.specs.declared.fault.LineFault.TheVariants.{Syntax, LineTooLong}
 use Rattle.hid_text.specs.Words.{Word, words_of, look_up, hex_of}
 use Rattle.hid_text.specs.Arguments.{or_syntax, with_bytes, two, start_of, boot_of}
-use Rattle.hid_text.specs.Requests.{begin_said}
-use Rattle.hid_text.specs.Short.{short_said}
+use Rattle.hid_text.specs.Requests.{begin_meaning}
+use Rattle.hid_text.specs.Short.{short_meaning}
 
 -- the first word of a line
 abbrev pub keyword_of : Word → Option Keyword
@@ -28,29 +28,30 @@ attachment None hex = Err Syntax
 attachment (Some said) hex = with_bytes (Device said.0 said.1) (hex_of hex)
 
 -- START KIND HEX
-unfoldable pub device_said : List Word → Result Line LineFault
-device_said (start ∷ kind ∷ hex) = attachment (two (start_of start) (boot_of kind)) hex
-device_said _ = Err Syntax
+unfoldable pub device_meaning : List Word → Result Line LineFault
+device_meaning (start ∷ kind ∷ hex) = attachment (two (start_of start) (boot_of kind)) hex
+device_meaning _ = Err Syntax
 
--- what the words behind the first one say
-unfoldable pub said_by : Keyword → List Word → Result Line LineFault
-said_by keywords.Layout words = with_bytes Layout (hex_of words)
-said_by keywords.Values words = with_bytes Values (hex_of words)
-said_by keywords.Device words = device_said words
-said_by keywords.Begin words = begin_said words
-said_by keyword words = or_syntax Step (short_said keyword words)
+-- what the words after the first one say
+unfoldable pub words_meaning : Keyword → List Word → Result Line LineFault
+words_meaning keywords.Layout words = with_bytes Layout (hex_of words)
+words_meaning keywords.Values words = with_bytes Values (hex_of words)
+words_meaning keywords.Device words = device_meaning words
+words_meaning keywords.Begin words = begin_meaning words
+words_meaning keyword words = or_syntax Step (short_meaning keyword words)
 
 -- a line that begins with another word is none of the script's
-abbrev pub keyword_said : Option Keyword → List Word → Result Line LineFault
-keyword_said None words = Err Syntax
-keyword_said (Some keyword) words = said_by keyword words
+abbrev pub keyword_meaning : Option Keyword → List Word → Result Line LineFault
+keyword_meaning None words = Err Syntax
+keyword_meaning (Some keyword) words = words_meaning keyword words
 
 -- a line without words, or whose first word begins with `#`, does nothing
-unfoldable pub words_said : List Word → Result Line LineFault
-words_said [] = Ok Nothing
-words_said (first ∷ words) = if slice_index first 0 == 35 then Ok Nothing else keyword_said (keyword_of first) words
+unfoldable pub line_meaning : List Word → Result Line LineFault
+line_meaning [] = Ok Nothing
+line_meaning (first ∷ words) =
+    if slice_index first 0 == 35 then Ok Nothing else keyword_meaning (keyword_of first) words
 
 -- the meaning of a line: nothing, or the line form of its first word with what the others say, or the first cause for
 -- which it is refused. One of more than 1,024 bytes is refused whatever it says. Example: values 0 is X3
 unfoldable pub meaning_of : List ℕ → Result Line LineFault
-meaning_of line = if nat_lt 1024 (length line) then Err LineTooLong else words_said (words_of line)
+meaning_of line = if nat_lt 1024 (length line) then Err LineTooLong else line_meaning (words_of line)

@@ -38,7 +38,7 @@ abbrev pub reply_text : Option (List ℕ) → List ℕ
 reply_text None = codes "none"
 reply_text (Some bytes) = reply_words bytes
 
--- what the host made of it
+-- the word for what the host took
 abbrev pub verdict_word : Took → List ℕ
 verdict_word (host.Fresh bytes) = codes "fresh"
 verdict_word host.Again = codes "again"

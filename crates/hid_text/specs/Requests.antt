@@ -34,30 +34,30 @@ kind_of = look_up ((codes "input", kinds.Input) ∷ (codes "output", kinds.Outpu
 abbrev pub boot_protocol_of : Word → Option Bool
 boot_protocol_of = look_up ((codes "boot", true) ∷ (codes "report", false) ∷ [])
 
--- a request with no words behind it
-unfoldable pub alone : Request → List Word → Result Request LineFault
-alone request [] = Ok request
-alone request _ = Err Syntax
+-- a request with no words after it
+unfoldable pub bare_request : Request → List Word → Result Request LineFault
+bare_request request [] = Ok request
+bare_request request _ = Err Syntax
 
 -- ID TIME
-unfoldable pub idle_said : List Word → Option (ℕ × ℕ)
-idle_said (id ∷ time ∷ []) = two (byte_of id) (byte_of time)
-idle_said _ = None
+unfoldable pub idle_meaning : List Word → Option (ℕ × ℕ)
+idle_meaning (id ∷ time ∷ []) = two (byte_of id) (byte_of time)
+idle_meaning _ = None
 
 -- ID
-unfoldable pub id_said : List Word → Option ℕ
-id_said (id ∷ []) = byte_of id
-id_said _ = None
+unfoldable pub id_meaning : List Word → Option ℕ
+id_meaning (id ∷ []) = byte_of id
+id_meaning _ = None
 
 -- boot or report
-unfoldable pub protocol_said : List Word → Option Bool
-protocol_said (protocol ∷ []) = boot_protocol_of protocol
-protocol_said _ = None
+unfoldable pub protocol_meaning : List Word → Option Bool
+protocol_meaning (protocol ∷ []) = boot_protocol_of protocol
+protocol_meaning _ = None
 
 -- TYPE ID
-unfoldable pub report_said : List Word → Option (ReportKind × ℕ)
-report_said (kind ∷ id ∷ []) = two (kind_of kind) (byte_of id)
-report_said _ = None
+unfoldable pub report_meaning : List Word → Option (ReportKind × ℕ)
+report_meaning (kind ∷ id ∷ []) = two (kind_of kind) (byte_of id)
+report_meaning _ = None
 
 -- a report and its bytes, 256 at most: how many there are is looked at before their digits
 abbrev pub set_report : Option (ReportKind × ℕ) → List Word → Result Request LineFault
@@ -67,46 +67,46 @@ set_report (Some said) hex =
     else with_bytes (SetReport said.0 said.1) (hex_of hex)
 
 -- TYPE ID HEX
-unfoldable pub set_report_said : List Word → Result Request LineFault
-set_report_said (kind ∷ id ∷ hex) = set_report (two (kind_of kind) (byte_of id)) hex
-set_report_said _ = Err Syntax
+unfoldable pub set_report_meaning : List Word → Result Request LineFault
+set_report_meaning (kind ∷ id ∷ hex) = set_report (two (kind_of kind) (byte_of id)) hex
+set_report_meaning _ = Err Syntax
 
--- what the words behind the first one of a request say
-unfoldable pub asked_by : RequestWord → List Word → Result Request LineFault
-asked_by words.Device more = alone Device more
-asked_by words.Config more = alone Config more
-asked_by words.Report more = alone Report more
-asked_by words.Configure more = alone Configure more
-asked_by words.Status more = alone Status more
-asked_by words.GetConfiguration more = alone GetConfiguration more
-asked_by words.Idle more = or_syntax (λ said. Idle said.0 said.1) (idle_said more)
-asked_by words.GetIdle more = or_syntax GetIdle (id_said more)
-asked_by words.Protocol more = or_syntax Protocol (protocol_said more)
-asked_by words.GetProtocol more = alone GetProtocol more
-asked_by words.GetReport more = or_syntax (λ said. GetReport said.0 said.1) (report_said more)
-asked_by words.SetReport more = set_report_said more
-asked_by words.Halt more = alone Halt more
-asked_by words.Clear more = alone Clear more
-asked_by words.EndpointStatus more = alone EndpointStatus more
+-- what the words after the first one of a request say
+unfoldable pub request_of_words : RequestWord → List Word → Result Request LineFault
+request_of_words words.Device more = bare_request Device more
+request_of_words words.Config more = bare_request Config more
+request_of_words words.Report more = bare_request Report more
+request_of_words words.Configure more = bare_request Configure more
+request_of_words words.Status more = bare_request Status more
+request_of_words words.GetConfiguration more = bare_request GetConfiguration more
+request_of_words words.Idle more = or_syntax (λ said. Idle said.0 said.1) (idle_meaning more)
+request_of_words words.GetIdle more = or_syntax GetIdle (id_meaning more)
+request_of_words words.Protocol more = or_syntax Protocol (protocol_meaning more)
+request_of_words words.GetProtocol more = bare_request GetProtocol more
+request_of_words words.GetReport more = or_syntax (λ said. GetReport said.0 said.1) (report_meaning more)
+request_of_words words.SetReport more = set_report_meaning more
+request_of_words words.Halt more = bare_request Halt more
+request_of_words words.Clear more = bare_request Clear more
+request_of_words words.EndpointStatus more = bare_request EndpointStatus more
 
 -- a request that begins with another word is none
-abbrev pub word_asked : Option RequestWord → List Word → Result Request LineFault
-word_asked None more = Err Syntax
-word_asked (Some word) more = asked_by word more
+abbrev pub request_of_word : Option RequestWord → List Word → Result Request LineFault
+request_of_word None more = Err Syntax
+request_of_word (Some word) more = request_of_words word more
 
--- what the words of a request say, behind its name. Example: idle 0 125 is an idle time of 500 ms for all Input reports;
+-- what the words of a request say, after its name. Example: idle 0 125 is an idle time of 500 ms for all Input reports;
 -- clear 81 is X1
-unfoldable pub request_said : List Word → Result Request LineFault
-request_said [] = Err Syntax
-request_said (first ∷ more) = word_asked (request_word_of first) more
+unfoldable pub request_meaning : List Word → Result Request LineFault
+request_meaning [] = Err Syntax
+request_meaning (first ∷ more) = request_of_word (request_word_of first) more
 
 -- a device and what its host asks: the device is looked at first
-abbrev pub begun : Option ℕ → Result Request LineFault → Result Line LineFault
-begun None request = Err Syntax
-begun (Some dev) (Err fault) = Err fault
-begun (Some dev) (Ok request) = Ok (Begin dev request)
+abbrev pub begin_with : Option ℕ → Result Request LineFault → Result Line LineFault
+begin_with None request = Err Syntax
+begin_with (Some dev) (Err fault) = Err fault
+begin_with (Some dev) (Ok request) = Ok (Begin dev request)
 
 -- D REQUEST
-unfoldable pub begin_said : List Word → Result Line LineFault
-begin_said (dev ∷ request) = begun (device_of dev) (request_said request)
-begin_said _ = Err Syntax
+unfoldable pub begin_meaning : List Word → Result Line LineFault
+begin_meaning (dev ∷ request) = begin_with (device_of dev) (request_meaning request)
+begin_meaning _ = Err Syntax

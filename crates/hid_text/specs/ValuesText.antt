@@ -10,7 +10,7 @@ use Rattle.hid_layout.specs.declared.main_item.Element.{Element}
 use Rattle.hid_layout.specs.Reports.{element_in}
 use Rattle.hid_descriptor.specs.Usages.{Entry, usage_list}
 use Rattle.hid_usages.specs.Reading.{usage_named, element_number}
-use Rattle.hid_notation.specs.Text.{usage_or_dash, joined_below}
+use Rattle.hid_notation.specs.Text.{usage_or_dash, concat_below}
 
 -- a variable item has a usage for each element, and where it has fewer the last one is for the rest (HID 1.11, 6.2.2.8)
 unfoldable pub usage_of_element : List Usage → ℕ → Option Usage
@@ -50,7 +50,7 @@ value_at layout bytes i j = value_in layout bytes i j (slice_get layout.items i)
 abbrev pub values_in : Contents → ℕ → List ℕ → ℕ → Option MainItem → List ℕ
 values_in layout r bytes i None = []
 values_in layout r bytes i (Some item) =
-    if item.report == r then joined_below item.count (value_at layout bytes i) else []
+    if item.report == r then concat_below item.count (value_at layout bytes i) else []
 
 -- the lines of an item's elements, by the place of the item
 unfoldable pub values_at : Contents → ℕ → List ℕ → ℕ → List ℕ
@@ -58,4 +58,4 @@ values_at layout r bytes i = values_in layout r bytes i (slice_get layout.items 
 
 -- a line for each data element of the report r, in the order of the layout. Example: value 2.1 -127 01:31
 unfoldable pub values_text : Contents → ℕ → List ℕ → List ℕ
-values_text layout r bytes = joined_below (length layout.items) (values_at layout r bytes)
+values_text layout r bytes = concat_below (length layout.items) (values_at layout r bytes)

@@ -8,7 +8,7 @@ use Rattle.hex.specs.Hex.{decode_of, hex_digit_value}
 use Rattle.hid_text.specs.declared.fault.LineFault.{LineFault}
 use Rattle.hid_text.specs.declared.fault.LineFault.TheVariants.{BadHex}
 
--- bytes with no blank in them
+-- bytes without a blank
 abbrev pub Word : Type 0
 Word = List ℕ
 

@@ -1,8 +1,8 @@
-//! What the words behind a line's first one say.
+//! What the words after a line's first one say.
 
 ghost use Rattle.std.specs.Prelude.{◌≡◌};
 ghost use Rattle.hid_text.specs.Words.{words_of};
-ghost use Rattle.hid_text.specs.Arguments.{three, fate_of, boot_of, start_of, control_said, set_said, move_said, frame_said, tries_said, poll_said, one_device_said};
+ghost use Rattle.hid_text.specs.Arguments.{three, fate_of, boot_of, start_of, control_meaning, set_meaning, move_meaning, frame_meaning, tries_meaning, poll_meaning, one_device_meaning};
 
 use super::numbers::{read_amount, read_count, read_device, read_signed, read_usage};
 use super::words::{first_word, look_up, three_words, two_words};
@@ -62,36 +62,36 @@ fn all_said<A: Copy, B: Copy, C: Copy>(
 }
 
 /// `D U`: a control of a device, by its usage.
-#[tactic(auto, unfolding(crate::specs::Arguments::control_said, crate::specs::Words::two_words))]
+#[tactic(auto, unfolding(crate::specs::Arguments::control_meaning, crate::specs::Words::two_words))]
 pub fn read_control(text: &[u8]) -> Option<(u8, Usage)>
-    ensures { result ≡ control_said (words_of text.now) }
+    ensures { result ≡ control_meaning (words_of text.now) }
 {
     let (dev, usage) = two_words(text)?;
     read_device(dev).zip(read_usage(usage))
 }
 
 /// `D U N`: a control, and what it is set to.
-#[tactic(auto, unfolding(crate::specs::Arguments::set_said, crate::specs::Words::three_words))]
+#[tactic(auto, unfolding(crate::specs::Arguments::set_meaning, crate::specs::Words::three_words))]
 pub fn read_set(text: &[u8]) -> Option<(u8, Usage, i64)>
-    ensures { result ≡ set_said (words_of text.now) }
+    ensures { result ≡ set_meaning (words_of text.now) }
 {
     let (dev, usage, value) = three_words(text)?;
     all_said(read_device(dev), read_usage(usage), read_signed(value))
 }
 
 /// `D U N`: a control, and by how much it moves.
-#[tactic(auto, unfolding(crate::specs::Arguments::move_said, crate::specs::Words::three_words))]
+#[tactic(auto, unfolding(crate::specs::Arguments::move_meaning, crate::specs::Words::three_words))]
 pub fn read_move(text: &[u8]) -> Option<(u8, Usage, i32)>
-    ensures { result ≡ move_said (words_of text.now) }
+    ensures { result ≡ move_meaning (words_of text.now) }
 {
     let (dev, usage, by) = three_words(text)?;
     all_said(read_device(dev), read_usage(usage), read_amount(by))
 }
 
 /// `[COUNT]`: how often; once where no count stands.
-#[tactic(auto, unfolding(crate::specs::Arguments::frame_said))]
+#[tactic(auto, unfolding(crate::specs::Arguments::frame_meaning))]
 pub fn read_times(text: &[u8]) -> Option<u16>
-    ensures { result ≡ frame_said (words_of text.now) }
+    ensures { result ≡ frame_meaning (words_of text.now) }
 {
     let Some((count, text)) = first_word(text) else {
         return Some(1);
@@ -103,9 +103,9 @@ pub fn read_times(text: &[u8]) -> Option<u16>
 }
 
 /// `[FATE [COUNT]]`: what is lost, and how often.
-#[tactic(auto, unfolding(crate::specs::Arguments::tries_said, crate::specs::Arguments::frame_said))]
+#[tactic(auto, unfolding(crate::specs::Arguments::tries_meaning, crate::specs::Arguments::frame_meaning))]
 fn read_tries(text: &[u8]) -> Option<(Fate, u16)>
-    ensures { result ≡ tries_said (words_of text.now) }
+    ensures { result ≡ tries_meaning (words_of text.now) }
 {
     let Some((fate, text)) = first_word(text) else {
         return Some((Fate::Clean, 1));
@@ -114,9 +114,9 @@ fn read_tries(text: &[u8]) -> Option<(Fate, u16)>
 }
 
 /// `D [FATE [COUNT]]`: a device, what is lost, and how often it is polled, or a transfer tried.
-#[tactic(auto, unfolding(crate::specs::Arguments::poll_said, crate::specs::Arguments::tries_said))]
+#[tactic(auto, unfolding(crate::specs::Arguments::poll_meaning, crate::specs::Arguments::tries_meaning))]
 pub fn read_poll(text: &[u8]) -> Option<(u8, Fate, u16)>
-    ensures { result ≡ poll_said (words_of text.now) }
+    ensures { result ≡ poll_meaning (words_of text.now) }
 {
     let (dev, text) = first_word(text)?;
     let (dev, (fate, count)) = read_device(dev).zip(read_tries(text))?;
@@ -124,9 +124,9 @@ pub fn read_poll(text: &[u8]) -> Option<(u8, Fate, u16)>
 }
 
 /// `D`: a device alone, which is reset or halted.
-#[tactic(auto, unfolding(crate::specs::Arguments::one_device_said))]
+#[tactic(auto, unfolding(crate::specs::Arguments::one_device_meaning))]
 pub fn read_one_device(text: &[u8]) -> Option<u8>
-    ensures { result ≡ one_device_said (words_of text.now) }
+    ensures { result ≡ one_device_meaning (words_of text.now) }
 {
     let (dev, more) = first_word(text)?;
     if first_word(more).is_some() {

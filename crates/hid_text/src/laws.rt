@@ -10,8 +10,8 @@ ghost use Rattle.hid_text.specs.LayoutText.{layout_text};
 ghost use Rattle.hid_text.specs.StepText.{step_text};
 ghost use Rattle.hid_text.specs.ValuesText.{values_text};
 
-/// Lines of events are told apart by how they begin: what is printed of a step has one for each event that it delivered,
-/// and what is printed of layouts and values has none.
+/// Lines of events can be told apart by how they begin: what is printed of a step has one for each event that it
+/// delivered, and what is printed of layouts and values has none.
 pub fn events_are_told_apart()
     ensures steps { (trace : Bool) (step : BusStep) (told : BusTold) (got : List ℕ) (delivered : List Delivered)
         → AreFew delivered → ShowsEvents (step_text trace step told got delivered) delivered }

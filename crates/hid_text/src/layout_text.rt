@@ -76,7 +76,7 @@ fn print_range(text: &mut String, item: &MainItem) -> Result<(), AllocError>
     print_bounds(text, item)
 }
 
-/// Adds each usage entry behind a space.
+/// Adds each usage entry after a space.
 fn print_entries(text: &mut String, entries: &[(Usage, Usage)]) -> Result<(), AllocError>
     ensures { OnOk result (string_bytes text.new
         ≡ string_bytes text.old ++ entries_text entries.now) }
@@ -146,7 +146,7 @@ fn print_place(text: &mut String, item: &MainItem) -> Result<(), AllocError>
     print_number(text, u64::from(item.count))
 }
 
-/// Adds the shape of an item behind a space.
+/// Adds the shape of an item after a space.
 fn print_shape(text: &mut String, item: &MainItem) -> Result<(), AllocError>
     ensures { OnOk result (string_bytes text.new ≡ string_bytes text.old
         ++ 32 ∷ shape_word item.now.shape (has_flag RELATIVE item.now.flags.0)) }
@@ -237,6 +237,9 @@ fn print_lines(text: &mut String, layout: &Layout) -> Result<(), AllocError>
 }
 
 /// Adds what a layout is printed as.
+///
+/// # Errors
+/// Out of memory; part of the text may be added then.
 #[tactic(auto, unfolding(crate::specs::LayoutText::layout_text))]
 pub fn print_layout(text: &mut String, layout: &Layout) -> Result<(), AllocError>
     ensures { OnOk result (string_bytes text.new

@@ -21,6 +21,7 @@
 //! appends to its text; its only error is to run out of memory, and some of the text may be appended then.
 //!
 //! Most lines are short: [`read_short`] reads them into a smaller type.
+//! Bytes that come in pieces, of a script or a recording, are cut into lines by [`split_line`] and a [`LineBuffer`].
 //!
 //! The promise: [`read_line`] gives exactly what the definition `meaning_of` says (`exact`), and takes no memory. What is
 //! printed is the stated text, byte for byte: `layout_text`, `values_text` and `step_text` of `specs/`. The line of an event is
@@ -33,6 +34,7 @@ mod fault;
 pub mod laws;
 mod layout_text;
 mod line;
+mod lines;
 mod numbers;
 mod poll_text;
 mod requests;
@@ -46,6 +48,7 @@ pub use event_text::EventText;
 pub use fault::LineFault;
 pub use layout_text::print_layout;
 pub use line::{Line, read_line, says_nothing};
+pub use lines::{LineBuffer, TooLong, split_line};
 pub use numbers::read_number;
 pub use short::{ShortLine, read_short};
 pub use step_text::print_step;

@@ -3,7 +3,7 @@
 ghost use Rattle.std.specs.Prelude.{◌≡◌, ◌≤◌, IsTrue, length};
 ghost use Rattle.hid_text.specs.Arguments.{with_bytes};
 ghost use Rattle.hid_text.specs.Words.{hex_of, words_of};
-ghost use Rattle.hid_text.specs.Line.{keyword_of, meaning_of, words_said, said_by, device_said};
+ghost use Rattle.hid_text.specs.Line.{keyword_of, meaning_of, line_meaning, words_meaning, device_meaning};
 
 use super::arguments::{read_boot, read_start};
 use super::fault::LineFault;
@@ -144,10 +144,10 @@ pub fn read_line(line: &[u8]) -> Result<Line, LineFault>
     read_words(line)
 }
 
-#[tactic(auto, unfolding(crate::specs::Line::words_said))]
+#[tactic(auto, unfolding(crate::specs::Line::line_meaning))]
 fn read_words(text: &[u8]) -> Result<Line, LineFault>
     requires { length text.now ≤ 1024 }
-    ensures { result ≡ words_said (words_of text.now) }
+    ensures { result ≡ line_meaning (words_of text.now) }
 {
     let Some((first, rest)) = first_word(text) else {
         return Ok(Line::Nothing);
@@ -161,10 +161,10 @@ fn read_words(text: &[u8]) -> Result<Line, LineFault>
     }
 }
 
-#[tactic(auto, unfolding(crate::specs::Line::said_by))]
+#[tactic(auto, unfolding(crate::specs::Line::words_meaning))]
 fn read_arguments(keyword: Keyword, text: &[u8]) -> Result<Line, LineFault>
     requires { length text.now ≤ 1024 }
-    ensures { result ≡ said_by keyword (words_of text.now) }
+    ensures { result ≡ words_meaning keyword (words_of text.now) }
 {
     match keyword {
         Keyword::Layout => read_layout(text),
@@ -200,10 +200,10 @@ fn read_values(text: &[u8]) -> Result<Line, LineFault>
 
 /// `START KIND HEX`: a device, with its report descriptor.
 #[inline(never)]
-#[tactic(auto, unfolding(crate::specs::Line::device_said))]
+#[tactic(auto, unfolding(crate::specs::Line::device_meaning))]
 fn read_attachment(text: &[u8]) -> Result<Line, LineFault>
     requires { length text.now ≤ 1024 }
-    ensures { result ≡ device_said (words_of text.now) }
+    ensures { result ≡ device_meaning (words_of text.now) }
 {
     let Some((start, kind, hex)) = first_two_words(text) else {
         return Err(LineFault::Syntax);

@@ -60,6 +60,9 @@ fn verdict_word(took: &Took) -> &'static str
 }
 
 /// Adds the line of a poll: what the device sent, also where it was lost, and what the host made of it.
+///
+/// # Errors
+/// Out of memory; part of the text may be added then.
 #[tactic(auto, unfolding(crate::specs::PollText::poll_text))]
 pub fn print_poll(
     text: &mut String,

@@ -1,8 +1,8 @@
-//! What the words behind `begin` say: a device, and what its host asks.
+//! What the words after `begin` say: a device, and what its host asks.
 
 ghost use Rattle.std.specs.Prelude.{◌≡◌, ◌≤◌, length};
 ghost use Rattle.hid_text.specs.Words.{words_of};
-ghost use Rattle.hid_text.specs.Requests.{request_word_of, kind_of, boot_protocol_of, alone as alone_said, idle_said, id_said, protocol_said, report_said, set_report_said, asked_by, request_said, begin_said};
+ghost use Rattle.hid_text.specs.Requests.{request_word_of, kind_of, boot_protocol_of, bare_request as alone_said, idle_meaning, id_meaning, protocol_meaning, report_meaning, set_report_meaning, request_of_words, request_meaning, begin_meaning};
 
 use super::fault::LineFault;
 use super::line::Line;
@@ -80,9 +80,9 @@ fn read_boot_protocol(word: &[u8]) -> Option<bool>
     look_up(&[(b"boot", true), (b"report", false)], word)
 }
 
-// A request with no words behind it.
-#[tactic(auto, unfolding(crate::specs::Requests::alone))]
-fn alone(request: Request, text: &[u8]) -> Result<Request, LineFault>
+// A request with no words after it.
+#[tactic(auto, unfolding(crate::specs::Requests::bare_request))]
+fn bare_request(request: Request, text: &[u8]) -> Result<Request, LineFault>
     ensures { result ≡ alone_said request (words_of text.now) }
 {
     if first_word(text).is_none() {
@@ -93,18 +93,18 @@ fn alone(request: Request, text: &[u8]) -> Result<Request, LineFault>
 }
 
 /// `ID TIME`: an idle time that is set (7.2.4).
-#[tactic(auto, unfolding(crate::specs::Requests::idle_said, crate::specs::Words::two_words))]
+#[tactic(auto, unfolding(crate::specs::Requests::idle_meaning, crate::specs::Words::two_words))]
 fn read_idle(text: &[u8]) -> Option<(u8, u8)>
-    ensures { result ≡ idle_said (words_of text.now) }
+    ensures { result ≡ idle_meaning (words_of text.now) }
 {
     let (id, time) = two_words(text)?;
     read_byte(id).zip(read_byte(time))
 }
 
 /// `ID`: a report by its Report ID.
-#[tactic(auto, unfolding(crate::specs::Requests::id_said))]
+#[tactic(auto, unfolding(crate::specs::Requests::id_meaning))]
 fn read_id(text: &[u8]) -> Option<u8>
-    ensures { result ≡ id_said (words_of text.now) }
+    ensures { result ≡ id_meaning (words_of text.now) }
 {
     let (id, text) = first_word(text)?;
     if first_word(text).is_some() {
@@ -114,9 +114,9 @@ fn read_id(text: &[u8]) -> Option<u8>
 }
 
 /// `boot` or `report`: whether a protocol that is set is the boot protocol.
-#[tactic(auto, unfolding(crate::specs::Requests::protocol_said))]
+#[tactic(auto, unfolding(crate::specs::Requests::protocol_meaning))]
 fn read_protocol(text: &[u8]) -> Option<bool>
-    ensures { result ≡ protocol_said (words_of text.now) }
+    ensures { result ≡ protocol_meaning (words_of text.now) }
 {
     let (protocol, text) = first_word(text)?;
     if first_word(text).is_some() {
@@ -126,19 +126,19 @@ fn read_protocol(text: &[u8]) -> Option<bool>
 }
 
 /// `TYPE ID`: a report that is asked for (7.2.1).
-#[tactic(auto, unfolding(crate::specs::Requests::report_said, crate::specs::Words::two_words))]
+#[tactic(auto, unfolding(crate::specs::Requests::report_meaning, crate::specs::Words::two_words))]
 fn read_report(text: &[u8]) -> Option<(ReportKind, u8)>
-    ensures { result ≡ report_said (words_of text.now) }
+    ensures { result ≡ report_meaning (words_of text.now) }
 {
     let (kind, id) = two_words(text)?;
     read_kind(kind).zip(read_byte(id))
 }
 
 /// `TYPE ID HEX`: a report that is set (7.2.2). How many bytes there are is looked at before their digits.
-#[tactic(auto, unfolding(crate::specs::Requests::set_report_said))]
+#[tactic(auto, unfolding(crate::specs::Requests::set_report_meaning))]
 fn read_set_report(text: &[u8]) -> Result<Request, LineFault>
     requires { length text.now ≤ 1024 }
-    ensures { result ≡ set_report_said (words_of text.now) }
+    ensures { result ≡ set_report_meaning (words_of text.now) }
 {
     let Some((kind, id, hex)) = first_two_words(text) else {
         return Err(LineFault::Syntax);
@@ -154,19 +154,19 @@ fn read_set_report(text: &[u8]) -> Result<Request, LineFault>
     Ok(Request::SetReport { kind, id, bytes })
 }
 
-// What the words behind the first one of a request say.
-#[tactic(auto, unfolding(crate::specs::Requests::asked_by))]
+// What the words after the first one of a request say.
+#[tactic(auto, unfolding(crate::specs::Requests::request_of_words))]
 fn read_asked(word: RequestWord, text: &[u8]) -> Result<Request, LineFault>
     requires { length text.now ≤ 1024 }
-    ensures { result ≡ asked_by word (words_of text.now) }
+    ensures { result ≡ request_of_words word (words_of text.now) }
 {
     match word {
-        RequestWord::Device => alone(Request::Device, text),
-        RequestWord::Config => alone(Request::Config, text),
-        RequestWord::Report => alone(Request::Report, text),
-        RequestWord::Configure => alone(Request::Configure, text),
-        RequestWord::Status => alone(Request::Status, text),
-        RequestWord::GetConfiguration => alone(Request::GetConfiguration, text),
+        RequestWord::Device => bare_request(Request::Device, text),
+        RequestWord::Config => bare_request(Request::Config, text),
+        RequestWord::Report => bare_request(Request::Report, text),
+        RequestWord::Configure => bare_request(Request::Configure, text),
+        RequestWord::Status => bare_request(Request::Status, text),
+        RequestWord::GetConfiguration => bare_request(Request::GetConfiguration, text),
         RequestWord::Idle => {
             let Some((id, time)) = read_idle(text) else {
                 return Err(LineFault::Syntax);
@@ -185,7 +185,7 @@ fn read_asked(word: RequestWord, text: &[u8]) -> Result<Request, LineFault>
             };
             Ok(Request::Protocol { boot })
         }
-        RequestWord::GetProtocol => alone(Request::GetProtocol, text),
+        RequestWord::GetProtocol => bare_request(Request::GetProtocol, text),
         RequestWord::GetReport => {
             let Some((kind, id)) = read_report(text) else {
                 return Err(LineFault::Syntax);
@@ -193,17 +193,17 @@ fn read_asked(word: RequestWord, text: &[u8]) -> Result<Request, LineFault>
             Ok(Request::GetReport { kind, id })
         }
         RequestWord::SetReport => read_set_report(text),
-        RequestWord::Halt => alone(Request::Halt, text),
-        RequestWord::Clear => alone(Request::Clear, text),
-        RequestWord::EndpointStatus => alone(Request::EndpointStatus, text),
+        RequestWord::Halt => bare_request(Request::Halt, text),
+        RequestWord::Clear => bare_request(Request::Clear, text),
+        RequestWord::EndpointStatus => bare_request(Request::EndpointStatus, text),
     }
 }
 
 /// `REQUEST`: what a host asks of its device (USB 2.0, 9.4; HID 1.11, 7.2).
-#[tactic(auto, unfolding(crate::specs::Requests::request_said))]
+#[tactic(auto, unfolding(crate::specs::Requests::request_meaning))]
 fn read_request(text: &[u8]) -> Result<Request, LineFault>
     requires { length text.now ≤ 1024 }
-    ensures { result ≡ request_said (words_of text.now) }
+    ensures { result ≡ request_meaning (words_of text.now) }
 {
     let Some((first, rest)) = first_word(text) else {
         return Err(LineFault::Syntax);
@@ -215,11 +215,15 @@ fn read_request(text: &[u8]) -> Result<Request, LineFault>
 }
 
 /// `D REQUEST`: a device, and what its host asks.
+///
+/// # Errors
+/// [`LineFault::Syntax`] where the words are no device and request, or a `set-report` has too many bytes; then
+/// [`LineFault::BadHex`] where its bytes aren't pairs of hex digits.
 #[inline(never)] // no other line makes room for a request
-#[tactic(auto, unfolding(crate::specs::Requests::begin_said))]
+#[tactic(auto, unfolding(crate::specs::Requests::begin_meaning))]
 pub fn read_begin(text: &[u8]) -> Result<Line, LineFault>
     requires { length text.now ≤ 1024 }
-    ensures { result ≡ begin_said (words_of text.now) }
+    ensures { result ≡ begin_meaning (words_of text.now) }
 {
     let Some((dev, request)) = first_word(text) else {
         return Err(LineFault::Syntax);

@@ -1,9 +1,9 @@
-//! Lines without hex words, in the room of their words alone.
+//! Lines without hex words: a type without room for the bytes of a descriptor.
 
 ghost use Rattle.std.specs.Prelude.{◌≡◌, Ok, IfSome};
 ghost use Rattle.hid_text.specs.declared.line.Line.TheVariants.{Step};
-ghost use Rattle.hid_text.specs.Line.{meaning_of, words_said};
-ghost use Rattle.hid_text.specs.Short.{short_said};
+ghost use Rattle.hid_text.specs.Line.{line_meaning, meaning_of};
+ghost use Rattle.hid_text.specs.Short.{short_meaning};
 ghost use Rattle.hid_text.specs.Words.{words_of};
 
 use super::arguments::{read_control, read_move, read_one_device, read_poll, read_set, read_times};
@@ -55,12 +55,12 @@ pub enum ShortLine {
         /// How far it moves.
         by: i32,
     },
-    /// `frame [COUNT]`: so many frames, 1 to 10,000.
+    /// `frame [COUNT]`: COUNT frames, 1 to 10,000.
     Frame {
         /// How many frames pass, 1 to 10,000.
         count: u16,
     },
-    /// `poll D [FATE [COUNT]]`: so many polls, 1 to 10,000.
+    /// `poll D [FATE [COUNT]]`: COUNT polls, 1 to 10,000.
     Poll {
         /// The device, from 1.
         dev: u8,
@@ -69,7 +69,7 @@ pub enum ShortLine {
         /// How many polls, 1 to 10,000.
         count: u16,
     },
-    /// `control D [FATE [COUNT]]`: so many tries of the transfer that runs, 1 to 10,000 (USB 2.0, 8.5.3).
+    /// `control D [FATE [COUNT]]`: COUNT tries of the transfer that runs, 1 to 10,000 (USB 2.0, 8.5.3).
     Control {
         /// The device, from 1.
         dev: u8,
@@ -90,10 +90,10 @@ pub enum ShortLine {
     },
 }
 
-/// What the words behind a keyword say, where no hex word may stand there; none where they are no such line.
-#[tactic(auto, unfolding(crate::specs::Short::short_said))]
+/// What the words after a keyword say, where no hex word may stand there; none where they are no such line.
+#[tactic(auto, unfolding(crate::specs::Short::short_meaning))]
 pub(super) fn read_short_words(keyword: Keyword, text: &[u8]) -> Option<ShortLine>
-    ensures { result ≡ short_said keyword (words_of text.now) }
+    ensures { result ≡ short_meaning keyword (words_of text.now) }
 {
     match keyword {
         Keyword::Layout | Keyword::Values | Keyword::Device | Keyword::Begin => None,
@@ -140,9 +140,9 @@ pub(super) fn read_short_words(keyword: Keyword, text: &[u8]) -> Option<ShortLin
     }
 }
 
-/// The same of all words of a line.
+/// What all words of a line say, where it is short.
 fn read_words(text: &[u8]) -> Option<ShortLine>
-    ensures { IfSome result (λ short. words_said (words_of text.now) ≡ Ok (Step short)) }
+    ensures { IfSome result (λ short. line_meaning (words_of text.now) ≡ Ok (Step short)) }
 {
     let (first, rest) = first_word(text)?;
     if first[0] == b'#' {

@@ -24,7 +24,7 @@ fn print_events(text: &mut String, delivered: &[Delivered]) -> Result<(), AllocE
 
 /// Adds the line of a poll, where lines of steps are asked for, or of a try of a transfer; other steps have none.
 #[inline(always)]
-fn print_told(
+fn print_result(
     text: &mut String,
     trace: bool,
     step: &Step,
@@ -53,6 +53,9 @@ fn print_told(
 
 /// Adds what is printed of a step that was taken: its line, and its events. Lines of polls and of transfers that go on stand
 /// where lines of steps are asked for. `got` are the bytes of a read that the step ended.
+///
+/// # Errors
+/// [`AllocError`](std::alloc::AllocError) if memory runs out for the text.
 #[inline(always)]
 #[tactic(auto, unfolding(crate::specs::StepText::step_text))]
 pub fn print_step(
@@ -66,6 +69,6 @@ pub fn print_step(
     ensures { OnOk result (string_bytes text.new
         ≡ string_bytes text.old ++ step_text trace step.now told.now got.now delivered.now) }
 {
-    print_told(text, trace, step, told, got)?;
+    print_result(text, trace, step, told, got)?;
     print_events(text, delivered)
 }

@@ -38,6 +38,9 @@ fn print_progress(
 }
 
 /// Adds the line of a try: of a transfer that goes on where lines of steps are asked for, else in any case.
+///
+/// # Errors
+/// Out of memory; part of the text may be added then.
 #[tactic(auto, unfolding(crate::specs::TransferText::transfer_text))]
 pub fn print_transfer(
     text: &mut String,

@@ -4,7 +4,7 @@ ghost use Rattle.std.specs.Prelude.{◌≡◌, ◌++◌, ◌∷◌, ◌<◌, ◌
 ghost use Rattle.std.specs.Fmt.{decimal, signed_decimal};
 ghost use Rattle.hid_descriptor.specs.Usages.{usage_list};
 ghost use Rattle.hid_layout.specs.Reports.{report_bytes};
-ghost use Rattle.hid_notation.specs.Text.{joined_below, usage_or_dash};
+ghost use Rattle.hid_notation.specs.Text.{concat_below, usage_or_dash};
 ghost use Rattle.hid_usages.specs.Reading.{usage_named};
 ghost use Rattle.hid_text.specs.ValuesText.{usage_of_element, usage_shown, value_line, value_at, values_at, values_text};
 
@@ -121,7 +121,7 @@ fn print_elements(
     requires whole { IfSome (slice_get layout.now.items i)
         (λ item. report_bytes layout.now item.report ≤ length bytes.now) }
     ensures { OnOk result (string_bytes text.new
-        ≡ string_bytes text.old ++ joined_below count (value_at layout.now bytes.now i)) }
+        ≡ string_bytes text.old ++ concat_below count (value_at layout.now bytes.now i)) }
 {
     for j in 0..count {
         print_element(text, layout, bytes, i, j)?;
@@ -152,6 +152,9 @@ fn print_values_at(
 }
 
 /// Adds a line for each data element of the report r, in the order of the layout.
+///
+/// # Errors
+/// Out of memory; part of the text may be added then.
 #[tactic(auto, unfolding(crate::specs::ValuesText::values_text))]
 pub fn print_values(
     text: &mut String,

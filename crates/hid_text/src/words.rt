@@ -33,7 +33,7 @@ pub fn no_blank(text: &[u8]) -> Option<usize>
     text.iter().position(|byte| !is_blank(*byte))
 }
 
-/// The first word of a text and what stands behind it, where the text has a word. No memory is taken.
+/// The first word of a text and what stands after it, where the text has a word. No memory is taken.
 pub fn first_word(text: &[u8]) -> Option<(&[u8], &[u8])>
     ensures words { Parts (words_of text.now) (option_map (λ found. (found.0.now, words_of found.1.now)) result) }
     ensures room { IfSome result (λ found. length found.0.now + length found.1.now ≤ length text.now) }
@@ -45,7 +45,7 @@ pub fn first_word(text: &[u8]) -> Option<(&[u8], &[u8])>
     Some((&text[..end], &text[end..]))
 }
 
-/// The first two words of a text and what stands behind them, where the text has two.
+/// The first two words of a text and what stands after them, where the text has two.
 pub fn first_two_words(text: &[u8]) -> Option<(&[u8], &[u8], &[u8])>
     ensures words { TwoParts (words_of text.now) (option_map (λ found. (found.0.now, found.1.now, words_of found.2.now)) result) }
     ensures room { IfSome result (λ found. length found.2.now ≤ length text.now) }
@@ -78,6 +78,9 @@ pub fn three_words(text: &[u8]) -> Option<(&[u8], &[u8], &[u8])>
 }
 
 /// The words between spaces and tabs.
+///
+/// # Errors
+/// Out of memory.
 pub fn words_of_line(alloc: Global, line: &[u8]) -> Result<Vec<&[u8]>, AllocError>
     ensures { IfOk result (λ words. map (λ word. word.now) words.items ≡ words_of line.now) }
 {
@@ -139,6 +142,9 @@ pub fn count_bytes(text: &[u8]) -> usize
 }
 
 /// The bytes that the hex words of a text spell, joined. No blank is a digit, so each pair of digits is read where it stands.
+///
+/// # Errors
+/// [`LineFault::BadHex`] where a word has a bad digit, or an odd number of digits.
 pub fn read_hex(text: &[u8]) -> Result<ArrayVec<u8, HEX_LIMIT>, LineFault>
     requires { length text.now ≤ 1024 }
     ensures bytes { GivesHex result (hex_of (words_of text.now)) }

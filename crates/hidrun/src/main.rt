@@ -33,12 +33,12 @@ fn main(rt: HostRuntime) -> ExitCode {
     };
     match options_of(alloc, words.as_slice()) {
         Ok(options) => run_script(&rt, options),
-        Err(error) => ExitCode::from(tell_words(&rt, &error)),
+        Err(error) => ExitCode::from(print_bad_words(&rt, &error)),
     }
 }
 
-/// Tells how the program is called, unless memory was wanting for the words.
-fn tell_words(rt: &HostRuntime, error: &clap::Error) -> u8 {
+/// Tells how the program is called, unless memory ran out for the words.
+fn print_bad_words(rt: &HostRuntime, error: &clap::Error) -> u8 {
     match error.kind() {
         ErrorKind::OutOfMemory => OUTSIDE,
         _ => {
@@ -48,8 +48,8 @@ fn tell_words(rt: &HostRuntime, error: &clap::Error) -> u8 {
     }
 }
 
-/// Runs the script, and tells its fault. The line of a fault takes no memory, so that no want of it stands in the place
-/// of what ended the run.
+/// Runs the script, and prints its fault. The line of a fault takes no memory, so running out of it can't mask the original
+/// fault.
 fn run_script(rt: &HostRuntime, options: Options) -> ExitCode {
     match run_buffered(rt, options) {
         Ok(_) => ExitCode::SUCCESS,

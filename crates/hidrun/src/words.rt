@@ -15,8 +15,11 @@ fn command<'a>(alloc: Global) -> Result<Command<'a>, AllocError> {
         .arg(flag(alloc, "trace"))
 }
 
-/// The options that the words name behind the first, which is the program's name: `--layout` and `--trace`, each any
+/// The options that the words name after the first, which is the program's name: `--layout` and `--trace`, each any
 /// number of times.
+///
+/// # Errors
+/// The error of clap: other words, or out of memory.
 pub fn options_of(alloc: Global, words: &[String]) -> Result<Options, Error> {
     let matches = command(alloc)?.try_get_matches_from(words)?;
     let options = options_in(&matches);
@@ -24,7 +27,7 @@ pub fn options_of(alloc: Global, words: &[String]) -> Result<Options, Error> {
     Ok(options)
 }
 
-/// The same, of the words that were found.
+/// The options of the words that clap found.
 fn options_in(matches: &ArgMatches<'_>) -> Options {
     Options {
         layout: matches.get_count("layout") > 0,

@@ -30,7 +30,7 @@ use Rattle.std_heap.specs.contracts.Global as heap
 use Rattle.std_heap.specs.contracts.GlobalAllocator.TheImpl.{ghosts, dict}
 use Rattle.std_heap.proofs.Global.TheLaws as heap_laws
 use Rattle.hidstack_session.specs.contracts.session.Session as session
-use Rattle.hidstack.specs.Held.{block_right, held}
+use Rattle.hidstack.specs.Held.{block_right, owned_box}
 use Rattle.hidstack.specs.contracts.address.Address as address
 use Rattle.hidstack.specs.contracts.handle.Handle as handle
 
@@ -94,13 +94,15 @@ module _ {M : Type 1} {𝓤 : Ura M} {𝓛 : Logic 𝓤} {K : Type 0} {Γ : List
       (subst (λ (ps : List Val). vs ≡ vstruct (of_list (ps ++ [])) ∷ []) ep ev))))
 
   pub handle_in : K → (p : Ptr) (kept : Option Session.Denot)
-      → Step K 𝓛 (‵ (Handle.own_val (record { at = p; kept = kept }) (alone (ptr_val p) ∷ [])) ∷ Γ) G (‵ (held Session p kept) ∷ Γ) G
+      → Step K 𝓛 (‵ (Handle.own_val (record { at = p; kept = kept }) (alone (ptr_val p) ∷ [])) ∷ Γ) G
+      (‵ (owned_box Session p kept) ∷ Γ) G
   handle_in t p kept = step (λ s. let v : Val = alone (ptr_val p) in
       nothing t $ feq_i t (List Val) (ptr_val p ∷ []) (ptr_val p ∷ []) refl $ fjoin t $ feq_i t (List Val) (v ∷ []) (v ∷ []) refl $ fjoin t $
       fpack t (Valss (RawPtr ∷ [])) (within (shape handle.the_type) (p, tt) (v ∷ [])) (ptr_val p ∷ [], tt) $ fjoin t $ s)
 
   pub handle_out : K → (d : Handle.Denot) (vs : List Val)
-      → (vs ≡ alone (ptr_val d.at) ∷ [] → Seq K 𝓛 (‵ (held Session d.at d.kept) ∷ Γ) G) → Seq K 𝓛 (‵ (Handle.own_val d vs) ∷ Γ) G
+      → (vs ≡ alone (ptr_val d.at) ∷ [] → Seq K 𝓛 (‵ (owned_box Session d.at d.kept) ∷ Γ) G)
+      → Seq K 𝓛 (‵ (Handle.own_val d vs) ∷ Γ) G
   handle_out t d vs k =
       fsplit t $ fpick t (λ vss. fsplit t $ feq_l t (λ ev. fsplit t $ feq_l t (λ ep. drop t $ k
       (subst (λ (ps : List Val). vs ≡ vstruct (of_list (ps ++ [])) ∷ []) ep ev))))
@@ -108,7 +110,9 @@ module _ {M : Type 1} {𝓤 : Ura M} {𝓛 : Logic 𝓤} {K : Type 0} {Γ : List
   -- null, or a block that may be compared with null
   pub held_out : K → (p : Ptr) (kept : Option Session.Denot)
       → (p ≡ null_ptr → kept ≡ None → Seq K 𝓛 Γ G)
-      → ((b o : ℕ) (x : Session.Denot) → p ≡ block_ptr b o → kept ≡ Some x → Testable (block_ptr b o) → Seq K 𝓛 (‵ (box_owns block_right Session (block_ptr b o) x) ∷ Γ) G) → Seq K 𝓛 (‵ (held Session p kept) ∷ Γ) G
+      → ((b o : ℕ) (x : Session.Denot) → p ≡ block_ptr b o → kept ≡ Some x → Testable (block_ptr b o)
+      → Seq K 𝓛 (‵ (box_owns block_right Session (block_ptr b o) x) ∷ Γ) G)
+      → Seq K 𝓛 (‵ (owned_box Session p kept) ∷ Γ) G
   held_out t p None none one = feq_l t (λ e. none e refl)
   held_out t p (Some x) none one =
       use1 𝓛 (given (Testable p) (‵ (box_owns block_right Session p x))) (tested 𝓛 p x) $ learn t (λ ok.

@@ -15,7 +15,7 @@ status_of (Err NoRoom) = NO_ROOM
 status_of (Err (Refused Short)) = SHORT
 status_of (Err (Refused UnknownReport)) = UNKNOWN
 
--- how many events were told; of a table with too few places how many it needs
+-- how many events were reported; of a table with too few places how many it needs
 abbrev pub count_of : State → Result ℕ FeedFault → ℕ
 count_of s (Ok count) = count
 count_of s (Err NoRoom) = room_of s

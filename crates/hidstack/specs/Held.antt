@@ -12,6 +12,6 @@ abbrev pub block_right : Ty → Ptr → Fml
 block_right = ghosts.dealloc_token (record { memory = record { seal = tt } })
 
 -- what a handle owns at an address
-abbrev pub held : (R : RattleType) → Ptr → Option R.Denot → Fml
-held R at None = feq Ptr at null_ptr
-held R at (Some x) = box_owns block_right R at x
+abbrev pub owned_box : (R : RattleType) → Ptr → Option R.Denot → Fml
+owned_box R at None = feq Ptr at null_ptr
+owned_box R at (Some x) = box_owns block_right R at x

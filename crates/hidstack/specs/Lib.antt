@@ -1,7 +1,7 @@
 pub mod Held
 pub mod Opening
 pub mod Feeding
-pub mod Showing
-pub mod Tabling
+pub mod Accessors
+pub mod Tables
 pub mod Texts
 pub mod Running

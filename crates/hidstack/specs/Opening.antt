@@ -8,9 +8,9 @@ use Rattle.hidstack_session.specs.States.{State}
 use Rattle.hidstack_session.specs.Sessions.{IsFirst, room_of}
 use Rattle.hidstack.specs.declared.session.HidOpened.{HidOpened}
 
--- what is told of a session that was opened
-abbrev pub opened_as : State → HidOpened
-opened_as s = record {
+-- what is returned of a session that was opened
+abbrev pub opened_result : State → HidOpened
+opened_result s = record {
   at = 0;
   room = room_of s;
   reports = length s.layout.reports;
@@ -19,21 +19,21 @@ opened_as s = record {
   numbered = one_of s.layout.numbered;
 }
 
--- what is told of a refusal
-abbrev pub refused_as : ℕ → ℕ → HidOpened
-refused_as cause at = record { at = at; room = 0; reports = 0; items = 0; cause = cause; numbered = 0 }
+-- what is returned of a refusal
+abbrev pub refused_result : ℕ → ℕ → HidOpened
+refused_result cause at = record { at = at; room = 0; reports = 0; items = 0; cause = cause; numbered = 0 }
 
 -- the handle was closed, and has a session of which nothing was read yet
 abbrev pub Opens : Option State → List ℕ → Option State → HidOpened → Type 0
 Opens before bytes after told =
-    (before ≡ None) × (s : State) × (after ≡ Some s) × IsFirst bytes s × (told ≡ opened_as s)
+    (before ≡ None) × (s : State) × (after ≡ Some s) × IsFirst bytes s × (told ≡ opened_result s)
 
--- the handle was closed and is so, and this is the one refusal, or memory was wanting
+-- the handle was closed and is so, and this is the one refusal, or memory ran out
 abbrev pub Refuses : Option State → List ℕ → Option State → HidOpened → Type 0
 Refuses before bytes after told =
     (before ≡ None) × (after ≡ None) × (cause : Cause) × (at : ℕ) × Explains bytes cause at
-    × (told ≡ refused_as (cause_number cause) at)
+    × (told ≡ refused_result (cause_number cause) at)
 
--- the handle was open and stays as it was, and so does what was told
+-- the handle was open and stays as it was, and so does what was reported
 abbrev pub IsBusy : Option State → Option State → HidOpened → HidOpened → Type 0
 IsBusy before after told told' = (s : State) × (before ≡ Some s) × (after ≡ Some s) × (told' ≡ told)

@@ -1,4 +1,4 @@
--- What a run of a script answers (our choice; what a script tells: hid_script).
+-- What a run of a script answers (our choice; the outcome of a script: hid_script).
 use Rattle.std.specs.Prelude.{◌≡◌, ℕ, ◌/◌, ◌%◌, ◌==◌, ◌<◌, ◌⊎◌, List, [], length, Result, Ok, Err, IsOk, IsErr}
 use Rattle.std.specs.Str.Lines.{lines}
 use Rattle.hid_script.specs.declared.fault.Options.{Options}
@@ -43,7 +43,7 @@ abbrev pub PutsWhole : Result Summary ScriptFault → List ℕ → List ℕ → 
 PutsWhole answer written out out' fault fault' ran =
     IsOk answer × Written written out out' × (fault' ≡ fault) × (ran ≡ ran_as answer written)
 
--- the run ended early; what it told and the line that names its fault are written
+-- the run ended early; its text and the line that names its fault are written
 abbrev pub PutsRefused : Result Summary ScriptFault → List ℕ → List ℕ → List ℕ → List ℕ → List ℕ → HidRan → Type 0
 PutsRefused answer written out out' fault fault' ran =
     IsErr answer × Written written out out' × Written (fault_told answer) fault fault' × (ran ≡ ran_as answer written)
@@ -53,7 +53,7 @@ abbrev pub PutsNone : Result Summary ScriptFault → List ℕ → List ℕ → L
 PutsNone answer written out out' fault fault' ran =
     (out' ≡ out) × (fault' ≡ fault) × (ran ≡ ran_as answer written) × IsShort written out (fault_told answer) fault
 
--- the run ended early, memory was wanting for the line that names its fault, and nothing is written
+-- the run ended early, memory ran out for the line that names its fault, and nothing is written
 abbrev pub PutsMemory : Result Summary ScriptFault → List ℕ → List ℕ → List ℕ → List ℕ → HidRan → Type 0
 PutsMemory answer out out' fault fault' ran =
     IsErr answer × (out' ≡ out) × (fault' ≡ fault) × (ran ≡ record { line = 0; told = 0; fault = 0 })
@@ -64,7 +64,7 @@ RunsWhole options script out out' fault fault' ran =
     (written : List ℕ) × (answer : Result Summary ScriptFault) × RunsScript options script written answer
     × PutsWhole answer written out out' fault fault' ran
 
--- the script's run ended early; what it told and the line that names its fault are written
+-- the script's run ended early; its text and the line that names its fault are written
 abbrev pub RunsRefused : Options → List ℕ → List ℕ → List ℕ → List ℕ → List ℕ → HidRan → Type 0
 RunsRefused options script out out' fault fault' ran =
     (written : List ℕ) × (answer : Result Summary ScriptFault) × RunsScript options script written answer
@@ -76,7 +76,7 @@ Misses options script out out' fault fault' ran =
     (written : List ℕ) × (answer : Result Summary ScriptFault) × RunsScript options script written answer
     × PutsNone answer written out out' fault fault' ran
 
--- the script's run ended early, memory was wanting for the line that names its fault, and nothing is written
+-- the script's run ended early, memory ran out for the line that names its fault, and nothing is written
 abbrev pub Wants : Options → List ℕ → List ℕ → List ℕ → List ℕ → List ℕ → HidRan → Type 0
 Wants options script out out' fault fault' ran =
     (written : List ℕ) × (answer : Result Summary ScriptFault) × RunsScript options script written answer

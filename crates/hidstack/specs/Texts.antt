@@ -7,11 +7,11 @@ use Rattle.hid_notation.specs.Causes.{layout_words}
 use Rattle.hidstack_session.specs.Causes.{cause_number}
 use Rattle.hidstack.specs.declared.status.TheConstants.{OK, NO_ROOM, NONE, MEMORY}
 
--- the text stands first, and what is behind it stays
+-- the text stands first, and what is after it stays
 abbrev pub Written : List ℕ → List ℕ → List ℕ → Type 0
 Written text out out' = (length text ≤ length out) × (out' ≡ text ++ drop (length text) out)
 
--- the text is written, or too long and nothing is; its length is told either way
+-- the text is written, or too long and nothing is; its length is returned either way
 abbrev pub TellsText : List ℕ → List ℕ → ℕ → List ℕ → ℕ → Type 0
 TellsText text out status out' told =
     (told ≡ length text)
@@ -21,14 +21,14 @@ TellsText text out status out' told =
 abbrev pub Leaves : ℕ → List ℕ → ℕ → List ℕ → ℕ → Type 0
 Leaves why out status out' told = (status ≡ why) × (out' ≡ out) × (told ≡ 0)
 
--- the code of the cause with this number, or memory was wanting for it; or none has that number
+-- the code of the cause with this number, or memory ran out for it; or none has that number
 abbrev pub TellsCause : ℕ → List ℕ → ℕ → List ℕ → ℕ → Type 0
 TellsCause number out status out' told =
     ((cause : Cause) × (cause_number cause ≡ number)
     × (TellsText (code_of cause) out status out' told ⊎ Leaves MEMORY out status out' told))
     ⊎ (((cause : Cause) → cause_number cause ≡ number → ⊥) × Leaves NONE out status out' told)
 
--- the text of a usage, or memory was wanting
+-- the text of a usage, or memory ran out
 abbrev pub TellsUsage : List ℕ → List ℕ → ℕ → List ℕ → ℕ → Type 0
 TellsUsage text out status out' told = TellsText text out status out' told ⊎ Leaves MEMORY out status out' told
 
@@ -38,7 +38,7 @@ TellsWords number out status out' told =
     ((cause : Cause) × (cause_number cause ≡ number) × TellsText (layout_words cause) out status out' told)
     ⊎ (((cause : Cause) → cause_number cause ≡ number → ⊥) × Leaves NONE out status out' told)
 
--- a name, where there is one, or memory was wanting
+-- a name, where there is one, or memory ran out
 abbrev pub TellsName : Option Name → List ℕ → ℕ → List ℕ → ℕ → Type 0
 TellsName (Some name) out status out' told =
     TellsText (name_text name) out status out' told ⊎ Leaves MEMORY out status out' told

@@ -2,7 +2,7 @@
 
 ghost use Rattle.std.specs.Prelude.{◌≡◌, IfOk, IfErr};
 ghost use Rattle.hid_descriptor.specs.Faults.{Explains};
-ghost use Rattle.hidstack.specs.Tabling.{TablesElements, Tabled, Misses, Refuses, HasElements, NumberAnswers};
+ghost use Rattle.hidstack.specs.Tables.{TablesElements, Tabled, Misses, Refuses, HasElements, NumberAnswers};
 
 use crate::status::{NO_ROOM, OK, REFUSED, SHORT, UNKNOWN};
 use hid_layout::{Cause, Layout};

@@ -3,7 +3,7 @@
 ghost use Rattle.std.specs.Prelude.{◌≡◌, Option, None, Some, MatchOption};
 ghost use Rattle.hidstack_session.specs.States.{State};
 ghost use Rattle.hidstack_session.specs.contracts.session.Session.{the_row};
-ghost use Rattle.hidstack.specs.Held.{held};
+ghost use Rattle.hidstack.specs.Held.{owned_box};
 
 use crate::address::{Address, lower, raise};
 use hidstack_session::Session;
@@ -21,7 +21,7 @@ pub struct Handle {
 }
 
 impl Model for Handle {
-    ghost also_owns = { λ h. held the_row h.at h.kept };
+    ghost also_owns = { λ h. owned_box the_row h.at h.kept };
 }
 
 impl Handle {

@@ -23,7 +23,7 @@ pub(crate) fn put_text(text: &[u8], out: &mut [u8])
 }
 
 /// Writes a text where there is room, and tells its length.
-fn tell(text: &[u8], out: &mut [u8], told: &mut u64) -> u32
+fn write_text(text: &[u8], out: &mut [u8], told: &mut u64) -> u32
     ensures { TellsText text.now out.old result out.new told.new }
 {
     *told = text.len() as u64;
@@ -49,7 +49,7 @@ pub extern "C" fn hidstack_cause_text(
         return NONE;
     };
     match found.to_string(alloc) {
-        Ok(text) => tell(text.as_bytes(), out, told),
+        Ok(text) => write_text(text.as_bytes(), out, told),
         Err(_) => MEMORY,
     }
 }
@@ -67,7 +67,7 @@ pub extern "C" fn hidstack_usage_text(
 {
     *told = 0;
     match UsageText(Usage { page, id }).to_string(alloc) {
-        Ok(text) => tell(text.as_bytes(), out, told),
+        Ok(text) => write_text(text.as_bytes(), out, told),
         Err(_) => MEMORY,
     }
 }
@@ -79,7 +79,7 @@ pub extern "C" fn hidstack_cause_words(cause: u32, out: &mut [u8], told: &mut u6
 {
     *told = 0;
     match cause_with(cause) {
-        Some(found) => tell(layout_words(found).as_bytes(), out, told),
+        Some(found) => write_text(layout_words(found).as_bytes(), out, told),
         None => NONE,
     }
 }
@@ -100,7 +100,7 @@ pub extern "C" fn hidstack_usage_name(
         return NONE;
     };
     match name.to_string(alloc) {
-        Ok(text) => tell(text.as_bytes(), out, told),
+        Ok(text) => write_text(text.as_bytes(), out, told),
         Err(_) => MEMORY,
     }
 }

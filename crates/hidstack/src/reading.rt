@@ -1,10 +1,10 @@
 //! What a handle's view shows: held switches and keys, and values.
 
 ghost use Rattle.std.specs.Prelude.{◌≡◌, Some};
-ghost use Rattle.hid_snapshots.specs.Snapshots.{is_pressed, cell_at};
+ghost use Rattle.hid_snapshots.specs.Snapshots.{is_pressed, state_at};
 ghost use Rattle.hid_snapshots.specs.Views.{value_in};
 ghost use Rattle.hidstack_session.specs.Elements.{one_of};
-ghost use Rattle.hidstack.specs.Showing.{ShowsView};
+ghost use Rattle.hidstack.specs.Accessors.{ShowsView};
 
 use crate::handle::Handle;
 use crate::status::{CLOSED, NONE, OK};
@@ -21,7 +21,7 @@ pub extern "C" fn hidstack_held(
     held: &mut u32,
 ) -> u32
     ensures kept { handle.new.kept ≡ handle.old.kept }
-    ensures shown { ShowsView (λ view. Some (one_of (is_pressed (cell_at view item) index)))
+    ensures shown { ShowsView (λ view. Some (one_of (is_pressed (state_at view item) index)))
         handle.old.kept held.old result held.new }
 {
     let Some(session) = handle.take(alloc) else {
@@ -46,7 +46,7 @@ pub extern "C" fn hidstack_value(
     value: &mut i64,
 ) -> u32
     ensures kept { handle.new.kept ≡ handle.old.kept }
-    ensures shown { ShowsView (λ view. value_in (cell_at view item) index) handle.old.kept value.old
+    ensures shown { ShowsView (λ view. value_in (state_at view item) index) handle.old.kept value.old
         result value.new }
 {
     let Some(session) = handle.take(alloc) else {

@@ -3,8 +3,9 @@
 ghost use Rattle.std.specs.Prelude.{◌≡◌, ◌≤◌, Some, None, Ok, Err, IfOk, IfErr};
 ghost use Rattle.hid_descriptor.specs.Faults.{Explains};
 ghost use Rattle.hidstack_session.specs.Causes.{cause_number};
+ghost use Rattle.hidstack_session.specs.declared.session.FeedFault.TheVariants.{Refused};
 ghost use Rattle.hidstack_session.specs.Sessions.{IsFirst};
-ghost use Rattle.hidstack.specs.Opening.{Opens, Refuses, IsBusy, opened_as};
+ghost use Rattle.hidstack.specs.Opening.{Opens, Refuses, IsBusy, opened_result};
 ghost use Rattle.hidstack.specs.Feeding.{FeedsHandle, status_of};
 
 use crate::handle::Handle;
@@ -60,8 +61,8 @@ fn open_box(alloc: Global, descriptor: &[u8]) -> Result<Box<Session>, LayoutFaul
 }
 
 /// What is told of a session that was opened.
-fn opened_as(session: &Session) -> HidOpened
-    ensures { result ≡ opened_as session.now }
+fn opened_result(session: &Session) -> HidOpened
+    ensures { result ≡ opened_result session.now }
 {
     let layout = session.layout();
     HidOpened {
@@ -95,7 +96,7 @@ pub extern "C" fn hidstack_open(
     *opened = nothing_opened();
     match open_box(alloc, descriptor) {
         Ok(session) => {
-            *opened = opened_as(&session);
+            *opened = opened_result(&session);
             *handle = Handle::of(session);
             OK
         }
@@ -107,13 +108,12 @@ pub extern "C" fn hidstack_open(
     }
 }
 
-fn fault_status(fault: FeedFault) -> u32
-    ensures { result ≡ status_of (Err fault) }
+fn fault_status(fault: ReportFault) -> u32
+    ensures { result ≡ status_of (Err (Refused fault)) }
 {
     match fault {
-        FeedFault::NoRoom => NO_ROOM,
-        FeedFault::Refused(ReportFault::Short) => SHORT,
-        FeedFault::Refused(ReportFault::UnknownReport) => UNKNOWN,
+        ReportFault::Short => SHORT,
+        ReportFault::UnknownReport => UNKNOWN,
     }
 }
 
@@ -145,7 +145,7 @@ pub extern "C" fn hidstack_feed(
             *count = room as u64;
             NO_ROOM
         }
-        Err(fault) => fault_status(fault),
+        Err(FeedFault::Refused(fault)) => fault_status(fault),
     }
 }
 

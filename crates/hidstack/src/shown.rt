@@ -3,7 +3,7 @@
 ghost use Rattle.std.specs.Prelude.{◌≡◌};
 ghost use Rattle.hidstack_session.specs.Elements.{element_at};
 ghost use Rattle.hidstack_session.specs.Shown.{report_at, collection_at, usage_at};
-ghost use Rattle.hidstack.specs.Showing.{ShowsLayout};
+ghost use Rattle.hidstack.specs.Accessors.{ShowsLayout};
 
 use crate::handle::Handle;
 use crate::status::{CLOSED, NONE, OK};

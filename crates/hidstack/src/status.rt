@@ -24,5 +24,5 @@ pub const UNKNOWN: u32 = 6;
 /// Nothing stands at that place, or it has no value.
 pub const NONE: u32 = 7;
 
-/// Memory was wanting.
+/// Memory ran out.
 pub const MEMORY: u32 = 8;

@@ -1,4 +1,4 @@
-use Rattle.hid_script.proofs.TellingLemmas.{fronts}
+use Rattle.hid_script.proofs.LineOutputLemmas.{fronts}
 use Rattle.hid_script.proofs.laws.fronts.Goals as goal
 
 pub returns : goal.returns

@@ -1,4 +1,4 @@
-use Rattle.hid_script.proofs.TellingLemmas.{one_outcome}
+use Rattle.hid_script.proofs.LineOutputLemmas.{one_outcome}
 use Rattle.hid_script.proofs.laws.one_outcome.Goals as goal
 
 pub returns : goal.returns

@@ -1,4 +1,4 @@
-use Rattle.hid_script.proofs.TellingLemmas.{one_text}
+use Rattle.hid_script.proofs.LineOutputLemmas.{one_text}
 use Rattle.hid_script.proofs.laws.one_text.Goals as goal
 
 pub returns : goal.returns

@@ -2,7 +2,7 @@ use Rattle.std.proofs.Common.{rules}
 use Rattle.hid_script.specs.Steps.{TellsDevice}
 use Rattle.hid_script.specs.Interpreter.{session_of}
 use Rattle.hid_script.proofs.SessionLemmas.{device_refused, device_quiet, device_missing, device_written, memory_ends}
-use Rattle.hid_script.proofs.StreamLemmas.{from_stack, ends_by, lost_text}
+use Rattle.hid_script.proofs.StreamLemmas.{from_stack, ends_by, no_calls}
 use Rattle.hid_script.proofs.interpreter.Interpreter.attach.Goals as goal
 
 pub returns-in_err-dev-clause-told : goal.returns-in_err-dev-clause-told
@@ -23,13 +23,16 @@ returns-clause-told g c =
     c.write_text.ensures.ok c.write_text.ensures.cause c.write_text.ensures.front
 
 pub returns-in_err-dev-clause-outside : goal.returns-in_err-dev-clause-outside
-returns-in_err-dev-clause-outside g c = ends_by g.W.Sink.calls c.args.writer.now _ _ (from_stack g.W.Sink.calls c.args.writer.now c.in_err-dev.field-0.0) c.from_residual.ensures.1
+returns-in_err-dev-clause-outside g c = ends_by g.W.Sink.calls c.args.writer.now c.args.writer.now _ _ (from_stack g.W.Sink.calls c.args.writer.now c.args.writer.now c.in_err-dev.field-0.0 (no_calls g.W.Sink.calls c.args.writer.now)) c.from_residual.ensures.1
 
 pub returns-in_err-device-clause-outside : goal.returns-in_err-device-clause-outside
-returns-in_err-device-clause-outside g c = ends_by g.W.Sink.calls c.args.writer.now _ _ (from_stack g.W.Sink.calls c.args.writer.now c.in_err-device.field-0.0) c.from_residual-in_err-device.ensures.1
+returns-in_err-device-clause-outside g c = ends_by g.W.Sink.calls c.args.writer.now c.args.writer.now _ _ (from_stack g.W.Sink.calls c.args.writer.now c.args.writer.now c.in_err-device.field-0.0 (no_calls g.W.Sink.calls c.args.writer.now)) c.from_residual-in_err-device.ensures.1
 
 pub returns-in_err-print_layout-clause-outside : goal.returns-in_err-print_layout-clause-outside
-returns-in_err-print_layout-clause-outside g c = ends_by g.W.Sink.calls c.args.writer.now _ _ tt c.from_residual-in_err-print_layout.ensures.1
+returns-in_err-print_layout-clause-outside g c = ends_by g.W.Sink.calls c.args.writer.now c.args.writer.now _ _ (no_calls g.W.Sink.calls c.args.writer.now) c.from_residual-in_err-print_layout.ensures.1
 
 pub returns-clause-outside : goal.returns-clause-outside
-returns-clause-outside g c = lost_text g.W.Sink.calls c.write_text.new.writer _ c.write_text.ensures.cause c.write_text.ensures.lost
+returns-clause-outside g c = c.write_text.ensures.outside
+
+pub returns-then-not-self-clause-outside : goal.returns-then-not-self-clause-outside
+returns-then-not-self-clause-outside g c = no_calls g.W.Sink.calls c.args.writer.now

@@ -1,8 +1,9 @@
 use Rattle.hid_text.specs.declared.line.Line.TheVariants.{Layout, Values, Device, Begin}
-use Rattle.hid_script.specs.Telling.{Once, times}
+use Rattle.hid_script.specs.LineOutput.{Once, times}
 use Rattle.hid_script.specs.Interpreter.{session_of}
 use Rattle.hid_script.proofs.RepeatLemmas.{told_once}
 use Rattle.hid_script.proofs.SessionLemmas.{nothing_told}
+use Rattle.hid_script.proofs.StreamLemmas.{no_calls}
 use Rattle.hid_script.proofs.interpreter.Interpreter.carry_out.Goals as goal
 
 pub returns-in-Nothing-clause-told : goal.returns-in-Nothing-clause-told
@@ -14,7 +15,10 @@ returns-in-Layout-clause-told g c = rw c.in-Layout.is (told_once _ _ (Once (Layo
 
 pub returns-in-Values-clause-told : goal.returns-in-Values-clause-told
 unfolding Once times
-returns-in-Values-clause-told g c = rw c.in-Values.is (told_once _ _ (Once (Values c.in-Values.bytes)) (session_of c.args.self.now) _ _ (rw c.as_slice-in-Values.ensures.value at c.tell_values.ensures.told))
+returns-in-Values-clause-told g c =
+    rw c.in-Values.is
+    (told_once _ _ (Once (Values c.in-Values.bytes)) (session_of c.args.self.now) _ _
+    (rw c.as_slice-in-Values.ensures.value at c.print_values_of.ensures.told))
 
 pub returns-in-Device-clause-told : goal.returns-in-Device-clause-told
 unfolding Once times
@@ -27,3 +31,6 @@ returns-in-Begin-clause-told g c = rw c.in-Begin.is (told_once _ _ (Once (Begin 
 pub returns-in-Step-clause-told : goal.returns-in-Step-clause-told
 unfolding Once times
 returns-in-Step-clause-told g c = rw c.in-Step.is c.repeat.ensures.told
+
+pub returns-in-Nothing-clause-outside : goal.returns-in-Nothing-clause-outside
+returns-in-Nothing-clause-outside g c = no_calls g.W.Sink.calls c.args.writer.now

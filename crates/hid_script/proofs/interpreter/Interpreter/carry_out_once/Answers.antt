@@ -1,6 +1,6 @@
 use Rattle.std.proofs.Common.{◌≡◌, to_z, of_z, w32, w64, rules}
 use Rattle.std.proofs.lemmas.Int.{to_z-of_z}
-use Rattle.hid_script.specs.Telling.{TellsShort}
+use Rattle.hid_script.specs.LineOutput.{TellsShort}
 use Rattle.hid_script.proofs.interpreter.Interpreter.carry_out_once.Goals as goal
 
 pub returns-in-Press-clause-told : goal.returns-in-Press-clause-told

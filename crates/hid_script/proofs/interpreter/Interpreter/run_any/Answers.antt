@@ -2,7 +2,7 @@ use Rattle.std.proofs.Common.{◌≡◌, Ok, Err, sym, ◌∙◌}
 use Rattle.hid_text.specs.Line.{meaning_of}
 use Rattle.hid_script.specs.Interpreter.{session_of}
 use Rattle.hid_script.proofs.SessionLemmas.{line_written, line_refused}
-use Rattle.hid_script.proofs.StreamLemmas.{from_line, ends_by}
+use Rattle.hid_script.proofs.StreamLemmas.{from_line, ends_by, no_calls}
 use Rattle.hid_script.proofs.interpreter.Interpreter.run_any.Goals as goal
 
 pub returns-in-Ok-clause-told : goal.returns-in-Ok-clause-told
@@ -18,4 +18,4 @@ returns-in-Err-clause-told g c =
     line_refused _ (session_of c.args.self.now) c.args.line.now c.in-Err.fault (Err c.from.result) (session_of c.args.self.now) says c.from.ensures
 
 pub returns-in-Err-clause-outside : goal.returns-in-Err-clause-outside
-returns-in-Err-clause-outside g c = ends_by g.W.Sink.calls c.args.writer.now _ (Err c.from.result) (from_line g.W.Sink.calls c.args.writer.now c.in-Err.fault) c.from.ensures
+returns-in-Err-clause-outside g c = ends_by g.W.Sink.calls c.args.writer.now c.args.writer.now _ (Err c.from.result) (from_line g.W.Sink.calls c.args.writer.now c.args.writer.now c.in-Err.fault (no_calls g.W.Sink.calls c.args.writer.now)) c.from.ensures

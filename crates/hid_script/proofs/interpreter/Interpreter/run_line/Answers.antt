@@ -1,5 +1,5 @@
 use Rattle.hid_text.specs.declared.line.Line.TheVariants.{Step}
-use Rattle.hid_script.specs.Telling.{Once, times}
+use Rattle.hid_script.specs.LineOutput.{Once, times}
 use Rattle.hid_script.specs.Interpreter.{session_of}
 use Rattle.hid_script.proofs.SessionLemmas.{line_written}
 use Rattle.hid_script.proofs.interpreter.Interpreter.run_line.Goals as goal

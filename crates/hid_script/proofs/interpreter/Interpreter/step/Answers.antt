@@ -2,7 +2,7 @@ use Rattle.std.proofs.Common.{rules}
 use Rattle.hid_script.specs.Steps.{TellsStep}
 use Rattle.hid_script.specs.Interpreter.{session_of}
 use Rattle.hid_script.proofs.SessionLemmas.{step_refused, memory_ends, step_written}
-use Rattle.hid_script.proofs.StreamLemmas.{from_stack, ends_by, lost_text}
+use Rattle.hid_script.proofs.StreamLemmas.{from_stack, ends_by, no_calls}
 use Rattle.hid_script.proofs.interpreter.Interpreter.step.Goals as goal
 
 pub returns-in_err-told-clause-told : goal.returns-in_err-told-clause-told
@@ -13,15 +13,17 @@ returns-in_err-print_step-clause-told g c = memory_ends _ (TellsStep c.args.step
 
 pub returns-clause-told : goal.returns-clause-told
 returns-clause-told g c =
-    step_written _ _ (session_of c.args.self.now) c.args.step.now c.in_ok-told.told c.step.result c.step.new.out.items c.step.new.self c.saturating_add-self.result c.got_by-got.result.now c.as_bytes.result.now _
-    c.step.ensures.refused c.in_ok-told.was c.in_ok-told.ensures.told (search rules) (search rules) c.got_by-got.ensures (search rules) (search rules)
+    step_written _ _
+    (session_of c.args.self.now) c.args.step.now c.in_ok-told.told c.step.result c.step.new.out.items c.step.new.self c.saturating_add-self.result c.finished_read-got.result.now c.as_bytes.result.now _
+    c.step.ensures.refused c.in_ok-told.was c.in_ok-told.ensures.told (search rules)
+    (search rules) c.finished_read-got.ensures (search rules) (search rules)
     c.write_text.ensures.ok c.write_text.ensures.cause c.write_text.ensures.front
 
 pub returns-in_err-told-clause-outside : goal.returns-in_err-told-clause-outside
-returns-in_err-told-clause-outside g c = ends_by g.W.Sink.calls c.args.writer.now _ _ (from_stack g.W.Sink.calls c.args.writer.now c.in_err-told.field-0.0) c.from_residual.ensures.1
+returns-in_err-told-clause-outside g c = ends_by g.W.Sink.calls c.args.writer.now c.args.writer.now _ _ (from_stack g.W.Sink.calls c.args.writer.now c.args.writer.now c.in_err-told.field-0.0 (no_calls g.W.Sink.calls c.args.writer.now)) c.from_residual.ensures.1
 
 pub returns-in_err-print_step-clause-outside : goal.returns-in_err-print_step-clause-outside
-returns-in_err-print_step-clause-outside g c = ends_by g.W.Sink.calls c.args.writer.now _ _ tt c.from_residual-in_err-print_step.ensures.1
+returns-in_err-print_step-clause-outside g c = ends_by g.W.Sink.calls c.args.writer.now c.args.writer.now _ _ (no_calls g.W.Sink.calls c.args.writer.now) c.from_residual-in_err-print_step.ensures.1
 
 pub returns-clause-outside : goal.returns-clause-outside
-returns-clause-outside g c = lost_text g.W.Sink.calls c.write_text.new.writer _ c.write_text.ensures.cause c.write_text.ensures.lost
+returns-clause-outside g c = c.write_text.ensures.outside

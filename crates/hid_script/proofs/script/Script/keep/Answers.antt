@@ -1,14 +1,12 @@
-use Rattle.std.proofs.Common.{arith}
-use Rattle.hid_script.specs.declared.script.TheConstants.{ROOM}
+use Rattle.hid_script.specs.Interpreter.{session_of}
 use Rattle.hid_script.specs.Script.{place_of}
-use Rattle.hid_script.proofs.PlaceLemmas.{long_stops, stays_unbroken}
+use Rattle.hid_script.proofs.PlaceLemmas.{long_stops, advances_kept}
 use Rattle.hid_script.proofs.script.Script.keep.Goals as goal
 
-pub returns-then-bytes-remaining_capacity-clause-taken : goal.returns-then-bytes-remaining_capacity-clause-taken
-returns-then-bytes-remaining_capacity-clause-taken c = λ more.
-    long_stops (place_of c.args.self.now) c.args.bytes.now more c.fault.result c.args.self.now.unbroken c.requires.unbroken (omega (arith, c.remaining_capacity.ensures, c.if-bytes-remaining_capacity.true)) c.fault.ensures.0 c.fault.ensures.1
+pub returns-in-Err-clause-taken : goal.returns-in-Err-clause-taken
+returns-in-Err-clause-taken c = λ more.
+    long_stops (place_of c.args.self.now) c.args.bytes.now more c.fault.result c.args.self.now.buffer.unbroken c.requires.unbroken c.in-Err.ensures.full c.fault.ensures.0 c.fault.ensures.1
 
-pub invariant_of-self : goal.invariant_of-self
-invariant_of-self c = record {
-  unbroken = stays_unbroken ROOM c.args.self.now.begun c.try_extend_from_slice.new.self c.args.bytes.now c.try_extend_from_slice.result c.args.self.now.unbroken c.requires.unbroken c.try_extend_from_slice.ensures.ok c.try_extend_from_slice.ensures.err;
-}
+pub returns-clause-taken : goal.returns-clause-taken
+returns-clause-taken c =
+    advances_kept (session_of c.args.self.now.interpreter) c.args.self.now.buffer.bytes.items c.args.bytes.now c.keep.new.self.bytes.items c.args.self.now.lines c.in_default.ensures.ok

@@ -8,12 +8,12 @@ use denote.Param.Send.{IsSend, AllSend, owning_send, struct_send, sendable}
 use Rattle.std.specs.Prelude.{Option, None, Some}
 use Rattle.std_alloc.proofs.SendSync.{quiet, lies}
 use Rattle.std.proofs.Crossing as heap
-use Rattle.hidstack.specs.Held.{held}
+use Rattle.hidstack.specs.Held.{owned_box}
 use Rattle.hidstack_session.specs.contracts.session.Session as session
 use Rattle.hidstack_session.proofs.session.Session.TheSendSync.{the_send as session_send}
 use Rattle.hidstack.specs.contracts.handle.Handle.{the_row, the_type}
 
-keyless : (p : Ptr) (kept : Option (session.the_row).Denot) → base.Shift.Keyless (held session.the_row p kept)
+keyless : (p : Ptr) (kept : Option (session.the_row).Denot) → base.Shift.Keyless (owned_box session.the_row p kept)
 keyless p None = tt
 keyless p (Some x) = (lies session.the_row session_send p x, heap.frees.frees (record { memory = record { seal = tt } }) (raw (lone (session.the_row).mir)) p)
 

@@ -25,7 +25,7 @@ use Rattle.core.proofs.atomic.Steps.{Ptr-Good}
 use Rattle.core.proofs.cell.Inside.{Good}
 use Rattle.core.proofs.option.Made.{Some-of, none_of}
 use Rattle.std_alloc.proofs.ResultValues.{and_tt}
-use Rattle.hidstack.specs.Held.{held}
+use Rattle.hidstack.specs.Held.{owned_box}
 use Rattle.hidstack.proofs.Steps.{Session, Handle, At, alone, address_good, handle_good, handle_out, held_out, address_in}
 use Rattle.hidstack.specs.contracts.handle.Handle.into_address as F
 use Rattle.hidstack.specs.contracts.handle.Handle.into_address.Key.{name as #self}
@@ -43,7 +43,7 @@ into_address_spec 𝓤 𝓛 𝓜 𝓡 wired =
     let Out : RattleType = type_at (F.signature).result tt in let Kept : RattleType = At Session in
     qed 𝓛 ((‵ ftrue ⊛ ‵ (fsep (Handle.own_val d z.0.4.0) ftrue)) ∷ raw (emp 𝓤) ∷ []) ∵ split ! $ drop ! $ fsplit ! $
     handle_out ! d z.0.4.0 (λ ws. keep ! (0 ∷ []) $
-    let Γ : List (Item 𝓤) = ‵ (held Session p d.kept) ∷ [] in
+    let Γ : List (Item 𝓤) = ‵ (owned_box Session p d.kept) ∷ [] in
     by ! (subst (λ (us : List Val). ent 𝓤 (types.Kit.⋆ 𝓛 Γ) (WpFn 𝓤 𝓛.H 𝓣.C 𝓣.Λ fn (us ++ []) Post)) (sym ws)
     (qed 𝓛 Γ ∵ enter ! 𝓣.C 𝓣.Λ fn (w ∷ []) Post $ alloc_all ! (λ l. pass_all ! refl (handle_good p, tt) $ let Ev = env fn.locals l in
     held_out ! p d.kept

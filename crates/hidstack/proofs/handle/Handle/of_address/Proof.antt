@@ -17,7 +17,7 @@ use denote.Triple.Walked.{says, Stays, stay_dropped, walk_of, ends_at, Goes-drop
 use Rattle.std.specs.Prelude.{Some}
 use Rattle.std.proofs.raw_atomic.Walks.{proved_at}
 use Rattle.core.proofs.atomic.Steps.{Ptr-Good}
-use Rattle.hidstack.specs.Held.{held}
+use Rattle.hidstack.specs.Held.{owned_box}
 use Rattle.hidstack.proofs.Steps.{Session, At, alone, address_good, handle_good, address_out, handle_in}
 use Rattle.hidstack.specs.contracts.handle.Handle.of_address as F
 use Rattle.hidstack.specs.contracts.handle.Handle.of_address.Key.{name as #self}
@@ -33,8 +33,9 @@ of_address_spec 𝓤 𝓛 𝓜 𝓡 wired =
     proved_at 𝓛 F.ended stayed c 𝓜 𝓡 (Goes-dropped 𝓛 0 (plain (λ _. At Session)) yes (λ κs x f. refl), tt) #self code.function (code.unfolded 𝓤 𝓛.H 𝓜 𝓡 wired) (λ z are.
     let Post = (walk_of 𝓛 F.ended stayed c).post z in let d = z.0.3.0 in let p = d.at in let w = alone (ptr_val p) in
     qed 𝓛 ((‵ ftrue ⊛ ‵ (fsep ((At Session).own_val d z.0.4.0) ftrue)) ∷ raw (emp 𝓤) ∷ []) ∵ split ! $ drop ! $ fsplit ! $
-    address_out ! Session d z.0.4.0 (λ ws. use1 𝓛 (‵ (held Session p (Some d.value))) (id⊢ 𝓤 _) $ keep ! (0 ∷ []) $
-    let Γ : List (Item 𝓤) = ‵ (held Session p (Some d.value)) ∷ [] in
+    address_out ! Session d z.0.4.0
+    (λ ws. use1 𝓛 (‵ (owned_box Session p (Some d.value))) (id⊢ 𝓤 _) $ keep ! (0 ∷ []) $
+    let Γ : List (Item 𝓤) = ‵ (owned_box Session p (Some d.value)) ∷ [] in
     by ! (subst (λ (us : List Val). ent 𝓤 (types.Kit.⋆ 𝓛 Γ) (WpFn 𝓤 𝓛.H 𝓣.C 𝓣.Λ code.function (us ++ []) Post)) (sym ws)
     (qed 𝓛 Γ ∵ enter ! 𝓣.C 𝓣.Λ code.function (w ∷ []) Post $ alloc_all ! (λ l. pass_all ! refl (address_good Session p, tt) $
     sets ! (of_opd ! (get_in ! (fld ! refl (stop !)) (sub ! 0 refl (whole !)))) refl (Ptr-Good p) $ sets ! (of_opd ! (get ! refl)) refl (Ptr-Good p) $

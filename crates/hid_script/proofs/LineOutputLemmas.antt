@@ -1,5 +1,5 @@
 -- A line tells one thing, and begins with a front of it.
-use Rattle.std.proofs.Common.{◌≡◌, true, ℕ, zero, suc, ◌≤◌, List, [], ◌∷◌, ◌++◌, length, refl, sym, ap, ◌∙◌, subst, inl, inr, arith, append_assoc, Option, Some, Result, Ok, Err}
+use Rattle.std.proofs.Common.{◌≡◌, ℕ, zero, suc, ◌≤◌, List, [], ◌∷◌, ◌++◌, length, refl, sym, ap, ◌∙◌, subst, inl, inr, arith, append_assoc, Option, Some, Result, Ok, Err}
 use Rattle.std.specs.Prelude.{slice_get}
 use Rattle.hid_descriptor.specs.declared.fault.LayoutFault.{LayoutFault}
 use Rattle.hid_descriptor.specs.declared.usage.Usage.{Usage}
@@ -25,9 +25,9 @@ use Rattle.hid_text.specs.declared.short.ShortLine.{ShortLine}
 use Rattle.hid_text.specs.declared.short.ShortLine.TheVariants as short
 use Rattle.hid_text.specs.Line.{meaning_of}
 use Rattle.hid_script.specs.Output.{IsFront}
-use Rattle.hid_script.specs.Session.{Session, Outcome, accepted, after_text, Joins, Repeats}
-use Rattle.hid_script.specs.Steps.{TellsLayout, TellsDevice, TellsStep, TellsFound, TellsChange, lays_out, refuses_layout, attaches, stepped, refuses_step, config_of, change_of}
-use Rattle.hid_script.specs.Telling.{TellsShort, Once, times, Means, LineTells, LineBegins, BeginsMeant}
+use Rattle.hid_script.specs.Session.{Session, Outcome, success, after_text, Joins, Repeats}
+use Rattle.hid_script.specs.Steps.{TellsLayout, TellsDevice, TellsStep, TellsFound, TellsChange, lays_out, refuses_layout, attaches, step_outcome, refuses_step, config_of, change_of}
+use Rattle.hid_script.specs.LineOutput.{TellsShort, Once, times, Means, LineTells, LineBegins, BeginsMeant}
 use Rattle.hid_script.specs.Runs.{AllTell}
 use Rattle.hid_stack.specs.Laws.{TellsOneThing, FindsOneControl, AttachesOneDevice}
 use Rattle.hid_stack.specs.declared.rig.TheConstants.{MAX_DEVICES}
@@ -59,7 +59,8 @@ one_layout reading apart cause place bytes session o other (inr h) (inr k) =
 -- ---- steps
 
 one_step : HasOneAnswer → (step : Step) → IsOne (TellsStep step)
-one_step one step session o other (inl h) (inl k) = h.3 ∙ ap (stepped session step) (one.tells session.members step h.0 k.0 h.2 k.2) ∙ sym k.3
+one_step one step session o other (inl h) (inl k) =
+    h.3 ∙ ap (step_outcome session step) (one.tells session.members step h.0 k.0 h.2 k.2) ∙ sym k.3
 one_step one step session o other (inl h) (inr k) = let taken = h.1 in let refused = k.1 in absurd (cc)
 one_step one step session o other (inr h) (inl k) = let refused = h.1 in let taken = k.1 in absurd (cc)
 one_step one step session o other (inr h) (inr k) = let first = h.1 in let second = k.1 in let same : h.0 ≡ k.0 = cc in h.2 ∙ ap refuses_step same ∙ sym k.2
@@ -126,20 +127,24 @@ session_in : Session → Result Session Cause → Session
 session_in d (Ok session) = session
 session_in d (Err cause) = d
 
-same_session : (text other : List ℕ) (a b : Session) → accepted text a ≡ accepted other b → a ≡ b
+same_session : (text other : List ℕ) (a b : Session) → success text a ≡ success other b → a ≡ b
 unfolding session_in
 same_session text other a b e = ap (λ (o : Outcome). session_in a o.end) e
 
 one_join : (First : Outcome → Type 0) (Next : Session → Outcome → Type 0) → ((o other : Outcome) → First o → First other → o ≡ other) → IsOne Next → (o other : Outcome) → Joins First Next o → Joins First Next other → o ≡ other
 one_join First Next first next o other (inl h) (inl k) =
-    let same = first (accepted h.0 h.1) (accepted k.0 k.1) h.3 k.3 in
+    let same = first (success h.0 h.1) (success k.0 k.1) h.3 k.3 in
     let session = same_session h.0 k.0 h.1 k.1 same in
     let rest = next k.1 h.2 k.2 (subst (λ s. Next s h.2) session h.4) k.4 in
     h.5 ∙ ap (λ t. after_text t h.2) (ap (λ (p : Outcome). p.text) same) ∙ ap (after_text k.0) rest ∙ sym k.5
 one_join First Next first next o other (inl h) (inr k) =
-    let ends = ap (λ (p : Outcome). p.end) (first (accepted h.0 h.1) (record { text = k.0; end = Err k.1 }) h.3 k.2) in absurd (cc)
+    let ends =
+    ap (λ (p : Outcome). p.end) (first (success h.0 h.1) (record { text = k.0; end = Err k.1 }) h.3 k.2) in
+    absurd (cc)
 one_join First Next first next o other (inr h) (inl k) =
-    let ends = ap (λ (p : Outcome). p.end) (first (record { text = h.0; end = Err h.1 }) (accepted k.0 k.1) h.2 k.3) in absurd (cc)
+    let ends =
+    ap (λ (p : Outcome). p.end) (first (record { text = h.0; end = Err h.1 }) (success k.0 k.1) h.2 k.3) in
+    absurd (cc)
 one_join First Next first next o other (inr h) (inr k) = h.3 ∙ first (record { text = h.0; end = Err h.1 }) (record { text = k.0; end = Err k.1 }) h.2 k.2 ∙ sym k.3
 
 one_repeated : (Part : Session → Outcome → Type 0) → IsOne Part → (n : ℕ) → IsOne (Repeats n Part)
@@ -158,7 +163,7 @@ one_outcome reading apart cause place one session bytes o other h k = one_meant 
 pub one_text : LineTellsOneThing → LinesTellOneText
 one_text one session [] text other last end h k = (h.0 ∙ sym k.0, h.1 ∙ sym k.1)
 one_text one session (bytes ∷ more) text other last end h k =
-    let same = one session bytes (accepted h.0 h.1) (accepted k.0 k.1) h.3 k.3 in
+    let same = one session bytes (success h.0 h.1) (success k.0 k.1) h.3 k.3 in
     let next = same_session h.0 k.0 h.1 k.1 same in
     let rest = one_text one k.1 more h.2 k.2 last end (subst (λ s. AllTell s more h.2 last) next h.4) k.4 in (
       h.5 ∙ ap (λ t. t ++ h.2) (ap (λ (o : Outcome). o.text) same) ∙ ap (λ t. k.0 ++ t) rest.0 ∙ sym k.5,
@@ -167,18 +172,24 @@ one_text one session (bytes ∷ more) text other last end h k =
 
 -- ---- fronts
 
-front_repeated : (Part : Session → Outcome → Type 0) → IsOne Part → (n count : ℕ) (session next : Session) (text : List ℕ) (o : Outcome) → n ≤ count → Repeats n Part session (accepted text next) → Repeats count Part session o → IsFront text o.text
+front_repeated : (Part : Session → Outcome → Type 0) → IsOne Part
+    → (n count : ℕ) (session next : Session) (text : List ℕ) (o : Outcome) → n ≤ count
+    → Repeats n Part session (success text next) → Repeats count Part session o → IsFront text o.text
 unfolding Repeats
 front_repeated Part one zero count session next text o below h k = let none : text ≡ [] = ap (λ (p : Outcome). p.text) h in rw none (o.text, refl)
 front_repeated Part one (suc n) zero session next text o below h k = absurd (omega arith)
 front_repeated Part one (suc n) (suc count) session next text o below (inr h) k = let ends : (let r : Result Session Cause = Ok next in r) ≡ Err h.1 = ap (λ (p : Outcome). p.end) h.3 in absurd (cc)
 front_repeated Part one (suc n) (suc count) session next text o below (inl h) (inr k) =
-    let ends = ap (λ (p : Outcome). p.end) (one session (accepted h.0 h.1) (record { text = k.0; end = Err k.1 }) h.3 k.2) in absurd (cc)
+    let ends =
+    ap (λ (p : Outcome). p.end) (one session (success h.0 h.1) (record { text = k.0; end = Err k.1 }) h.3 k.2) in
+    absurd (cc)
 front_repeated Part one (suc n) (suc count) session next text o below (inl h) (inl k) =
-    let same = one session (accepted h.0 h.1) (accepted k.0 k.1) h.3 k.3 in
+    let same = one session (success h.0 h.1) (success k.0 k.1) h.3 k.3 in
     let now = same_session h.0 k.0 h.1 k.1 same in
     let end : (let r : Result Session Cause = Ok next in r) ≡ h.2.end = ap (λ (p : Outcome). p.end) h.5 in
-    let rest : Repeats n Part k.1 (accepted h.2.text next) = subst (λ s. Repeats n Part s (accepted h.2.text next)) now (subst (λ e. Repeats n Part h.1 (record { text = h.2.text; end = e })) (sym end) h.4) in
+    let rest : Repeats n Part k.1 (success h.2.text next) =
+    subst (λ s. Repeats n Part s (success h.2.text next)) now
+    (subst (λ e. Repeats n Part h.1 (record { text = h.2.text; end = e })) (sym end) h.4) in
     let front = front_repeated Part one n count k.1 next h.2.text k.2 (omega arith) rest k.4 in
     let first : h.0 ≡ k.0 = ap (λ (p : Outcome). p.text) same in
     let whole : text ≡ k.0 ++ h.2.text = ap (λ (p : Outcome). p.text) h.5 ∙ ap (λ t. t ++ h.2.text) first in

@@ -1,6 +1,6 @@
 -- What a call that reads a handle answers (our choice).
 use Rattle.std.specs.Prelude.{◌≡◌, ℕ, List, Option, Some, None}
-use Rattle.hid_snapshots.specs.declared.cell.Cell.{Cell}
+use Rattle.hid_snapshots.specs.declared.control_state.ControlState.{ControlState}
 use Rattle.hid_layout.specs.Layout.{Contents}
 use Rattle.hidstack_session.specs.States.{State}
 use Rattle.hidstack.specs.declared.status.TheConstants.{OK, CLOSED, NONE}
@@ -20,5 +20,5 @@ abbrev pub ShowsLayout : {A : Type 0} → (Contents → Option A) → Option Sta
 ShowsLayout read kept old status new = Shows (λ s. read s.layout) kept old status new
 
 -- What a call that reads the view of a handle's session answers: a closed handle is refused and nothing changes.
-abbrev pub ShowsView : {A : Type 0} → (List Cell → Option A) → Option State → A → ℕ → A → Type 0
+abbrev pub ShowsView : {A : Type 0} → (List ControlState → Option A) → Option State → A → ℕ → A → Type 0
 ShowsView read kept old status new = Shows (λ s. read s.view) kept old status new

@@ -1,4 +1,4 @@
--- A descriptor's elements as a table, and an element's number (our choice; what they are: hid_session).
+-- A descriptor's elements as a table, and an element's number (our choice; what they are: hidstack_session).
 use Rattle.std.specs.Prelude.{◌≡◌, ℕ, ◌<◌, ◌≤◌, ◌⊎◌, ℤ, List, ◌++◌, length, drop, Result, Ok, Err}
 use Rattle.hid_descriptor.specs.declared.fault.Cause.{Cause}
 use Rattle.hid_descriptor.specs.Items.{Spelled}
@@ -19,23 +19,23 @@ HasElements bytes elements =
     (before : List Spelled) × Accepts bytes before
     × (elements ≡ elements_of (layout_of before) (length (layout_of before).items))
 
--- what is told where the descriptor is accepted: so many elements
-abbrev pub counted : ℕ → HidTabled
-counted n = record { at = 0; elements = n; cause = 0; spare = 0 }
+-- what is reported where the descriptor is accepted: n elements
+abbrev pub accepted_table : ℕ → HidTabled
+accepted_table n = record { at = 0; elements = n; cause = 0; spare = 0 }
 
 -- the elements stand first in the table
 abbrev pub Tabled : List ℕ → List HidElement → List HidElement → HidTabled → Type 0
 Tabled bytes out out' told =
     (elements : List HidElement) × HasElements bytes elements × (length elements ≤ length out)
-    × (out' ≡ elements ++ drop (length elements) out) × (told ≡ counted (length elements))
+    × (out' ≡ elements ++ drop (length elements) out) × (told ≡ accepted_table (length elements))
 
--- the table has fewer places, and stays as it was
+-- the table has fewer places than the layout has elements, and stays as it was
 abbrev pub Misses : List ℕ → List HidElement → List HidElement → HidTabled → Type 0
 Misses bytes out out' told =
     (elements : List HidElement) × HasElements bytes elements × (length out < length elements)
-    × (out' ≡ out) × (told ≡ counted (length elements))
+    × (out' ≡ out) × (told ≡ accepted_table (length elements))
 
--- this is the one refusal, or memory was wanting, and the table stays as it was
+-- the descriptor is refused for this cause, or memory ran out, and the table stays as it was
 abbrev pub Refuses : List ℕ → List HidElement → List HidElement → HidTabled → Type 0
 Refuses bytes out out' told =
     (cause : Cause) × (at : ℕ) × Explains bytes cause at × (out' ≡ out)
@@ -45,13 +45,13 @@ Refuses bytes out out' told =
 abbrev pub TablesElements : ℕ → Type 0
 TablesElements status = (status ≡ OK) ⊎ ((status ≡ REFUSED) ⊎ (status ≡ NO_ROOM))
 
--- the number is written, or why there is none is told and nothing changes
+-- the number is written, or why there is none is returned and nothing changes
 abbrev pub NumberTold : ℤ → ℕ → ℤ → Result ℤ ReportFault → Type 0
 NumberTold old status new (Ok number) = (status ≡ OK) × (new ≡ number)
 NumberTold old status new (Err Short) = (status ≡ SHORT) × (new ≡ old)
 NumberTold old status new (Err UnknownReport) = (status ≡ UNKNOWN) × (new ≡ old)
 
--- the element's number in these bytes is told, or why there is none
+-- the element's number in these bytes is returned, or why there is none
 abbrev pub NumberAnswers : HidElement → List ℕ → ℤ → ℕ → ℤ → Type 0
 NumberAnswers element bytes old status new =
     (answer : Result ℤ ReportFault) × HoldsNumber element bytes answer × NumberTold old status new answer

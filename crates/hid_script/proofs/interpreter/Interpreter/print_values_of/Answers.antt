@@ -2,8 +2,8 @@ use Rattle.std.proofs.Common.{rules}
 use Rattle.hid_script.specs.Steps.{TellsValues}
 use Rattle.hid_script.specs.Interpreter.{session_of}
 use Rattle.hid_script.proofs.SessionLemmas.{memory_ends, values_written, long_enough_report, report_refused, no_layout}
-use Rattle.hid_script.proofs.StreamLemmas.{ends_by, lost_text}
-use Rattle.hid_script.proofs.interpreter.Interpreter.tell_values.Goals as goal
+use Rattle.hid_script.proofs.StreamLemmas.{ends_by, no_calls}
+use Rattle.hid_script.proofs.interpreter.Interpreter.print_values_of.Goals as goal
 
 pub returns-in_err-print_values-clause-told : goal.returns-in_err-print_values-clause-told
 returns-in_err-print_values-clause-told g c = memory_ends _ (TellsValues c.args.bytes.now (session_of c.args.self.now)) _ _ c.from_residual-in_err-print_values.ensures.1
@@ -21,10 +21,13 @@ pub returns-in_default-clause-told : goal.returns-in_default-clause-told
 returns-in_default-clause-told g c = no_layout _ (session_of c.args.self.now) c.args.bytes.now (session_of c.args.self.now) c.in_default.is
 
 pub returns-in_err-report-clause-outside : goal.returns-in_err-report-clause-outside
-returns-in_err-report-clause-outside g c = ends_by g.W.Sink.calls c.args.writer.now _ _ tt c.from_residual.ensures.1
+returns-in_err-report-clause-outside g c = ends_by g.W.Sink.calls c.args.writer.now c.args.writer.now _ _ (no_calls g.W.Sink.calls c.args.writer.now) c.from_residual.ensures.1
 
 pub returns-in_err-print_values-clause-outside : goal.returns-in_err-print_values-clause-outside
-returns-in_err-print_values-clause-outside g c = ends_by g.W.Sink.calls c.args.writer.now _ _ tt c.from_residual-in_err-print_values.ensures.1
+returns-in_err-print_values-clause-outside g c = ends_by g.W.Sink.calls c.args.writer.now c.args.writer.now _ _ (no_calls g.W.Sink.calls c.args.writer.now) c.from_residual-in_err-print_values.ensures.1
 
 pub returns-clause-outside : goal.returns-clause-outside
-returns-clause-outside g c = lost_text g.W.Sink.calls c.write_text.new.writer _ c.write_text.ensures.cause c.write_text.ensures.lost
+returns-clause-outside g c = c.write_text.ensures.outside
+
+pub returns-in_default-clause-outside : goal.returns-in_default-clause-outside
+returns-in_default-clause-outside g c = no_calls g.W.Sink.calls c.args.writer.now

@@ -1,4 +1,4 @@
--- What a line of a script tells (our choice: docs/SCRIPT.md).
+-- The outcome of a line of a script (our choice: docs/SCRIPT.md).
 use Rattle.std.specs.Prelude.{◌≡◌, ℕ, ◌≤◌, List, [], Result, Ok, Err}
 use Rattle.hid_descriptor.specs.declared.fault.LayoutFault.{LayoutFault}
 use Rattle.hid_descriptor.specs.declared.fault.Cause as layouts
@@ -17,11 +17,11 @@ use Rattle.hid_text.specs.declared.line.Line.TheVariants as line
 use Rattle.hid_text.specs.declared.short.ShortLine.{ShortLine}
 use Rattle.hid_text.specs.declared.short.ShortLine.TheVariants as short
 use Rattle.hid_text.specs.Line.{meaning_of}
-use Rattle.hid_script.specs.Session.{Session, Outcome, accepted, refused, Repeats}
+use Rattle.hid_script.specs.Session.{Session, Outcome, success, failure, Repeats}
 use Rattle.hid_script.specs.Steps.{TellsLayout, TellsValues, TellsDevice, TellsChange, TellsStep}
 
--- What a short line tells each time that it is carried out: what it prints and the session that it leaves, or why it is
--- refused. Example: press 1 07:01 is X4 S3 U1
+-- The outcome of a short line each time that it is carried out: what it prints and the session that it leaves, or why
+-- it is refused. Example: press 1 07:01 is X4 S3 U1
 unfoldable pub TellsShort : ShortLine → Session → Outcome → Type 0
 TellsShort (short.Press dev usage) session o = TellsChange dev usage wanted.Press session o
 TellsShort (short.Release dev usage) session o = TellsChange dev usage wanted.Release session o
@@ -34,9 +34,9 @@ TellsShort (short.Control dev fate count) session o = TellsStep (step.Control de
 TellsShort (short.Reset dev) session o = TellsStep (step.Reset dev) session o
 TellsShort (short.Halt dev) session o = TellsStep (step.Halt dev) session o
 
--- what any line tells each time that it is carried out
+-- the outcome of any line each time that it is carried out
 unfoldable pub Once : Line → Session → Outcome → Type 0
-Once line.Nothing session o = o ≡ accepted [] session
+Once line.Nothing session o = o ≡ success [] session
 Once (line.Layout bytes) session o = TellsLayout bytes.items session o
 Once (line.Values bytes) session o = TellsValues bytes.items session o
 Once (line.Device start kind bytes) session o = TellsDevice start kind bytes.items session o
@@ -55,7 +55,7 @@ unfoldable pub times : Line → ℕ
 times (line.Step said) = short_times said
 times _ = 1
 
--- what a line that was understood tells
+-- the outcome of a line that was understood: that of all its times
 abbrev pub CarriesOut : Session → Line → Outcome → Type 0
 CarriesOut session said o = Repeats (times said) (Once said) session o
 
@@ -70,30 +70,31 @@ abbrev pub line_or_cause : Result Line LineFault → Result Line Cause
 line_or_cause (Ok said) = Ok said
 line_or_cause (Err fault) = Err (line_cause fault)
 
--- a line tells what it says
+-- the outcome of a line that was read: that of what it says, or its refusal
 abbrev pub Means : Session → Result Line LineFault → Outcome → Type 0
 Means session (Ok said) o = CarriesOut session said o
-Means session (Err fault) o = o ≡ refused (line_cause fault)
+Means session (Err fault) o = o ≡ failure (line_cause fault)
 
--- A line of these bytes tells what they mean: the text that it prints and the session that it leaves, or why it is
--- refused. Example: layout alone prints no reports
+-- The outcome of a line of these bytes: the text that it prints and the session that it leaves, or why it is refused.
+-- Example: layout alone prints no reports
 unfoldable pub LineTells : Session → List ℕ → Outcome → Type 0
 LineTells session bytes o = Means session (meaning_of bytes) o
 
--- what a part tells up to some of its times
+-- what the first times of a part print
 abbrev pub Begins : ℕ → (Session → Outcome → Type 0) → Session → List ℕ → Type 0
-Begins count Part session text = (n : ℕ) × (next : Session) × (n ≤ count) × Repeats n Part session (accepted text next)
+Begins count Part session text =
+    (n : ℕ) × (next : Session) × (n ≤ count) × Repeats n Part session (success text next)
 
--- what a line begins to tell; one that isn't understood, nothing
+-- what the first times of a line print; nothing where it isn't understood
 abbrev pub BeginsMeant : Session → Result Line LineFault → List ℕ → Type 0
 BeginsMeant session (Ok said) text = Begins (times said) (Once said) session text
 BeginsMeant session (Err fault) text = text ≡ []
 
--- the text of the first times of a line, which a want of memory or the writer may leave
+-- the text of the first times of a line, which running out of memory or the writer may leave
 unfoldable pub LineBegins : Session → List ℕ → List ℕ → Type 0
 LineBegins session bytes text = BeginsMeant session (meaning_of bytes) text
 
--- a descriptor's fault is the script's, but a want of memory is told as the script's own
+-- the script's cause for a layout's fault: the fault itself, but running out of memory is the script's own
 abbrev pub cause_from : layouts.Cause → LayoutFault → Cause
 cause_from causes_of.Memory fault = causes.Memory
 cause_from _ fault = causes.Step (faults.Layout fault)
