@@ -13,16 +13,16 @@ use Rattle.hid_recording.specs.declared.fault.Options.{Options}
 use Rattle.hid_recording.specs.declared.fault.RecordingFault.{RecordingFault}
 use Rattle.hid_recording.specs.declared.fault.Summary.{Summary}
 use Rattle.hid_recording.specs.Output.{IsFront}
-use Rattle.hid_recording.specs.Session.{Session, Member, Outcome, accepted, refused, at_first}
+use Rattle.hid_recording.specs.Session.{Session, Member, Outcome, success, failure, at_first}
 use Rattle.hid_recording.specs.Records.{Said, Nothing, Blank, Device, Descriptor, Unread, Report, Begins, Bytes, record_of}
 use Rattle.hid_recording.specs.Words.{time_of}
-use Rattle.hid_recording.specs.Dumps.{numbered}
-use Rattle.hid_recording.specs.Joining.{bytes_with, ends_with, kept_of}
+use Rattle.hid_recording.specs.Dumps.{number_of_address}
+use Rattle.hid_recording.specs.Joining.{bytes_with, ends_with, with_collected}
 use Rattle.hid_recording.specs.declared.dump.Address.{Address}
 use Rattle.hid_recording.specs.declared.dump.Content.{Content}
 use Rattle.hid_recording.specs.declared.dump.Content.TheVariants as contents
-use Rattle.hid_recording.specs.Telling.{goes_on, refuses, reads_named, reads_of, known_at, begins_behind, begins_of, gathers, ended, with_device, chunk_in, chunk_of, stream_told, EndTells, SaidTells, Means, TellsUnless, advanced, LineTells, LineBegins}
-use Rattle.hid_recording.specs.Runs.{Ending, Refusal, Want, Cut, Silence, Never, ending_of, EndsAs, FirstTells, FirstBegins, PlayedTo, RunsTo, Stops, line_of, played_of, AppendsRecording}
+use Rattle.hid_recording.specs.LineOutput.{goes_on, refuses, reads_named, reads_of, member_in_slot, begins_after, begins_of, gathers, after_dump, with_device, chunk_in, chunk_of, stream_outcome, EndTells, SaidTells, Means, TellsUnless, with_line_counted, LineTells, LineBegins}
+use Rattle.hid_recording.specs.Runs.{Ending, Refusal, Want, Cut, Silence, Never, ending_of, EndsAs, FirstTells, FirstBegins, PlayedTo, RunsTo, Stops, line_of, summary_until, AppendsRecording}
 use Rattle.hid_recording.specs.Player.{summary_of}
 use Rattle.hid_recording.specs.Place.{Place, Advances, RunsFrom, lines_at, AppendsFrom}
 use Rattle.hid_recording.proofs.PlaceLemmas.{first_begins, broken_run}
@@ -33,14 +33,16 @@ use Rattle.hid_recording.proofs.PlaceLemmas.{first_begins, broken_run}
 abbrev ended_with : List ℕ → Cause → Outcome
 ended_with text cause = record { text = text; end = Err cause }
 
-not_accepted : (text other : List ℕ) (cause : Cause) (session : Session) → ended_with text cause ≡ accepted other session → text ≡ []
+not_accepted : (text other : List ℕ) (cause : Cause) (session : Session)
+    → ended_with text cause ≡ success other session → text ≡ []
 not_accepted text other cause session e =
     let ends : (let r : Result Session Cause = Err cause in r) ≡ Ok session = ap (λ (o : Outcome). o.end) e in absurd (cc)
 
-no_text : (text : List ℕ) (cause why : Cause) → ended_with text cause ≡ refused why → text ≡ []
+no_text : (text : List ℕ) (cause why : Cause) → ended_with text cause ≡ failure why → text ≡ []
 no_text text cause why e = ap (λ (o : Outcome). o.text) e
 
-refusal_text : (strict : Bool) (session : Session) (why : Why) (text : List ℕ) (cause : Cause) → ended_with text cause ≡ cond strict (refused (causes.Refused why)) (goes_on session why) → text ≡ []
+refusal_text : (strict : Bool) (session : Session) (why : Why) (text : List ℕ) (cause : Cause)
+    → ended_with text cause ≡ cond strict (failure (causes.Refused why)) (goes_on session why) → text ≡ []
 refusal_text true session why text cause e = no_text text cause (causes.Refused why) e
 refusal_text false session why text cause e = not_accepted text _ cause _ e
 
@@ -55,7 +57,8 @@ no_slot_text : (session : Session) (time bytes text : List ℕ) (cause : Cause) 
 no_slot_text session time bytes text cause None e = no_refusal_text session _ text cause e
 no_slot_text session time bytes text cause (Some member) e = no_report_text session time bytes text cause member (report_named member.layout bytes) e
 
-no_begun_text : (content : Option Content) (session next : Session) (text : List ℕ) (cause : Cause) → ended_with text cause ≡ begins_behind content session next → text ≡ []
+no_begun_text : (content : Option Content) (session next : Session) (text : List ℕ) (cause : Cause)
+    → ended_with text cause ≡ begins_after content session next → text ≡ []
 no_begun_text None session next text cause e = not_accepted text _ cause _ e
 no_begun_text (Some content) session next text cause e = no_refusal_text _ _ text cause e
 
@@ -63,11 +66,13 @@ no_begin_text : (session : Session) (address : Address) (content : Content) (tim
 no_begin_text session address content time None text cause e = no_refusal_text _ _ text cause e
 no_begin_text session address content time (Some device) text cause e = no_begun_text session.gathered.content session _ text cause e
 
-room_text : (long : Bool) (session next : Session) (why : Why) (text : List ℕ) (cause : Cause) → ended_with text cause ≡ cond long (refuses session why) (accepted [] next) → text ≡ []
+room_text : (long : Bool) (session next : Session) (why : Why) (text : List ℕ) (cause : Cause)
+    → ended_with text cause ≡ cond long (refuses session why) (success [] next) → text ≡ []
 room_text true session next why text cause e = no_refusal_text session why text cause e
 room_text false session next why text cause e = not_accepted text _ cause _ e
 
-passed_text : (passed : Bool) (session next : Session) (why : Why) (text : List ℕ) (cause : Cause) → ended_with text cause ≡ cond passed (accepted [] session) (refuses next why) → text ≡ []
+passed_text : (passed : Bool) (session next : Session) (why : Why) (text : List ℕ) (cause : Cause)
+    → ended_with text cause ≡ cond passed (success [] session) (refuses next why) → text ≡ []
 passed_text true session next why text cause e = not_accepted text _ cause _ e
 passed_text false session next why text cause e = no_refusal_text next why text cause e
 
@@ -79,33 +84,41 @@ no_gathered_text session (Some bytes) (Some content) text cause e = room_text (n
 no_chunk_text : (session : Session) (time chunk text : List ℕ) (cause : Cause) (member : Member) (doubt ends : Bool) → ended_with text cause ≡ chunk_in session time chunk member doubt ends → text ≡ []
 no_chunk_text session time chunk text cause member true ends e = no_refusal_text _ _ text cause e
 no_chunk_text session time chunk text cause member false true e =
-    let now = with_device session (Some (kept_of member [])) in no_slot_text now time (bytes_with member chunk) text cause (known_at (slice_get now.devices now.current)) e
+    let now =
+    with_device session (Some (with_collected member [])) in
+    no_slot_text now time (bytes_with member chunk) text cause
+    (member_in_slot (slice_get now.devices now.current)) e
 no_chunk_text session time chunk text cause member false false e = not_accepted text _ cause _ e
 
 no_chunk_slot_text : (session : Session) (time chunk text : List ℕ) (cause : Cause) (slot : Option Member) → ended_with text cause ≡ chunk_of session time chunk slot → text ≡ []
 no_chunk_slot_text session time chunk text cause None e = no_refusal_text session _ text cause e
 no_chunk_slot_text session time chunk text cause (Some member) e = no_chunk_text session time chunk text cause member member.in_doubt (ends_with member chunk) e
 
-no_told_text : (session : Session) (time : Option (List ℕ)) (bytes text : List ℕ) (cause : Cause) → ended_with text cause ≡ stream_told time bytes session → text ≡ []
+no_told_text : (session : Session) (time : Option (List ℕ)) (bytes text : List ℕ) (cause : Cause)
+    → ended_with text cause ≡ stream_outcome time bytes session → text ≡ []
 no_told_text session None bytes text cause e = no_refusal_text session _ text cause e
-no_told_text session (Some time) bytes text cause e = no_chunk_slot_text session time bytes text cause (known_at (slice_get session.devices session.current)) e
+no_told_text session (Some time) bytes text cause e =
+    no_chunk_slot_text session time bytes text cause (member_in_slot (slice_get session.devices session.current)) e
 
 no_end_text : (session : Session) (content : Option Content) (text : List ℕ) (cause : Cause) → EndTells session content (ended_with text cause) → text ≡ []
 no_end_text session None text cause e = not_accepted text _ cause _ e
 no_end_text session (Some contents.Descriptor) text cause (inl h) = not_accepted text _ cause _ h.2
 no_end_text session (Some contents.Descriptor) text cause (inr h) = no_refusal_text _ _ text cause h.2
-no_end_text session (Some contents.Stream) text cause e = no_told_text (ended session) (time_of session.gathered.time) session.gathered.bytes text cause e
+no_end_text session (Some contents.Stream) text cause e =
+    no_told_text (after_dump session) (time_of session.gathered.time) session.gathered.bytes text cause e
 
 no_said_text : (session : Session) (said : Said) (text : List ℕ) (cause : Cause) → SaidTells session said (ended_with text cause) → text ≡ []
 no_said_text session Nothing text cause e = not_accepted text _ cause _ e
 no_said_text session Blank text cause h = no_end_text session session.gathered.content text cause h
-no_said_text session (Begins address content time) text cause e = no_begin_text session address content time (numbered session.addresses address) text cause e
+no_said_text session (Begins address content time) text cause e =
+    no_begin_text session address content time (number_of_address session.addresses address) text cause e
 no_said_text session (Bytes bytes) text cause e = no_gathered_text session bytes session.gathered.content text cause e
 no_said_text session (Device device) text cause e = not_accepted text _ cause _ e
 no_said_text session (Descriptor bytes) text cause (inl h) = not_accepted text _ cause _ h.2
 no_said_text session (Descriptor bytes) text cause (inr h) = no_refusal_text _ _ text cause h.2
 no_said_text session (Unread interface why) text cause e = no_refusal_text _ why text cause e
-no_said_text session (Report time bytes) text cause e = no_slot_text session time bytes text cause (known_at (slice_get session.devices session.current)) e
+no_said_text session (Report time bytes) text cause e =
+    no_slot_text session time bytes text cause (member_in_slot (slice_get session.devices session.current)) e
 
 no_meant_text : (session : Session) (meant : Result Said Why) (text : List ℕ) (cause : Cause) → Means session meant (ended_with text cause) → text ≡ []
 no_meant_text session (Ok said) text cause h = no_said_text session said text cause h
@@ -113,7 +126,7 @@ no_meant_text session (Err why) text cause e = no_refusal_text _ why text cause 
 
 unless_text : (long : Bool) (session : Session) (line text : List ℕ) (cause : Cause) → TellsUnless long session line (ended_with text cause) → text ≡ []
 unless_text true session line text cause e = no_text text cause _ e
-unless_text false session line text cause h = no_meant_text (advanced session) (record_of line) text cause h
+unless_text false session line text cause h = no_meant_text (with_line_counted session) (record_of line) text cause h
 
 line_begins : (session : Session) (bytes text : List ℕ) (cause : Cause) → LineTells session bytes (ended_with text cause) → LineBegins session bytes text
 unfolding LineTells LineBegins
@@ -147,8 +160,10 @@ cut_stops session recording before written first fault at is same h = record {
   whole = h.whole;
 }
 
--- and behind the last line nothing is told that could be cut
-cut_at_end : (session : Session) (recording : List (List ℕ)) (written : List ℕ) (result : Result Summary RecordingFault) (fault : RecordingFault) → fault.line ≡ line_of result → fault.cause ≡ causes.Write → fault.played ≡ played_of result
+-- after the last line nothing is reported that could be lost
+cut_at_end : (session : Session) (recording : List (List ℕ)) (written : List ℕ)
+    (result : Result Summary RecordingFault) (fault : RecordingFault) → fault.line ≡ line_of result
+    → fault.cause ≡ causes.Write → fault.played ≡ summary_until result
     → RunsTo session recording 0 written result → Stops session recording 0 written fault
 unfolding ending_of
 cut_at_end session recording written (Err first) fault at is same (inl h) = cut_stops session recording 0 written first fault at is same h
@@ -179,7 +194,7 @@ cut_at_end session recording written (Ok summary) fault at is same h = record {
   whole = sym (append-nil written);
 }
 
--- ---- what was told is flushed
+-- ---- what was reported is flushed
 
 pub kept_written : (a b c : Option (List ℕ)) (written : List ℕ) → Appends a b written → Keeps b c → Appends a c written
 kept_written None b c written h k = tt
@@ -192,7 +207,9 @@ flushed_run place None c d e result h k = tt
 flushed_run place (Some recording) c d e result h k = (h.0, kept_written c d e h.0 h.1 k, h.2)
 
 -- the last flush failed
-pub never_flushed : (options : Options) (a c d e : Option (List ℕ)) (result : Result Summary RecordingFault) (fault : RecordingFault) → fault.line ≡ line_of result → fault.cause ≡ causes.Write → fault.played ≡ played_of result
+pub never_flushed : (options : Options) (a c d e : Option (List ℕ)) (result : Result Summary RecordingFault)
+    (fault : RecordingFault) → fault.line ≡ line_of result → fault.cause ≡ causes.Write
+    → fault.played ≡ summary_until result
     → AppendsRecording options a c d result → Keeps d e → AppendsRecording options a c e (Err fault)
 never_flushed options None c d e result fault at is same h k = tt
 never_flushed options (Some recording) c d e result fault at is same h k = (h.0, kept_written c d e h.0 h.1 k, inl (cut_at_end (at_first options) (lines recording) h.0 result fault at is same h.2))

@@ -1,67 +1,21 @@
 -- Lines of a recording that comes in pieces, and what a run of them wrote.
-use Rattle.std.proofs.Common.{◌≡◌, ℕ, ◌+◌, ◌-◌, ◌<◌, ◌≤◌, Bool, true, false, List, [], ◌∷◌, ◌++◌, length, length-append, take, drop, take-append-drop, refl, sym, ap, inl, ◌∙◌, arith, append-nil, append_assoc, subst, inr, Result, Ok, Err, Option, None, Some, IfSome, IsErrAnd, cond, nat_eq, get_or}
-use Rattle.std.specs.List.{slice_split, onto_first, All}
-use Rattle.std.specs.Str.Lines.{lines, lines_of_parts, strip_carriage_return}
+use Rattle.std.proofs.Common.{◌≡◌, ℕ, ◌+◌, ◌<◌, List, [], ◌∷◌, ◌++◌, length, length-append, refl, sym, ap, inl, ◌∙◌, arith, append-nil, append_assoc, subst, inr, Result, Ok, Err, Option, None, Some, IfSome, IsErrAnd}
+use Rattle.std.specs.Str.Lines.{lines, strip_carriage_return}
 use Rattle.std.specs.Io.KnownBytes.{Appends, Consumes, IsAtEnd}
-use Rattle.std.proofs.lemmas.List.Splits.{slice_split_at, slice_split_none, slice_split-cons_no}
-use Rattle.std.proofs.lemmas.List.Elements.{All-head, All-tail, All-push}
-use Rattle.std.proofs.lemmas.List.{length-take-le, drop_more, take_more}
-use Rattle.std.proofs.lemmas.Bool.{cond-false, cond_both, lt-ltb, ne_eqb}
+use Rattle.std.proofs.lemmas.Bool.{lt-ltb}
 use Rattle.std.proofs.KnownBytes.{Consumes-trans, Consumes-whole, Appends-trans, Appends-nil}
+use Rattle.hid_text.specs.Lines.{IsUnbroken}
+use Rattle.hid_text.proofs.PieceLemmas.{gives_nothing, gives_more, gives_none, gives_line, last_line, long_line}
 use Rattle.hid_recording.specs.declared.fault.Cause.{Cause}
 use Rattle.hid_recording.specs.declared.fault.Cause.TheVariants as causes
 use Rattle.hid_recording.specs.declared.fault.RecordingFault.{RecordingFault}
 use Rattle.hid_recording.specs.declared.fault.Summary.{Summary}
 use Rattle.hid_recording.specs.declared.fault.Options.{Options}
-use Rattle.hid_recording.specs.Session.{Session, accepted, refused, at_first}
-use Rattle.hid_recording.specs.Telling.{LineTells, LineBegins, TellsUnless}
+use Rattle.hid_recording.specs.Session.{Session, success, failure, at_first}
+use Rattle.hid_recording.specs.LineOutput.{LineTells, LineBegins, TellsUnless}
 use Rattle.hid_recording.specs.Player.{summary_of}
 use Rattle.hid_recording.specs.Runs.{Silence, ending_of, EndsAs, Ends, FirstTells, FirstBegins, AllTell, PlayedTo, RunsTo, AppendsRecording}
-use Rattle.hid_recording.specs.Place.{Place, IsUnbroken, lines_at, Writes, Advances, RunsFrom, Takes, EndsAt, AppendsFrom}
-
--- ---- lines
-
--- there is a part
-some_part : (p : ℕ → Bool) (xs : List ℕ) → (y : List ℕ) × (ys : List (List ℕ)) × (slice_split p xs ≡ y ∷ ys)
-some_part p [] = ([], [], refl)
-some_part p (x ∷ xs) =
-    let more = some_part p xs in
-    elim (p x) as (λ b. (y : List ℕ) × (ys : List (List ℕ)) × (cond b ([] ∷ slice_split p xs) (onto_first x (slice_split p xs)) ≡ y ∷ ys)) [
-      | true ↦ ([], slice_split p xs, refl)
-      | false ↦ (x ∷ more.0, more.1, ap (onto_first x) more.2)
-    ]
-
--- what ends with a line feed is a line before the others
-lines_first : (line rest : List ℕ) → IsUnbroken line → lines (line ++ 10 ∷ rest) ≡ strip_carriage_return line ∷ lines rest
-lines_first line rest whole =
-    let more = some_part (λ b. nat_eq b 10) rest in
-    let split = slice_split_at (λ b. nat_eq b 10) line 10 rest whole refl in
-    ap lines_of_parts split ∙ ap (λ parts. lines_of_parts (line ∷ parts)) more.2 ∙ ap (λ parts. strip_carriage_return line ∷ lines_of_parts parts) (sym more.2)
-
--- what has no line feed is the last line, if it has a byte
-lines_last : (line : List ℕ) → IsUnbroken line → lines line ≡ cond (nat_eq (length line) 0) [] (line ∷ [])
-lines_last line whole = ap lines_of_parts (slice_split_none (λ b. nat_eq b 10) line whole)
-
--- the first part goes on with what comes before any line feed
-split_front : (p : ℕ → Bool) (front rest y : List ℕ) (ys : List (List ℕ)) → All (λ b. p b ≡ false) front → slice_split p rest ≡ y ∷ ys → slice_split p (front ++ rest) ≡ (front ++ y) ∷ ys
-split_front p [] rest y ys whole e = e
-split_front p (x ∷ front) rest y ys whole e =
-    slice_split-cons_no p x (front ++ rest) (All-head (λ b. p b ≡ false) x front whole) ∙ ap (onto_first x) (split_front p front rest y ys (All-tail (λ b. p b ≡ false) x front whole) e)
-
-strip_long : (line : List ℕ) → 16385 < length line → 16384 < length (strip_carriage_return line)
-strip_long line long = cond_both (nat_eq (get_or line (length line - 1) 0) 13) (take (length line - 1) line) line (λ l. 16384 < length l)
-    (λ _. omega (arith, length-take-le (length line - 1) line (omega arith))) (λ _. omega arith)
-
-long_part : (line : List ℕ) (ys : List (List ℕ)) → 16385 < length line → (l : List ℕ) × (ls : List (List ℕ)) × (lines_of_parts (line ∷ ys) ≡ l ∷ ls) × (16384 < length l)
-long_part line [] long = (line, [], cond-false _ _ _ (ne_eqb (length line) 0 (λ none. omega arith)), omega arith)
-long_part line (y ∷ ys) long = (strip_carriage_return line, lines_of_parts (y ∷ ys), refl, strip_long line long)
-
--- what begins with more bytes than a line has is a long line, whatever comes then
-long_first : (front rest : List ℕ) → IsUnbroken front → 16385 < length front → (l : List ℕ) × (ls : List (List ℕ)) × (lines (front ++ rest) ≡ l ∷ ls) × (16384 < length l)
-long_first front rest whole long =
-    let part = some_part (λ b. nat_eq b 10) rest in
-    let first = long_part (front ++ part.0) part.1 (omega (arith, length-append front part.0)) in
-    (first.0, first.1, ap lines_of_parts (split_front (λ b. nat_eq b 10) front rest part.0 part.1 whole part.2) ∙ first.2, first.3)
+use Rattle.hid_recording.specs.Place.{Place, lines_at, Writes, Advances, RunsFrom, Takes, EndsAt, AppendsFrom}
 
 -- ---- what lines tell, one after the other
 
@@ -69,7 +23,7 @@ long_first front rest whole long =
 after_both : (a b c t u : List ℕ) → t ≡ a ++ b → t ++ u ≡ a ++ (b ++ u)
 after_both a b c t u e = ap (λ l. l ++ u) e ∙ append_assoc a b u
 
--- lines behind lines
+-- lines after lines
 all_more : (session middle last : Session) (first more : List (List ℕ)) (text rest : List ℕ) → AllTell session first text middle → AllTell middle more rest last → AllTell session (first ++ more) (text ++ rest) last
 all_more session middle last [] more text rest h k =
     subst (λ (s : Session). AllTell s more (text ++ rest) last) h.1 (subst (λ t. AllTell middle more (t ++ rest) last) (sym h.0) k)
@@ -77,34 +31,37 @@ all_more session middle last (line ∷ first) more text rest h k =
     (h.0, h.1, h.2 ++ rest, h.3, all_more h.1 middle last first more h.2 rest h.4 k, after_both h.0 h.2 [] text rest h.5)
 
 -- one line
-one_tells : (session next : Session) (line text : List ℕ) → LineTells session line (accepted text next) → AllTell session (line ∷ []) text next
+one_tells : (session next : Session) (line text : List ℕ) → LineTells session line (success text next)
+    → AllTell session (line ∷ []) text next
 one_tells session next line text h = (text, next, [], h, (refl, refl), sym (append-nil text))
 
 -- ---- pieces
 
 pub advances_nothing : (p : Place) → Advances p [] [] p
-advances_nothing p = record { ended = []; all = (refl, refl); count = omega arith; split = λ more. refl }
+advances_nothing p = record { ended = []; all = (refl, refl); count = omega arith; split = gives_nothing p.begun }
 
 pub advances_more : (p q r : Place) (a b v w : List ℕ) → Advances p a v q → Advances q b w r → Advances p (a ++ b) (v ++ w) r
 advances_more p q r a b v w h k = record {
   ended = h.ended ++ k.ended;
   all = all_more p.session q.session r.session h.ended k.ended v w h.all k.all;
   count = omega (arith, h.count, k.count, length-append h.ended k.ended);
-  split = λ more. ap (lines_at p) (append_assoc a b more) ∙ h.split (b ++ more) ∙ ap (λ l. h.ended ++ l) (k.split more) ∙ sym (append_assoc h.ended k.ended (lines_at r more));
+  split = gives_more p.begun q.begun r.begun a b h.ended k.ended h.split k.split;
 }
 
--- a byte that ends no line
-pub advances_byte : (session : Session) (begun : List ℕ) (n b : ℕ) → Advances (record { session = session; begun = begun; lines = n }) (b ∷ []) [] (record { session = session; begun = begun ++ b ∷ []; lines = n })
-advances_byte session begun n b = record { ended = []; all = (refl, refl); count = omega arith; split = λ more. ap lines (sym (append_assoc begun (b ∷ []) more)) }
+-- bytes that end no line
+pub advances_kept : (session : Session) (begun bytes left : List ℕ) (n : ℕ) → left ≡ begun ++ bytes
+    → Advances (record { session = session; begun = begun; lines = n }) bytes [] (record { session = session; begun = left; lines = n })
+advances_kept session begun bytes left n same = rw same (record { ended = []; all = (refl, refl); count = omega arith; split = gives_none begun bytes })
 
--- a line feed, where the line was told whole
-pub advances_line : (session next : Session) (begun line : List ℕ) (n : ℕ) (written : List ℕ) → IsUnbroken begun → line ≡ strip_carriage_return begun → LineTells session line (accepted written next)
-    → Advances (record { session = session; begun = begun; lines = n }) (10 ∷ []) written (record { session = next; begun = []; lines = n + 1 })
-advances_line session next begun line n written whole same told = record {
+-- the last bytes of a line and its line feed, where the line was told whole
+pub advances_line : (session next : Session) (begun last line : List ℕ) (n : ℕ) (written : List ℕ) → IsUnbroken begun → IsUnbroken last
+    → line ≡ strip_carriage_return (begun ++ last) → LineTells session line (success written next)
+    → Advances (record { session = session; begun = begun; lines = n }) (last ++ 10 ∷ []) written (record { session = next; begun = []; lines = n + 1 })
+advances_line session next begun last line n written whole apart same told = record {
   ended = line ∷ [];
   all = one_tells session next line written told;
   count = omega arith;
-  split = λ more. lines_first begun more whole ∙ ap (λ l. l ∷ lines more) (sym same);
+  split = gives_line begun last line whole apart same;
 }
 
 -- ---- what was played
@@ -133,7 +90,7 @@ line_stops session recording others before line part cause fault e at is played 
   whole = refl;
 })
 
--- what runs on behind lines that were told
+-- what runs on after lines that were reported
 runs_more : (session middle : Session) (first others : List (List ℕ)) (before after : ℕ) (text rest : List ℕ) (result : Result Summary RecordingFault) → AllTell session first text middle → after ≡ before + length first
     → RunsTo middle others after rest result → RunsTo session (first ++ others) before (text ++ rest) result
 runs_more session middle first others before after text rest (Ok summary) h at k = record {
@@ -172,35 +129,46 @@ runs_after p q bytes more written text result h k =
     (runs_more p.session q.session h.ended (lines_at q more) p.lines q.lines written text result h.all h.count k)
 
 -- a line that is too long ends the run
-pub long_stops : (place : Place) (b : ℕ) (more : List ℕ) (fault : RecordingFault) → IsUnbroken place.begun → nat_eq b 10 ≡ false → 16385 ≤ length place.begun → fault.line ≡ place.lines + 1 → fault.cause ≡ causes.LineTooLong → PlayedTo place.session fault
-    → RunsFrom place (b ∷ more) [] (Err fault)
+pub long_stops : (place : Place) (bytes more : List ℕ) (fault : RecordingFault) → IsUnbroken place.begun → IsUnbroken bytes → 16385 < length place.begun + length bytes → fault.line ≡ place.lines + 1 → fault.cause ≡ causes.LineTooLong → PlayedTo place.session fault
+    → RunsFrom place (bytes ++ more) [] (Err fault)
 unfolding LineTells ending_of
-long_stops place b more fault whole apart long at is played =
-    let first = long_first (place.begun ++ b ∷ []) more (All-push (λ x. nat_eq x 10 ≡ false) place.begun b whole apart) (omega (arith, length-append place.begun (b ∷ []))) in
-    line_stops place.session (lines_at place (b ∷ more)) first.1 place.lines first.0 [] causes.LineTooLong fault (ap lines (sym (append_assoc place.begun (b ∷ []) more)) ∙ first.2) at is played
-    (subst (λ long. TellsUnless long place.session first.0 (refused causes.LineTooLong)) (sym (lt-ltb 16384 (length first.0) first.3)) refl)
+long_stops place bytes more fault whole apart long at is played =
+    let first = long_line 16384 place.begun bytes more whole apart long in
+    line_stops place.session (lines_at place (bytes ++ more)) first.1 place.lines first.0 [] causes.LineTooLong fault first.2 at is played
+    (subst (λ long. TellsUnless long place.session first.0 (failure causes.LineTooLong))
+    (sym (lt-ltb 16384 (length first.0) first.3)) refl)
+
+-- one whose line feed came too
+pub long_line_stops : (place : Place) (last more : List ℕ) (fault : RecordingFault) → IsUnbroken place.begun → IsUnbroken last → 16385 < length place.begun + length last → fault.line ≡ place.lines + 1 → fault.cause ≡ causes.LineTooLong → PlayedTo place.session fault
+    → RunsFrom place ((last ++ 10 ∷ []) ++ more) [] (Err fault)
+long_line_stops place last more fault whole apart long at is played =
+    subst (λ all. RunsFrom place all [] (Err fault)) (sym (append_assoc last (10 ∷ []) more)) (long_stops place last (10 ∷ more) fault whole apart long at is played)
 
 -- a line that ended the run at its line feed
-pub line_feed_stops : (place : Place) (next : Session) (line more written : List ℕ) (cause : Cause) (fault : RecordingFault) → IsUnbroken place.begun → line ≡ strip_carriage_return place.begun
-    → Writes (LineTells place.session line) (LineBegins place.session line) written (Err cause) next → fault.line ≡ place.lines + 1 → fault.cause ≡ cause → PlayedTo place.session fault → RunsFrom place (10 ∷ more) written (Err fault)
-line_feed_stops place next line more written cause fault whole same told at is played =
-    line_stops place.session (lines_at place (10 ∷ more)) (lines more) place.lines line written cause fault (lines_first place.begun more whole ∙ ap (λ l. l ∷ lines more) (sym same)) at is played told
+pub line_feed_stops : (place : Place) (next : Session) (last line more written : List ℕ) (cause : Cause) (fault : RecordingFault) → IsUnbroken place.begun → IsUnbroken last → line ≡ strip_carriage_return (place.begun ++ last)
+    → Writes (LineTells place.session line) (LineBegins place.session line) written (Err cause) next → fault.line ≡ place.lines + 1 → fault.cause ≡ cause → PlayedTo place.session fault → RunsFrom place ((last ++ 10 ∷ []) ++ more) written (Err fault)
+line_feed_stops place next last line more written cause fault whole apart same told at is played =
+    line_stops place.session (lines_at place ((last ++ 10 ∷ []) ++ more)) (lines more) place.lines line written cause fault (gives_line place.begun last line whole apart same more) at is played told
 
--- ---- byte by byte
+-- ---- piece by piece
 
-split_byte : (bytes : List ℕ) (i : ℕ) → i < length bytes → bytes ≡ take i bytes ++ get_or bytes i 0 ∷ drop (i + 1) bytes
-split_byte bytes i below = sym (take-append-drop i bytes) ∙ ap (λ l. take i bytes ++ l) (drop_more bytes i 0 below)
+-- bytes that were taken after others
+pub takes_more : (p q r : Place) (before bytes v w : List ℕ) (result : Result (Unit {0}) RecordingFault) → Advances p before v q → Takes q bytes w result r → Takes p (before ++ bytes) (v ++ w) result r
+takes_more p q r before bytes v w (Ok u) h k = advances_more p q r before bytes v w h k
+takes_more p q r before bytes v w (Err fault) h k = λ more.
+    subst (λ all. RunsFrom p all (v ++ w) (Err fault)) (sym (append_assoc before bytes more)) (runs_after p q before (bytes ++ more) v w (Err fault) h (k more))
 
-pub takes_byte : (p q r : Place) (bytes v w : List ℕ) (i : ℕ) → i < length bytes → Advances p (take i bytes) v q → Advances q (get_or bytes i 0 ∷ []) w r → Advances p (take (i + 1) bytes) (v ++ w) r
-takes_byte p q r bytes v w i below h k = rw (take_more bytes i 0 below) (advances_more p q r (take i bytes) (get_or bytes i 0 ∷ []) v w h k)
+-- the last bytes of a piece
+pub takes_last : (p q r : Place) (bytes before rest v : List ℕ) (result : Result (Unit {0}) RecordingFault) → bytes ≡ before ++ rest → Advances p before v q → Takes q rest [] result r → Takes p bytes v result r
+takes_last p q r bytes before rest v result parts h k =
+    subst (λ all. Takes p all v result r) (sym parts) (subst (λ text. Takes p (before ++ rest) text result r) (append-nil v) (takes_more p q r before rest v [] result h k))
 
-pub stops_at_byte : (p q r : Place) (bytes v w : List ℕ) (i : ℕ) (fault : RecordingFault) (result : Result (Unit {0}) RecordingFault) → i < length bytes → Advances p (take i bytes) v q
-    → ((more : List ℕ) → RunsFrom q (get_or bytes i 0 ∷ more) w (Err fault)) → IsErrAnd result (λ e. e ≡ fault) → Takes p bytes (v ++ w) result r
-stops_at_byte p q r bytes v w i fault (Ok u) below h k is = absurd is
-stops_at_byte p q r bytes v w i fault (Err e) below h k is = λ more.
-    let rest = drop (i + 1) bytes ++ more in
-    let whole : bytes ++ more ≡ take i bytes ++ get_or bytes i 0 ∷ rest = ap (λ l. l ++ more) (split_byte bytes i below) ∙ append_assoc (take i bytes) (get_or bytes i 0 ∷ drop (i + 1) bytes) more in
-    rw is (subst (λ all. RunsFrom p all (v ++ w) (Err fault)) (sym whole) (runs_after p q (take i bytes) (get_or bytes i 0 ∷ rest) v w (Err fault) h (k rest)))
+-- a piece whose first bytes ended the run
+pub stops_early : (p r : Place) (bytes front rest written : List ℕ) (fault : RecordingFault) (result : Result (Unit {0}) RecordingFault) → bytes ≡ front ++ rest → ((more : List ℕ) → RunsFrom p (front ++ more) written (Err fault))
+    → IsErrAnd result (λ e. e ≡ fault) → Takes p bytes written result r
+stops_early p r bytes front rest written fault (Ok u) parts stops is = absurd is
+stops_early p r bytes front rest written fault (Err e) parts stops is = λ more.
+    rw is (subst (λ all. RunsFrom p all written (Err fault)) (sym (ap (λ l. l ++ more) parts ∙ append_assoc front rest more)) (stops (rest ++ more)))
 
 -- ---- whole runs
 
@@ -226,25 +194,22 @@ known_rest None b read P h f = tt
 known_rest (Some xs) None read P h f = absurd h
 known_rest (Some xs) (Some ys) read P h f = subst P (sym h) (f ys)
 
--- the last line, which no line feed ends
-last_line : (place : Place) → IsUnbroken place.begun → 0 < length place.begun → lines_at place [] ≡ place.begun ∷ []
-last_line place whole some = ap lines (append-nil place.begun) ∙ lines_last place.begun whole ∙ cond-false _ _ _ (ne_eqb (length place.begun) 0 (λ none. omega arith))
-
 -- nothing more comes
 ends_at : (session : Session) (before : ℕ) (result : Result Summary RecordingFault) → EndsAt session before result → RunsTo session [] before [] result
 ends_at session before (Ok summary) h = record { last = session; all = (refl, refl); closed = h.0; lines = omega (arith, h.1); counts = h.2 }
 ends_at session before (Err fault) h = inr (record { last = session; all = (refl, refl); unended = h.0; line = omega (arith, h.2); played = h.3; cause = h.1 })
 
-pub last_line_told : (place : Place) (next : Session) (written : List ℕ) (result : Result Summary RecordingFault) → IsUnbroken place.begun → 0 < length place.begun → LineTells place.session place.begun (accepted written next)
+pub last_line_told : (place : Place) (next : Session) (written : List ℕ) (result : Result Summary RecordingFault)
+    → IsUnbroken place.begun → 0 < length place.begun → LineTells place.session place.begun (success written next)
     → EndsAt next (place.lines + 1) result → RunsFrom place [] written result
 last_line_told place next written result whole some told ends =
     let runs = runs_more place.session next (place.begun ∷ []) [] place.lines (place.lines + 1) written [] result (one_tells place.session next place.begun written told) (omega arith) (ends_at next (place.lines + 1) result ends) in
-    subst (λ recording. RunsTo place.session recording place.lines written result) (sym (last_line place whole some)) (subst (λ text. RunsTo place.session (place.begun ∷ []) place.lines text result) (append-nil written) runs)
+    subst (λ recording. RunsTo place.session recording place.lines written result) (sym (last_line place.begun whole some)) (subst (λ text. RunsTo place.session (place.begun ∷ []) place.lines text result) (append-nil written) runs)
 
 pub last_line_stops : (place : Place) (next : Session) (written : List ℕ) (cause : Cause) (fault : RecordingFault) → IsUnbroken place.begun → 0 < length place.begun → Writes (LineTells place.session place.begun) (LineBegins place.session place.begun) written (Err cause) next
     → fault.line ≡ place.lines + 1 → fault.cause ≡ cause → PlayedTo place.session fault → RunsFrom place [] written (Err fault)
 last_line_stops place next written cause fault whole some told at is played =
-    line_stops place.session (lines_at place []) [] place.lines place.begun written cause fault (last_line place whole some) at is played told
+    line_stops place.session (lines_at place []) [] place.lines place.begun written cause fault (last_line place.begun whole some) at is played told
 
 pub no_last_line : (place : Place) (result : Result Summary RecordingFault) → place.begun ≡ [] → EndsAt place.session place.lines result → RunsFrom place [] [] result
 no_last_line place result none ends =
@@ -315,7 +280,7 @@ no_line_run options recording fault at is played = inl (record {
   whole = refl;
 })
 
--- memory for the devices was wanting before the first read
+-- memory for the devices ran out before the first read
 pub never_begun : (options : Options) (a c : Option (List ℕ)) (fault : RecordingFault) → fault.line ≡ 1 → fault.cause ≡ causes.Memory → PlayedTo (at_first options) fault → AppendsRecording options a c c (Err fault)
 never_begun options None c fault at is played = tt
 never_begun options (Some recording) c fault at is played = ([], Appends-nil c, no_line_run options recording fault at is played)

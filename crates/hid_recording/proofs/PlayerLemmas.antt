@@ -9,7 +9,7 @@ use Rattle.hid_descriptor.specs.declared.fault.Cause.TheVariants as whys
 use Rattle.hid_descriptor.specs.declared.fault.LayoutFault.{LayoutFault}
 use Rattle.hid_descriptor.specs.Faults.{Explains, Refuses}
 use Rattle.hid_layout.specs.Layout.{Contents}
-use Rattle.hid_snapshots.specs.declared.cell.Cell.{Cell}
+use Rattle.hid_snapshots.specs.declared.control_state.ControlState.{ControlState}
 use Rattle.hid_snapshots.specs.declared.event.Event.{Event}
 use Rattle.hid_snapshots.specs.declared.fault.ReportFault.{ReportFault}
 use Rattle.hid_usages.specs.Reading.{report_named}
@@ -23,14 +23,14 @@ use Rattle.hid_recording.specs.declared.dump.Content.{Content}
 use Rattle.hid_recording.specs.declared.dump.Content.TheVariants as contents
 use Rattle.hid_recording.specs.Output.{AppendsFront}
 use Rattle.hid_recording.specs.Refusals.{is_memory}
-use Rattle.hid_recording.specs.Session.{Session, Member, Outcome, accepted, refused, counted}
+use Rattle.hid_recording.specs.Session.{Session, Member, Outcome, success, failure, saturating_sum}
 use Rattle.hid_recording.specs.Records.{Said, record_of}
 use Rattle.hid_recording.specs.EventLines.{event_lines}
 use Rattle.hid_recording.specs.declared.recorded.Joined.{Joined}
 use Rattle.hid_recording.specs.declared.recorded.Joined.TheVariants.{Unknown, Doubtful, Begun, Whole}
-use Rattle.hid_recording.specs.Joining.{IsRefusedAs, Joins, past_chunk, bytes_with, ends_with, kept_of}
-use Rattle.hid_recording.specs.Telling.{refuses, with_device, TellsDescriptor, SaidTells, values_asked, report_text, reads_named, reads_of, known_at, report_told, chunk_in, chunk_of, chunk_told, ended, EndTells, Means, TellsUnless, LineTells, LineBegins}
-use Rattle.hid_recording.specs.Gathering.{EndsIn, Gathers}
+use Rattle.hid_recording.specs.Joining.{IsRefusedAs, Joins, past_chunk, bytes_with, ends_with, with_collected}
+use Rattle.hid_recording.specs.LineOutput.{refuses, with_device, TellsDescriptor, SaidTells, values_asked, report_text, reads_named, reads_of, member_in_slot, report_outcome, chunk_in, chunk_of, chunk_outcome, after_dump, EndTells, Means, TellsUnless, LineTells, LineBegins}
+use Rattle.hid_recording.specs.Gathering.{EndsIn, Gathers, IsCauseOfLine}
 use Rattle.hid_recording.specs.Playing.{TakesOne, SlotTakesNone, PlaysAt}
 use Rattle.hid_recording.specs.Runs.{ending_of, Ends}
 use Rattle.hid_recording.specs.Place.{AppendsTold}
@@ -40,7 +40,7 @@ use Rattle.hid_recording.proofs.PlaceLemmas.{begins_nothing}
 
 ends_so : (P Q : Outcome → Type 0) (cause : Cause) → ((o : Outcome) → P o → Q o) → EndsIn P cause → EndsIn Q cause
 ends_so P Q causes.Memory f h = tt
-ends_so P Q (causes.Refused why) f h = f (refused (causes.Refused why)) h
+ends_so P Q (causes.Refused why) f h = f (failure (causes.Refused why)) h
 ends_so P Q causes.LineTooLong f h = absurd h
 ends_so P Q causes.Read f h = absurd h
 ends_so P Q causes.Write f h = absurd h
@@ -48,7 +48,7 @@ ends_so P Q causes.TooManyReads f h = absurd h
 ends_so P Q causes.Unended f h = absurd h
 
 pub gathers_so : (P Q : Outcome → Type 0) (r : Result (Unit {0}) Cause) (text : List ℕ) (next : Session) → ((o : Outcome) → P o → Q o) → Gathers P r text next → Gathers Q r text next
-gathers_so P Q (Ok u) text next f h = f (accepted text next) h
+gathers_so P Q (Ok u) text next f h = f (success text next) h
 gathers_so P Q (Err cause) text next f h = ends_so P Q cause f h
 
 -- ---- descriptors
@@ -57,7 +57,7 @@ explained : (why : layouts.Cause) (bytes : List ℕ) (at : ℕ) → is_memory wh
 explained whys.Memory bytes at other h = absurd (cc)
 explained why bytes at other h = h
 
--- a descriptor that is refused for another cause than want of memory
+-- a descriptor that is refused for another cause than out of memory
 pub descriptor_refused : (session : Session) (bytes : List ℕ) (fault : LayoutFault) (r : Result (Unit {0}) Cause) (text : List ℕ) (next : Session) → is_memory fault.cause ≡ false → Explains bytes fault.cause fault.at
     → Gathers (λ o. o ≡ refuses (with_device session None) (refusals.Layout fault)) r text next → Gathers (TellsDescriptor bytes session) r text next
 descriptor_refused session bytes fault r text next other told h =
@@ -65,7 +65,8 @@ descriptor_refused session bytes fault r text next other told h =
 
 -- a dump of a descriptor, told in the session that its end leaves
 pub dump_described : (session : Session) (content : Option Content) (bytes : List ℕ) (now : Session) (r : Result (Unit {0}) Cause) (text : List ℕ) (next : Session) → Gathers (TellsDescriptor bytes now) r text next
-    → content ≡ Some contents.Descriptor → bytes ≡ session.gathered.bytes → now ≡ ended session → Gathers (EndTells session content) r text next
+    → content ≡ Some contents.Descriptor → bytes ≡ session.gathered.bytes → now ≡ after_dump session
+    → Gathers (EndTells session content) r text next
 dump_described session content bytes now r text next h is same after =
     subst (λ c. Gathers (EndTells session c) r text next) (sym is)
     (subst (λ (s : Session). Gathers (TellsDescriptor session.gathered.bytes s) r text next) after (subst (λ b. Gathers (TellsDescriptor b now) r text next) same h))
@@ -77,26 +78,41 @@ said_meant session meant said r text next e h = subst (λ m. Gathers (Means sess
 
 -- ---- reports
 
+-- a device by its fields
+is_member : (after : Member) (layout : Contents) (states : List ControlState) (collected : List ℕ) (doubt : Bool)
+    → after.layout ≡ layout → after.states ≡ states → after.collected ≡ collected → after.in_doubt ≡ doubt
+    → after ≡ record { layout = layout; states = states; collected = collected; in_doubt = doubt }
+is_member after layout states collected doubt l c k d =
+    ap (λ x. (let m : Member = record { layout = x; states = after.states; collected = after.collected; in_doubt = after.in_doubt } in m)) l
+    ∙ ap (λ x. (let m : Member = record { layout = layout; states = x; collected = after.collected; in_doubt = after.in_doubt } in m)) c
+    ∙ ap (λ x. (let m : Member = record { layout = layout; states = states; collected = x; in_doubt = after.in_doubt } in m)) k
+    ∙ ap (λ x. (let m : Member = record { layout = layout; states = states; collected = collected; in_doubt = x } in m)) d
+
 -- a report that was read, with what it tells
-pub report_taken : (options : Options) (time : List ℕ) (device : ℕ) (bytes : List ℕ) (layout : Contents) (cells after : List Cell) (kept : List ℕ) (doubt : Bool) (old asked more : List ℕ) (none told : List Event) (events report : ℕ) → report_named layout bytes ≡ Ok report
-    → after ≡ read_view layout report bytes cells → none ≡ [] → told ≡ none ++ read_events layout report bytes cells → events ≡ length told
-    → asked ≡ old ++ values_asked options.values time device layout (report_named layout bytes) bytes → more ≡ asked ++ event_lines time device options told
-    → TakesOne options time device bytes (record { layout = layout; cells = cells; collected = kept; in_doubt = doubt }) old events (record { layout = layout; cells = after; collected = kept; in_doubt = doubt }) more
+pub report_taken : (options : Options) (time : List ℕ) (device : ℕ) (bytes : List ℕ) (member after : Member)
+    (old asked more : List ℕ) (none told : List Event) (events report : ℕ) → report_named member.layout bytes ≡ Ok report
+    → after.layout ≡ member.layout → after.states ≡ read_view member.layout report bytes member.states
+    → after.collected ≡ member.collected → after.in_doubt ≡ member.in_doubt → none ≡ []
+    → told ≡ none ++ read_events member.layout report bytes member.states → events ≡ length told
+    → asked ≡ old ++ values_asked options.values time device member.layout (report_named member.layout bytes) bytes
+    → more ≡ asked ++ event_lines time device options told
+    → TakesOne options time device bytes member old events after more
 unfolding report_text
-report_taken options time device bytes layout cells after kept doubt old asked more none told events report named read nothing gives count values lines =
-    let asked_of = λ (n : Result ℕ ReportFault). values_asked options.values time device layout n bytes in
+report_taken options time device bytes member after old asked more none told events report named same read kept doubt nothing gives count values lines =
+    let asked_of = λ (n : Result ℕ ReportFault). values_asked options.values time device member.layout n bytes in
     let shown = λ (l : List Event). event_lines time device options l in
-    let all : told ≡ read_events layout report bytes cells = gives ∙ ap (λ l. l ++ read_events layout report bytes cells) nothing in
+    let all : told ≡ read_events member.layout report bytes member.states
+    = gives ∙ ap (λ l. l ++ read_events member.layout report bytes member.states) nothing in
     record {
       report = report;
       named = named;
-      read = ap (λ c. (let m : Member = record { layout = layout; cells = c; collected = kept; in_doubt = doubt } in m)) read;
+      read = is_member after member.layout (read_view member.layout report bytes member.states) member.collected member.in_doubt same read kept doubt;
       count = count ∙ ap (λ (l : List Event). length l) all;
-      told = lines ∙ ap (λ l. l ++ shown told) values ∙ append_assoc old (asked_of (report_named layout bytes)) (shown told) ∙ ap (λ n. old ++ (asked_of n ++ shown told)) named ∙ ap (λ l. old ++ (asked_of (Ok report) ++ shown l)) all;
+      told = lines ∙ ap (λ l. l ++ shown told) values ∙ append_assoc old (asked_of (report_named member.layout bytes)) (shown told) ∙ ap (λ n. old ++ (asked_of n ++ shown told)) named ∙ ap (λ l. old ++ (asked_of (Ok report) ++ shown l)) all;
     }
 
 -- what stands at a place, put there, changes nothing
-kept_at : (devices : List (Option Member)) (i : ℕ) → set devices i (known_at (slice_get devices i)) ≡ devices
+kept_at : (devices : List (Option Member)) (i : ℕ) → set devices i (member_in_slot (slice_get devices i)) ≡ devices
 kept_at [] i = refl
 kept_at (x ∷ devices) zero = refl
 kept_at (x ∷ devices) (suc i) = ap (λ l. x ∷ l) (kept_at devices i)
@@ -108,68 +124,93 @@ unread session time bytes (Some member) why next h = (h.0, ap (refuses session) 
 -- a report that is refused
 pub report_refused : (session : Session) (options : Options) (time bytes : List ℕ) (current : ℕ) (devices : List (Option Member)) (why : Why) (before more : List ℕ) (r : Result (Unit {0}) Cause) (text : List ℕ) (next : Session) → current ≡ session.current
     → PlaysAt options time session.current bytes session.devices before (Err (causes.Refused why)) devices more
-    → Gathers (λ o. o ≡ refuses (record session { current = current; devices = devices }) why) r text next → Gathers (λ o. o ≡ report_told time bytes session) r text next
+    → Gathers (λ o. o ≡ refuses (record session { current = current; devices = devices }) why) r text next
+    → Gathers (λ o. o ≡ report_outcome time bytes session) r text next
 report_refused session options time bytes current devices why before more r text next here played h =
-    let slot = known_at (slice_get session.devices session.current) in
+    let slot = member_in_slot (slice_get session.devices session.current) in
     let left = unread session time bytes slot why played.0 played.1 in
     let kept : devices ≡ session.devices = played.2 ∙ ap (λ m. set session.devices session.current m) left.0 ∙ kept_at session.devices session.current in
     let same : (let s : Session = record session { current = current; devices = devices } in s) ≡ session = rw (here, kept) refl in
-    gathers_so (λ o. o ≡ refuses (record session { current = current; devices = devices }) why) (λ o. o ≡ report_told time bytes session) r text next (λ o e. e ∙ ap (λ s. refuses s why) same ∙ left.1) h
+    gathers_so (λ o. o ≡ refuses (record session { current = current; devices = devices }) why)
+    (λ o. o ≡ report_outcome time bytes session) r text next (λ o e. e ∙ ap (λ s. refuses s why) same ∙ left.1) h
 
 -- ---- chunks
 
--- what is told of a chunk is told of the device behind it
+-- what is told of a chunk is told of the device after it
 pub chunk_joined : (session : Session) (time chunk : List ℕ) (current : ℕ) (devices : List (Option Member)) (after : Option Member) (tells : Session → Outcome) (r : Result (Unit {0}) Cause) (text : List ℕ) (next : Session)
-    → current ≡ session.current → devices ≡ set session.devices session.current after → tells (with_device session after) ≡ chunk_told time chunk session
-    → Gathers (λ o. o ≡ tells (record session { current = current; devices = devices })) r text next → Gathers (λ o. o ≡ chunk_told time chunk session) r text next
+    → current ≡ session.current → devices ≡ set session.devices session.current after
+    → tells (with_device session after) ≡ chunk_outcome time chunk session
+    → Gathers (λ o. o ≡ tells (record session { current = current; devices = devices })) r text next
+    → Gathers (λ o. o ≡ chunk_outcome time chunk session) r text next
 chunk_joined session time chunk current devices after tells r text next here kept is h =
     let same : (let s : Session = record session { current = current; devices = devices } in s) ≡ with_device session after = rw (here, kept) refl in
-    gathers_so (λ o. o ≡ tells (record session { current = current; devices = devices })) (λ o. o ≡ chunk_told time chunk session) r text next (λ o e. e ∙ ap tells same ∙ is) h
+    gathers_so (λ o. o ≡ tells (record session { current = current; devices = devices }))
+    (λ o. o ≡ chunk_outcome time chunk session) r text next (λ o e. e ∙ ap tells same ∙ is) h
 
 -- a device without a descriptor
-pub unknown_told : (session : Session) (time chunk : List ℕ) (after : Option Member) → known_at (slice_get session.devices session.current) ≡ None → after ≡ None
-    → refuses (with_device session after) refusals.NoLayout ≡ chunk_told time chunk session
+pub unknown_told : (session : Session) (time chunk : List ℕ) (after : Option Member)
+    → member_in_slot (slice_get session.devices session.current) ≡ None → after ≡ None
+    → refuses (with_device session after) refusals.NoLayout ≡ chunk_outcome time chunk session
 unknown_told session time chunk after none still =
     let kept : set session.devices session.current after ≡ session.devices = ap (λ m. set session.devices session.current m) (still ∙ sym none) ∙ kept_at session.devices session.current in
     ap (λ d. refuses (record session { devices = d }) refusals.NoLayout) kept ∙ sym (ap (chunk_of session time chunk) none)
 
 -- a device that a chunk finds so
-found_told : (session : Session) (time chunk : List ℕ) (member : Member) (doubt ends : Bool) → known_at (slice_get session.devices session.current) ≡ Some member → member.in_doubt ≡ doubt → ends_with member chunk ≡ ends
-    → chunk_told time chunk session ≡ chunk_in session time chunk member doubt ends
+found_told : (session : Session) (time chunk : List ℕ) (member : Member) (doubt ends : Bool)
+    → member_in_slot (slice_get session.devices session.current) ≡ Some member → member.in_doubt ≡ doubt
+    → ends_with member chunk ≡ ends
+    → chunk_outcome time chunk session ≡ chunk_in session time chunk member doubt ends
 found_told session time chunk member doubt ends slot doubts does =
     ap (chunk_of session time chunk) slot ∙ ap (λ b. chunk_in session time chunk member b (ends_with member chunk)) doubts ∙ ap (chunk_in session time chunk member doubt) does
 
 -- a part of its report may be missing
-pub doubtful_told : (session : Session) (time chunk : List ℕ) (member : Member) (after : Option Member) → known_at (slice_get session.devices session.current) ≡ Some member → member.in_doubt ≡ true
-    → after ≡ Some (past_chunk member chunk) → refuses (with_device session after) refusals.PartMissing ≡ chunk_told time chunk session
+pub doubtful_told : (session : Session) (time chunk : List ℕ) (member : Member) (after : Option Member)
+    → member_in_slot (slice_get session.devices session.current) ≡ Some member → member.in_doubt ≡ true
+    → after ≡ Some (past_chunk member chunk)
+    → refuses (with_device session after) refusals.PartMissing ≡ chunk_outcome time chunk session
 doubtful_told session time chunk member after slot doubts behind =
     ap (λ m. refuses (with_device session m) refusals.PartMissing) behind ∙ sym (found_told session time chunk member true (ends_with member chunk) slot doubts refl)
 
 -- a chunk that is refused
-pub refused_told : (session : Session) (time chunk : List ℕ) (joined : Joined) (refusal : Why) (after : Option Member) → Joins (known_at (slice_get session.devices session.current)) chunk joined after → IsRefusedAs joined refusal
-    → refuses (with_device session after) refusal ≡ chunk_told time chunk session
+pub refused_told : (session : Session) (time chunk : List ℕ) (joined : Joined) (refusal : Why) (after : Option Member)
+    → Joins (member_in_slot (slice_get session.devices session.current)) chunk joined after
+    → IsRefusedAs joined refusal
+    → refuses (with_device session after) refusal ≡ chunk_outcome time chunk session
 refused_told session time chunk Unknown refusal after joins is =
-    subst (λ r. refuses (with_device session after) r ≡ chunk_told time chunk session) (sym is) (unknown_told session time chunk after joins.0 joins.1)
+    subst (λ r. refuses (with_device session after) r ≡ chunk_outcome time chunk session) (sym is)
+    (unknown_told session time chunk after joins.0 joins.1)
 refused_told session time chunk Doubtful refusal after joins is =
-    subst (λ r. refuses (with_device session after) r ≡ chunk_told time chunk session) (sym is) (doubtful_told session time chunk joins.0 after joins.1 joins.2 joins.3)
+    subst (λ r. refuses (with_device session after) r ≡ chunk_outcome time chunk session) (sym is)
+    (doubtful_told session time chunk joins.0 after joins.1 joins.2 joins.3)
 refused_told session time chunk Begun refusal after joins is = absurd is
 refused_told session time chunk (Whole bytes) refusal after joins is = absurd is
 
 -- more of its report comes
-pub begun_told : (session : Session) (time chunk : List ℕ) (member : Member) (after : Option Member) → known_at (slice_get session.devices session.current) ≡ Some member → member.in_doubt ≡ false → ends_with member chunk ≡ false
-    → after ≡ Some (kept_of member (bytes_with member chunk)) → accepted [] (with_device session after) ≡ chunk_told time chunk session
+pub begun_told : (session : Session) (time chunk : List ℕ) (member : Member) (after : Option Member)
+    → member_in_slot (slice_get session.devices session.current) ≡ Some member → member.in_doubt ≡ false
+    → ends_with member chunk ≡ false
+    → after ≡ Some (with_collected member (bytes_with member chunk))
+    → success [] (with_device session after) ≡ chunk_outcome time chunk session
 begun_told session time chunk member after slot certain goes behind =
-    ap (λ m. accepted [] (with_device session m)) behind ∙ sym (found_told session time chunk member false false slot certain goes)
+    ap (λ m. success [] (with_device session m)) behind
+    ∙ sym (found_told session time chunk member false false slot certain goes)
 
 -- its report ends
-pub whole_told : (session : Session) (time chunk bytes : List ℕ) (member : Member) (after : Option Member) → known_at (slice_get session.devices session.current) ≡ Some member → member.in_doubt ≡ false → ends_with member chunk ≡ true
-    → bytes ≡ bytes_with member chunk → after ≡ Some (kept_of member []) → report_told time bytes (with_device session after) ≡ chunk_told time chunk session
+pub whole_told : (session : Session) (time chunk bytes : List ℕ) (member : Member) (after : Option Member)
+    → member_in_slot (slice_get session.devices session.current) ≡ Some member → member.in_doubt ≡ false
+    → ends_with member chunk ≡ true
+    → bytes ≡ bytes_with member chunk → after ≡ Some (with_collected member [])
+    → report_outcome time bytes (with_device session after) ≡ chunk_outcome time chunk session
 whole_told session time chunk bytes member after slot certain ends all behind =
-    ap (λ m. report_told time bytes (with_device session m)) behind ∙ ap (λ b. report_told time b (with_device session (Some (kept_of member [])))) all ∙ sym (found_told session time chunk member false true slot certain ends)
+    ap (λ m. report_outcome time bytes (with_device session m)) behind
+    ∙ ap (λ b. report_outcome time b (with_device session (Some (with_collected member [])))) all
+    ∙ sym (found_told session time chunk member false true slot certain ends)
 
 -- ---- lines
 
-short_line : (session : Session) (line : List ℕ) (lines' : ℕ) (o : Outcome) → length line ≤ 16384 → lines' ≡ counted session.lines 1 → Means (record session { lines = lines' }) (record_of line) o → LineTells session line o
+short_line : (session : Session) (line : List ℕ) (lines' : ℕ) (o : Outcome) → length line ≤ 16384
+    → lines' ≡ saturating_sum session.lines 1 → Means (record session { lines = lines' }) (record_of line) o
+    → LineTells session line o
 unfolding LineTells
 short_line session line lines' o short count h =
     subst (λ long. TellsUnless long session line o) (sym (le-ltb 16384 (length line) short)) (subst (λ n. Means (record session { lines = n }) (record_of line) o) count h)
@@ -177,12 +218,20 @@ short_line session line lines' o short count h =
 -- a line that is too long
 pub long_line_ends : (old : Option (List ℕ)) (session : Session) (line : List ℕ) → 16384 < length line → (x : List ℕ) × Appends old old x × Ends (LineTells session line) (LineBegins session line) x causes.LineTooLong
 unfolding LineTells ending_of
-long_line_ends old session line long = ([], Appends-nil old, subst (λ b. TellsUnless b session line (refused causes.LineTooLong)) (sym (lt-ltb 16384 (length line) long)) refl)
+long_line_ends old session line long = (
+  [],
+  Appends-nil old,
+  subst (λ b. TellsUnless b session line (failure causes.LineTooLong)) (sym (lt-ltb 16384 (length line) long)) refl,
+)
 
-gathered_ends : (session : Session) (line : List ℕ) (lines' : ℕ) (cause : Cause) → length line ≤ 16384 → lines' ≡ counted session.lines 1 → EndsIn (Means (record session { lines = lines' }) (record_of line)) cause → Ends (LineTells session line) (LineBegins session line) [] cause
+gathered_ends : (session : Session) (line : List ℕ) (lines' : ℕ) (cause : Cause) → length line ≤ 16384
+    → lines' ≡ saturating_sum session.lines 1
+    → EndsIn (Means (record session { lines = lines' }) (record_of line)) cause
+    → Ends (LineTells session line) (LineBegins session line) [] cause
 unfolding ending_of
 gathered_ends session line lines' causes.Memory short count h = begins_nothing session line
-gathered_ends session line lines' (causes.Refused why) short count h = short_line session line lines' (refused (causes.Refused why)) short count h
+gathered_ends session line lines' (causes.Refused why) short count h =
+    short_line session line lines' (failure (causes.Refused why)) short count h
 gathered_ends session line lines' causes.LineTooLong short count h = absurd h
 gathered_ends session line lines' causes.Read short count h = absurd h
 gathered_ends session line lines' causes.Write short count h = absurd h
@@ -190,22 +239,71 @@ gathered_ends session line lines' causes.TooManyReads short count h = absurd h
 gathered_ends session line lines' causes.Unended short count h = absurd h
 
 -- nothing was gathered
-pub line_ends : (old : Option (List ℕ)) (session : Session) (line : List ℕ) (lines' : ℕ) (cause : Cause) (r : Result (Unit {0}) Cause) (next : Session) → length line ≤ 16384 → lines' ≡ counted session.lines 1
+pub line_ends : (old : Option (List ℕ)) (session : Session) (line : List ℕ) (lines' : ℕ) (cause : Cause)
+    (r : Result (Unit {0}) Cause) (next : Session) → length line ≤ 16384 → lines' ≡ saturating_sum session.lines 1
     → EndsIn (Means (record session { lines = lines' }) (record_of line)) cause → IsErrAnd r (λ e. e ≡ cause) → AppendsTold old old (LineTells session line) (LineBegins session line) r next
 line_ends old session line lines' cause (Ok u) next short count h is = absurd is
 line_ends old session line lines' cause (Err e) next short count h is =
     ([], Appends-nil old, subst (λ c. Ends (LineTells session line) (LineBegins session line) [] c) (sym is) (gathered_ends session line lines' cause short count h))
 
 -- what was gathered is written, or a front of it
-pub line_written : (old new : Option (List ℕ)) (session : Session) (line : List ℕ) (lines' : ℕ) (gathered text : List ℕ) (r : Result (Unit {0}) Cause) (next : Session) → length line ≤ 16384 → lines' ≡ counted session.lines 1
-    → Means (record session { lines = lines' }) (record_of line) (accepted gathered next) → text ≡ gathered → OnOk r (Appends old new text) → IfErr r (λ cause. cause ≡ causes.Write) → AppendsFront old new text
+pub line_written : (old new : Option (List ℕ)) (session : Session) (line : List ℕ) (lines' : ℕ)
+    (gathered text : List ℕ) (r : Result (Unit {0}) Cause) (next : Session) → length line ≤ 16384
+    → lines' ≡ saturating_sum session.lines 1
+    → Means (record session { lines = lines' }) (record_of line) (success gathered next) → text ≡ gathered
+    → OnOk r (Appends old new text) → IfErr r (λ cause. cause ≡ causes.Write) → AppendsFront old new text
     → AppendsTold old new (LineTells session line) (LineBegins session line) r next
 unfolding LineBegins ending_of
-line_written old new session line lines' gathered text (Ok u) next short count told same ok cause front =
-    (text, ok, short_line session line lines' (accepted text next) short count (subst (λ t. Means (record session { lines = lines' }) (record_of line) (accepted t next)) (sym same) told))
+line_written old new session line lines' gathered text (Ok u) next short count told same ok cause front = (
+  text,
+  ok,
+  short_line session line lines' (success text next) short count
+      (subst (λ t. Means (record session { lines = lines' }) (record_of line) (success t next)) (sym same) told),
+)
 line_written old new session line lines' gathered text (Err e) next short count told same ok cause front = (
   front.0,
   front.2,
-  subst (λ c. Ends (LineTells session line) (LineBegins session line) front.0 c) (sym cause)
-      (text, inr (next, short_line session line lines' (accepted text next) short count (subst (λ t. Means (record session { lines = lines' }) (record_of line) (accepted t next)) (sym same) told)), front.1),
+  subst (λ c. Ends (LineTells session line) (LineBegins session line) front.0 c) (sym cause) (
+    text,
+    inr (
+      next,
+      short_line session line lines' (success text next) short count
+          (subst (λ t. Means (record session { lines = lines' }) (record_of line) (success t next)) (sym same) told),
+    ),
+    front.1,
+  ),
 )
+
+-- ---- causes
+
+gathered_cause : (Tells : Outcome → Type 0) (session : Session) (line : List ℕ) (cause : Cause) → EndsIn Tells cause → IsCauseOfLine session line cause
+gathered_cause Tells session line (causes.Refused why) h = tt
+gathered_cause Tells session line causes.LineTooLong h = tt
+gathered_cause Tells session line causes.Read h = absurd h
+gathered_cause Tells session line causes.Write h = absurd h
+gathered_cause Tells session line causes.Memory h = tt
+gathered_cause Tells session line causes.TooManyReads h = absurd h
+gathered_cause Tells session line causes.Unended h = absurd h
+
+-- a line of which nothing was gathered
+pub line_cause : (session : Session) (line : List ℕ) (lines' : ℕ) (cause : Cause) (r : Result (Unit {0}) Cause) → lines' ≡ saturating_sum session.lines 1
+    → EndsIn (Means (record session { lines = lines' }) (record_of line)) cause
+    → IsErrAnd r (λ e. e ≡ cause) → IfErr r (λ e. IsCauseOfLine session line e)
+line_cause session line lines' cause (Ok u) count h is = absurd is
+line_cause session line lines' cause (Err e) count h is =
+    subst (λ c. IsCauseOfLine session line c) (sym is) (gathered_cause (Means (record session { lines = lines' }) (record_of line)) session line cause h)
+
+-- a line whose text the writer refuses
+pub written_cause : (session : Session) (line : List ℕ) (lines' : ℕ) (gathered text : List ℕ) (r : Result (Unit {0}) Cause) (next : Session)
+    → length line ≤ 16384 → lines' ≡ saturating_sum session.lines 1
+    → Means (record session { lines = lines' }) (record_of line) (success gathered next) → text ≡ gathered
+    → IfErr r (λ cause. cause ≡ causes.Write) → (text ≡ [] → r ≡ Ok tt) → IfErr r (λ e. IsCauseOfLine session line e)
+written_cause session line lines' gathered text (Ok u) next short count told same cause nothing = tt
+written_cause session line lines' gathered text (Err e) next short count told same cause nothing =
+    subst (λ c. IsCauseOfLine session line c) (sym cause) (
+      text,
+      next,
+      short_line session line lines' (success text next) short count
+          (subst (λ t. Means (record session { lines = lines' }) (record_of line) (success t next)) (sym same) told),
+      λ empty. cc (nothing empty),
+    )

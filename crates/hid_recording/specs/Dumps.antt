@@ -27,10 +27,10 @@ empty_dump content device time =
     record { content = Some content; is_dropped = false; device = device; time = time; bytes = [] }
 
 -- the device whose descriptor a dump of this is to be, if it is to be one
-abbrev pub described_by : Option Content → ℕ → Option ℕ
-described_by None device = None
-described_by (Some Descriptor) device = Some device
-described_by (Some Stream) device = None
+abbrev pub described_device : Option Content → ℕ → Option ℕ
+described_device None device = None
+described_device (Some Descriptor) device = Some device
+described_device (Some Stream) device = None
 
 -- two addresses are one interface of one device
 abbrev pub is_same : Address → Address → Bool
@@ -42,10 +42,10 @@ or_next (Some place) count = Some place
 or_next None count = if nat_lt count 16 then Some count else None
 
 -- the number of the device of an interface: how many interfaces came before it first came, of sixteen
-abbrev pub numbered : List Address → Address → Option ℕ
-numbered known address = or_next (position (is_same address) known) (length known)
+abbrev pub number_of_address : List Address → Address → Option ℕ
+number_of_address known address = or_next (position (is_same address) known) (length known)
 
--- a new interface is the next one, where there is a place for it
+-- the interfaces that came, with one that may be new and is added if there is a place for it
 abbrev pub or_added : Option ℕ → List Address → Address → List Address
 or_added (Some place) known address = known
 or_added None known address = if nat_lt (length known) 16 then known ++ address ∷ [] else known

@@ -26,17 +26,17 @@ event_word (Null control usage) = codes "null"
 event_word (Motion control usage by) = codes "motion"
 event_word (Dropped control usage by) = codes "dropped"
 
--- "time":"T","device":D
+-- the members of when and of which device a report came: "time":"T","device":D
 abbrev pub source_tokens : List ℕ → ℕ → List Token
 source_tokens time device = key (codes "time") ∷ string time ∷ key (codes "device") ∷ number (decimal device) ∷ []
 
--- "event":"WORD","page":P,"id":I
+-- the members of what an event is and of its usage: "event":"WORD","page":P,"id":I
 abbrev pub usage_tokens : List ℕ → Usage → List Token
 usage_tokens word usage =
     key (codes "event") ∷ string word ∷ key (codes "page") ∷ number (decimal usage.page)
     ∷ key (codes "id") ∷ number (decimal usage.id) ∷ []
 
--- "value":N
+-- the member of a number: "value":N
 abbrev pub number_tokens : ℤ → List Token
 number_tokens value = key (codes "value") ∷ number (signed_decimal value) ∷ []
 
@@ -49,7 +49,7 @@ value_tokens (Null control usage) = []
 value_tokens (Motion control usage by) = number_tokens by
 value_tokens (Dropped control usage by) = number_tokens by
 
--- "name":"NAME", where there is one
+-- the member of a name that there may be: "name":"NAME"
 abbrev pub named_tokens : Option Name → List Token
 named_tokens None = []
 named_tokens (Some name) = key (codes "name") ∷ string (name_text name) ∷ []
@@ -58,11 +58,11 @@ named_tokens (Some name) = key (codes "name") ∷ string (name_text name) ∷ []
 abbrev pub name_tokens : Bool → Option Name → List Token
 name_tokens is_asked name = if is_asked then named_tokens name else []
 
--- an object of these members
+-- an object of members
 abbrev pub object : List Token → List Token
 object members = begin_object ∷ members ++ end_object ∷ []
 
--- "time":"T","device":D,"event":"WORD","page":P,"id":I,"value":N,"name":"NAME"
+-- the members of an event: "time":"T","device":D,"event":"WORD","page":P,"id":I,"value":N,"name":"NAME"
 abbrev pub event_members : List ℕ → ℕ → Bool → Event → List Token
 event_members time device names event =
     source_tokens time device ++ usage_tokens (event_word event) (usage_in event)
@@ -72,7 +72,7 @@ event_members time device names event =
 unfoldable pub event_tokens : List ℕ → ℕ → Bool → Event → List Token
 event_tokens time device names event = object (event_members time device names event)
 
--- "line":N,"refused":"CODE: WORDS"
+-- the members of a refusal: "line":N,"refused":"CODE: WORDS"
 abbrev pub refusal_members : ℕ → List ℕ → List Token
 refusal_members line words =
     key (codes "line") ∷ number (decimal line) ∷ key (codes "refused") ∷ string words ∷ []

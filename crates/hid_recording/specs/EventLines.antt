@@ -8,16 +8,16 @@ use Rattle.hid_text.specs.EventText.{event_text}
 use Rattle.hid_recording.specs.declared.fault.Options.{Options}
 use Rattle.hid_recording.specs.EventJson.{usage_in, event_tokens, json_text}
 
--- a name behind a space, where there is one
-abbrev pub behind_space : Option Name → List ℕ
-behind_space None = []
-behind_space (Some name) = 32 ∷ name_text name
+-- a name after a space, where there is one
+abbrev pub after_space : Option Name → List ℕ
+after_space None = []
+after_space (Some name) = 32 ∷ name_text name
 
 -- the name of a usage
 abbrev pub name_words : Usage → List ℕ
-name_words usage = behind_space (name_of usage.page usage.id)
+name_words usage = after_space (name_of usage.page usage.id)
 
--- TIME D EVENT, and with --names the name of its usage
+-- an event as a line for people: TIME D EVENT, and with --names the name of its usage
 abbrev pub plain_line : List ℕ → ℕ → Bool → Event → List ℕ
 plain_line time device names event =
     time ++ 32 ∷ event_text device event ++ (if names then name_words (usage_in event) else []) ++ 10 ∷ []

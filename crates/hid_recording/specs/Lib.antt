@@ -7,9 +7,10 @@ pub mod EventLines
 pub mod Session
 pub mod Taking
 pub mod Joining
-pub mod Telling
+pub mod LineOutput
 pub mod Gathering
 pub mod Playing
+pub mod MemoryUse
 pub mod Player
 pub mod Output
 pub mod Binary

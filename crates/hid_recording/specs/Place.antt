@@ -1,19 +1,20 @@
 -- A recording of which some bytes have come: for proofs (our choice).
-use Rattle.std.specs.Prelude.{◌≡◌, ◌⊎◌, ◌==◌, ℕ, ◌+◌, false, true, List, [], ◌++◌, length, All, IfSome, Option, None, is_some, Result, Ok, Err}
+use Rattle.std.specs.Prelude.{◌≡◌, ◌⊎◌, ℕ, ◌+◌, true, List, [], ◌++◌, length, IfSome, Option, None, is_some, Result, Ok, Err}
 use Rattle.std.specs.Str.Lines.{lines}
 use Rattle.std.specs.Io.KnownBytes.{Appends}
+use Rattle.hid_text.specs.Lines.{GivesLines}
 use Rattle.hid_recording.specs.declared.fault.Cause.{Cause}
 use Rattle.hid_recording.specs.declared.fault.Cause.TheVariants.{Unended}
 use Rattle.hid_recording.specs.declared.fault.RecordingFault.{RecordingFault}
 use Rattle.hid_recording.specs.declared.fault.Summary.{Summary}
-use Rattle.hid_recording.specs.Session.{Session, Outcome, accepted}
+use Rattle.hid_recording.specs.Session.{Session, Outcome, success}
 use Rattle.hid_recording.specs.Player.{summary_of}
 use Rattle.hid_recording.specs.Output.{IsFront}
 use Rattle.hid_recording.specs.Runs.{Ending, Refusal, Want, Cut, Silence, Never, ending_of, AllTell, Ends, PlayedTo, RunsTo}
 
--- what was written of a line: all that it tells, or what its end leaves of that
+-- what was written of a line: all of its outcome, or what its end leaves of that
 abbrev pub Writes : (Outcome → Type 0) → (List ℕ → Type 0) → List ℕ → Result (Unit {0}) Cause → Session → Type 0
-Writes Tells Begun written (Ok _) next = Tells (accepted written next)
+Writes Tells Begun written (Ok _) next = Tells (success written next)
 Writes Tells Begun written (Err cause) next = Ends Tells Begun written cause
 
 -- known bytes grew by what was written of a line
@@ -22,11 +23,11 @@ abbrev pub AppendsTold : Option (List ℕ) → Option (List ℕ) → (Outcome �
 AppendsTold old new Tells Begun result next =
     (written : List ℕ) × Appends old new written × Writes Tells Begun written result next
 
--- what was written of a part that is told once: nothing, or all
+-- what was written of a part that is reported once: nothing, or all
 abbrev pub IsBegun : (Outcome → Type 0) → List ℕ → Type 0
-IsBegun Tells text = (text ≡ []) ⊎ ((next : Session) × Tells (accepted text next))
+IsBegun Tells text = (text ≡ []) ⊎ ((next : Session) × Tells (success text next))
 
--- what the end of such a part leaves of it; a read that failed doesn't end one
+-- what its end leaves of a part that is reported once; a read that failed doesn't end one
 abbrev pub OnceEndsAs : Ending → (Outcome → Type 0) → List ℕ → Cause → Type 0
 OnceEndsAs Refusal Tells written cause = Tells (record { text = written; end = Err cause })
 OnceEndsAs Want Tells written cause = IsBegun Tells written
@@ -34,12 +35,12 @@ OnceEndsAs Cut Tells written cause = (text : List ℕ) × IsBegun Tells text × 
 OnceEndsAs Silence Tells written cause = ⊥
 OnceEndsAs Never Tells written cause = ⊥
 
--- what was written of a part that is told once
+-- what was written of a part that is reported once
 abbrev pub WritesOnce : (Outcome → Type 0) → List ℕ → Result (Unit {0}) Cause → Session → Type 0
-WritesOnce Tells written (Ok _) next = Tells (accepted written next)
+WritesOnce Tells written (Ok _) next = Tells (success written next)
 WritesOnce Tells written (Err cause) next = OnceEndsAs (ending_of cause) Tells written cause
 
--- known bytes grew by that
+-- known bytes grew by what was written of a part that is reported once
 abbrev pub AppendsOnce : Option (List ℕ) → Option (List ℕ) → (Outcome → Type 0)
     → Result (Unit {0}) Cause → Session → Type 0
 AppendsOnce old new Tells result next =
@@ -51,20 +52,16 @@ pub record Place : Type 0 where
   pub begun : List ℕ
   pub lines : ℕ
 
--- no line ends in it
-abbrev pub IsUnbroken : List ℕ → Type 0
-IsUnbroken bytes = All (λ b. (b == 10) ≡ false) bytes
-
 -- the lines from here on, where more comes
 abbrev pub lines_at : Place → List ℕ → List (List ℕ)
 lines_at place more = lines (place.begun ++ more)
 
--- Some bytes came and a text was written: whatever comes then, these lines come first, and the text is theirs.
+-- Some bytes came and a text was written: lines ended in them, whatever comes then, and the text is theirs.
 pub record Advances (old : Place) (bytes written : List ℕ) (new : Place) : Type 0 where
   pub ended : List (List ℕ)
   pub all : AllTell old.session ended written new.session
   pub count : new.lines ≡ old.lines + length ended
-  pub split : (more : List ℕ) → lines_at old (bytes ++ more) ≡ ended ++ lines_at new more
+  pub split : GivesLines old.begun bytes ended new.begun
 
 -- what a run from this place on wrote and answered, where more comes
 abbrev pub RunsFrom : Place → List ℕ → List ℕ → Result Summary RecordingFault → Type 0
@@ -75,13 +72,13 @@ abbrev pub Takes : Place → List ℕ → List ℕ → Result (Unit {0}) Recordi
 Takes old bytes written (Ok _) new = Advances old bytes written new
 Takes old bytes written (Err fault) new = (more : List ℕ) → RunsFrom old (bytes ++ more) written (Err fault)
 
--- known bytes grew by what was written
+-- known bytes grew by what was written once these bytes were taken
 abbrev pub AppendsTaken : Option (List ℕ) → Option (List ℕ) → Place → List ℕ
     → Result (Unit {0}) RecordingFault → Place → Type 0
 AppendsTaken before after old bytes result new =
     (written : List ℕ) × Appends before after written × Takes old bytes written result new
 
--- a run that ends behind so many lines; a dump that is open there is a fault
+-- what a run gives that ends after n lines; a dump that is open there is a fault
 abbrev pub EndsAt : Session → ℕ → Result Summary RecordingFault → Type 0
 EndsAt session lines' (Ok summary) =
     (session.gathered.content ≡ None) × (summary.lines ≡ lines') × (summary ≡ summary_of session summary.lines)
@@ -93,7 +90,7 @@ EndsAt session lines' (Err fault) =
 abbrev pub AppendsRun : Option (List ℕ) → Option (List ℕ) → Place → Result Summary RecordingFault → Type 0
 AppendsRun old new place result = (written : List ℕ) × Appends old new written × RunsFrom place [] written result
 
--- The writer's bytes grew by what a run of the reader's bytes writes from a place on, if both tell their bytes.
+-- The writer's bytes grew by what a run of the reader's bytes writes from a place on, if the bytes of both are known.
 abbrev pub AppendsFrom : Place → Option (List ℕ) → Option (List ℕ) → Option (List ℕ)
     → Result Summary RecordingFault → Type 0
 AppendsFrom place reader old new result =

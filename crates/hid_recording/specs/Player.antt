@@ -7,8 +7,8 @@ use Rattle.hid_recording.specs.declared.fault.Summary.{Summary}
 use Rattle.hid_recording.specs.Session.{Session}
 
 -- what came of a dump
-abbrev pub gathered_of : Dump → Gathered
-gathered_of dump =
+abbrev pub gathering_of : Dump → Gathered
+gathering_of dump =
     record {
       content = dump.content;
       is_dropped = dump.is_dropped;
@@ -24,7 +24,7 @@ session_of p = record {
   current = p.devices.current;
   devices = p.devices.slots.items;
   addresses = p.addresses.known.items;
-  gathered = gathered_of p.dump;
+  gathered = gathering_of p.dump;
   lines = p.lines;
   descriptors = p.descriptors;
   reports = p.reports;
@@ -32,7 +32,7 @@ session_of p = record {
   refused = p.refused;
 }
 
--- what is counted of a session, in so many lines
+-- what is counted of a session, in n lines
 abbrev pub summary_of : Session → ℕ → Summary
 summary_of session lines = record {
   lines = lines;

@@ -9,9 +9,9 @@ use Rattle.hid_recording.specs.declared.fault.Refusal.TheVariants.{NoLayout, Rep
 use Rattle.hid_recording.specs.declared.event_line.Source.{Source}
 use Rattle.hid_recording.specs.Session.{Member}
 use Rattle.hid_recording.specs.Taking.{read_member, member_events}
-use Rattle.hid_recording.specs.Telling.{report_text, known_at}
+use Rattle.hid_recording.specs.LineOutput.{report_text, member_in_slot}
 
--- why no report was played: want of memory; or the bytes are none, and the device is as it was
+-- why no report was played: out of memory; or the bytes are none, and the device is as it was
 abbrev pub TakesNone : Member → List ℕ → Cause → Member → Type 0
 TakesNone member bytes Memory after = ⊤
 TakesNone member bytes (Refused refusal) after =
@@ -22,7 +22,7 @@ TakesNone member bytes Write after = ⊥
 TakesNone member bytes TooManyReads after = ⊥
 TakesNone member bytes Unended after = ⊥
 
--- a report was read, and what it tells was added
+-- a report was read, and its text was added
 pub record TakesOne (options : Options) (time : List ℕ) (device : ℕ) (bytes : List ℕ) (member : Member)
     (text : List ℕ) (events : ℕ) (after : Member) (more : List ℕ) : Type 0 where
   pub report : ℕ
@@ -31,13 +31,13 @@ pub record TakesOne (options : Options) (time : List ℕ) (device : ℕ) (bytes 
   pub count : events ≡ length (member_events member report bytes)
   pub told : more ≡ text ++ report_text options time device member report bytes
 
--- a report of a device
+-- what playing a report of a device makes of the device and of the text
 abbrev pub PlaysMember : Options → List ℕ → ℕ → List ℕ → Member → List ℕ → Result ℕ Cause → Member → List ℕ → Type 0
 PlaysMember options time device bytes member text (Ok events) after more =
     TakesOne options time device bytes member text events after more
 PlaysMember options time device bytes member text (Err cause) after more = TakesNone member bytes cause after
 
--- why no report was played of a slot
+-- why no report of the device in a slot was played
 abbrev pub SlotTakesNone : Option Member → List ℕ → Cause → Option Member → Type 0
 SlotTakesNone slot bytes Memory after = ⊤
 SlotTakesNone None bytes (Refused refusal) after = (after ≡ None) × (refusal ≡ NoLayout)
@@ -50,7 +50,7 @@ SlotTakesNone slot bytes Write after = ⊥
 SlotTakesNone slot bytes TooManyReads after = ⊥
 SlotTakesNone slot bytes Unended after = ⊥
 
--- a report was played of a slot
+-- a report of the device in a slot was played
 pub record SlotTakesOne (options : Options) (time : List ℕ) (device : ℕ) (bytes : List ℕ) (slot : Option Member)
     (text : List ℕ) (events : ℕ) (after : Option Member) (more : List ℕ) : Type 0 where
   pub member : Member
@@ -59,22 +59,22 @@ pub record SlotTakesOne (options : Options) (time : List ℕ) (device : ℕ) (by
   pub behind : after ≡ Some next
   pub took : TakesOne options time device bytes member text events next more
 
--- a report of the device in a slot
+-- what playing a report of the device in a slot makes of the slot and of the text
 abbrev pub PlaysSlot : Options → List ℕ → ℕ → List ℕ → Option Member → List ℕ → Result ℕ Cause → Option Member
     → List ℕ → Type 0
 PlaysSlot options time device bytes slot text (Ok events) after more =
     SlotTakesOne options time device bytes slot text events after more
 PlaysSlot options time device bytes slot text (Err cause) after more = SlotTakesNone slot bytes cause after
 
--- playing a report tells what its line tells, by where the report came from
+-- what playing a report gives: the text of its line, by where the report came from
 abbrev pub PlaysReport : Source → List ℕ → Option Member → List ℕ → Result ℕ Cause → Option Member → List ℕ → Type 0
 PlaysReport source bytes slot text result after more =
     PlaysSlot source.options source.time.now source.device bytes slot text result after more
 
--- a report of the device at a place
+-- what playing a report of the device at a place makes of the devices and of the text
 abbrev pub PlaysAt : Options → List ℕ → ℕ → List ℕ → List (Option Member) → List ℕ → Result ℕ Cause
     → List (Option Member) → List ℕ → Type 0
 PlaysAt options time device bytes devices text result after more =
     (next : Option Member)
-    × PlaysSlot options time device bytes (known_at (slice_get devices device)) text result next more
+    × PlaysSlot options time device bytes (member_in_slot (slice_get devices device)) text result next more
     × (after ≡ set devices device next)

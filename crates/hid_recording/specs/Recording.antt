@@ -5,4 +5,4 @@ use Rattle.hid_recording.specs.Place.{Place}
 
 -- the place at which a recording stands
 abbrev pub place_of : Recording → Place
-place_of s = record { session = session_of s.player; begun = s.begun.items; lines = s.lines }
+place_of s = record { session = session_of s.player; begun = s.buffer.bytes.items; lines = s.lines }

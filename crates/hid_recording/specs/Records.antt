@@ -28,26 +28,26 @@ pub data Said : Type 0 where
   Bytes : Option (List ℕ) → Said
 
 -- what a record says
-abbrev pub said_in : Record → Said
-said_in records.Nothing = Nothing
-said_in records.Blank = Blank
-said_in (records.Device device) = Device device.number
-said_in (records.Descriptor bytes) = Descriptor bytes.items
-said_in (records.Unread interface refusal) = Unread interface refusal
-said_in (records.Report time bytes) = Report time.now bytes.items
-said_in (records.Begins address content time) = Begins address content time.now
-said_in (records.Bytes bytes) = Bytes (option_map (λ b. b.items) bytes)
+abbrev pub said_of : Record → Said
+said_of records.Nothing = Nothing
+said_of records.Blank = Blank
+said_of (records.Device device) = Device device.number
+said_of (records.Descriptor bytes) = Descriptor bytes.items
+said_of (records.Unread interface refusal) = Unread interface refusal
+said_of (records.Report time bytes) = Report time.now bytes.items
+said_of (records.Begins address content time) = Begins address content time.now
+said_of (records.Bytes bytes) = Bytes (option_map (λ b. b.items) bytes)
 
--- bytes that are so many
+-- bytes where they are as many as the count says, or why they aren't
 abbrev pub if_so_many : Word → Option (List ℕ) → Result (List ℕ) Refusal
 if_so_many count None = Err BadHex
 if_so_many count (Some bytes) = if is_count count (length bytes) then Ok bytes else Err BadCount
 
--- the bytes that words spell, where they are so many
+-- the bytes that words spell, if they are as many as a word counts
 abbrev pub counted_bytes : Word → List Word → Result (List ℕ) Refusal
 counted_bytes count hex = if_so_many count (bytes_of hex)
 
--- what is said of such bytes
+-- what is said of the bytes that were read, or why there are none
 abbrev pub of_bytes : (List ℕ → Said) → Result (List ℕ) Refusal → Result Said Refusal
 of_bytes make (Ok bytes) = Ok (make bytes)
 of_bytes make (Err refusal) = Err refusal
@@ -57,81 +57,81 @@ abbrev pub or_no_device : Option ℕ → Result Said Refusal
 or_no_device None = Err BadDevice
 or_no_device (Some device) = Ok (Device device)
 
--- DEVICE
-abbrev pub device_said : List Word → Result Said Refusal
-device_said (word ∷ []) = or_no_device (device_of word)
-device_said _ = Err BadDevice
+-- what the words after `D:` say: DEVICE
+abbrev pub device_record : List Word → Result Said Refusal
+device_record (word ∷ []) = or_no_device (device_of word)
+device_record _ = Err BadDevice
 
 -- the bytes of a descriptor, or why there are none
 abbrev pub or_unread : Result (List ℕ) Refusal → Said
 or_unread (Ok bytes) = Descriptor bytes
 or_unread (Err refusal) = Unread None refusal
 
--- COUNT HEX
-abbrev pub descriptor_said : List Word → Said
-descriptor_said (count ∷ hex) = or_unread (counted_bytes count hex)
-descriptor_said [] = Unread None BadCount
+-- what the words after `R:` say: COUNT HEX
+abbrev pub descriptor_record : List Word → Said
+descriptor_record (count ∷ hex) = or_unread (counted_bytes count hex)
+descriptor_record [] = Unread None BadCount
 
 -- what came at a time that there may be
 abbrev pub came_at : Option (List ℕ) → Word → List Word → Result Said Refusal
 came_at None count hex = Err BadTime
 came_at (Some time) count hex = of_bytes (Report time) (counted_bytes count hex)
 
--- TIME COUNT HEX
-abbrev pub report_said : List Word → Result Said Refusal
-report_said (time ∷ count ∷ hex) = came_at (time_of time) count hex
-report_said _ = Err BadCount
+-- what the words after `E:` say: TIME COUNT HEX
+abbrev pub report_record : List Word → Result Said Refusal
+report_record (time ∷ count ∷ hex) = came_at (time_of time) count hex
+report_record _ = Err BadCount
 
--- what the words behind a letter say: N, P and I name a device, D numbers it, R has its descriptor, E a report
-unfoldable pub said_by : ℕ → List Word → Result Said Refusal
-said_by letter words =
+-- what the words after a letter say: N, P and I name a device, D numbers it, R has its descriptor, E a report
+unfoldable pub words_record : ℕ → List Word → Result Said Refusal
+words_record letter words =
     if letter == 78 || letter == 80 || letter == 73 then Ok Nothing
-    else if letter == 68 then device_said words
-    else if letter == 82 then Ok (descriptor_said words)
-    else if letter == 69 then report_said words
+    else if letter == 68 then device_record words
+    else if letter == 82 then Ok (descriptor_record words)
+    else if letter == 69 then report_record words
     else Err Syntax
 
--- a letter with a colon behind it, and words
-abbrev pub lettered : ℕ → List ℕ → Result Said Refusal
-lettered letter [] = Err Syntax
-lettered letter (colon ∷ rest) = if colon == 58 then said_by letter (words_of rest) else Err Syntax
+-- a letter with a colon after it, and words
+abbrev pub letter_record : ℕ → List ℕ → Result Said Refusal
+letter_record letter [] = Err Syntax
+letter_record letter (colon ∷ rest) = if colon == 58 then words_record letter (words_of rest) else Err Syntax
 
--- HEX, of a dump
-abbrev pub dumped : List Word → Result Said Refusal
-dumped hex = Ok (Bytes (bytes_of hex))
+-- what the words after a space say: HEX, of a dump
+abbrev pub dump_record : List Word → Result Said Refusal
+dump_record hex = Ok (Bytes (bytes_of hex))
 
 -- a time that there may be
 abbrev pub or_no_time : Option (List ℕ) → Result (List ℕ) Refusal
 or_no_time None = Err BadTime
 or_no_time (Some time) = Ok time
 
--- TIME, and nothing more
-abbrev pub time_said : List Word → Result (List ℕ) Refusal
-time_said (time ∷ []) = or_no_time (time_of time)
-time_said _ = Err Syntax
+-- the words after the address in the head of a dump: TIME, and nothing more
+abbrev pub time_record : List Word → Result (List ℕ) Refusal
+time_record (time ∷ []) = or_no_time (time_of time)
+time_record _ = Err Syntax
 
 -- a dump of an interface, or why it doesn't begin: then a descriptor can't be read
-abbrev pub begun : Address → Content → Result (List ℕ) Refusal → Result Said Refusal
-begun address content (Ok time) = Ok (Begins address content time)
-begun address contents.Descriptor (Err refusal) = Ok (Unread (Some address) refusal)
-begun address contents.Stream (Err refusal) = Err refusal
+abbrev pub dump_begin : Address → Content → Result (List ℕ) Refusal → Result Said Refusal
+dump_begin address content (Ok time) = Ok (Begins address content time)
+dump_begin address contents.Descriptor (Err refusal) = Ok (Unread (Some address) refusal)
+dump_begin address contents.Stream (Err refusal) = Err refusal
 
--- a dump of what there may be
-abbrev pub begun_of : Option Address → Option Content → Result (List ℕ) Refusal → Result Said Refusal
-begun_of None content time = Err Syntax
-begun_of (Some address) None time = Err Syntax
-begun_of (Some address) (Some content) time = begun address content time
+-- a dump of an interface and a content that there may be
+abbrev pub dump_begin_of : Option Address → Option Content → Result (List ℕ) Refusal → Result Said Refusal
+dump_begin_of None content time = Err Syntax
+dump_begin_of (Some address) None time = Err Syntax
+dump_begin_of (Some address) (Some content) time = dump_begin address content time
 
--- the parts of an address, and what stands behind them
+-- the parts of an address, and what stands after them
 abbrev pub begins_at : List Word → Result (List ℕ) Refusal → Result Said Refusal
 begins_at (bus ∷ device ∷ interface ∷ content ∷ []) time =
-    begun_of (address_of bus device interface) (content_of content) time
+    dump_begin_of (address_of bus device interface) (content_of content) time
 begins_at _ time = Err Syntax
 
--- BUS:DEVICE:INTERFACE:CONTENT TIME
-abbrev pub header_said : List Word → Result Said Refusal
-header_said (address ∷ time) = begins_at (slice_split is_colon address) (time_said time)
-header_said [] = Err Syntax
+-- what the head of a dump says: BUS:DEVICE:INTERFACE:CONTENT TIME
+abbrev pub header_record : List Word → Result Said Refusal
+header_record (address ∷ time) = begins_at (slice_split is_colon address) (time_record time)
+header_record [] = Err Syntax
 
 -- a digit
 abbrev pub is_digit : ℕ → Bool
@@ -144,11 +144,11 @@ unfoldable pub record_of : List ℕ → Result Said Refusal
 record_of [] = Ok Blank
 record_of (first ∷ rest) =
     if first == 35 then Ok Nothing
-    else if first == 32 then dumped (words_of rest)
-    else if is_digit first then header_said (words_of (first ∷ rest))
-    else lettered first rest
+    else if first == 32 then dump_record (words_of rest)
+    else if is_digit first then header_record (words_of (first ∷ rest))
+    else letter_record first rest
 
--- why nothing was read: want of memory, or the one refusal
+-- why nothing was read: out of memory, or the one refusal
 abbrev pub IsNone : {X : Type 0} → Cause → Result X Refusal → Type 0
 IsNone Memory meant = ⊤
 IsNone (Refused refusal) meant = meant ≡ Err refusal
@@ -160,4 +160,5 @@ IsNone Unended meant = ⊥
 
 -- what was read is what was meant
 abbrev pub ReadsRecord : Result Record Cause → Result Said Refusal → Type 0
-ReadsRecord result meant = MatchResult result (λ record'. meant ≡ Ok (said_in record')) (λ cause. IsNone cause meant)
+ReadsRecord result meant =
+    MatchResult result (λ record'. meant ≡ Ok (said_of record')) (λ cause. IsNone cause meant)

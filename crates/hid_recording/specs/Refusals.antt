@@ -14,7 +14,7 @@ use Rattle.hid_recording.specs.declared.fault.Refusal.TheVariants.{Syntax, BadHe
 use Rattle.hid_recording.specs.declared.fault.Cause.{Cause}
 use Rattle.hid_recording.specs.declared.fault.Cause.TheVariants as causes
 
--- want of memory is no refusal
+-- running out of memory is no refusal
 abbrev pub is_memory : layouts.Cause → Bool
 is_memory Memory = true
 is_memory _ = false
@@ -44,12 +44,12 @@ abbrev pub cause_text : Cause → List ℕ
 cause_text (causes.Refused refusal) = refusal_text refusal
 cause_text causes.LineTooLong = codes "R2: a line of over 16384 bytes"
 cause_text causes.Read = codes "R8: the recording can't be read"
-cause_text causes.Write = codes "R9: what it tells can't be written"
-cause_text causes.Memory = codes "R10: memory was wanting"
+cause_text causes.Write = codes "R9: its text can't be written"
+cause_text causes.Memory = codes "R10: out of memory"
 cause_text causes.TooManyReads = codes "R11: the end didn't come in 1000000000000 reads"
 cause_text causes.Unended = codes "R12: no empty line ends the last dump"
 
--- line N: CODE: WORDS; with --json the same as members. Example: line 1: R4: the count isn't that of the bytes
+-- the line of a refusal: line N: CODE: WORDS, or with --json an object. Example: line 1: R4: the count isn't that of the bytes
 abbrev pub refusal_line : Bool → ℕ → Refusal → List ℕ
 refusal_line json line refusal =
     if json then json_text (refusal_tokens line (refusal_text refusal))

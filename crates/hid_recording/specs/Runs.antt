@@ -1,4 +1,4 @@
--- What a run wrote and answered, of what a recording tells (our choice: docs/RECORDINGS.md).
+-- What a run of a recording wrote and answered (our choice: docs/RECORDINGS.md).
 use Rattle.std.specs.Prelude.{◌≡◌, ◌⊎◌, ℕ, ◌+◌, ◌-◌, true, List, [], ◌∷◌, ◌++◌, length, Result, Ok, Err, Option, None, is_some, IfSome}
 use Rattle.std.specs.Str.Lines.{lines}
 use Rattle.std.specs.Io.KnownBytes.{Appends}
@@ -9,10 +9,10 @@ use Rattle.hid_recording.specs.declared.fault.RecordingFault.{RecordingFault}
 use Rattle.hid_recording.specs.declared.fault.Summary.{Summary}
 use Rattle.hid_recording.specs.Output.{IsFront}
 use Rattle.hid_recording.specs.Player.{summary_of}
-use Rattle.hid_recording.specs.Session.{Session, Outcome, accepted, at_first}
-use Rattle.hid_recording.specs.Telling.{LineTells, LineBegins}
+use Rattle.hid_recording.specs.Session.{Session, Outcome, success, at_first}
+use Rattle.hid_recording.specs.LineOutput.{LineTells, LineBegins}
 
--- How a run ends early at a line: it is refused; memory was wanting in it; the writer cut its text off; it wasn't run
+-- How a run ends early at a line: it is refused; memory ran out in it; the writer cut its text off; it wasn't run
 -- at all; or no line ends so.
 pub data Ending : Type 0 where
   Refusal : Ending
@@ -31,8 +31,8 @@ ending_of Read = Silence
 ending_of TooManyReads = Silence
 ending_of Unended = Never
 
--- What was written of the line at which the run ended: what it tells up to its refusal; nothing or all; a front of
--- that; or nothing.
+-- What was written of the line at which the run ended: its text up to its refusal; nothing or all; a front of that; or
+-- nothing.
 abbrev pub EndsAs : Ending → (Outcome → Type 0) → (List ℕ → Type 0) → List ℕ → Cause → Type 0
 EndsAs Refusal Tells Begun written cause = Tells (record { text = written; end = Err cause })
 EndsAs Want Tells Begun written cause = Begun written
@@ -44,27 +44,27 @@ EndsAs Never Tells Begun written cause = ⊥
 abbrev pub Ends : (Outcome → Type 0) → (List ℕ → Type 0) → List ℕ → Cause → Type 0
 Ends Tells Begun written cause = EndsAs (ending_of cause) Tells Begun written cause
 
--- what the first of these lines tells
+-- the outcome of the first of these lines
 abbrev pub FirstTells : Session → List (List ℕ) → Outcome → Type 0
 FirstTells session [] o = ⊥
 FirstTells session (line ∷ more) o = LineTells session line o
 
--- what it begins to tell; where there is none, nothing
+-- what may be printed of the first of these lines when a run ends in it; nothing where there is none
 abbrev pub FirstBegins : Session → List (List ℕ) → List ℕ → Type 0
 FirstBegins session [] text = text ≡ []
 FirstBegins session (line ∷ more) text = LineBegins session line text
 
--- these lines are accepted one after the other, and their texts, joined, are this text
+-- all lines of a list are accepted, one after the other, and their texts, joined, are this text
 abbrev pub AllTell : Session → List (List ℕ) → List ℕ → Session → Type 0
 AllTell session [] text last = (text ≡ []) × (last ≡ session)
 AllTell session (line ∷ more) text last =
     (first : List ℕ) × (next : Session) × (rest : List ℕ)
-    × LineTells session line (accepted first next)
+    × LineTells session line (success first next)
     × AllTell next more rest last
     × (text ≡ first ++ rest)
 
--- All these lines were run, and no dump is open behind them. So many lines came before them. The counts are those of
--- the session behind them.
+-- All these lines were run, and no dump is open after them. So many lines came before them. The counts are those of
+-- the session after them.
 pub record Finishes (session : Session) (recording : List (List ℕ)) (before : ℕ) (written : List ℕ)
     (summary : Summary) : Type 0 where
   pub last : Session
@@ -77,7 +77,7 @@ pub record Finishes (session : Session) (recording : List (List ℕ)) (before : 
 abbrev pub PlayedTo : Session → RecordingFault → Type 0
 PlayedTo session fault = fault.played ≡ summary_of session (fault.line - 1)
 
--- The run ended at the line behind the first ones: the whole text of those was written, and what the end leaves of that
+-- The run ended at the line after the first ones: the whole text of those was written, and what the end leaves of that
 -- line's.
 pub record Stops (session : Session) (recording : List (List ℕ)) (before : ℕ) (written : List ℕ)
     (fault : RecordingFault) : Type 0 where
@@ -93,7 +93,7 @@ pub record Stops (session : Session) (recording : List (List ℕ)) (before : ℕ
   pub ends : Ends (FirstTells now others) (FirstBegins now others) part fault.cause
   pub whole : written ≡ text ++ part
 
--- All these lines were run, and a dump is open behind them: the recording broke off in it.
+-- All these lines were run, and a dump is open after them: the recording broke off in it.
 pub record BreaksOff (session : Session) (recording : List (List ℕ)) (before : ℕ) (written : List ℕ)
     (fault : RecordingFault) : Type 0 where
   pub last : Session
@@ -109,17 +109,17 @@ RunsTo session recording before written (Ok summary) = Finishes session recordin
 RunsTo session recording before written (Err fault) =
     Stops session recording before written fault ⊎ BreaksOff session recording before written fault
 
--- the line at which a run ended: behind the last one, where all were run
+-- the line at which a run ended: after the last one, where all were run
 abbrev pub line_of : Result Summary RecordingFault → ℕ
 line_of (Ok summary) = summary.lines + 1
 line_of (Err fault) = fault.line
 
 -- what was played when a run ended
-abbrev pub played_of : Result Summary RecordingFault → Summary
-played_of (Ok summary) = summary
-played_of (Err fault) = fault.played
+abbrev pub summary_until : Result Summary RecordingFault → Summary
+summary_until (Ok summary) = summary
+summary_until (Err fault) = fault.played
 
--- the writer's bytes grew by what a run of the reader's bytes writes, where both tell their bytes
+-- the writer's bytes grew by what a run of the reader's bytes writes, if the bytes of both are known
 abbrev pub AppendsRecording : Options → Option (List ℕ) → Option (List ℕ) → Option (List ℕ)
     → Result Summary RecordingFault → Type 0
 AppendsRecording options reader old new result =

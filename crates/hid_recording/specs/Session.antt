@@ -1,10 +1,10 @@
--- What stands between two lines of a recording, and what a line tells: its text, and where it leaves the session (our
--- choice: docs/RECORDINGS.md).
+-- What stands between two lines of a recording, and the outcome of a line: its text, and where it leaves the session
+-- (our choice: docs/RECORDINGS.md).
 use Rattle.std.specs.Prelude.{ℕ, ◌+◌, ◌-◌, ◌^◌, min, Bool, false, List, [], ◌∷◌, Option, None, Result, Ok, Err}
 use Rattle.hid_layout.specs.Layout.{Contents}
 use Rattle.hid_layout.specs.Controls.{items_of}
-use Rattle.hid_snapshots.specs.declared.cell.Cell.{Cell}
-use Rattle.hid_usages.specs.Cells.{blank}
+use Rattle.hid_snapshots.specs.declared.control_state.ControlState.{ControlState}
+use Rattle.hid_usages.specs.ControlStates.{blank}
 use Rattle.hid_recording.specs.declared.dump.Address.{Address}
 use Rattle.hid_recording.specs.Dumps.{Gathered, nothing}
 use Rattle.hid_recording.specs.declared.fault.Options.{Options}
@@ -14,14 +14,14 @@ use Rattle.hid_recording.specs.declared.fault.Cause.{Cause}
 -- with, and whether a part of a report may be missing before that
 pub record Member : Type 0 where
   pub layout : Contents
-  pub cells : List Cell
+  pub states : List ControlState
   pub collected : List ℕ
   pub in_doubt : Bool
 
 -- a device of which no report came yet
 abbrev pub fresh_member : Contents → Member
 fresh_member layout =
-    record { layout = layout; cells = blank (items_of layout); collected = []; in_doubt = false }
+    record { layout = layout; states = blank (items_of layout); collected = []; in_doubt = false }
 
 -- The options, the device of the next lines, the descriptors that were accepted last with what their reports made, the
 -- interfaces of which dumps came, what came of a dump that isn't ended, and counts: of lines, of descriptors, of
@@ -60,8 +60,8 @@ at_first options = record {
 }
 
 -- a count stops at the greatest number of 64 bits
-abbrev pub counted : ℕ → ℕ → ℕ
-counted count more = min (count + more) (2 ^ 64 - 1)
+abbrev pub saturating_sum : ℕ → ℕ → ℕ
+saturating_sum count more = min (count + more) (2 ^ 64 - 1)
 
 -- what a line prints, and where it leaves the session, or why it ends the run
 pub record Outcome : Type 0 where
@@ -69,9 +69,9 @@ pub record Outcome : Type 0 where
   pub end : Result Session Cause
 
 -- a line that prints this, and leaves this session
-abbrev pub accepted : List ℕ → Session → Outcome
-accepted text session = record { text = text; end = Ok session }
+abbrev pub success : List ℕ → Session → Outcome
+success text session = record { text = text; end = Ok session }
 
 -- a line that ends the run prints nothing
-abbrev pub refused : Cause → Outcome
-refused cause = record { text = []; end = Err cause }
+abbrev pub failure : Cause → Outcome
+failure cause = record { text = []; end = Err cause }

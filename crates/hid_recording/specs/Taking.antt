@@ -4,10 +4,10 @@ use Rattle.hid_snapshots.specs.declared.event.Event.{Event}
 use Rattle.hid_usages.specs.Taking.{read_view, read_events}
 use Rattle.hid_recording.specs.Session.{Member}
 
--- a device behind a report
+-- a device after a report
 abbrev pub read_member : Member → ℕ → List ℕ → Member
-read_member member report bytes = record member { cells = read_view member.layout report bytes member.cells }
+read_member member report bytes = record member { states = read_view member.layout report bytes member.states }
 
--- the events of a report: what its bytes tell after the earlier reports of the same device
+-- the events of a report of a device, after the earlier ones
 abbrev pub member_events : Member → ℕ → List ℕ → List Event
-member_events member report bytes = read_events member.layout report bytes member.cells
+member_events member report bytes = read_events member.layout report bytes member.states

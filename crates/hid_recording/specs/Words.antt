@@ -13,7 +13,7 @@ use Rattle.hid_recording.specs.declared.fault.Cause.{Cause}
 use Rattle.hid_recording.specs.declared.fault.Cause.TheVariants.{Refused, Memory}
 use Rattle.hid_recording.specs.declared.fault.Refusal.TheVariants.{BadHex}
 
--- two hex digits, of either case
+-- the byte that two hex digits of either case spell
 abbrev pub byte_of : Word → Option ℕ
 byte_of (high ∷ low ∷ []) =
     if nat_lt (digit_value high) 16 && nat_lt (digit_value low) 16
@@ -31,12 +31,12 @@ bytes_of words =
     if list_all (λ word. is_some (byte_of word)) words
     then Some (map (λ word. byte_in (byte_of word)) words) else None
 
--- why no bytes were read: want of memory, or a word that is no byte
+-- why no bytes were read: out of memory, or a word that is no byte
 abbrev pub IsNoBytes : Cause → Option (List ℕ) → Type 0
 IsNoBytes Memory spelled = ⊤
 IsNoBytes cause spelled = (cause ≡ Refused BadHex) × (spelled ≡ None)
 
--- the number that decimal digits spell, cut at the greatest of 64 bits
+-- the number that decimal digits spell, 2 to the 64 less 1 at most
 abbrev pub decimal_of : Word → Option ℕ
 decimal_of word = option_map (λ n. min n (2 ^ 64 - 1)) (number_of 10 word)
 
@@ -49,12 +49,12 @@ is_so_many (Some n) count = n == count
 abbrev pub is_count : Word → ℕ → Bool
 is_count word count = is_so_many (decimal_of word) count
 
--- a number that is a device's
+-- a number that there may be, if it is a device's
 abbrev pub in_devices : Option ℕ → Option ℕ
 in_devices None = None
 in_devices (Some n) = if nat_le n 15 then Some n else None
 
--- a device: 0 to 15
+-- the device that a word names: 0 to 15
 abbrev pub device_of : Word → Option ℕ
 device_of word = in_devices (decimal_of word)
 
@@ -62,11 +62,11 @@ device_of word = in_devices (decimal_of word)
 abbrev pub is_time_byte : ℕ → Bool
 is_time_byte b = (nat_le 48 b && nat_le b 57) || b == 46
 
--- digits and points
+-- a word of digits and points
 abbrev pub is_time : Word → Bool
 is_time word = list_all is_time_byte word
 
--- a time, as it stands
+-- the time that a word spells, as it stands
 abbrev pub time_of : Word → Option (List ℕ)
 time_of word = if is_time word then Some word else None
 
@@ -74,18 +74,19 @@ time_of word = if is_time word then Some word else None
 abbrev pub is_colon : ℕ → Bool
 is_colon b = b == 58
 
--- three numbers that there are
-abbrev pub joined : Option ℕ → Option ℕ → Option ℕ → Option Address
-joined None device interface = None
-joined (Some bus) None interface = None
-joined (Some bus) (Some device) None = None
-joined (Some bus) (Some device) (Some interface) = Some (record { bus = bus; device = device; interface = interface })
+-- an address of three numbers, if there are all
+abbrev pub address_from : Option ℕ → Option ℕ → Option ℕ → Option Address
+address_from None device interface = None
+address_from (Some bus) None interface = None
+address_from (Some bus) (Some device) None = None
+address_from (Some bus) (Some device) (Some interface) =
+    Some (record { bus = bus; device = device; interface = interface })
 
--- an interface of a device on a bus
+-- the interface of a device on a bus that three words name
 abbrev pub address_of : Word → Word → Word → Option Address
-address_of bus device interface = joined (decimal_of bus) (decimal_of device) (decimal_of interface)
+address_of bus device interface = address_from (decimal_of bus) (decimal_of device) (decimal_of interface)
 
--- what a dump is of
+-- what a dump is of, by its word
 abbrev pub content_of : Word → Option Content
 content_of word =
     if bytes_eq word (codes "DESCRIPTOR") then Some contents.Descriptor

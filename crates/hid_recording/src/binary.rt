@@ -7,6 +7,9 @@ use hid_notation::print_bytes;
 use std::alloc::{AllocError, Global};
 
 /// `R: COUNT HEX`: the line that has these bytes as its report descriptor, without its end.
+///
+/// # Errors
+/// [`AllocError`] if memory runs out for the line.
 pub fn descriptor_line(alloc: Global, bytes: &[u8]) -> Result<String, AllocError>
     ensures { IfOk result (λ text. string_bytes text ≡ descriptor_line bytes.now) }
 {

@@ -1,16 +1,17 @@
 //! The devices of a recording.
 
-ghost use Rattle.std.specs.Prelude.{◌≡◌, ◌<◌, Option, length, map, set, slice_get, string_bytes, IfOk};
+ghost use Rattle.std.specs.Prelude.{◌≡◌, ◌<◌, Option, length, map, set, slice_get, string_bytes, true, IfOk, IfErr};
 ghost use Rattle.std.specs.Option.{option_map};
 ghost use Rattle.hid_recording.specs.Session.{Member, no_devices};
-ghost use Rattle.hid_recording.specs.Joining.{doubted_slot, Joins};
-ghost use Rattle.hid_recording.specs.Telling.{known_at, forgotten};
+ghost use Rattle.hid_recording.specs.Joining.{slot_after_doubt, Joins};
+ghost use Rattle.hid_recording.specs.LineOutput.{member_in_slot, devices_without};
 ghost use Rattle.hid_recording.specs.Playing.{PlaysAt, PlaysReport};
+ghost use Rattle.hid_recording.specs.MemoryUse.{RunsOutIf, ends_report, names_report};
 ghost use Rattle.hid_recording.specs.declared.words.TheConstants.{MAX_DEVICES};
 
 use super::event_line::Source;
 use super::fault::{Cause, Options, Refusal};
-use super::recorded::{Joined, Recorded};
+use super::recorded::{Joined, RecordedDevice};
 use super::words::{DeviceNumber, MAX_DEVICES};
 use std::alloc::{AllocError, Global};
 use std::mem;
@@ -18,7 +19,7 @@ use std::mem;
 /// What is known of each device, and which one the next lines are of.
 #[derive(Drop)]
 pub struct Devices {
-    slots: Vec<Option<Recorded>>,
+    slots: Vec<Option<RecordedDevice>>,
     current: u8,
     ghost places: { length slots.items ≡ MAX_DEVICES },
     ghost here: { current < MAX_DEVICES },
@@ -26,6 +27,9 @@ pub struct Devices {
 
 impl Devices {
     /// Nothing is known of any device.
+    ///
+    /// # Errors
+    /// [`AllocError`] if memory runs out for the places of the devices.
     pub fn new(alloc: Global) -> Result<Self, AllocError>
         ensures { IfOk result (λ devices. (devices.slots.items ≡ no_devices)
             × (devices.current ≡ 0)) }
@@ -38,6 +42,7 @@ impl Devices {
         Ok(Devices { slots, current: 0 })
     }
 
+    /// The number of the device that lines are for.
     pub fn current(&self) -> u8
         ensures { result ≡ self.now.current }
     {
@@ -52,8 +57,8 @@ impl Devices {
         self.current = device;
     }
 
-    /// This is known of the device from now on.
-    pub fn put(&mut self, recorded: Option<Recorded>)
+    /// The current device is this one, or none, from now on.
+    pub fn put(&mut self, recorded: Option<RecordedDevice>)
         ensures { (self.new.current ≡ self.old.current)
             × (self.new.slots.items ≡ set self.old.slots.items self.old.current recorded) }
     {
@@ -61,10 +66,10 @@ impl Devices {
         put_in(&mut self.slots[i], recorded);
     }
 
-    /// Nothing is known of this device from now on, if it is one.
+    /// There is no device of this number from now on, if a number is given.
     pub fn forget(&mut self, device: Option<DeviceNumber>)
         ensures { (self.new.current ≡ self.old.current) × (self.new.slots.items
-            ≡ forgotten self.old.slots.items (option_map (λ some. some.number) device)) }
+            ≡ devices_without self.old.slots.items (option_map (λ some. some.number) device)) }
     {
         if let Some(device) = device {
             let i = usize::from(device.number);
@@ -75,23 +80,34 @@ impl Devices {
     /// A part of a report may have been left out, of any device.
     pub fn doubt(&mut self)
         ensures { (self.new.current ≡ self.old.current)
-            × (self.new.slots.items ≡ map doubted_slot self.old.slots.items) }
+            × (self.new.slots.items ≡ map slot_after_doubt self.old.slots.items) }
     {
         doubt_all(self.slots.as_mut_slice());
     }
 
-    /// Joins a chunk of the device to what came of its report before.
+    /// Joins a chunk of the current device to what came of its report before.
+    ///
+    /// # Errors
+    /// [`AllocError`] if memory runs out for a report that the chunk ends: there is a device, and no part of its report may be
+    /// missing.
     pub fn join(&mut self, alloc: Global, chunk: &[u8]) -> Result<Joined, AllocError>
         ensures joined { IfOk result (λ joined. (after : Option Member)
-            × Joins (known_at (slice_get self.old.slots.items self.old.current)) chunk.now joined after
+            × Joins (member_in_slot
+            (slice_get self.old.slots.items self.old.current)) chunk.now joined after
             × (self.new.slots.items ≡ set self.old.slots.items self.old.current after)) }
+        ensures memory { IfErr result (λ _. ends_report chunk.now
+            (member_in_slot (slice_get self.old.slots.items self.old.current)) ≡ true) }
         ensures current { self.new.current ≡ self.old.current }
     {
         let i = usize::from(self.current);
         join_chunk(&mut self.slots[i], alloc, chunk)
     }
 
-    /// Plays a report of the device, and answers how many events it told.
+    /// Plays a report of the current device, and answers how many events it told.
+    ///
+    /// # Errors
+    /// R7 if there is no device; U8 or U9 if the bytes are no report of it, as [`RecordedDevice::play`] says; R10 if memory
+    /// runs out for what the report tells.
     pub fn play(
         &mut self,
         alloc: Global,
@@ -102,6 +118,8 @@ impl Devices {
     ) -> Result<u64, Cause>
         ensures played { PlaysAt options time.now self.old.current bytes.now self.old.slots.items
             (string_bytes text.old) result self.new.slots.items (string_bytes text.new) }
+        ensures memory { RunsOutIf (names_report bytes.now
+            (member_in_slot (slice_get self.old.slots.items self.old.current))) result }
         ensures current { self.new.current ≡ self.old.current }
     {
         let source = Source {
@@ -115,25 +133,25 @@ impl Devices {
     }
 }
 
-/// This is known of the device in a slot from now on.
-fn put_in(slot: &mut Option<Recorded>, recorded: Option<Recorded>)
+/// The device in a slot is this one, or none, from now on.
+fn put_in(slot: &mut Option<RecordedDevice>, recorded: Option<RecordedDevice>)
     ensures { slot.new ≡ recorded }
 {
     drop(mem::replace(slot, recorded));
 }
 
 /// A part of a report may have been left out, of the device in a slot.
-fn doubt_slot(slot: &mut Option<Recorded>)
-    ensures { slot.new ≡ doubted_slot slot.old }
+fn doubt_slot(slot: &mut Option<RecordedDevice>)
+    ensures { slot.new ≡ slot_after_doubt slot.old }
 {
     if let Some(recorded) = slot {
         recorded.doubt();
     }
 }
 
-/// The same, of all.
-fn doubt_all(slots: &mut [Option<Recorded>])
-    ensures { slots.new ≡ map doubted_slot slots.old }
+/// A part of a report may have been left out, of every device.
+fn doubt_all(slots: &mut [Option<RecordedDevice>])
+    ensures { slots.new ≡ map slot_after_doubt slots.old }
 {
     for slot in slots.iter_mut() {
         doubt_slot(slot);
@@ -142,11 +160,12 @@ fn doubt_all(slots: &mut [Option<Recorded>])
 
 /// Joins a chunk of the device in a slot.
 fn join_chunk(
-    slot: &mut Option<Recorded>,
+    slot: &mut Option<RecordedDevice>,
     alloc: Global,
     chunk: &[u8],
 ) -> Result<Joined, AllocError>
-    ensures { IfOk result (λ joined. Joins slot.old chunk.now joined slot.new) }
+    ensures joined { IfOk result (λ joined. Joins slot.old chunk.now joined slot.new) }
+    ensures memory { IfErr result (λ _. ends_report chunk.now slot.old ≡ true) }
 {
     match slot {
         None => Ok(Joined::Unknown),
@@ -156,13 +175,14 @@ fn join_chunk(
 
 /// Plays a report of the device in a slot.
 fn play_report(
-    slot: &mut Option<Recorded>,
+    slot: &mut Option<RecordedDevice>,
     text: &mut String,
     source: &Source<'_>,
     bytes: &[u8],
 ) -> Result<u64, Cause>
-    ensures { PlaysReport source.now bytes.now slot.old (string_bytes text.old) result slot.new
+    ensures played { PlaysReport source.now bytes.now slot.old (string_bytes text.old) result slot.new
         (string_bytes text.new) }
+    ensures memory { RunsOutIf (names_report bytes.now slot.old) result }
 {
     match slot {
         None => Err(Cause::Refused(Refusal::NoLayout)),

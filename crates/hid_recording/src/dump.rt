@@ -1,8 +1,8 @@
 //! Dumps, as usbhid-dump writes them: whose they are, and what came of the one that is open.
 
-ghost use Rattle.std.specs.Prelude.{◌≡◌, ◌≤◌, ◌<◌, false, true, [], Some, None, IfOk, OnOk, length, position};
+ghost use Rattle.std.specs.Prelude.{◌≡◌, ◌≤◌, ◌<◌, false, true, [], Some, None, IfOk, IfErr, OnOk, length, position};
 ghost use Rattle.std.specs.Option.{option_map};
-ghost use Rattle.hid_recording.specs.Dumps.{is_same, described_by, numbered, with_address};
+ghost use Rattle.hid_recording.specs.Dumps.{is_same, described_device, number_of_address, with_address};
 ghost use Rattle.hid_recording.specs.declared.words.TheConstants.{MAX_DEVICES};
 
 use super::words::{DeviceNumber, MAX_DEVICES};
@@ -65,6 +65,9 @@ impl Dump {
     }
 
     /// A dump of which no byte came yet.
+    ///
+    /// # Errors
+    /// [`AllocError`] if memory runs out for the time.
     pub fn begin(
         alloc: Global,
         content: Content,
@@ -87,9 +90,9 @@ impl Dump {
     }
 
     /// The device whose descriptor it is to be, if it is to be one.
-    pub fn described(&self) -> Option<DeviceNumber>
+    pub fn described_device(&self) -> Option<DeviceNumber>
         ensures { option_map (λ device. device.number) result
-            ≡ described_by self.now.content self.now.device }
+            ≡ described_device self.now.content self.now.device }
     {
         match self.content {
             Some(Content::Descriptor) => Some(DeviceNumber {
@@ -115,6 +118,7 @@ fn is_same(a: &Address, b: &Address) -> bool
 }
 
 impl Addresses {
+    /// No addresses yet.
     pub fn new(alloc: Global) -> Self
         ensures { result.known.items ≡ [] }
     {
@@ -130,10 +134,16 @@ impl Addresses {
     }
 
     /// The number of an interface's device: how many interfaces came before it; none where there are too many.
+    ///
+    /// # Errors
+    /// [`AllocError`] if memory runs out for a new interface. One that came before, and one too many, take no memory.
     pub fn number(&mut self, address: Address) -> Result<Option<DeviceNumber>, AllocError>
         ensures number { IfOk result (λ found. option_map (λ device. device.number) found
-            ≡ numbered self.old.known.items address) }
+            ≡ number_of_address self.old.known.items address) }
         ensures known { OnOk result (self.new.known.items ≡ with_address self.old.known.items address) }
+        // Memory runs out for a new interface alone, which gets the next number.
+        ensures memory { IfErr result (λ _. number_of_address self.old.known.items address
+            ≡ Some (length self.old.known.items)) }
     {
         if let Some(place) = self.place(&address) {
             return Ok(Some(DeviceNumber {

@@ -1,7 +1,7 @@
 //! Events and refusals as lines of JSON.
 
 ghost use Rattle.std.specs.Prelude.{◌≡◌, ◌++◌, [], Some, OnOk, string_bytes};
-ghost use Rattle.hid_names.specs.Names.{named, name_of};
+ghost use Rattle.hid_names.specs.Names.{name_of_value, name_of};
 ghost use Rattle.hid_recording.specs.EventJson.{usage_in, event_word, source_tokens, usage_tokens, number_tokens, value_tokens, named_tokens, name_tokens, event_members, event_tokens, refusal_members, refusal_tokens, json_text};
 ghost use Rattle.hid_recording.specs.Refusals.{refusal_text};
 
@@ -13,6 +13,7 @@ use hid_usages::Event;
 use json::Writer;
 use std::alloc::{AllocError, Global};
 
+/// The usage of an event's control.
 pub fn usage_in(event: &Event) -> Usage
     ensures { result ≡ usage_in event.now }
 {
@@ -39,7 +40,7 @@ fn event_word(event: &Event) -> &'static str
     }
 }
 
-/// When and of which device an event is.
+/// Writes when and of which device an event is.
 fn put_source(json: &mut Writer, time: &str, device: u8) -> Result<(), AllocError>
     ensures tokens { OnOk result (json.new.tokens ≡ json.old.tokens ++ source_tokens time.now device) }
     ensures before { json.new.before ≡ json.old.before }
@@ -50,7 +51,7 @@ fn put_source(json: &mut Writer, time: &str, device: u8) -> Result<(), AllocErro
     json.u64(u64::from(device))
 }
 
-/// What an event is called, and its usage.
+/// Writes what an event is called, and its usage.
 fn put_usage(json: &mut Writer, word: &str, usage: Usage) -> Result<(), AllocError>
     ensures tokens { OnOk result (json.new.tokens ≡ json.old.tokens ++ usage_tokens word.now usage) }
     ensures before { json.new.before ≡ json.old.before }
@@ -63,7 +64,7 @@ fn put_usage(json: &mut Writer, word: &str, usage: Usage) -> Result<(), AllocErr
     json.u64(u64::from(usage.id))
 }
 
-/// A value.
+/// Writes a number as the value of an event.
 fn put_number(json: &mut Writer, value: i64) -> Result<(), AllocError>
     ensures tokens { OnOk result (json.new.tokens ≡ json.old.tokens ++ number_tokens value) }
     ensures before { json.new.before ≡ json.old.before }
@@ -72,7 +73,7 @@ fn put_number(json: &mut Writer, value: i64) -> Result<(), AllocError>
     json.i64(value)
 }
 
-/// The value of an event that has one.
+/// Writes the value of an event, if it has one.
 fn put_value(json: &mut Writer, event: &Event) -> Result<(), AllocError>
     ensures tokens { OnOk result (json.new.tokens ≡ json.old.tokens ++ value_tokens event.now) }
     ensures before { json.new.before ≡ json.old.before }
@@ -84,9 +85,10 @@ fn put_value(json: &mut Writer, event: &Event) -> Result<(), AllocError>
     }
 }
 
-/// A name.
+/// Writes the name of a usage.
 fn put_words(json: &mut Writer, alloc: Global, name: UsageName) -> Result<(), AllocError>
-    ensures tokens { OnOk result (json.new.tokens ≡ json.old.tokens ++ named_tokens (Some (named name))) }
+    ensures tokens { OnOk result
+        (json.new.tokens ≡ json.old.tokens ++ named_tokens (Some (name_of_value name))) }
     ensures before { json.new.before ≡ json.old.before }
 {
     let words = format!(in alloc; "{name}")?;
@@ -94,7 +96,7 @@ fn put_words(json: &mut Writer, alloc: Global, name: UsageName) -> Result<(), Al
     json.string(words.as_str())
 }
 
-/// The name of a usage, where it is asked for and there is one.
+/// Writes the name of a usage, if names are asked for and there is one.
 fn put_name(json: &mut Writer, source: &Source<'_>, usage: Usage) -> Result<(), AllocError>
     ensures tokens { OnOk result (json.new.tokens
         ≡ json.old.tokens ++ name_tokens source.now.options.names (name_of usage.page usage.id)) }
@@ -109,7 +111,7 @@ fn put_name(json: &mut Writer, source: &Source<'_>, usage: Usage) -> Result<(), 
     }
 }
 
-/// The members of an event.
+/// Writes the members of an event.
 fn put_event_members(
     json: &mut Writer,
     source: &Source<'_>,
@@ -126,7 +128,7 @@ fn put_event_members(
     put_name(json, source, usage)
 }
 
-/// An event, as an object.
+/// Writes an event as an object.
 fn put_event(json: &mut Writer, source: &Source<'_>, event: &Event) -> Result<(), AllocError>
     ensures tokens { OnOk result (json.new.tokens ≡ json.old.tokens
         ++ event_tokens source.now.time.now source.now.device source.now.options.names event.now) }
@@ -137,7 +139,7 @@ fn put_event(json: &mut Writer, source: &Source<'_>, event: &Event) -> Result<()
     json.end_object()
 }
 
-/// The members of a refusal.
+/// Writes the members of a refusal.
 fn put_refusal_members(json: &mut Writer, line: u64, words: &str) -> Result<(), AllocError>
     ensures tokens { OnOk result (json.new.tokens ≡ json.old.tokens ++ refusal_members line words.now) }
     ensures before { json.new.before ≡ json.old.before }
@@ -148,7 +150,7 @@ fn put_refusal_members(json: &mut Writer, line: u64, words: &str) -> Result<(), 
     json.string(words)
 }
 
-/// A refusal of a line, as an object.
+/// Writes the refusal of a line as an object.
 fn put_refusal(json: &mut Writer, line: u64, words: &str) -> Result<(), AllocError>
     ensures tokens { OnOk result (json.new.tokens ≡ json.old.tokens ++ refusal_tokens line words.now) }
     ensures before { json.new.before ≡ json.old.before }
@@ -158,7 +160,7 @@ fn put_refusal(json: &mut Writer, line: u64, words: &str) -> Result<(), AllocErr
     json.end_object()
 }
 
-/// Adds what was written, and the end of the line.
+/// Adds an object that was written, and the end of the line.
 fn push_line(text: &mut String, json: Writer) -> Result<(), AllocError>
     requires { json.before ≡ [] }
     ensures { OnOk result (string_bytes text.new ≡ string_bytes text.old ++ json_text json.tokens) }
@@ -169,6 +171,9 @@ fn push_line(text: &mut String, json: Writer) -> Result<(), AllocError>
 }
 
 /// Adds an event as a line of JSON.
+///
+/// # Errors
+/// [`AllocError`] if memory runs out for the line.
 pub fn print_json(text: &mut String, source: &Source<'_>, event: &Event) -> Result<(), AllocError>
     ensures { OnOk result (string_bytes text.new ≡ string_bytes text.old
         ++ json_text (event_tokens source.now.time.now source.now.device source.now.options.names event.now)) }
@@ -181,6 +186,9 @@ pub fn print_json(text: &mut String, source: &Source<'_>, event: &Event) -> Resu
 }
 
 /// Adds a refusal as a line of JSON.
+///
+/// # Errors
+/// [`AllocError`] if memory runs out for the line.
 pub fn print_refusal_json(
     text: &mut String,
     alloc: Global,

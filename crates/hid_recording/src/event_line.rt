@@ -20,7 +20,7 @@ pub struct Source<'a> {
     pub options: Options,
 }
 
-/// Adds the name of a usage behind a space, where it has one.
+/// Adds the name of a usage after a space, where it has one.
 fn print_name(text: &mut String, usage: Usage) -> Result<(), AllocError>
     ensures { OnOk result (string_bytes text.new ≡ string_bytes text.old ++ name_words usage) }
 {
@@ -66,6 +66,9 @@ fn print_event(text: &mut String, source: &Source<'_>, event: &Event) -> Result<
 }
 
 /// Adds a line for each event.
+///
+/// # Errors
+/// [`AllocError`] if memory runs out for the lines.
 pub fn print_events(
     text: &mut String,
     source: &Source<'_>,

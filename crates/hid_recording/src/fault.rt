@@ -18,7 +18,7 @@ pub struct Options {
     pub names: bool,
     /// The first refusal ends the run.
     pub strict: bool,
-    /// Events and refusals are told as JSON.
+    /// Events and refusals are reported as JSON.
     pub json: bool,
 }
 
@@ -91,7 +91,7 @@ pub enum Cause {
     Read,
     /// R9: the writer failed, or took no byte.
     Write,
-    /// R10: memory was wanting.
+    /// R10: memory ran out.
     Memory,
     /// R11: the recording wasn't at its end after 1,000,000,000,000 reads.
     TooManyReads,

@@ -54,8 +54,8 @@ impl fmt::Display for Cause {
             Cause::Refused(refusal) => return write!(f, "{refusal}"),
             Cause::LineTooLong => "R2: a line of over 16384 bytes",
             Cause::Read => "R8: the recording can't be read",
-            Cause::Write => "R9: what it tells can't be written",
-            Cause::Memory => "R10: memory was wanting",
+            Cause::Write => "R9: its text can't be written",
+            Cause::Memory => "R10: out of memory",
             Cause::TooManyReads => "R11: the end didn't come in 1000000000000 reads",
             Cause::Unended => "R12: no empty line ends the last dump",
         };

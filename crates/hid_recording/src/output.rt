@@ -7,7 +7,10 @@ ghost use Rattle.hid_recording.specs.Output.{AppendsFront};
 use super::fault::Cause;
 use std::io::Write;
 
-/// Writes all the bytes. At a fault, which no text of no bytes has, a front of them is written.
+/// Writes all the bytes. At a fault a front of them is written.
+///
+/// # Errors
+/// R9 if the writer fails, or takes no byte; never for no bytes.
 pub fn write_text<W: Write>(writer: &mut W, text: &[u8]) -> Result<(), Cause>
     ensures ok { OnOk result (Appends (W.contents writer.old) (W.contents writer.new) text.now) }
     ensures cause { IfErr result (λ cause. cause ≡ Cause.Write) }

@@ -1,14 +1,16 @@
 //! A session: what stands between two lines, and how a line is played.
 
-ghost use Rattle.std.specs.Prelude.{◌≡◌, ◌++◌, None, Option, IfOk, IfErr, OnOk, is_some, string_bytes};
+ghost use Rattle.std.specs.Prelude.{◌≡◌, ◌++◌, true, None, Option, IfOk, IfErr, OnOk, is_some, string_bytes};
 ghost use Rattle.std.specs.Option.{option_map};
 ghost use Rattle.hid_recording.specs.Session.{at_first};
 ghost use Rattle.hid_recording.specs.Records.{record_of};
-ghost use Rattle.hid_recording.specs.Telling.{described_text, LineTells, LineBegins, Means, TellsDescriptor, EndTells, with_device, installs, refuses, dropped, unread, begins, gathers, gathers_none, chunk_told, stream_told, report_told};
+ghost use Rattle.hid_recording.specs.LineOutput.{described_text, LineTells, LineBegins, Means, TellsDescriptor, EndTells, with_device, installs, refuses, with_dropped_dump, unread, begins, gathers, gathers_none, chunk_outcome, stream_outcome, report_outcome};
 ghost use Rattle.hid_recording.specs.Words.{time_of};
 ghost use Rattle.hid_recording.specs.Player.{summary_of};
 ghost use Rattle.hid_recording.specs.Refusals.{is_memory, refusal_line};
-ghost use Rattle.hid_recording.specs.Gathering.{Gathers};
+ghost use Rattle.hid_recording.specs.Gathering.{Gathers, IsCauseOfLine};
+ghost use Rattle.hid_recording.specs.MemoryUse.{RunsOutIf, refusal_takes, descriptor_takes, unread_takes, report_takes, begin_takes, stray_takes, bytes_take, chunk_takes, stream_takes, end_takes, short_takes, line_takes};
+ghost use Rattle.hid_recording.specs.Dumps.{number_of_address};
 ghost use Rattle.hid_recording.specs.declared.fault.Refusal.TheVariants as refusals;
 ghost use Rattle.hid_recording.specs.Place.{AppendsTold};
 
@@ -18,7 +20,7 @@ use super::event_json::print_refusal_json;
 use super::fault::{Cause, Options, Refusal, Summary};
 use super::output::write_text;
 use super::record::{Record, read_record};
-use super::recorded::{Joined, Recorded};
+use super::recorded::{Joined, RecordedDevice};
 use super::words::read_time;
 use hid_layout::{Layout, LayoutFault};
 use hid_text::print_layout;
@@ -45,8 +47,8 @@ pub struct Player {
     text: String,
 }
 
-/// Whether memory was wanting for a descriptor.
-fn wants_memory(cause: hid_layout::Cause) -> bool
+/// Whether memory ran out for a descriptor.
+fn is_out_of_memory(cause: hid_layout::Cause) -> bool
     ensures { result ≡ is_memory cause }
 {
     match cause {
@@ -62,8 +64,9 @@ fn print_described(
     device: u8,
     layout: &Layout,
 ) -> Result<(), AllocError>
-    ensures { OnOk result (string_bytes text.new
+    ensures printed { OnOk result (string_bytes text.new
         ≡ string_bytes text.old ++ described_text options device layout.now) }
+    ensures memory { IfErr result (λ _. options.layout ≡ true) }
 {
     if !options.layout {
         return Ok(());
@@ -94,6 +97,10 @@ impl Player {
     ghost use Rattle.std.specs.Prelude.{IfOk, IfErr, string_bytes};
     ghost use Rattle.hid_recording.specs.Player.{session_of};
 
+    /// A player that has played no line.
+    ///
+    /// # Errors
+    /// R10 if memory runs out for the places of the devices.
     pub fn new(alloc: Global, options: Options) -> Result<Self, Cause>
         ensures new { IfOk result (λ player. session_of player ≡ at_first options) }
         ensures memory { IfErr result (λ cause. cause ≡ Cause.Memory) }
@@ -114,7 +121,7 @@ impl Player {
         })
     }
 
-    /// What was played, in so many lines.
+    /// What was played, in n lines.
     pub fn summary(&self, lines: u64) -> Summary
         ensures { result ≡ summary_of (session_of self.now) lines }
     {
@@ -128,23 +135,30 @@ impl Player {
     }
 
     /// Plays a line, without its end, and writes what it tells.
+    ///
+    /// # Errors
+    /// R2 if the line is too long; in a strict run the refusal of the line; R10 if memory runs out for what it says or
+    /// tells; R9 if the writer fails.
     pub fn line<W: Write>(&mut self, line: &[u8], writer: &mut W) -> Result<(), Cause>
-        ensures { AppendsTold (W.contents writer.old) (W.contents writer.new)
+        ensures told { AppendsTold (W.contents writer.old) (W.contents writer.new)
             (LineTells (session_of self.old) line.now)
             (LineBegins (session_of self.old) line.now) result (session_of self.new) }
+        ensures memory { RunsOutIf (line_takes (session_of self.old) line.now) result }
+        ensures cause { IfErr result (IsCauseOfLine (session_of self.old) line.now) }
     {
         if line.len() > LINE_LIMIT {
             return Err(Cause::LineTooLong);
         }
         self.lines = self.lines.saturating_add(1);
-        self.tell(line)?;
+        self.play_line(line)?;
         write_text(writer, self.text.as_bytes())
     }
 
     /// Gathers what a line tells, in place of what the one before told.
-    fn tell(&mut self, line: &[u8]) -> Result<(), Cause>
-        ensures { Gathers (Means (session_of self.old) (record_of line.now)) result
+    fn play_line(&mut self, line: &[u8]) -> Result<(), Cause>
+        ensures told { Gathers (Means (session_of self.old) (record_of line.now)) result
             (string_bytes self.new.text) (session_of self.new) }
+        ensures memory { RunsOutIf (short_takes (session_of self.old) line.now) result }
     {
         match read_record(self.alloc, line) {
             Ok(Record::Nothing) => {
@@ -158,7 +172,7 @@ impl Player {
                 Ok(())
             }
             Ok(Record::Descriptor(bytes)) => self.describe(bytes.as_slice()),
-            Ok(Record::Unread { interface, refusal }) => self.lose(interface, refusal),
+            Ok(Record::Unread { interface, refusal }) => self.lose_descriptor(interface, refusal),
             Ok(Record::Report { time, bytes }) => self.report(time, bytes.as_slice()),
             Ok(
                 Record::Begins {
@@ -175,19 +189,22 @@ impl Player {
 
     /// A line is refused, and with it the dump in which it stands.
     fn drop_dump(&mut self, refusal: Refusal) -> Result<(), Cause>
-        ensures { Gathers (λ o. o ≡ refuses (dropped (session_of self.old)) refusal) result
+        ensures told { Gathers
+            (λ o. o ≡ refuses (with_dropped_dump (session_of self.old)) refusal) result
             (string_bytes self.new.text) (session_of self.new) }
+        ensures memory { RunsOutIf (refusal_takes (session_of self.old)) result }
     {
-        self.devices.forget(self.dump.described());
+        self.devices.forget(self.dump.described_device());
         self.devices.doubt();
         self.dump = Dump::left_out(self.alloc);
         self.refuse(refusal)
     }
 
     /// A descriptor can't be read: the device that it was for has none.
-    fn lose(&mut self, interface: Option<Address>, refusal: Refusal) -> Result<(), Cause>
-        ensures { Gathers (λ o. o ≡ unread (session_of self.old) interface refusal) result
+    fn lose_descriptor(&mut self, interface: Option<Address>, refusal: Refusal) -> Result<(), Cause>
+        ensures told { Gathers (λ o. o ≡ unread (session_of self.old) interface refusal) result
             (string_bytes self.new.text) (session_of self.new) }
+        ensures memory { RunsOutIf (unread_takes (session_of self.old) interface) result }
     {
         match interface {
             None => self.devices.put(None),
@@ -199,10 +216,11 @@ impl Player {
         self.drop_dump(refusal)
     }
 
-    /// What is told is that a line is refused.
+    /// What is reported is that a line is refused.
     fn refuse(&mut self, refusal: Refusal) -> Result<(), Cause>
-        ensures { Gathers (λ o. o ≡ refuses (session_of self.old) refusal) result
+        ensures told { Gathers (λ o. o ≡ refuses (session_of self.old) refusal) result
             (string_bytes self.new.text) (session_of self.new) }
+        ensures memory { RunsOutIf (refusal_takes (session_of self.old)) result }
     {
         if self.options.strict {
             return Err(Cause::Refused(refusal));
@@ -214,15 +232,16 @@ impl Player {
         Ok(())
     }
 
-    /// The device has this descriptor.
+    /// Takes a report descriptor of the current device.
     fn describe(&mut self, descriptor: &[u8]) -> Result<(), Cause>
-        ensures { Gathers (TellsDescriptor descriptor.now (session_of self.old)) result
+        ensures told { Gathers (TellsDescriptor descriptor.now (session_of self.old)) result
             (string_bytes self.new.text) (session_of self.new) }
+        ensures memory { RunsOutIf (descriptor_takes (session_of self.old) descriptor.now) result }
     {
-        match Recorded::new(self.alloc, descriptor) {
+        match RecordedDevice::new(self.alloc, descriptor) {
             Ok(recorded) => self.install(recorded),
             Err(fault) => {
-                if wants_memory(fault.cause) {
+                if is_out_of_memory(fault.cause) {
                     return Err(Cause::Memory);
                 }
                 self.forget(fault)
@@ -230,19 +249,21 @@ impl Player {
         }
     }
 
-    /// The descriptor of the device is refused.
+    /// The descriptor of the current device is refused: it has none.
     fn forget(&mut self, fault: LayoutFault) -> Result<(), Cause>
-        ensures { Gathers (λ o. o ≡ refuses (with_device (session_of self.old) None) (refusals.Layout fault)) result
+        ensures told { Gathers (λ o. o ≡ refuses (with_device (session_of self.old) None) (refusals.Layout fault)) result
             (string_bytes self.new.text) (session_of self.new) }
+        ensures memory { RunsOutIf (refusal_takes (session_of self.old)) result }
     {
         self.devices.put(None);
         self.refuse(Refusal::Layout(fault))
     }
 
-    /// The device is this one.
-    fn install(&mut self, recorded: Recorded) -> Result<(), Cause>
-        ensures { Gathers (λ o. o ≡ installs (session_of self.old) recorded) result
+    /// The current device is this one from now on.
+    fn install(&mut self, recorded: RecordedDevice) -> Result<(), Cause>
+        ensures told { Gathers (λ o. o ≡ installs (session_of self.old) recorded) result
             (string_bytes self.new.text) (session_of self.new) }
+        ensures memory { RunsOutIf self.old.options.layout result }
     {
         let device = self.devices.current();
         self.text.clear();
@@ -256,10 +277,11 @@ impl Player {
         Ok(())
     }
 
-    /// A report of the device.
+    /// Takes a report of the current device.
     fn report(&mut self, time: &str, bytes: &[u8]) -> Result<(), Cause>
-        ensures { Gathers (λ o. o ≡ report_told time.now bytes.now (session_of self.old)) result
+        ensures told { Gathers (λ o. o ≡ report_outcome time.now bytes.now (session_of self.old)) result
             (string_bytes self.new.text) (session_of self.new) }
+        ensures memory { RunsOutIf (report_takes (session_of self.old) bytes.now) result }
     {
         self.text.clear();
         match self
@@ -278,8 +300,10 @@ impl Player {
 
     /// A dump begins.
     fn begin_dump(&mut self, address: Address, content: Content, time: &str) -> Result<(), Cause>
-        ensures { Gathers (λ o. o ≡ begins (session_of self.old) address content time.now) result
+        ensures told { Gathers (λ o. o ≡ begins (session_of self.old) address content time.now) result
             (string_bytes self.new.text) (session_of self.new) }
+        ensures memory { RunsOutIf (begin_takes (session_of self.old)
+            (number_of_address self.old.addresses.known.items address)) result }
     {
         let number = self.addresses.number(address)?;
         let device = match number.ok_or(Refusal::TooManyDevices) {
@@ -289,7 +313,7 @@ impl Player {
         let begun = Dump::begin(self.alloc, content, device, time)?;
         let before = mem::replace(&mut self.dump, begun);
         if before.content.is_some() {
-            self.devices.forget(before.described());
+            self.devices.forget(before.described_device());
             self.devices.doubt();
             return self.refuse(Refusal::Unended);
         }
@@ -297,11 +321,13 @@ impl Player {
         Ok(())
     }
 
-    /// Bytes of the dump that is open.
+    /// Takes bytes of the dump that is open.
     fn gather(&mut self, bytes: Option<Vec<u8>>) -> Result<(), Cause>
-        ensures { Gathers (λ o. o ≡ gathers (session_of self.old)
+        ensures told { Gathers (λ o. o ≡ gathers (session_of self.old)
             (option_map (λ some. some.items) bytes) self.old.dump.content) result
             (string_bytes self.new.text) (session_of self.new) }
+        ensures memory { RunsOutIf (bytes_take (session_of self.old)
+            (option_map (λ some. some.items) bytes) self.old.dump.content) result }
     {
         if self.dump.content.is_none() {
             return self.gather_none();
@@ -319,8 +345,9 @@ impl Player {
 
     /// Bytes, and no dump is open: they are of one that was dropped, or of none.
     fn gather_none(&mut self) -> Result<(), Cause>
-        ensures { Gathers (λ o. o ≡ gathers_none (session_of self.old)) result
+        ensures told { Gathers (λ o. o ≡ gathers_none (session_of self.old)) result
             (string_bytes self.new.text) (session_of self.new) }
+        ensures memory { RunsOutIf (stray_takes (session_of self.old)) result }
     {
         if !self.dump.is_dropped {
             return self.drop_dump(Refusal::Syntax);
@@ -331,8 +358,9 @@ impl Player {
 
     /// An empty line: it ends the dump that is open.
     fn end_dump(&mut self) -> Result<(), Cause>
-        ensures { Gathers (EndTells (session_of self.old) self.old.dump.content) result
+        ensures told { Gathers (EndTells (session_of self.old) self.old.dump.content) result
             (string_bytes self.new.text) (session_of self.new) }
+        ensures memory { RunsOutIf (end_takes (session_of self.old) self.old.dump.content) result }
     {
         let dump = mem::replace(&mut self.dump, Dump::none(self.alloc));
         let Some(content) = dump.content else {
@@ -346,10 +374,12 @@ impl Player {
         }
     }
 
-    /// The chunk of a dump.
+    /// Takes the bytes of a dump as a chunk of the current device.
     fn stream(&mut self, time: &[u8], bytes: &[u8]) -> Result<(), Cause>
-        ensures { Gathers (λ o. o ≡ stream_told (time_of time.now) bytes.now (session_of self.old)) result
+        ensures told { Gathers
+            (λ o. o ≡ stream_outcome (time_of time.now) bytes.now (session_of self.old)) result
             (string_bytes self.new.text) (session_of self.new) }
+        ensures memory { RunsOutIf (stream_takes (session_of self.old) bytes.now (time_of time.now)) result }
     {
         match read_time(time) {
             Some(time) => self.chunk(time, bytes),
@@ -357,10 +387,11 @@ impl Player {
         }
     }
 
-    /// A chunk of the device.
+    /// Takes a chunk of the current device.
     fn chunk(&mut self, time: &str, chunk: &[u8]) -> Result<(), Cause>
-        ensures { Gathers (λ o. o ≡ chunk_told time.now chunk.now (session_of self.old)) result
+        ensures told { Gathers (λ o. o ≡ chunk_outcome time.now chunk.now (session_of self.old)) result
             (string_bytes self.new.text) (session_of self.new) }
+        ensures memory { RunsOutIf (chunk_takes (session_of self.old) chunk.now) result }
     {
         let joined = self.devices.join(self.alloc, chunk)?;
         match joined.into_report() {

@@ -1,7 +1,8 @@
 //! What a line of a recording says.
 
 ghost use Rattle.std.specs.Prelude.{◌≡◌, ◌≢◌, Ok, Err, IfErr, MatchResult, map};
-ghost use Rattle.hid_recording.specs.Records.{record_of, said_by, device_said, descriptor_said, report_said, counted_bytes, dumped, header_said, begins_at, begun, time_said, ReadsRecord, IsNone};
+ghost use Rattle.hid_recording.specs.Records.{record_of, words_record, device_record, descriptor_record, report_record, counted_bytes, dump_record, header_record, begins_at, dump_begin, time_record, ReadsRecord, IsNone};
+ghost use Rattle.hid_recording.specs.MemoryUse.{RunsOutIf, has_words};
 
 use super::dump::{Address, Content};
 use super::fault::{Cause, Refusal};
@@ -23,7 +24,7 @@ pub enum Record<'a> {
     Device(DeviceNumber),
     /// `R: COUNT HEX`: the report descriptor of the device.
     Descriptor(Vec<u8>),
-    /// The same, whose bytes can't be read; or a head of a descriptor's dump that is refused, which is of an interface.
+    /// A report descriptor whose bytes can't be read; or a refused head of a descriptor's dump, with its interface.
     Unread {
         interface: Option<Address>,
         refusal: Refusal,
@@ -44,9 +45,14 @@ pub enum Record<'a> {
 }
 
 /// Reads one line, without its end.
+///
+/// # Errors
+/// R1 and R3 to R6: the first refusal of what the line says, or R10 if memory runs out for its words or bytes. A line
+/// without words takes no memory.
 #[tactic(auto, unfolding(crate::specs::Records::record_of))]
 pub fn read_record(alloc: Global, line: &[u8]) -> Result<Record<'_>, Cause>
-    ensures { ReadsRecord result (record_of line.now) }
+    ensures read { ReadsRecord result (record_of line.now) }
+    ensures memory { RunsOutIf (has_words line.now) result }
 {
     match line {
         [] => Ok(Record::Blank),
@@ -67,10 +73,10 @@ pub fn read_record(alloc: Global, line: &[u8]) -> Result<Record<'_>, Cause>
     }
 }
 
-/// Reads the words behind the letter.
-#[tactic(auto, unfolding(crate::specs::Records::said_by))]
+/// Reads the words after the letter.
+#[tactic(auto, unfolding(crate::specs::Records::words_record))]
 fn read_words<'a>(alloc: Global, letter: u8, words: &[&'a [u8]]) -> Result<Record<'a>, Cause>
-    ensures { ReadsRecord result (said_by letter (map (λ word. word.now) words.now)) }
+    ensures { ReadsRecord result (words_record letter (map (λ word. word.now) words.now)) }
 {
     match letter {
         b'N' | b'P' | b'I' => Ok(Record::Nothing),
@@ -81,9 +87,9 @@ fn read_words<'a>(alloc: Global, letter: u8, words: &[&'a [u8]]) -> Result<Recor
     }
 }
 
-/// `DEVICE`
+/// Reads the words after `D:`, which are `DEVICE`.
 fn read_selection<'a>(words: &[&'a [u8]]) -> Result<Record<'a>, Cause>
-    ensures read { ReadsRecord result (device_said (map (λ word. word.now) words.now)) }
+    ensures read { ReadsRecord result (device_record (map (λ word. word.now) words.now)) }
     ensures refusal { IfErr result (λ cause. cause ≢ Cause.Memory) }
 {
     let [word] = words else {
@@ -95,7 +101,7 @@ fn read_selection<'a>(words: &[&'a [u8]]) -> Result<Record<'a>, Cause>
     }
 }
 
-/// The bytes that words spell, where they are so many.
+/// Reads the bytes that words spell, if they are as many as the count says.
 fn read_counted(alloc: Global, count: &[u8], words: &[&[u8]]) -> Result<Vec<u8>, Cause>
     ensures { MatchResult result
         (λ bytes. counted_bytes count.now (map (λ word. word.now) words.now) ≡ Ok bytes.items)
@@ -108,9 +114,9 @@ fn read_counted(alloc: Global, count: &[u8], words: &[&[u8]]) -> Result<Vec<u8>,
     Ok(bytes)
 }
 
-/// `COUNT HEX`
+/// Reads the words after `R:`, which are `COUNT HEX`.
 fn read_descriptor<'a>(alloc: Global, words: &[&'a [u8]]) -> Result<Record<'a>, Cause>
-    ensures { ReadsRecord result (Ok (descriptor_said (map (λ word. word.now) words.now))) }
+    ensures { ReadsRecord result (Ok (descriptor_record (map (λ word. word.now) words.now))) }
 {
     let [count, hex @ ..] = words else {
         return Ok(Record::Unread {
@@ -128,9 +134,9 @@ fn read_descriptor<'a>(alloc: Global, words: &[&'a [u8]]) -> Result<Record<'a>, 
     }
 }
 
-/// `TIME COUNT HEX`
+/// Reads the words after `E:`, which are `TIME COUNT HEX`.
 fn read_report<'a>(alloc: Global, words: &[&'a [u8]]) -> Result<Record<'a>, Cause>
-    ensures { ReadsRecord result (report_said (map (λ word. word.now) words.now)) }
+    ensures { ReadsRecord result (report_record (map (λ word. word.now) words.now)) }
 {
     let [time, count, hex @ ..] = words else {
         return Err(Cause::Refused(Refusal::BadCount));
@@ -142,9 +148,9 @@ fn read_report<'a>(alloc: Global, words: &[&'a [u8]]) -> Result<Record<'a>, Caus
     Ok(Record::Report { time, bytes })
 }
 
-/// HEX, of a dump.
+/// Reads the words after a space, which are bytes of a dump.
 fn read_dumped<'a>(alloc: Global, words: &[&'a [u8]]) -> Result<Record<'a>, Cause>
-    ensures { ReadsRecord result (dumped (map (λ word. word.now) words.now)) }
+    ensures { ReadsRecord result (dump_record (map (λ word. word.now) words.now)) }
 {
     match read_bytes(alloc, words) {
         Ok(bytes) => Ok(Record::Bytes(Some(bytes))),
@@ -153,9 +159,9 @@ fn read_dumped<'a>(alloc: Global, words: &[&'a [u8]]) -> Result<Record<'a>, Caus
     }
 }
 
-/// `BUS:DEVICE:INTERFACE:CONTENT TIME`
+/// Reads the head of a dump, `BUS:DEVICE:INTERFACE:CONTENT TIME`.
 fn read_header<'a>(alloc: Global, words: &[&'a [u8]]) -> Result<Record<'a>, Cause>
-    ensures { ReadsRecord result (header_said (map (λ word. word.now) words.now)) }
+    ensures { ReadsRecord result (header_record (map (λ word. word.now) words.now)) }
 {
     let [address, time @ ..] = words else {
         return Err(Cause::Refused(Refusal::Syntax));
@@ -164,10 +170,11 @@ fn read_header<'a>(alloc: Global, words: &[&'a [u8]]) -> Result<Record<'a>, Caus
     read_begin(parts.as_slice(), time)
 }
 
-/// The parts of an address, and TIME.
+/// Reads the head of a dump from the parts of its address and the words after it.
 fn read_begin<'a>(parts: &[&[u8]], time: &[&'a [u8]]) -> Result<Record<'a>, Cause>
-    ensures { ReadsRecord result (begins_at (map (λ part. part.now) parts.now)
-        (time_said (map (λ word. word.now) time.now))) }
+    ensures read { ReadsRecord result (begins_at (map (λ part. part.now) parts.now)
+        (time_record (map (λ word. word.now) time.now))) }
+    ensures refusal { IfErr result (λ cause. cause ≢ Cause.Memory) }
 {
     let [bus, device, interface, content] = parts else {
         return Err(Cause::Refused(Refusal::Syntax));
@@ -184,15 +191,15 @@ fn read_begin<'a>(parts: &[&[u8]], time: &[&'a [u8]]) -> Result<Record<'a>, Caus
             content,
             time,
         }),
-        Err(refusal) => unbegun(address, content, refusal),
+        Err(refusal) => refuse_begin(address, content, refusal),
     }
 }
 
-/// TIME, and nothing more.
+/// Reads the words after the address in the head of a dump, which are `TIME`.
 fn read_begin_time<'a>(words: &[&'a [u8]]) -> Result<&'a str, Refusal>
     ensures { MatchResult result
-        (λ time. time_said (map (λ word. word.now) words.now) ≡ Ok time.now)
-        (λ refusal. time_said (map (λ word. word.now) words.now) ≡ Err refusal) }
+        (λ time. time_record (map (λ word. word.now) words.now) ≡ Ok time.now)
+        (λ refusal. time_record (map (λ word. word.now) words.now) ≡ Err refusal) }
 {
     let [time] = words else {
         return Err(Refusal::Syntax);
@@ -203,9 +210,13 @@ fn read_begin_time<'a>(words: &[&'a [u8]]) -> Result<&'a str, Refusal>
     }
 }
 
-/// A dump that doesn't begin: of a descriptor, its bytes can't be read.
-fn unbegun<'a>(address: Address, content: Content, refusal: Refusal) -> Result<Record<'a>, Cause>
-    ensures read { ReadsRecord result (begun address content (Err refusal)) }
+/// What the head of a dump says that is refused: of a descriptor, that its bytes can't be read.
+fn refuse_begin<'a>(
+    address: Address,
+    content: Content,
+    refusal: Refusal,
+) -> Result<Record<'a>, Cause>
+    ensures read { ReadsRecord result (dump_begin address content (Err refusal)) }
     ensures refusal { IfErr result (λ cause. cause ≢ Cause.Memory) }
 {
     match content {

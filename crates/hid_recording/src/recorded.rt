@@ -1,40 +1,34 @@
-//! A device of a recording: its layout, the view that its reports made, and what came of a report in chunks.
+//! A device of a recording: the receiver of its reports, and what a chunk of a dump makes of one.
 
-ghost use Rattle.std.specs.Prelude.{◌≡◌, ◌++◌, Some, Ok, Err, IfOk, IfErr, IfSome, OnOk, List, string_bytes};
+ghost use Rattle.std.specs.Prelude.{◌≡◌, ◌≤◌, ◌++◌, ◌&&◌, true, false, Some, Ok, Err, IfOk, IfErr, IfSome, OnOk, is_ok, List, [], string_bytes, vec_capacity};
 ghost use Rattle.std.specs.Option.{IfNone};
 ghost use Rattle.hid_descriptor.specs.Items.{Spelled};
 ghost use Rattle.hid_descriptor.specs.Faults.{Accepts, Explains};
 ghost use Rattle.hid_layout.specs.Layout.{Contents, layout_of};
 ghost use Rattle.hid_recording.specs.Session.{fresh_member};
 ghost use Rattle.hid_descriptor.specs.declared.fault.Cause.TheVariants.{Memory};
-ghost use Rattle.hid_recording.specs.Telling.{values_in, values_asked};
+ghost use Rattle.hid_recording.specs.LineOutput.{values_in, values_asked};
 ghost use Rattle.hid_recording.specs.Playing.{PlaysMember};
-ghost use Rattle.hid_recording.specs.Joining.{is_long, has_long, doubted, Joins, IsRefusedAs};
-ghost use Rattle.hid_host.specs.Ready.{is_whole};
+ghost use Rattle.hid_recording.specs.MemoryUse.{RunsOutIf, ends_report};
+ghost use Rattle.hid_recording.specs.Joining.{is_long, has_long, member_after_doubt, Joins, IsRefusedAs};
 ghost use Rattle.hid_usages.specs.Reading.{report_named};
+ghost use Rattle.hid_layout.specs.Controls.{items_of, max_events};
+ghost use Rattle.hid_usages.specs.ControlStates.{FitsView, blank};
 
 use super::event_line::{Source, print_events};
 use super::fault::{Cause, Refusal};
 use hid_fields::WordCodec;
 use hid_layout::{Layout, LayoutFault, Report, ReportKind};
 use hid_text::print_values;
-use hid_usages::{Event, View, bytes_awaited, input_report};
+use hid_usages::{Event, FULL_PACKET, Receiver, View, input_report};
 use std::alloc::{AllocError, Global};
 use std::marker::Model;
-use std::mem;
 
-/// The most bytes of a packet at full speed (USB 2.0, 5.7.3).
-const FULL_PACKET: usize = 64;
-
-/// A layout, the view of its reports, room for what one of them tells, and what came of one in chunks. A contract sees all but
-/// the room.
+/// The receiver of a device's reports, and room for what one of them tells. A contract sees all but the room.
 #[derive(Drop)]
-pub struct Recorded {
-    layout: Layout,
-    view: View,
+pub struct RecordedDevice {
+    receiver: Receiver,
     events: Vec<Event>,
-    /// What came of a report that the next chunk goes on with.
-    collected: Vec<u8>,
     /// Whether a part of a report may be missing in front of the next chunk.
     in_doubt: bool,
 }
@@ -53,7 +47,10 @@ pub enum Joined {
 }
 
 impl Joined {
-    /// The bytes of a report that is whole, none where more of it comes, or why the chunk is refused.
+    /// The bytes of a report that is whole, none where more of it comes.
+    ///
+    /// # Errors
+    /// R7 if the device has no descriptor, R15 if a part of the report may be missing.
     pub fn into_report(self) -> Result<Option<Vec<u8>>, Refusal>
         ensures whole { IfOk result (λ given. IfSome given (λ bytes. self ≡ Joined.Whole bytes)) }
         ensures begun { IfOk result (λ given. IfNone given (self ≡ Joined.Begun)) }
@@ -68,23 +65,41 @@ impl Joined {
     }
 }
 
-impl Model for Recorded {
+impl Model for RecordedDevice {
     ghost use Rattle.std.specs.Prelude.{◌≤◌, vec_capacity};
     ghost use Rattle.hid_layout.specs.Controls.{items_of, max_events};
-    ghost use Rattle.hid_usages.specs.Cells.{FitsView};
     ghost use Rattle.hid_recording.specs.Session.{Member};
 
     ghost Value = { Member };
 
     ghost view = { λ r. record {
-      layout = r.layout;
-      cells = r.view;
-      collected = r.collected.items;
+      layout = r.receiver.layout;
+      states = r.receiver.view;
+      collected = r.receiver.collected;
       in_doubt = r.in_doubt;
     } };
 
-    ghost invariant = { λ r. FitsView (items_of r.layout) r.view
-        × (max_events (items_of r.layout) ≤ vec_capacity r.events) };
+    ghost invariant = { λ r. max_events (items_of r.receiver.layout) ≤ vec_capacity r.events };
+}
+
+/// The initial view of a layout, and room for the events of a report.
+fn blank(alloc: Global, layout: &Layout) -> Option<(View, Vec<Event>)>
+    ensures view { IfSome result (λ made. (made.0 ≡ blank (items_of layout.now))
+        × FitsView (items_of layout.now) made.0) }
+    ensures events { IfSome result (λ made. max_events (items_of layout.now) ≤ vec_capacity made.1) }
+{
+    let view = View::initial(alloc, layout).ok()?;
+    let events = Vec::with_capacity(alloc, layout.max_events()).ok()?;
+    Some((view, events))
+}
+
+/// The bytes of a report that ends with a chunk.
+fn join_bytes(alloc: Global, before: &[u8], chunk: &[u8]) -> Result<Vec<u8>, AllocError>
+    ensures { IfOk result (λ bytes. bytes.items ≡ before.now ++ chunk.now) }
+{
+    let mut bytes = Vec::from_slice(alloc, before)?;
+    bytes.extend_from_slice(chunk)?;
+    Ok(bytes)
 }
 
 fn no_memory() -> LayoutFault
@@ -96,18 +111,24 @@ fn no_memory() -> LayoutFault
     }
 }
 
-impl Recorded {
+impl RecordedDevice {
     /// A device of which no report came yet.
-    pub fn new(alloc: Global, descriptor: &[u8]) -> Result<Recorded, LayoutFault>
+    ///
+    /// # Errors
+    /// Those of [`Layout::parse`], L1 to L16, or L17 if memory runs out.
+    pub fn new(alloc: Global, descriptor: &[u8]) -> Result<RecordedDevice, LayoutFault>
         ensures ok { IfOk result (λ recorded. (before : List Spelled) × Accepts descriptor.now before
             × (recorded ≡ fresh_member (layout_of before))) }
         ensures err { IfErr result (λ f. Explains descriptor.now f.cause f.at) }
     {
-        Recorded::of_layout(alloc, Layout::parse(alloc, descriptor))
+        RecordedDevice::of_layout(alloc, Layout::parse(alloc, descriptor))
     }
 
     /// A device of this layout, of which no report came yet. A fault in the layout's place is handed on as it is.
-    fn of_layout(alloc: Global, laid: Result<Layout, LayoutFault>) -> Result<Recorded, LayoutFault>
+    fn of_layout(
+        alloc: Global,
+        laid: Result<Layout, LayoutFault>,
+    ) -> Result<RecordedDevice, LayoutFault>
         ensures ok { IfOk result (λ recorded. (c : Contents) × (laid ≡ Ok c) × (recorded ≡ fresh_member c)) }
         ensures fault { (f : LayoutFault) → laid ≡ Err f → result ≡ Err f }
         ensures memory { (c : Contents) → laid ≡ Ok c → IfErr result (λ f. f ≡ record { cause = Memory; at = 0 }) }
@@ -116,75 +137,76 @@ impl Recorded {
             Ok(layout) => layout,
             Err(fault) => return Err(fault),
         };
-        let view = match View::initial(alloc, &layout) {
-            Ok(view) => view,
-            Err(_) => {
-                drop(layout);
-                return Err(no_memory());
-            }
-        };
-        match Vec::with_capacity(alloc, layout.max_events()) {
-            Ok(events) => Ok(Recorded {
-                layout,
-                view,
+        match blank(alloc, &layout) {
+            Some((view, events)) => Ok(RecordedDevice {
+                receiver: Receiver::new(layout, view),
                 events,
-                collected: Vec::new(alloc),
                 in_doubt: false,
             }),
-            Err(_) => {
-                drop(view);
+            None => {
                 drop(layout);
                 Err(no_memory())
             }
         }
     }
 
+    /// The layout of the device's reports.
     pub fn layout(&self) -> &Layout
         ensures { result.now ≡ self.now.layout }
     {
-        &self.layout
+        self.receiver.layout()
     }
 
     /// A part of a report may have been left out in front of the next chunk.
     pub fn doubt(&mut self)
-        ensures { self.new ≡ doubted self.old }
+        ensures { self.new ≡ member_after_doubt self.old }
     {
-        self.collected.clear();
-        self.in_doubt = has_long(&self.layout);
+        self.receiver.forget();
+        self.in_doubt = has_long(self.receiver.layout());
     }
 
     /// Joins a chunk to what came of its report before.
+    ///
+    /// # Errors
+    /// [`AllocError`] if memory runs out for the report that the chunk ends; never where a part of it may be missing.
     pub fn join(&mut self, alloc: Global, chunk: &[u8]) -> Result<Joined, AllocError>
-        ensures { IfOk result (λ joined. Joins (Some self.old) chunk.now joined (Some self.new)) }
+        ensures joined { IfOk result (λ joined. Joins (Some self.old) chunk.now joined (Some self.new)) }
+        ensures memory { IfErr result (λ _. ends_report chunk.now (Some self.old) ≡ true) }
     {
         if self.in_doubt {
             self.in_doubt = chunk.len() >= FULL_PACKET;
             return Ok(Joined::Doubtful);
         }
-        self.collected.extend_from_slice(chunk)?;
-        if !is_whole(&self.layout, self.collected.as_slice(), chunk.len()) {
+        if !self.receiver.ends_with(chunk) {
+            self.receiver.keep(chunk);
             return Ok(Joined::Begun);
         }
-        let bytes = mem::replace(&mut self.collected, Vec::new(alloc));
+        let bytes = join_bytes(alloc, self.receiver.collected(), chunk)?;
+        self.receiver.forget();
         Ok(Joined::Whole(bytes))
     }
 
     /// Plays a report: adds what it tells, and answers how many events it told. A report that is refused leaves the view
     /// as it was.
+    ///
+    /// # Errors
+    /// U8 or U9 if the bytes are no Input report of the device, which takes no memory; R10 if memory runs out for what a
+    /// report tells.
     pub fn play(
         &mut self,
         text: &mut String,
         source: &Source<'_>,
         bytes: &[u8],
     ) -> Result<u64, Cause>
-        ensures { PlaysMember source.now.options source.now.time.now source.now.device bytes.now self.old
+        ensures played { PlaysMember source.now.options source.now.time.now source.now.device bytes.now self.old
             (string_bytes text.old) result self.new (string_bytes text.new) }
+        ensures memory { RunsOutIf (is_ok (report_named self.old.layout bytes.now)) result }
     {
-        print_asked(text, &self.layout, source, bytes)?;
+        print_asked(text, self.receiver.layout(), source, bytes)?;
         self.events.clear();
         match self
-            .view
-            .take_report::<WordCodec>(&self.layout, bytes, &mut self.events)
+            .receiver
+            .take_report::<WordCodec>(bytes, &mut self.events)
         {
             Ok(()) => {}
             Err(fault) => return Err(Cause::Refused(Refusal::Report(fault))),
@@ -216,14 +238,6 @@ fn has_long(layout: &Layout) -> bool
         .any(|report| is_long(report, numbered))
 }
 
-/// Whether a report ends with these bytes, of which so many came last: it is as long as it should be, or the last packet isn't
-/// full (USB 2.0, 5.7.3).
-fn is_whole(layout: &Layout, bytes: &[u8], last: usize) -> bool
-    ensures { result ≡ is_whole layout.now bytes.now last }
-{
-    last < FULL_PACKET || bytes_awaited(layout, bytes) <= bytes.len()
-}
-
 /// Adds the values of a report, where they are asked for.
 fn print_asked(
     text: &mut String,
@@ -231,9 +245,11 @@ fn print_asked(
     source: &Source<'_>,
     bytes: &[u8],
 ) -> Result<(), AllocError>
-    ensures { OnOk result (string_bytes text.new ≡ string_bytes text.old
+    ensures printed { OnOk result (string_bytes text.new ≡ string_bytes text.old
         ++ values_asked source.now.options.values source.now.time.now source.now.device layout.now
         (report_named layout.now bytes.now) bytes.now) }
+    ensures memory { IfErr result (λ _. (source.now.options.values
+        && is_ok (report_named layout.now bytes.now)) ≡ true) }
 {
     if source.options.values {
         print_report(text, layout, source, bytes)
@@ -249,9 +265,10 @@ fn print_report(
     source: &Source<'_>,
     bytes: &[u8],
 ) -> Result<(), AllocError>
-    ensures { OnOk result (string_bytes text.new ≡ string_bytes text.old
+    ensures printed { OnOk result (string_bytes text.new ≡ string_bytes text.old
         ++ values_in source.now.time.now source.now.device layout.now
         (report_named layout.now bytes.now) bytes.now) }
+    ensures memory { IfErr result (λ _. is_ok (report_named layout.now bytes.now) ≡ true) }
 {
     match input_report(layout, bytes) {
         Err(_) => Ok(()),

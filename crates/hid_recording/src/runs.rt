@@ -1,7 +1,7 @@
 //! A whole recording, from a reader to a writer.
 
 ghost use Rattle.std.specs.Prelude.{◌≡◌, ◌≤◌, ◌*◌, IfOk};
-ghost use Rattle.hid_recording.specs.Runs.{AppendsRecording, line_of, played_of};
+ghost use Rattle.hid_recording.specs.Runs.{AppendsRecording, line_of, summary_until};
 ghost use Rattle.hid_recording.specs.Place.{AppendsFrom};
 ghost use Rattle.hid_recording.specs.Recording.{place_of};
 
@@ -11,31 +11,31 @@ use super::recording::Recording;
 use std::alloc::Global;
 use std::io::{ErrorKind, Read, Write};
 
-/// How often the reader is asked at most.
+/// How many reads a run makes at most.
 const READS: u64 = 1_000_000_000_000;
 
-/// For how many bytes the reader is asked at most.
+/// How many bytes a read is asked for.
 const PIECE: usize = 4096;
 
 /// Sees how far a run has come.
 pub trait Watch {
-    /// So many bytes were read, and this was played of them.
+    /// This many bytes were read, and this was played of them.
     fn see(&mut self, bytes: u64, summary: &Summary);
 }
 
-/// Nobody looks.
+/// A run that nobody watches.
 impl Watch for () {
     fn see(&mut self, _bytes: u64, _summary: &Summary) {}
 }
 
 /// Runs the recording that the reader gives, and writes what it tells. A read of 0 bytes ends the recording, and so does
-/// the first line of a strict run that is refused. A read that is interrupted is tried again. What was told is flushed
-/// before each read and at the end, also at a fault, so `writer` may be a buffer.
+/// the first line of a strict run that is refused. A read that is interrupted is tried again. What was reported is
+/// flushed before each read and at the end, also at a fault, so `writer` may be a buffer.
 ///
 /// # Errors
 /// What ended the run early, at its line, with what was played before. Where the last flush fails, R9 at that line,
-/// whatever the fault was: what was told would else be lost without a word. Of a recording that is accepted the line is
-/// the one behind the last.
+/// whatever the fault was: what was reported would else be lost without a word. Of a recording that is accepted the
+/// line is the one after the last.
 pub fn play<R: Read, W: Write, H: Watch>(
     alloc: Global,
     reader: &mut R,
@@ -52,12 +52,12 @@ pub fn play<R: Read, W: Write, H: Watch>(
         Err(_) => Err(RecordingFault {
             line: line_of(&end),
             cause: Cause::Write,
-            played: played_of(&end),
+            played: summary_until(&end),
         }),
     }
 }
 
-/// The line at which a run ended: behind the last one, where all were run.
+/// The line at which a run ended: after the last one, where all were run.
 fn line_of(end: &Result<Summary, RecordingFault>) -> u64
     requires { IfOk end.now (λ summary. summary.lines ≤ 4096 * 1000000000000) }
     ensures { result ≡ line_of end.now }
@@ -69,8 +69,8 @@ fn line_of(end: &Result<Summary, RecordingFault>) -> u64
 }
 
 /// What was played.
-fn played_of(end: &Result<Summary, RecordingFault>) -> Summary
-    ensures { result ≡ played_of end.now }
+fn summary_until(end: &Result<Summary, RecordingFault>) -> Summary
+    ensures { result ≡ summary_until end.now }
 {
     match end {
         Ok(summary) => *summary,
@@ -78,7 +78,7 @@ fn played_of(end: &Result<Summary, RecordingFault>) -> Summary
     }
 }
 
-/// The same, without the last flush.
+/// Plays a recording without the last flush.
 fn play_lines<R: Read, W: Write, H: Watch>(
     alloc: Global,
     reader: &mut R,

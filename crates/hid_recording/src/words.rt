@@ -14,7 +14,7 @@ use std::alloc::{AllocError, Global};
 /// How many devices a recording has room for (our choice).
 pub const MAX_DEVICES: usize = 16;
 
-/// Two hex digits, of either case.
+/// The byte that two hex digits of either case spell.
 fn read_byte(word: &[u8]) -> Option<u8>
     ensures value { result ≡ byte_of word.now }
 {
@@ -27,6 +27,9 @@ fn read_byte(word: &[u8]) -> Option<u8>
 }
 
 /// The bytes that words spell, one each.
+///
+/// # Errors
+/// R3 if a word isn't two hex digits, R10 if memory runs out for the bytes of the words before it.
 #[tactic(auto, unfolding(crate::specs::Words::bytes_of))]
 pub fn read_bytes(alloc: Global, words: &[&[u8]]) -> Result<Vec<u8>, Cause>
     ensures { MatchResult result
@@ -64,7 +67,7 @@ pub struct DeviceNumber {
     ghost small: { number < MAX_DEVICES },
 }
 
-/// A device: decimal digits, 0 to 15.
+/// The device that a word names: decimal digits, 0 to 15.
 pub fn read_device(word: &[u8]) -> Option<DeviceNumber>
     ensures value { option_map (λ device. device.number) result ≡ device_of word.now }
 {
@@ -76,13 +79,14 @@ pub fn read_device(word: &[u8]) -> Option<DeviceNumber>
     }
 }
 
+/// Whether a word is digits and points alone.
 fn is_time(word: &[u8]) -> bool
     ensures { result ≡ is_time word.now }
 {
     word.iter().all(|byte| matches!(*byte, b'0'..=b'9' | b'.'))
 }
 
-/// A time: digits and points.
+/// The time that a word spells: digits and points.
 pub fn read_time(word: &[u8]) -> Option<&str>
     ensures { option_map (λ time. time.now) result ≡ time_of word.now }
 {
@@ -93,13 +97,16 @@ pub fn read_time(word: &[u8]) -> Option<&str>
 }
 
 /// What stands between the colons of a word.
+///
+/// # Errors
+/// [`AllocError`] if memory runs out for the places of the parts.
 pub fn parts_of_word(alloc: Global, word: &[u8]) -> Result<Vec<&[u8]>, AllocError>
     ensures { IfOk result (λ parts. map (λ part. part.now) parts.items ≡ slice_split is_colon word.now) }
 {
     word.split(|byte| *byte == b':').collect(alloc)
 }
 
-/// Three numbers: of a bus, of a device on it, and of an interface.
+/// The interface that three numbers name: of a bus, of a device on it, and of the interface.
 pub fn read_address(bus: &[u8], device: &[u8], interface: &[u8]) -> Option<Address>
     ensures { result ≡ address_of bus.now device.now interface.now }
 {
@@ -113,7 +120,7 @@ pub fn read_address(bus: &[u8], device: &[u8], interface: &[u8]) -> Option<Addre
     })
 }
 
-/// What a dump is of.
+/// What a dump is of, by its word.
 pub fn read_content(word: &[u8]) -> Option<Content>
     ensures { result ≡ content_of word.now }
 {

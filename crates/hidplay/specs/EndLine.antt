@@ -1,4 +1,4 @@
--- The line of JSON that tells what ended a file early (RFC 8259; the members: our choice, docs/RECORDINGS.md).
+-- The line of JSON that says what ended a file early (RFC 8259; the members: our choice, docs/RECORDINGS.md).
 use Rattle.std.specs.Prelude.{ℕ, ◌+◌, ◌-◌, ◌^◌, min, List, [], ◌∷◌, ◌++◌, codes}
 use Rattle.std.specs.Fmt.{decimal}
 use Rattle.json.specs.Token.{Token, begin_object, end_object, key, string, number}
@@ -7,7 +7,7 @@ use Rattle.hid_recording.specs.declared.fault.Cause.{Cause}
 use Rattle.hid_recording.specs.declared.fault.Cause.TheVariants.{Refused, LineTooLong, Read, Write, Memory, TooManyReads, Unended}
 use Rattle.hid_recording.specs.Refusals.{cause_text}
 
--- one more, where what ended the file is a refusal; the count stops at the greatest number of 64 bits
+-- a count of refusals, one more if what ended the file is one; it stops at the greatest number of 64 bits
 abbrev pub with_cause : Cause → ℕ → ℕ
 with_cause (Refused refusal) count = min (count + 1) (2 ^ 64 - 1)
 with_cause LineTooLong count = min (count + 1) (2 ^ 64 - 1)

@@ -5,7 +5,7 @@ use Rattle.hid_recording.specs.declared.fault.RecordingFault.{RecordingFault}
 use Rattle.hid_recording.specs.declared.fault.Cause.{Cause}
 use Rattle.hid_recording.specs.declared.fault.Cause.TheVariants.{Refused, LineTooLong, Read, Write, Memory, TooManyReads, Unended}
 
--- 1 where a line is refused, 3 where the cause lies outside of the recording
+-- the exit status of a cause: 1 if a line is refused, 3 if the cause lies outside of the recording
 abbrev pub cause_status : Cause → ℕ
 cause_status (Refused refusal) = 1
 cause_status LineTooLong = 1

@@ -11,19 +11,19 @@ abbrev pub plus : ℕ → ℕ → ℕ
 plus count more = min (count + more) (2 ^ 64 - 1)
 
 -- the counts of all files with what was played of one more; a count stops at the greatest number of 64 bits
-abbrev pub counted : Total → Summary → Total
-counted total played = record total {
+abbrev pub with_summary : Total → Summary → Total
+with_summary total played = record total {
   descriptors = plus total.descriptors played.descriptors;
   reports = plus total.reports played.reports;
   events = plus total.events played.events;
   refused = plus total.refused played.refused;
 }
 
--- A file that was played to its end counts as one. Of another there is what was played, with what ended it where that is
--- a refusal.
-abbrev pub added : Total → Result Summary RecordingFault → Total
-added total (Ok summary) = counted (record total { files = plus total.files 1 }) summary
-added total (Err fault) = counted total (record fault.played { refused = refusals_of fault })
+-- The counts with one more file: one that was played to its end counts as a file; of another one what was played is added,
+-- and one refusal more if a refusal ended it.
+abbrev pub with_result : Total → Result Summary RecordingFault → Total
+with_result total (Ok summary) = with_summary (record total { files = plus total.files 1 }) summary
+with_result total (Err fault) = with_summary total (record fault.played { refused = refusals_of fault })
 
 -- the line of totals: files N, descriptors N, reports N, events N, refused N
 abbrev pub total_text : Total → List ℕ

@@ -2,7 +2,7 @@
 
 /// Each code with its words.
 #[rattlefmt::skip]
-pub const CODES: &str = "What is refused is told in its place, with its line, and the rest goes on:
+pub const CODES: &str = "Refusals are reported in place, with their line, and the rest goes on:
   R1: no line of a recording
   R3: a byte isn't two hex digits
   R4: the count isn't that of the bytes
@@ -35,7 +35,7 @@ and, with the byte at which a report descriptor is refused:
 These end a file, and R9 and the first refusal with --strict all of them:
   R2: a line of over 16384 bytes
   R8: the recording can't be read
-  R9: what it tells can't be written
-  R10: memory was wanting
+  R9: its text can't be written
+  R10: out of memory
   R11: the end didn't come in 1000000000000 reads
   R12: no empty line ends the last dump";

@@ -21,7 +21,7 @@ pub fn refusals_of(fault: &RecordingFault) -> u64
     }
 }
 
-/// A number with its name.
+/// Writes a count with its name.
 fn put_count(json: &mut Writer, name: &str, count: u64) -> Result<(), AllocError>
     ensures tokens { OnOk result (json.new.tokens ≡ json.old.tokens ++ count_tokens name.now count) }
     ensures before { json.new.before ≡ json.old.before }
@@ -30,7 +30,7 @@ fn put_count(json: &mut Writer, name: &str, count: u64) -> Result<(), AllocError
     json.u64(count)
 }
 
-/// Where and why the file ended.
+/// Writes where and why a file ended.
 fn put_cause(json: &mut Writer, line: u64, words: &str) -> Result<(), AllocError>
     ensures tokens { OnOk result (json.new.tokens ≡ json.old.tokens ++ cause_tokens line words.now) }
     ensures before { json.new.before ≡ json.old.before }
@@ -40,7 +40,7 @@ fn put_cause(json: &mut Writer, line: u64, words: &str) -> Result<(), AllocError
     json.string(words)
 }
 
-/// What was played of it.
+/// Writes what was played of a file.
 fn put_played(json: &mut Writer, fault: &RecordingFault) -> Result<(), AllocError>
     ensures tokens { OnOk result (json.new.tokens ≡ json.old.tokens ++ played_tokens fault.now) }
     ensures before { json.new.before ≡ json.old.before }
@@ -51,7 +51,7 @@ fn put_played(json: &mut Writer, fault: &RecordingFault) -> Result<(), AllocErro
     put_count(json, "refusals", refusals_of(fault))
 }
 
-/// All of it, as an object.
+/// Writes what ended a file and what was played of it, as an object.
 fn put_end(json: &mut Writer, fault: &RecordingFault, words: &str) -> Result<(), AllocError>
     requires { words.now ≡ cause_text fault.now.cause }
     ensures tokens { OnOk result (json.new.tokens ≡ json.old.tokens ++ end_tokens fault.now) }
@@ -64,6 +64,9 @@ fn put_end(json: &mut Writer, fault: &RecordingFault, words: &str) -> Result<(),
 }
 
 /// `{"line":N,"ended":"CODE: WORDS","descriptors":..,"reports":..,"events":..,"refusals":..}`, and the end of the line.
+///
+/// # Errors
+/// Out of memory.
 pub fn end_line(alloc: Global, fault: &RecordingFault) -> Result<Vec<u8>, AllocError>
     ensures { IfOk result (λ line. line.items ≡ json_text (end_tokens fault.now)) }
 {

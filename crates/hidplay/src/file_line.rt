@@ -7,7 +7,7 @@ ghost use Rattle.hid_recording.specs.EventJson.{json_text};
 use json::Writer;
 use std::alloc::{AllocError, Global};
 
-/// The name of a file, as an object.
+/// Writes the name of a file, as an object.
 fn put_file(json: &mut Writer, name: &str) -> Result<(), AllocError>
     ensures tokens { OnOk result (json.new.tokens ≡ json.old.tokens ++ file_tokens name.now) }
     ensures before { json.new.before ≡ json.old.before }
@@ -19,6 +19,9 @@ fn put_file(json: &mut Writer, name: &str) -> Result<(), AllocError>
 }
 
 /// `{"file":NAME}`, and the end of the line.
+///
+/// # Errors
+/// Out of memory.
 pub fn file_line(alloc: Global, name: &str) -> Result<Vec<u8>, AllocError>
     ensures { IfOk result (λ line. line.items ≡ json_text (file_tokens name.now)) }
 {

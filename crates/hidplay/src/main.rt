@@ -32,7 +32,7 @@ use std::io::{BufWriter, IsTerminal, Stderr, Write};
 use std::process::ExitCode;
 use std::{env, fs};
 use total::Total;
-use words::{Asked, asked_by};
+use words::{CliArgs, parse_args};
 
 fn main(rt: HostRuntime) -> ExitCode {
     let alloc = rt.alloc();
@@ -43,14 +43,14 @@ fn main(rt: HostRuntime) -> ExitCode {
     let Ok(words) = words else {
         return ExitCode::from(OUTSIDE);
     };
-    match asked_by(alloc, words.as_slice()) {
+    match parse_args(alloc, words.as_slice()) {
         Ok(asked) => ExitCode::from(play_all(&rt, &asked)),
-        Err(error) => ExitCode::from(tell_words(&rt, &error)),
+        Err(error) => ExitCode::from(print_bad_words(&rt, &error)),
     }
 }
 
 /// Help and version go to standard output, and what is wrong with the words to standard error.
-fn tell_words(rt: &HostRuntime, error: &clap::Error) -> u8 {
+fn print_bad_words(rt: &HostRuntime, error: &clap::Error) -> u8 {
     match error.kind() {
         ErrorKind::DisplayHelp | ErrorKind::DisplayVersion => {
             if print!(rt; "{error}").is_ok() {
@@ -68,7 +68,7 @@ fn tell_words(rt: &HostRuntime, error: &clap::Error) -> u8 {
 }
 
 /// Plays each file, or standard input where none is named, and tells the summary.
-fn play_all(rt: &HostRuntime, asked: &Asked<'_>) -> u8 {
+fn play_all(rt: &HostRuntime, asked: &CliArgs<'_>) -> u8 {
     let Ok(mut out) = BufWriter::new(rt.alloc(), rt.stdout()) else {
         return OUTSIDE;
     };
@@ -94,7 +94,7 @@ fn play_all(rt: &HostRuntime, asked: &Asked<'_>) -> u8 {
 /// Plays one file, and tells what ended it early.
 fn play_one<W: Write>(
     rt: &HostRuntime,
-    asked: &Asked<'_>,
+    asked: &CliArgs<'_>,
     name: &str,
     out: &mut W,
 ) -> Result<Summary, RecordingFault> {
@@ -106,14 +106,15 @@ fn play_one<W: Write>(
         return end;
     };
     let fault = print_end(rt.alloc(), asked, fault, out);
-    let _ = eprintln!(rt; "{name}: {fault}");
+    let RecordingFault { line, cause, .. } = fault;
+    let _ = eprintln!(rt; "{name}: line {line}: {cause}");
     Err(fault)
 }
 
 /// With JSON, prints what ended a file too. Where that fails, it is what ended the file.
 fn print_end<W: Write>(
     alloc: Global,
-    asked: &Asked<'_>,
+    asked: &CliArgs<'_>,
     fault: RecordingFault,
     out: &mut W,
 ) -> RecordingFault {
@@ -135,7 +136,7 @@ fn print_end<W: Write>(
 /// Of several files the name stands before what each tells.
 fn print_file<W: Write>(
     alloc: Global,
-    asked: &Asked<'_>,
+    asked: &CliArgs<'_>,
     name: &str,
     out: &mut W,
 ) -> Result<(), Cause> {
@@ -165,7 +166,7 @@ fn terminal(rt: &HostRuntime) -> Option<Stderr> {
 /// Plays a file, or standard input where the name is `-`.
 fn play_named<W: Write>(
     rt: &HostRuntime,
-    asked: &Asked<'_>,
+    asked: &CliArgs<'_>,
     name: &str,
     out: &mut W,
 ) -> Result<Summary, RecordingFault> {

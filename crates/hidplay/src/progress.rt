@@ -3,7 +3,7 @@
 use hid_recording::{Summary, Watch};
 use std::io::Write;
 
-/// The line is written once for so many bytes.
+/// The line is written once for each `STEP` bytes.
 const STEP: u64 = 1 << 20;
 
 /// A line on a terminal, or none where there is no terminal.
@@ -12,12 +12,13 @@ pub struct Progress<W> {
     terminal: Option<W>,
     /// The bytes of the file, where they are known.
     size: Option<u64>,
-    /// Until so many bytes are read nothing is written.
+    /// Until n bytes are read nothing is written.
     next: u64,
     is_shown: bool,
 }
 
 impl<W: Write> Progress<W> {
+    /// No progress yet.
     pub fn new(terminal: Option<W>, size: Option<u64>) -> Self {
         Progress {
             terminal,

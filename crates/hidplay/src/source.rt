@@ -13,7 +13,7 @@ pub enum Kind {
     Binary,
 }
 
-/// More bytes than a descriptor has: it is refused for its length, whatever comes behind them.
+/// More bytes than a descriptor has: it is refused for its length, whatever comes after them.
 const TOO_MANY: usize = 4097;
 
 /// The byte order mark of UTF-8.
@@ -98,6 +98,11 @@ fn skip_mark<R: Read>(reader: &mut BufReader<R>) -> Result<(), RecordingFault> {
 }
 
 /// Plays a file, as what it is.
+///
+/// # Errors
+/// At line 1, before anything is played: [`Cause::Memory`] where there is none to read with, [`Cause::Read`] and
+/// [`Cause::TooManyReads`] where the first bytes, or those of a binary descriptor, can't be read. Later what [`play`]
+/// gives.
 pub fn play_source<R: Read + Drop, W: Write, H: Watch>(
     alloc: Global,
     reader: R,
@@ -112,7 +117,7 @@ pub fn play_source<R: Read + Drop, W: Write, H: Watch>(
     }
 }
 
-/// The same, of a buffer.
+/// Plays a file by its buffered reader.
 fn play_buffered<R: Read, W: Write, H: Watch>(
     alloc: Global,
     reader: &mut BufReader<R>,

@@ -1,7 +1,7 @@
 //! What all files together had.
 
 ghost use Rattle.std.specs.Prelude.{◌≡◌, Some};
-ghost use Rattle.hidplay.specs.Total.{added, counted, total_text};
+ghost use Rattle.hidplay.specs.Total.{total_text, with_result, with_summary};
 
 use super::end_line::refusals_of;
 use hid_recording::{RecordingFault, Summary};
@@ -21,7 +21,7 @@ pub struct Total {
 impl Total {
     /// Adds a file that was played to its end, or what was played of another, with what ended it.
     pub fn add(&mut self, end: &Result<Summary, RecordingFault>)
-        ensures { self.new ≡ added self.old end.now }
+        ensures { self.new ≡ with_result self.old end.now }
     {
         match end {
             Ok(summary) => {
@@ -37,7 +37,7 @@ impl Total {
 
     /// Adds what was played of a file.
     fn count(&mut self, summary: &Summary)
-        ensures { self.new ≡ counted self.old summary.now }
+        ensures { self.new ≡ with_summary self.old summary.now }
     {
         self.descriptors = self.descriptors.saturating_add(summary.descriptors);
         self.reports = self.reports.saturating_add(summary.reports);

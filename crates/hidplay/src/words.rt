@@ -8,7 +8,7 @@ use std::alloc::{AllocError, Global};
 
 /// What the words ask for.
 #[derive(Drop)]
-pub struct Asked<'a> {
+pub struct CliArgs<'a> {
     pub options: Options,
     /// What the files are taken for.
     pub kind: Kind,
@@ -125,23 +125,26 @@ fn kind_of(is_text: bool, is_binary: bool) -> Kind {
     }
 }
 
-/// What the words behind the first ask for, which is the program's name.
-pub fn asked_by<'a>(alloc: Global, words: &'a [String]) -> Result<Asked<'a>, Error> {
+/// What the words after the first ask for, which is the program's name.
+///
+/// # Errors
+/// The error of clap: words that it refuses, help or version that they ask for, or out of memory.
+pub fn parse_args<'a>(alloc: Global, words: &'a [String]) -> Result<CliArgs<'a>, Error> {
     let matches = command(alloc)?.try_get_matches_from(words)?;
-    let asked = asked_in(alloc, &matches);
+    let asked = read_matches(alloc, &matches);
     drop(matches);
     asked
 }
 
-/// The same, of the words that were found.
-fn asked_in<'a>(alloc: Global, matches: &ArgMatches<'a>) -> Result<Asked<'a>, Error> {
+/// The arguments of the words that clap found.
+fn read_matches<'a>(alloc: Global, matches: &ArgMatches<'a>) -> Result<CliArgs<'a>, Error> {
     let mut files = Vec::new(alloc);
     if let Some(names) = matches.get_strs("FILE") {
         for name in names {
             files.push(*name)?;
         }
     }
-    Ok(Asked {
+    Ok(CliArgs {
         options: Options {
             layout: matches.get_flag("layout"),
             values: matches.get_flag("values"),

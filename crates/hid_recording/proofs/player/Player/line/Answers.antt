@@ -1,17 +1,41 @@
 use Rattle.std.proofs.Common.{arith}
 use Rattle.std.specs.Prelude.{string_bytes}
 use Rattle.hid_recording.specs.Player.{session_of}
-use Rattle.hid_recording.proofs.PlayerLemmas.{long_line_ends, line_ends, line_written}
+use Rattle.hid_recording.proofs.PlayerLemmas.{long_line_ends, line_ends, line_written, line_cause, written_cause}
 use Rattle.hid_recording.proofs.player.Player.line.Goals as goal
 
-pub returns-then-line-gt-LINE_LIMIT : goal.returns-then-line-gt-LINE_LIMIT
-returns-then-line-gt-LINE_LIMIT g c = long_line_ends _ (session_of c.args.self.now) c.args.line.now (omega (arith, c.if-line-gt-LINE_LIMIT.true))
+pub returns-then-line-gt-LINE_LIMIT-clause-told : goal.returns-then-line-gt-LINE_LIMIT-clause-told
+returns-then-line-gt-LINE_LIMIT-clause-told g c = long_line_ends _ (session_of c.args.self.now) c.args.line.now (omega (arith, c.if-line-gt-LINE_LIMIT.true))
 
-pub returns-in_err-tell : goal.returns-in_err-tell
-returns-in_err-tell g c =
-    line_ends _ (session_of c.args.self.now) c.args.line.now _ c.in_err-tell.field-0.0 _ _ (omega (arith, c.if-line-gt-LINE_LIMIT.false)) c.saturating_add-self.ensures c.in_err-tell.ensures c.from_residual.ensures.1
+pub returns-in_err-play_line-clause-told : goal.returns-in_err-play_line-clause-told
+returns-in_err-play_line-clause-told g c =
+    line_ends _ (session_of c.args.self.now) c.args.line.now _ c.in_err-play_line.field-0.0 _ _
+    (omega (
+      arith,
+      c.if-line-gt-LINE_LIMIT.false,
+    )) c.saturating_add-self.ensures c.in_err-play_line.ensures.told c.from_residual.ensures.1
 
-pub returns : goal.returns
-returns g c =
-    line_written _ _ (session_of c.args.self.now) c.args.line.now _ (string_bytes c.tell.new.self.text) c.as_bytes.result.now _ _ (omega (arith, c.if-line-gt-LINE_LIMIT.false)) c.saturating_add-self.ensures c.in_ok-tell.ensures c.as_bytes.ensures.value
+pub returns-clause-told : goal.returns-clause-told
+returns-clause-told g c =
+    line_written _ _ (session_of c.args.self.now) c.args.line.now _
+    (string_bytes c.play_line.new.self.text) c.as_bytes.result.now _ _
+    (omega (
+      arith,
+      c.if-line-gt-LINE_LIMIT.false,
+    )) c.saturating_add-self.ensures c.in_ok-play_line.ensures.told c.as_bytes.ensures.value
     c.write_text.ensures.ok c.write_text.ensures.cause c.write_text.ensures.front
+
+pub returns-in_err-play_line-clause-cause : goal.returns-in_err-play_line-clause-cause
+returns-in_err-play_line-clause-cause g c =
+    line_cause (session_of c.args.self.now) c.args.line.now _ c.in_err-play_line.field-0.0 _ c.saturating_add-self.ensures
+    c.in_err-play_line.ensures.told c.from_residual.ensures.1
+
+pub returns-clause-cause : goal.returns-clause-cause
+returns-clause-cause g c =
+    written_cause (session_of c.args.self.now) c.args.line.now _
+    (string_bytes c.play_line.new.self.text) c.as_bytes.result.now _ _
+    (omega (
+      arith,
+      c.if-line-gt-LINE_LIMIT.false,
+    )) c.saturating_add-self.ensures c.in_ok-play_line.ensures.told c.as_bytes.ensures.value
+    c.write_text.ensures.cause c.write_text.ensures.nothing

@@ -8,15 +8,21 @@ use Rattle.hid_recording.proofs.PlaceLemmas.{stopped_at, last_line_told, last_li
 use Rattle.hid_recording.proofs.recording.Recording.finish.Goals as goal
 
 pub returns-then-is_empty-clause-ran : goal.returns-then-is_empty-clause-ran
-returns-then-is_empty-clause-ran g c = ([], Appends-nil _, no_last_line (place_of c.args.self.now) c.end.result (nil_from_length c.args.self.now.begun.items (eqb-true _ _ (sym c.if-is_empty.ensures))) c.end.ensures)
+returns-then-is_empty-clause-ran g c = ([], Appends-nil _, no_last_line (place_of c.args.self.now) c.end.result (nil_from_length c.args.self.now.buffer.bytes.items (eqb-true _ _ (sym (rw c.rest-line.ensures.value at c.if-is_empty.ensures)))) c.end.ensures)
 
 pub returns-in-Err-clause-ran : goal.returns-in-Err-clause-ran
 returns-in-Err-clause-ran g c =
-    let told = rw c.as_slice.ensures.value at c.in-Err.ensures in
-    let at = stopped_at (session_of c.args.self.now.player) c.args.self.now.lines c.summary-played.result c.stopped.result c.summary-played.ensures.lines c.summary-played.ensures.counts c.stopped.ensures.0 c.stopped.ensures.2 in
-    (told.0, told.1, last_line_stops (place_of c.args.self.now) (session_of c.line.new.self) told.0 c.in-Err.cause c.stopped.result c.args.self.now.unbroken (omega (arith, eqb-false _ _ (sym c.if-is_empty.ensures))) told.2 at.0 c.stopped.ensures.1 at.1)
+    let told = rw c.rest-line.ensures.value at c.in-Err.ensures.told in
+    let at = stopped_at
+    (session_of c.args.self.now.player) c.args.self.now.lines c.summary-played.result c.stop_at.result c.summary-played.ensures.lines c.summary-played.ensures.counts c.stop_at.ensures.0 c.stop_at.ensures.2 in (
+      told.0,
+      told.1,
+      last_line_stops (place_of c.args.self.now)
+          (session_of c.line.new.self) told.0 c.in-Err.cause c.stop_at.result c.args.self.now.buffer.unbroken
+          (omega (arith, eqb-false _ _ (sym (rw c.rest-line.ensures.value at c.if-is_empty.ensures)))) told.2 at.0 c.stop_at.ensures.1 at.1,
+    )
 
 pub returns-clause-ran : goal.returns-clause-ran
 returns-clause-ran g c =
-    let told = rw c.as_slice.ensures.value at c.in_default.ensures in
-    (told.0, told.1, last_line_told (place_of c.args.self.now) (session_of c.line.new.self) told.0 c.end-2.result c.args.self.now.unbroken (omega (arith, eqb-false _ _ (sym c.if-is_empty.ensures))) told.2 c.end-2.ensures)
+    let told = rw c.rest-line.ensures.value at c.in_default.ensures.told in
+    (told.0, told.1, last_line_told (place_of c.args.self.now) (session_of c.line.new.self) told.0 c.end-2.result c.args.self.now.buffer.unbroken (omega (arith, eqb-false _ _ (sym (rw c.rest-line.ensures.value at c.if-is_empty.ensures)))) told.2 c.end-2.ensures)

@@ -1,4 +1,4 @@
--- What a line of a recording tells (our choice: docs/RECORDINGS.md).
+-- The outcome of a line of a recording (our choice: docs/RECORDINGS.md).
 use Rattle.std.specs.Prelude.{◌≡◌, ◌⊎◌, ℕ, ◌+◌, nat_lt, Bool, true, false, List, [], ◌∷◌, ◌++◌, length, if◌then◌else◌, Option, None, Some, Result, Ok, Err, slice_get, set, map, codes}
 use Rattle.std.specs.Fmt.{decimal}
 use Rattle.hid_descriptor.specs.Items.{Spelled}
@@ -16,37 +16,38 @@ use Rattle.hid_recording.specs.declared.fault.Cause.TheVariants.{Refused, LineTo
 use Rattle.hid_recording.specs.declared.fault.Options.{Options}
 use Rattle.hid_recording.specs.declared.fault.Refusal.{Refusal}
 use Rattle.hid_recording.specs.declared.fault.Refusal.TheVariants as refusals
-use Rattle.hid_recording.specs.Session.{Session, Member, Outcome, accepted, refused, counted, fresh_member}
+use Rattle.hid_recording.specs.Session.{Session, Member, Outcome, success, failure, saturating_sum, fresh_member}
 use Rattle.hid_recording.specs.Taking.{read_member, member_events}
-use Rattle.hid_recording.specs.Joining.{doubted_slot, past_chunk, bytes_with, ends_with, kept_of}
+use Rattle.hid_recording.specs.Joining.{slot_after_doubt, past_chunk, bytes_with, ends_with, with_collected}
 use Rattle.hid_recording.specs.EventLines.{event_lines}
 use Rattle.hid_recording.specs.Refusals.{refusal_line}
 use Rattle.hid_recording.specs.Records.{Said, Nothing, Blank, Device, Descriptor, Unread, Report, Begins, Bytes, record_of}
 use Rattle.hid_recording.specs.Words.{time_of}
-use Rattle.hid_recording.specs.Dumps.{nothing, left_out, empty_dump, described_by, numbered, with_address}
+use Rattle.hid_recording.specs.Dumps.{nothing, left_out, empty_dump, described_device, number_of_address, with_address}
 
 -- ---- refusals
 
--- a line that is refused tells its place and why, and is counted
+-- the outcome of a line that is refused: its place and why are printed, and it is counted
 abbrev pub goes_on : Session → Refusal → Outcome
 goes_on session refusal =
-    accepted (refusal_line session.options.json session.lines refusal)
-    (record session { refused = counted session.refused 1 })
+    success (refusal_line session.options.json session.lines refusal)
+    (record session { refused = saturating_sum session.refused 1 })
 
 -- a line that is refused: of a strict run it is the end, else the run goes on
 abbrev pub refuses : Session → Refusal → Outcome
-refuses session refusal = if session.options.strict then refused (Refused refusal) else goes_on session refusal
+refuses session refusal =
+    if session.options.strict then failure (Refused refusal) else goes_on session refusal
 
 -- ---- descriptors
 
--- the device is this from now on
+-- the session whose current device is this one
 abbrev pub with_device : Session → Option Member → Session
 with_device session member = record session { devices = set session.devices session.current member }
 
--- a device that there may be has none from now on
-abbrev pub forgotten : List (Option Member) → Option ℕ → List (Option Member)
-forgotten devices None = devices
-forgotten devices (Some device) = set devices device None
+-- the devices, of which a device that may be named has no descriptor
+abbrev pub devices_without : List (Option Member) → Option ℕ → List (Option Member)
+devices_without devices None = devices
+devices_without devices (Some device) = set devices device None
 
 -- the text of a descriptor that is accepted: with --layout the number of the device, and its layout
 abbrev pub described_text : Options → ℕ → Contents → List ℕ
@@ -56,10 +57,10 @@ described_text options device layout =
 -- a device whose descriptor is accepted
 abbrev pub installs : Session → Member → Outcome
 installs session member =
-    accepted (described_text session.options session.current member.layout)
+    success (described_text session.options session.current member.layout)
     (record session {
       devices = set session.devices session.current (Some member);
-      descriptors = counted session.descriptors 1;
+      descriptors = saturating_sum session.descriptors 1;
     })
 
 -- the descriptor is accepted, with these items; or it is refused, and the device has none
@@ -87,14 +88,14 @@ report_text options time device member report bytes =
     values_asked options.values time device member.layout (Ok report) bytes
     ++ event_lines time device options (member_events member report bytes)
 
--- a report that is read: its text, and the session behind it
+-- a report that is read: its text, and the session after it
 abbrev pub reads : Session → List ℕ → List ℕ → Member → ℕ → Outcome
 reads session time bytes member report =
-    accepted (report_text session.options time session.current member report bytes)
+    success (report_text session.options time session.current member report bytes)
     (record session {
       devices = set session.devices session.current (Some (read_member member report bytes));
-      reports = counted session.reports 1;
-      events = counted session.events (length (member_events member report bytes));
+      reports = saturating_sum session.reports 1;
+      events = saturating_sum session.events (length (member_events member report bytes));
     })
 
 -- a report that the bytes name, or why they are none
@@ -108,64 +109,67 @@ reads_of session time bytes None = refuses session refusals.NoLayout
 reads_of session time bytes (Some member) = reads_named session time bytes member (report_named member.layout bytes)
 
 -- what stands at a place that there is
-abbrev pub known_at : Option (Option Member) → Option Member
-known_at None = None
-known_at (Some member) = member
+abbrev pub member_in_slot : Option (Option Member) → Option Member
+member_in_slot None = None
+member_in_slot (Some member) = member
 
 -- a report of the device of these lines
-abbrev pub report_told : List ℕ → List ℕ → Session → Outcome
-report_told time bytes session = reads_of session time bytes (known_at (slice_get session.devices session.current))
+abbrev pub report_outcome : List ℕ → List ℕ → Session → Outcome
+report_outcome time bytes session =
+    reads_of session time bytes (member_in_slot (slice_get session.devices session.current))
 
 -- ---- dumps
 
 -- no dump is open
-abbrev pub closed : Session → Session
-closed session = record session { gathered = nothing }
+abbrev pub without_dump : Session → Session
+without_dump session = record session { gathered = nothing }
 
--- The devices behind a dump that may be open, and is dropped. The one whose descriptor it was to be has none. A part of
+-- The devices after a dump that may be open, and is dropped. The one whose descriptor it was to be has none. A part of
 -- a report may be missing: of any device, since it isn't known of which the line was.
-abbrev pub devices_behind : Session → List (Option Member)
-devices_behind session =
-    map doubted_slot (forgotten session.devices (described_by session.gathered.content session.gathered.device))
+abbrev pub devices_after : Session → List (Option Member)
+devices_after session =
+    map slot_after_doubt
+    (devices_without session.devices (described_device session.gathered.content session.gathered.device))
 
 -- a dump that is open is dropped, and its further bytes are passed over
-abbrev pub dropped : Session → Session
-dropped session = record session { devices = devices_behind session; gathered = left_out }
+abbrev pub with_dropped_dump : Session → Session
+with_dropped_dump session = record session { devices = devices_after session; gathered = left_out }
 
 -- the device of an R: line, or that of an interface, has no descriptor any more
-abbrev pub undescribed : Session → Option Address → Session
-undescribed session None = with_device session None
-undescribed session (Some address) = record session {
-  devices = forgotten session.devices (numbered session.addresses address);
+abbrev pub without_descriptor : Session → Option Address → Session
+without_descriptor session None = with_device session None
+without_descriptor session (Some address) = record session {
+  devices = devices_without session.devices (number_of_address session.addresses address);
   addresses = with_address session.addresses address;
 }
 
 -- A descriptor can't be read: the device that it was for has none. Example: R: 2 05, then E: 1 1 00, is R4, then R7
 abbrev pub unread : Session → Option Address → Refusal → Outcome
-unread session interface refusal = refuses (dropped (undescribed session interface)) refusal
+unread session interface refusal = refuses (with_dropped_dump (without_descriptor session interface)) refusal
 
 -- a dump is open, of which no byte came yet
 abbrev pub with_dump : Session → Address → Content → List ℕ → ℕ → Session
 with_dump session address content time device =
     record session { addresses = with_address session.addresses address; gathered = empty_dump content device time }
 
--- the dump before it should have been ended
-abbrev pub begins_behind : Option Content → Session → Session → Outcome
-begins_behind None session next = accepted [] next
-begins_behind (Some content) session next = refuses (record next { devices = devices_behind session }) refusals.Unended
+-- a dump that begins: if another one is open, the line is refused, since that one should have been ended
+abbrev pub begins_after : Option Content → Session → Session → Outcome
+begins_after None session next = success [] next
+begins_after (Some content) session next =
+    refuses (record next { devices = devices_after session }) refusals.Unended
 
--- a dump of a device that may have a number
+-- a dump that begins, of a device that may have a number
 abbrev pub begins_of : Session → Address → Content → List ℕ → Option ℕ → Outcome
-begins_of session address content time None = refuses (dropped session) refusals.TooManyDevices
+begins_of session address content time None = refuses (with_dropped_dump session) refusals.TooManyDevices
 begins_of session address content time (Some device) =
-    begins_behind session.gathered.content session (with_dump session address content time device)
+    begins_after session.gathered.content session (with_dump session address content time device)
 
--- a dump that begins
+-- what the head of a dump tells
 abbrev pub begins : Session → Address → Content → List ℕ → Outcome
 begins session address content time =
-    begins_of session address content time (numbered session.addresses address)
+    begins_of session address content time (number_of_address session.addresses address)
 
--- bytes of a dump
+-- a dump that is open, with more bytes
 abbrev pub with_bytes : Session → List ℕ → Session
 with_bytes session bytes = record session {
   gathered = record {
@@ -180,28 +184,29 @@ with_bytes session bytes = record session {
 -- bytes that no dump has: of one that was dropped, or of none
 abbrev pub gathers_none : Session → Outcome
 gathers_none session =
-    if session.gathered.is_dropped then accepted [] session else refuses (dropped session) refusals.Syntax
+    if session.gathered.is_dropped then success [] session else refuses
+    (with_dropped_dump session) refusals.Syntax
 
 -- bytes of a dump that is open, which has 4,096 at most
 abbrev pub gathers : Session → Option (List ℕ) → Option Content → Outcome
 gathers session bytes None = gathers_none session
-gathers session None (Some content) = refuses (dropped session) refusals.BadHex
+gathers session None (Some content) = refuses (with_dropped_dump session) refusals.BadHex
 gathers session (Some bytes) (Some content) =
     if nat_lt 4096 (length session.gathered.bytes + length bytes)
-    then refuses (dropped session) refusals.DumpTooLong else accepted [] (with_bytes session bytes)
+    then refuses (with_dropped_dump session) refusals.DumpTooLong else success [] (with_bytes session bytes)
 
 -- a dump is ended, and the next lines are of its device
-abbrev pub ended : Session → Session
-ended session = record session { current = session.gathered.device; gathered = nothing }
+abbrev pub after_dump : Session → Session
+after_dump session = record session { current = session.gathered.device; gathered = nothing }
 
--- a chunk of a device: passed over where a part may be missing, else the report that it ends is told
+-- the outcome of a chunk of a device: passed over where a part may be missing, else the report that it ends is printed
 abbrev pub chunk_in : Session → List ℕ → List ℕ → Member → Bool → Bool → Outcome
 chunk_in session time chunk member true ends =
     refuses (with_device session (Some (past_chunk member chunk))) refusals.PartMissing
 chunk_in session time chunk member false true =
-    report_told time (bytes_with member chunk) (with_device session (Some (kept_of member [])))
+    report_outcome time (bytes_with member chunk) (with_device session (Some (with_collected member [])))
 chunk_in session time chunk member false false =
-    accepted [] (with_device session (Some (kept_of member (bytes_with member chunk))))
+    success [] (with_device session (Some (with_collected member (bytes_with member chunk))))
 
 -- a chunk of a device whose descriptor is known
 abbrev pub chunk_of : Session → List ℕ → List ℕ → Option Member → Outcome
@@ -209,53 +214,55 @@ chunk_of session time chunk None = refuses session refusals.NoLayout
 chunk_of session time chunk (Some member) =
     chunk_in session time chunk member member.in_doubt (ends_with member chunk)
 
--- what a chunk of a report of the current device tells
-abbrev pub chunk_told : List ℕ → List ℕ → Session → Outcome
-chunk_told time chunk session = chunk_of session time chunk (known_at (slice_get session.devices session.current))
+-- the outcome of a chunk of a report of the current device
+abbrev pub chunk_outcome : List ℕ → List ℕ → Session → Outcome
+chunk_outcome time chunk session =
+    chunk_of session time chunk (member_in_slot (slice_get session.devices session.current))
 
--- the chunk of a dump
-abbrev pub stream_told : Option (List ℕ) → List ℕ → Session → Outcome
-stream_told None chunk session = refuses session refusals.BadTime
-stream_told (Some time) chunk session = chunk_told time chunk session
+-- the outcome of a dump that is a chunk
+abbrev pub stream_outcome : Option (List ℕ) → List ℕ → Session → Outcome
+stream_outcome None chunk session = refuses session refusals.BadTime
+stream_outcome (Some time) chunk session = chunk_outcome time chunk session
 
--- an empty line tells the dump that is open, if one is
+-- the outcome of an empty line: that of the dump that is open, if one is
 abbrev pub EndTells : Session → Option Content → Outcome → Type 0
-EndTells session None o = o ≡ accepted [] (closed session)
-EndTells session (Some contents.Descriptor) o = TellsDescriptor session.gathered.bytes (ended session) o
+EndTells session None o = o ≡ success [] (without_dump session)
+EndTells session (Some contents.Descriptor) o = TellsDescriptor session.gathered.bytes (after_dump session) o
 EndTells session (Some contents.Stream) o =
-    o ≡ stream_told (time_of session.gathered.time) session.gathered.bytes (ended session)
+    o ≡ stream_outcome (time_of session.gathered.time) session.gathered.bytes (after_dump session)
 
 -- ---- lines
 
--- what a record tells
+-- the outcome of a record
 abbrev pub SaidTells : Session → Said → Outcome → Type 0
-SaidTells session Nothing o = o ≡ accepted [] session
+SaidTells session Nothing o = o ≡ success [] session
 SaidTells session Blank o = EndTells session session.gathered.content o
 SaidTells session (Begins address content time) o = o ≡ begins session address content time
 SaidTells session (Bytes bytes) o = o ≡ gathers session bytes session.gathered.content
-SaidTells session (Device device) o = o ≡ accepted [] (record session { current = device })
+SaidTells session (Device device) o = o ≡ success [] (record session { current = device })
 SaidTells session (Descriptor bytes) o = TellsDescriptor bytes session o
 SaidTells session (Unread interface refusal) o = o ≡ unread session interface refusal
-SaidTells session (Report time bytes) o = o ≡ report_told time bytes session
+SaidTells session (Report time bytes) o = o ≡ report_outcome time bytes session
 
--- A line tells what it says. One that can't be read drops the dump in which it stands.
+-- The outcome of a line that was read: that of what it says. One that can't be read drops the dump in which it stands.
 abbrev pub Means : Session → Result Said Refusal → Outcome → Type 0
 Means session (Ok said) o = SaidTells session said o
-Means session (Err refusal) o = o ≡ refuses (dropped session) refusal
+Means session (Err refusal) o = o ≡ refuses (with_dropped_dump session) refusal
 
 -- the line that is being played is counted
-abbrev pub advanced : Session → Session
-advanced session = record session { lines = counted session.lines 1 }
+abbrev pub with_line_counted : Session → Session
+with_line_counted session = record session { lines = saturating_sum session.lines 1 }
 
--- a line of over 16,384 bytes ends the run, and another tells what it means
+-- the outcome of a line by its length: one of over 16,384 bytes ends the run
 abbrev pub TellsUnless : Bool → Session → List ℕ → Outcome → Type 0
-TellsUnless true session line o = o ≡ refused LineTooLong
-TellsUnless false session line o = Means (advanced session) (record_of line) o
+TellsUnless true session line o = o ≡ failure LineTooLong
+TellsUnless false session line o = Means (with_line_counted session) (record_of line) o
 
--- What a line of these bytes tells: its text and the session that it leaves. Example: E: 1 1 00 as the first line is R7
+-- The outcome of a line of these bytes: its text and the session that it leaves. Example: E: 1 1 00 as the first line
+-- is R7
 unfoldable pub LineTells : Session → List ℕ → Outcome → Type 0
 LineTells session line o = TellsUnless (nat_lt 16384 (length line)) session line o
 
--- what a line begins to tell, which a want of memory or the writer may leave: nothing, or all
+-- what may be printed of a line that running out of memory or the writer ends: nothing, or all
 unfoldable pub LineBegins : Session → List ℕ → List ℕ → Type 0
-LineBegins session line text = (text ≡ []) ⊎ ((next : Session) × LineTells session line (accepted text next))
+LineBegins session line text = (text ≡ []) ⊎ ((next : Session) × LineTells session line (success text next))
