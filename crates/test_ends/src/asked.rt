@@ -8,24 +8,19 @@ use crate::requests::{tell_asks, tell_describes, tell_spells};
 use crate::told::Told;
 use crate::words::words_in;
 use std::alloc::Global;
-use test_rows::{Answers, Row, RowFault, Sheet, Subject, Verdict, bytes_of, judge_steps, split};
+use test_rows::{Answers, Asked, Row, RowFault, Sheet, Subject, Verdict, judge_steps};
 
 /// The questions of the tables.
 pub struct Questions;
 
 impl Answers for Questions {
-    fn answer(
-        &self,
-        told: &mut String,
-        sheet: &Sheet<'_>,
-        question: &str,
-        given: &str,
-    ) -> Result<(), RowFault> {
-        match question {
+    fn answer(&self, told: &mut String, asked: &Asked<'_>) -> Result<(), RowFault> {
+        let Asked { sheet, given, .. } = *asked;
+        match asked.question {
             "spells" => tell_spells(told, sheet, given),
             "describes" => tell_describes(told, sheet, given),
             "prints" => tell_prints(told, sheet, given),
-            _ => tell_of_bytes(told, sheet, question, given),
+            _ => of_bytes(told, asked, &asked.bytes()?),
         }
     }
 
@@ -46,26 +41,11 @@ impl Answers for Questions {
     }
 }
 
-/// What is asked of bytes, and of the words behind a `|`.
-fn tell_of_bytes(
-    told: &mut String,
-    sheet: &Sheet<'_>,
-    question: &str,
-    given: &str,
-) -> Result<(), RowFault> {
-    let (bytes, words) = split(given, '|');
-    let bytes = bytes_of(sheet, bytes)?;
-    of_bytes(told, sheet, question, &bytes, words)
-}
-
-fn of_bytes(
-    told: &mut String,
-    sheet: &Sheet<'_>,
-    question: &str,
-    bytes: &[u8],
-    words: &str,
-) -> Result<(), RowFault> {
-    match question {
+/// What is asked of bytes, and of the words after a `|`.
+fn of_bytes(told: &mut String, asked: &Asked<'_>, bytes: &[u8]) -> Result<(), RowFault> {
+    let sheet = asked.sheet;
+    let words = asked.words();
+    match asked.question {
         "asks" => tell_asks(told, sheet, bytes),
         "makes" => tell_makes(told, sheet, bytes, words),
         _ => Err(RowFault::Unread),

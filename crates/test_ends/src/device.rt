@@ -176,7 +176,7 @@ fn tell_transfer(alloc: Global, device: &mut Device, setup: Setup, data: &[u8], 
     }
 }
 
-/// The same of setup data as bytes.
+/// Tells how the transfer goes that these bytes ask for: setup data, and what is sent after them.
 fn tell_request(alloc: Global, device: &mut Device, bytes: &[u8], told: &mut Told) {
     match bytes.split_first_chunk::<8>() {
         Some((request, data)) => tell_transfer(
@@ -217,7 +217,7 @@ fn tell_bytes(
     }
 }
 
-/// Does what these words mean with a device, and tells what is answered, and its round behind that.
+/// Does what these words mean with a device, and tells what is answered, and its round after that.
 pub fn tell_device(
     alloc: Global,
     device: &mut Device,

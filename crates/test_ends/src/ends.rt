@@ -1,4 +1,4 @@
-//! Both ends of the bus, made anew for each row of steps as the row gives them, and what a foreign device answers:
+//! Both ends of the bus, made again for each row of steps as the row gives them, and what a foreign device answers:
 //! ```text
 //!   KEYBOARD                a boot keyboard that isn't configured, and a host that knows nothing of it; so MOUSE
 //!   plain MOUSE             the same descriptor without the boot protocol

@@ -19,7 +19,7 @@ ghost use Rattle.hid_descriptor.specs.Items.{Spelled};
 ghost use Rattle.hid_descriptor.specs.Faults.{Accepts};
 ghost use Rattle.hid_layout.specs.Layout.{layout_of};
 ghost use Rattle.hid_layout.specs.Controls.{items_of};
-ghost use Rattle.hid_usages.specs.Cells.{FitsShown};
+ghost use Rattle.hid_usages.specs.ControlStates.{FitsShown};
 
 mod foreign;
 
@@ -43,7 +43,7 @@ fn begin(host: &mut HostDevice, request: &Request) -> Result<(), StackFault> {
     host.begin(request)
 }
 
-/// The same of a try.
+/// Makes a try. It promises nothing, as [`begin`].
 fn step<R: Requests>(
     host: &mut HostDevice,
     control: &mut DevControl<R>,
@@ -63,7 +63,7 @@ fn tell_begun(host: &mut HostDevice, request: Option<Request>, told: &mut Told) 
     }
 }
 
-/// Makes so many tries, at least one: what the last one tells.
+/// Makes n tries, at least one: what the last one tells.
 fn tried(
     host: &mut HostDevice,
     device: &mut Device,
@@ -105,7 +105,7 @@ fn tell_came(host: &HostDevice, told: &mut Told) {
     }
 }
 
-/// The same, with a word before the bytes.
+/// Tells what came of the transfer, with a word before the bytes of one that is done.
 fn tell_outcome(host: &HostDevice, told: &mut Told) {
     if let Ok(Outcome::Done(_)) = host.outcome() {
         told.add("done ");
@@ -205,7 +205,7 @@ fn tell_reply(alloc: Global, host: &mut HostDevice, packet: Option<&Packet>, tol
     tell_replied(&replied, told);
 }
 
-/// The same of a packet as it is spelled.
+/// Tells what a host makes of a packet that these bytes spell.
 fn tell_reply_of(alloc: Global, host: &mut HostDevice, bytes: &[u8], told: &mut Told) {
     match decode(bytes) {
         Ok(packet) => tell_reply(alloc, host, Some(&packet), told),
@@ -226,7 +226,8 @@ fn tell_held(host: &HostDevice, control: Option<ControlId>, told: &mut Told) {
     }
 }
 
-/// A host that took a packet and was reset behind it, what it took it for, how many events it gave, and those of the reset.
+/// A host that took a packet and was reset after it, what it took it for, how many events it gave, and those of the
+/// reset.
 type Reset = (HostDevice, Took, usize, Vec<Event>);
 
 /// What a device of this descriptor shows before anything has changed.
@@ -294,7 +295,7 @@ fn tell_reset(alloc: Global, ends: &mut Ends, packet: Option<&Packet>, told: &mu
     }
 }
 
-/// The same of a packet as it is spelled.
+/// Tells of a reset after a packet that these bytes spell.
 fn tell_reset_of(alloc: Global, ends: &mut Ends, bytes: &[u8], told: &mut Told) {
     match decode(bytes) {
         Ok(packet) => tell_reset(alloc, ends, Some(&packet), told),

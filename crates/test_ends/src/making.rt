@@ -44,7 +44,7 @@ fn boot_of(kind: &str) -> Option<Boot> {
     }
 }
 
-/// The same of words.
+/// Tells what is made of words for an address, an interval and a kind, and of a descriptor.
 fn tell_made_of(
     alloc: Global,
     addr: &str,

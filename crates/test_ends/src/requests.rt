@@ -1,6 +1,6 @@
 //! Requests and descriptors, of no device:
 //! ```text
-//!   asks: 80 00 00 00 00 00 02 00    what setup data ask: a variant of `Asked` and what it holds, or `nothing`
+//!   asks: 80 00 00 00 00 00 02 00    what setup data ask: a variant of `RequestKind` and what it holds, or `nothing`
 //!   spells: get-idle 255             what a host sends for a request, where the report descriptor has 306 bytes and the
 //!                                    endpoint is 1: the setup data, the data behind them, and what they ask
 //!   describes: 63 1 1 1 10           the configuration of these: length of the report descriptor, endpoint, subclass,
@@ -15,33 +15,33 @@ use crate::words::{request_of, small, words_in};
 use arrayvec::ArrayVec;
 use hid_descriptor::ReportKind;
 use hid_requests::{
-    Asked, Asking, Request, configuration, device_descriptor, hid_descriptor, what_is_asked,
+    Asking, Request, RequestKind, configuration, device_descriptor, hid_descriptor, request_kind,
 };
 use test_rows::{RowFault, Sheet};
 use usb_control::{ConfigInfo, DeviceInfo, Setup};
 
 /// The name of a row.
-fn name_of(asked: Asked) -> &'static str {
+fn name_of(asked: RequestKind) -> &'static str {
     match asked {
-        Asked::Status => "Status",
-        Asked::InterfaceStatus => "InterfaceStatus",
-        Asked::ControlStatus => "ControlStatus",
-        Asked::ReportStatus => "ReportStatus",
-        Asked::DeviceDescriptor => "DeviceDescriptor",
-        Asked::Configuration => "Configuration",
-        Asked::HidDescriptor => "HidDescriptor",
-        Asked::ReportDescriptor => "ReportDescriptor",
-        Asked::GetConfiguration => "GetConfiguration",
-        Asked::GetInterface => "GetInterface",
-        Asked::SetConfiguration => "SetConfiguration",
-        Asked::ClearFeature => "ClearFeature",
-        Asked::SetFeature => "SetFeature",
-        Asked::GetReport { .. } => "GetReport",
-        Asked::GetIdle { .. } => "GetIdle",
-        Asked::GetProtocol => "GetProtocol",
-        Asked::SetReport { .. } => "SetReport",
-        Asked::SetIdle { .. } => "SetIdle",
-        Asked::SetProtocol { .. } => "SetProtocol",
+        RequestKind::Status => "Status",
+        RequestKind::InterfaceStatus => "InterfaceStatus",
+        RequestKind::ControlStatus => "ControlStatus",
+        RequestKind::ReportStatus => "ReportStatus",
+        RequestKind::DeviceDescriptor => "DeviceDescriptor",
+        RequestKind::Configuration => "Configuration",
+        RequestKind::HidDescriptor => "HidDescriptor",
+        RequestKind::ReportDescriptor => "ReportDescriptor",
+        RequestKind::GetConfiguration => "GetConfiguration",
+        RequestKind::GetInterface => "GetInterface",
+        RequestKind::SetConfiguration => "SetConfiguration",
+        RequestKind::ClearFeature => "ClearFeature",
+        RequestKind::SetFeature => "SetFeature",
+        RequestKind::GetReport { .. } => "GetReport",
+        RequestKind::GetIdle { .. } => "GetIdle",
+        RequestKind::GetProtocol => "GetProtocol",
+        RequestKind::SetReport { .. } => "SetReport",
+        RequestKind::SetIdle { .. } => "SetIdle",
+        RequestKind::SetProtocol { .. } => "SetProtocol",
     }
 }
 
@@ -50,33 +50,33 @@ fn tell_report(kind: ReportKind, id: u8, told: &mut Told) {
 }
 
 /// Tells a row: its name, and what it holds.
-fn tell_row(asked: Asked, told: &mut Told) {
+fn tell_row(asked: RequestKind, told: &mut Told) {
     told.show(name_of(asked));
     match asked {
-        Asked::GetReport { kind, id } => tell_report(kind, id, told),
-        Asked::GetIdle { id } => told.show(id),
-        Asked::SetReport { kind, id, length } => {
+        RequestKind::GetReport { kind, id } => tell_report(kind, id, told),
+        RequestKind::GetIdle { id } => told.show(id),
+        RequestKind::SetReport { kind, id, length } => {
             tell_report(kind, id, told);
             told.show(length);
         }
-        Asked::SetIdle { id, time } => {
+        RequestKind::SetIdle { id, time } => {
             told.show(id);
             told.show(time);
         }
-        Asked::SetProtocol { protocol } => told.show(format_args!("{protocol:?}")),
+        RequestKind::SetProtocol { protocol } => told.show(format_args!("{protocol:?}")),
         _ => {}
     }
 }
 
 /// Tells what setup data ask.
 fn tell_asked(setup: &Setup, told: &mut Told) {
-    match what_is_asked(setup) {
+    match request_kind(setup) {
         Some(asked) => tell_row(asked, told),
         None => told.add("nothing"),
     }
 }
 
-/// The same of bytes.
+/// Tells what setup data ask, which these bytes spell.
 fn tell_asked_by(bytes: &[u8], told: &mut Told) {
     match bytes.as_array::<8>() {
         Some(bytes) => tell_asked(&Setup::from_bytes(bytes), told),

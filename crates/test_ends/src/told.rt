@@ -39,7 +39,7 @@ impl Told {
         }
     }
 
-    /// Appends so many of the same byte in hex, a blank behind each: more than eight as `07*9`.
+    /// Appends n of the same byte in hex, a blank after each: more than eight as `07*9`.
     fn run(&mut self, byte: u8, run: usize) {
         if run > 8 {
             if write!(self.text, "{byte:02X}*{run} ").is_err() {
@@ -54,7 +54,7 @@ impl Told {
         }
     }
 
-    /// Appends bytes in hex, a blank behind each.
+    /// Appends bytes in hex, a blank after each.
     pub fn hex(&mut self, bytes: &[u8]) {
         let mut last = 0;
         let mut run = 0usize;
@@ -77,7 +77,7 @@ impl Told {
         }
     }
 
-    /// Appends what is told to a text, if the row could be read.
+    /// Appends what is reported to a text, if the row could be read.
     pub fn give(&self, text: &mut String) -> Result<(), RowFault> {
         add(text, self.text.as_str().trim())?;
         if self.is_read {

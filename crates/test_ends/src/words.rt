@@ -22,7 +22,7 @@ pub fn number(word: &str) -> Option<usize> {
     word.parse().ok()
 }
 
-/// The same of a byte.
+/// The byte that is spelled by a word in decimal.
 pub fn small(word: &str) -> Option<u8> {
     word.parse().ok()
 }

@@ -129,7 +129,7 @@ fn other_reports_are_not_drawn(rt: HostRuntime) -> Result<(), Fail> {
 }
 
 /// A collection that nothing ends, and a Pop without a Push: why, the last item that is shown, and the next one. Where the
-/// main item behind a usage isn't shown, the page at the usage names it.
+/// main item after a usage isn't shown, the page at the usage names it.
 #[rattlefmt::skip]
 const REFUSED: [(&[u8], &str, &str, &str); 3] = [
     (&[0x05, 0x01, 0xA1, 0x01],       "<p class='fault'>L7 at 4: a Collection is open at the end</p>", "id='at2'", "id='at4'"),

@@ -1,10 +1,10 @@
-//! Want of memory, where a descriptor is read: each test is also run with each of its allocations refused in turn.
+//! Out of memory, where a descriptor is read: each test is also run with each of its allocations refused in turn.
 
 use hid_layout::boot::{KEYBOARD, MOUSE};
 use hid_layout::{Cause, Layout, LayoutFault};
 use std::alloc::Global;
 
-/// Whether a layout has so many items, or memory is wanting, which is told at 0.
+/// Whether a layout has n items, or memory runs out, which is reported at 0.
 fn is_whole_or_wants(alloc: Global, descriptor: &[u8], items: usize) -> bool {
     match Layout::parse(alloc, descriptor) {
         Ok(layout) => layout.items().len() == items,
@@ -18,7 +18,7 @@ fn is_whole_or_wants(alloc: Global, descriptor: &[u8], items: usize) -> bool {
     }
 }
 
-/// Where memory is wanting, that is told; else the layout is whole.
+/// Where memory runs out, that is reported; else the layout is whole.
 #[test]
 fn want_of_memory_is_told(rt: HostRuntime) {
     assert!(rt; is_whole_or_wants(rt.alloc(), &KEYBOARD, 5));

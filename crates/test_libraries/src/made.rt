@@ -1,6 +1,6 @@
 //! Made descriptors of up to 4,200 bytes, more than a script's line can hold: random bytes, random items, boot
 //! descriptors and a few items again and again, each with up to three of its bytes changed. Each is laid out within the
-//! limits, or refused at a place that it has, and never for want of memory. Each run makes the same descriptors.
+//! limits, or refused at a place that it has, and never for lack of memory. Each run makes the same descriptors.
 
 use hid_layout::boot::{KEYBOARD, MOUSE};
 use hid_layout::{Cause, Layout, LayoutFault, MAX_DESCRIPTOR, MAX_ITEMS, MAX_REPORT_BYTES};
@@ -85,7 +85,7 @@ fn bytes(alloc: Global) -> Result<Vec<u8>, Fail> {
     Ok(supply)
 }
 
-/// The same bytes again and again.
+/// These bytes again and again.
 fn repeated(alloc: Global, unit: &[u8]) -> Result<Vec<u8>, Fail> {
     let mut supply = Vec::new(alloc);
     for _ in 0..SUPPLY.checked_div(unit.len()).unwrap_or(0) {
@@ -94,7 +94,7 @@ fn repeated(alloc: Global, unit: &[u8]) -> Result<Vec<u8>, Fail> {
     Ok(supply)
 }
 
-/// Whether a descriptor of so many bytes can be read so.
+/// Whether a descriptor of n bytes can be read so.
 fn can_be(length: usize, told: &Result<Layout, LayoutFault>) -> bool {
     let is_long = length > MAX_DESCRIPTOR;
     match told {
@@ -131,7 +131,7 @@ fn whole(number: u32, unit: usize) -> usize {
     number.saturating_sub(number.checked_rem(unit).unwrap_or(0))
 }
 
-/// Reads so many descriptors, taken from the supply where units begin and end: how many are accepted, or the first that
+/// Reads n descriptors, taken from the supply where units begin and end: how many are accepted, or the first that
 /// is read as it cannot be.
 fn read(alloc: Global, supply: &mut [u8], unit: usize, count: u32) -> Result<u32, u32> {
     let mut numbers = Numbers { state: 3 };
@@ -173,7 +173,7 @@ fn any_items_are_read_or_refused(rt: HostRuntime) -> Result<(), Fail> {
     Ok(())
 }
 
-/// Reads so many boot descriptors, one behind the other, with some bytes changed.
+/// Reads n boot descriptors, one after the other, with some bytes changed.
 fn read_boot(alloc: Global, boot: &[u8], count: u32) -> Result<Result<u32, u32>, Fail> {
     let mut supply = repeated(alloc, boot)?;
     Ok(read(alloc, &mut supply, boot.len(), count))

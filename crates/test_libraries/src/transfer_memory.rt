@@ -1,4 +1,4 @@
-//! Want of memory, where a transfer begins: the test is also run with each of its allocations refused in turn.
+//! Out of memory, where a transfer begins: the test is also run with each of its allocations refused in turn.
 
 use std::alloc::Global;
 use usb_control::{ControlFault, DevControl, HostTransfer, Outcome, Requests, Setup};
@@ -73,7 +73,7 @@ fn is_read(transfer: &HostTransfer) -> bool {
     transfer.outcome() == Outcome::Done(&[0, 0])
 }
 
-/// Whether a read begins and is done by one decision; or memory is wanting, and the device heard nothing.
+/// Whether a read begins and is done by one decision; or memory runs out, and the device heard nothing.
 fn is_read_or_wants(alloc: Global, control: &mut DevControl<Zeros>) -> bool {
     let before = control.requests().decisions;
     match begin(alloc) {

@@ -12,51 +12,31 @@ use crate::session::{tell_session, tell_table};
 use crate::snapshots::tell_snapshot;
 use crate::views::{tell_awaited, tell_between, tell_forgotten, tell_named, tell_view};
 use hid_layout::Layout;
-use test_rows::{Answers, RowFault, Sheet, bytes_of, split, tell_shown};
+use test_rows::{Answers, Asked, RowFault, tell_shown};
 
 /// The questions of the tables.
 pub struct Questions;
 
 impl Answers for Questions {
-    fn answer(
-        &self,
-        told: &mut String,
-        sheet: &Sheet<'_>,
-        question: &str,
-        given: &str,
-    ) -> Result<(), RowFault> {
-        match question {
+    fn answer(&self, told: &mut String, asked: &Asked<'_>) -> Result<(), RowFault> {
+        let given = asked.given;
+        match asked.question {
             "boot" => tell_boot(told, given),
             "name" => tell_name(told, given),
             "number" => tell_number_of(told, given),
             "pattern" => tell_pattern_of(told, given),
             "null" => tell_null(told, given),
             "mouse" => tell_mouse(told, given),
-            _ => tell_of_bytes(told, sheet, question, given),
+            _ => of_bytes(told, asked, &asked.bytes()?),
         }
     }
 }
 
-/// What is asked of bytes, and of the words behind a `|`.
-fn tell_of_bytes(
-    told: &mut String,
-    sheet: &Sheet<'_>,
-    question: &str,
-    given: &str,
-) -> Result<(), RowFault> {
-    let (bytes, words) = split(given, '|');
-    let bytes = bytes_of(sheet, bytes)?;
-    of_bytes(told, sheet, question, &bytes, words)
-}
-
-fn of_bytes(
-    told: &mut String,
-    sheet: &Sheet<'_>,
-    question: &str,
-    bytes: &[u8],
-    words: &str,
-) -> Result<(), RowFault> {
-    match question {
+/// What is asked of bytes, and of the words after a `|`.
+fn of_bytes(told: &mut String, asked: &Asked<'_>, bytes: &[u8]) -> Result<(), RowFault> {
+    let sheet = asked.sheet;
+    let words = asked.words();
+    match asked.question {
         "items" => tell_items(told, bytes),
         "field" => tell_field(told, bytes, words),
         "write" => tell_written(told, bytes, words),
@@ -67,31 +47,20 @@ fn of_bytes(
         "parts" => tell_parts(told, sheet.alloc, bytes, words),
         "session" => tell_session(told, sheet, bytes, words),
         "table" => tell_table(told, sheet, bytes, words),
-        _ => with_layout(told, sheet, question, bytes, words),
+        _ => with_layout(told, asked, bytes),
     }
 }
 
-fn with_layout(
-    told: &mut String,
-    sheet: &Sheet<'_>,
-    question: &str,
-    descriptor: &[u8],
-    words: &str,
-) -> Result<(), RowFault> {
-    match Layout::parse(sheet.alloc, descriptor) {
-        Ok(layout) => of_layout(told, sheet, question, &layout, words),
+fn with_layout(told: &mut String, asked: &Asked<'_>, descriptor: &[u8]) -> Result<(), RowFault> {
+    match Layout::parse(asked.sheet.alloc, descriptor) {
+        Ok(layout) => of_layout(told, asked, &layout),
         Err(fault) => tell_shown(told, &fault),
     }
 }
 
-fn of_layout(
-    told: &mut String,
-    sheet: &Sheet<'_>,
-    question: &str,
-    layout: &Layout,
-    words: &str,
-) -> Result<(), RowFault> {
-    match question {
+fn of_layout(told: &mut String, asked: &Asked<'_>, layout: &Layout) -> Result<(), RowFault> {
+    let words = asked.words();
+    match asked.question {
         "count" => tell_count(told, layout),
         "element" => tell_element(told, layout, words),
         "lists" => tell_lists(told, layout),
@@ -100,18 +69,14 @@ fn of_layout(
         "plan" => tell_plan(told, layout, words),
         "least" => tell_least(told, layout, words),
         "usage" => tell_usage(told, layout, words),
-        _ => of_device(told, sheet, question, layout, words),
+        _ => of_device(told, asked, layout),
     }
 }
 
-fn of_device(
-    told: &mut String,
-    sheet: &Sheet<'_>,
-    question: &str,
-    layout: &Layout,
-    words: &str,
-) -> Result<(), RowFault> {
-    match question {
+fn of_device(told: &mut String, asked: &Asked<'_>, layout: &Layout) -> Result<(), RowFault> {
+    let sheet = asked.sheet;
+    let words = asked.words();
+    match asked.question {
         "snapshot" => tell_snapshot(told, sheet.alloc, layout, words),
         "view" => tell_view(told, sheet, layout, words),
         "between" => tell_between(told, sheet, layout, words),

@@ -31,7 +31,7 @@ fn tell_what(
     add_usage(told, usage)
 }
 
-/// The same with an amount.
+/// Tells an event of a control, with its usage and an amount.
 fn tell_amount(
     told: &mut String,
     what: &str,

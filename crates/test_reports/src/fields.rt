@@ -59,7 +59,7 @@ pub fn tell_field(told: &mut String, bytes: &[u8], words: &str) -> Result<(), Ro
     tell_read(told, bytes, number_of(at)?, width_of(width)?)
 }
 
-/// These bytes and 0 behind them, with a field written.
+/// These bytes and 0 after them, with a field written.
 fn written<C: FieldCodec>(
     before: &[u8],
     at: usize,
@@ -123,7 +123,7 @@ fn agree(before: &[u8], at: usize, width: u32, pattern: u32) -> bool {
     }
 }
 
-/// The low bits of a pattern, so many.
+/// The low bits of a pattern, n.
 fn low_bits(pattern: u32, width: u32) -> u32 {
     if width < 32 {
         pattern % (1 << width)

@@ -45,7 +45,7 @@ fn tell_first(told: &mut String, events: &[HidEvent], count: usize) -> Result<()
     Ok(())
 }
 
-/// Feeds a report with a table of so many places.
+/// Feeds a report with a table of n places.
 fn feed(
     told: &mut String,
     session: &mut Session,

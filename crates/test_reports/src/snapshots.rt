@@ -7,7 +7,7 @@
 
 ghost use Rattle.std.specs.Prelude.{IfOk};
 ghost use Rattle.hid_layout.specs.Controls.{items_of};
-ghost use Rattle.hid_snapshots.specs.Cells.{FitsSnapshot, FitsShown};
+ghost use Rattle.hid_snapshots.specs.ControlStates.{FitsSnapshot, FitsShown};
 
 use crate::words::control_of;
 use arrayvec::ArrayVec;

@@ -3,7 +3,7 @@
 
 ghost use Rattle.std.specs.Prelude.{◌≤◌, ◌+◌, IfOk, vec_len, vec_capacity};
 ghost use Rattle.hid_layout.specs.Controls.{items_of, max_events};
-ghost use Rattle.hid_snapshots.specs.Cells.{FitsSnapshot, FitsShown, FitsView};
+ghost use Rattle.hid_snapshots.specs.ControlStates.{FitsSnapshot, FitsShown, FitsView};
 
 use crate::events::tell_events;
 use crate::snapshots::{blank_parts, blank_snapshot, change, fix};

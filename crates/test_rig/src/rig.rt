@@ -82,13 +82,13 @@ enum Act {
     /// The device halts by itself.
     Halt,
     Reset,
-    Begin(Asked),
+    Begin(RequestKind),
     Control(Fate),
 }
 
 /// A request without bytes.
 #[derive(Clone, Copy)]
-enum Asked {
+enum RequestKind {
     Config,
     Report,
     Configure,
@@ -104,23 +104,23 @@ const CLEAN: Act = Act::Poll(Fate::Clean);
 
 const TRY: Act = Act::Control(Fate::Clean);
 
-const CLEAR: Act = Act::Begin(Asked::Clear);
+const CLEAR: Act = Act::Begin(RequestKind::Clear);
 
 fn changes(dev: u8, change: Change) -> Step {
     Step::Change { dev, change }
 }
 
-fn request_of(asked: Asked) -> Request {
+fn request_of(asked: RequestKind) -> Request {
     match asked {
-        Asked::Config => Request::Config,
-        Asked::Report => Request::Report,
-        Asked::Configure => Request::Configure,
-        Asked::Status => Request::Status,
-        Asked::GetConfiguration => Request::GetConfiguration,
-        Asked::GetIdle => Request::GetIdle { id: 0 },
-        Asked::Halt => Request::Halt,
-        Asked::Clear => Request::Clear,
-        Asked::EndpointStatus => Request::EndpointStatus,
+        RequestKind::Config => Request::Config,
+        RequestKind::Report => Request::Report,
+        RequestKind::Configure => Request::Configure,
+        RequestKind::Status => Request::Status,
+        RequestKind::GetConfiguration => Request::GetConfiguration,
+        RequestKind::GetIdle => Request::GetIdle { id: 0 },
+        RequestKind::Halt => Request::Halt,
+        RequestKind::Clear => Request::Clear,
+        RequestKind::EndpointStatus => Request::EndpointStatus,
     }
 }
 
@@ -154,9 +154,9 @@ fn take_all(
 }
 
 /// A request, and how many tries it takes where nothing is lost.
-type Asks = (Asked, usize);
+type Asks = (RequestKind, usize);
 
-/// A request of a device with so many tries.
+/// A request of a device with n tries.
 fn ask(rig: &mut Rig, dev: u8, asks: Asks, out: &mut Vec<Delivered>) -> Result<(), StackFault> {
     let (asked, tries) = asks;
     take_step(rig, &step_of(dev, Act::Begin(asked)), out)?;
@@ -264,7 +264,7 @@ type Run = (
 /// A keyboard and a mouse.
 const TWO: [Boots; 2] = [(Boot::Keyboard, Start::Ready), (Boot::Mouse, Start::Ready)];
 
-/// Runs of a keyboard and a mouse, one behind the other.
+/// Runs of a keyboard and a mouse, one after the other.
 #[rattlefmt::skip]
 const RUNS: [Run; 6] = [
     (&[(1, Act::Press(4, 4)), (1, Act::Poll(Fate::AckLost)), (1, Act::Press(4, 5)), (1, CLEAN), (1, CLEAN)],
@@ -363,8 +363,8 @@ const APART: Run = (&[(1, Act::Press(4, 4)), (1, Act::Poll(Fate::AckLost))], Ok(
 
 const ALIKE: Run = (&[(1, CLEAN)], Ok(()), &[]);
 
-/// Whether the ends stand apart where an ACK is lost, and the device holds the report at DATA0; and alike behind the next
-/// poll.
+/// Whether the ends stand apart where an ACK is lost, and the device holds the report at DATA0; and alike after the
+/// next poll.
 fn are_toggles_shown(rt: &HostRuntime, rig: &mut Rig) -> Result<(), Fail> {
     attach_all(rig, &TWO)?;
     let is_apart = runs(rt, rig, &APART)? && are_ends(rig, false, Some(A_PRESSED.as_slice()))?;
@@ -443,9 +443,9 @@ fn is_transfer(rig: &Rig, wanted: &Outcome<'_>) -> bool {
     }
 }
 
-/// Whether a configuration is read: its status is missing behind two tries, and behind the third it is 0.
+/// Whether a configuration is read: its status is missing after two tries, and after the third it is 0.
 fn is_read(rig: &mut Rig, out: &mut Vec<Delivered>) -> Result<(), Fail> {
-    ask(rig, 6, (Asked::GetConfiguration, 2), out)?;
+    ask(rig, 6, (RequestKind::GetConfiguration, 2), out)?;
     let is_running = is_transfer(rig, &Outcome::Running);
     take_step(rig, &step_of(6, TRY), out)?;
     holds(

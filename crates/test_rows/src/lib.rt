@@ -31,5 +31,5 @@ pub use told::{
     add, add_debug, add_hex, add_shown, tell, tell_bytes, tell_debug, tell_hex, tell_number,
     tell_numbers, tell_pattern, tell_shown, tell_whether,
 };
-pub use verdict::{Answers, Row, Subject, Verdict, judge, judge_steps};
+pub use verdict::{Answers, Asked, Row, Subject, Verdict, judge, judge_steps};
 pub use words::{number_of, pattern_of, signed_of, split, width_of};

@@ -43,7 +43,7 @@ pub fn is_step(line: &str) -> bool {
     line.starts_with("  ")
 }
 
-/// What stands before and behind `>`; all of the text before, where it isn't there.
+/// What stands before and after `>`; all of the text before, where it isn't there.
 fn parted(text: &str) -> (&str, &str) {
     match text.split_once(" > ") {
         Some((given, wanted)) => (given.trim(), wanted.trim()),
@@ -51,7 +51,7 @@ fn parted(text: &str) -> (&str, &str) {
     }
 }
 
-/// What is given, behind a name.
+/// What is given, after a name.
 fn unnamed(text: &str) -> &str {
     match text.split_once(": ") {
         Some((_, given)) => given.trim(),

@@ -3,7 +3,7 @@
 use crate::fault::RowFault;
 use std::fmt::{Debug, Display, Write};
 
-/// More bytes than so many, all the same, are told as one with their count.
+/// More bytes than n, all the same, are told as one with their count.
 const FEW: usize = 16;
 
 /// Begins a part.
@@ -69,7 +69,7 @@ pub fn tell_numbers(told: &mut String, numbers: &[i64]) -> Result<(), RowFault> 
     Ok(())
 }
 
-/// The same in hex.
+/// A part of numbers in hex, with blanks between them.
 pub fn tell_hex(told: &mut String, numbers: &[u32]) -> Result<(), RowFault> {
     part(told)?;
     let mut between = "";

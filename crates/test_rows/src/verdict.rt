@@ -1,20 +1,36 @@
 //! Which rows and steps are wrong, and how many there are.
 
+use crate::bytes::bytes_of;
 use crate::fault::RowFault;
 use crate::sheet::{Heading, Line, Sheet, heading_in, is_remark, is_step, line_in, steps_in};
 use crate::told::{add, add_shown};
+use crate::words::split;
 use std::alloc::Global;
+
+/// What a row of one line asks: the question of its table, of what is given.
+#[derive(Clone, Copy)]
+pub struct Asked<'a> {
+    pub sheet: &'a Sheet<'a>,
+    pub question: &'a str,
+    pub given: &'a str,
+}
+
+impl Asked<'_> {
+    /// The bytes that are given, up to a `|`.
+    pub fn bytes(&self) -> Result<Vec<u8>, RowFault> {
+        bytes_of(self.sheet, split(self.given, '|').0)
+    }
+
+    /// The words that are given after a `|`.
+    pub fn words(&self) -> &str {
+        split(self.given, '|').1
+    }
+}
 
 /// What a program answers to its rows.
 pub trait Answers {
-    /// Writes what is told where this is asked of what is given.
-    fn answer(
-        &self,
-        told: &mut String,
-        sheet: &Sheet<'_>,
-        question: &str,
-        given: &str,
-    ) -> Result<(), RowFault>;
+    /// Writes what is reported where this is asked.
+    fn answer(&self, told: &mut String, asked: &Asked<'_>) -> Result<(), RowFault>;
 
     /// Plays the steps of a row, by [`judge_steps`], with what its given words mean. Without it a program has no rows of steps.
     fn play(
@@ -29,7 +45,7 @@ pub trait Answers {
 
 /// What the steps of a row are played with.
 pub trait Subject {
-    /// Does what a step says, and writes what is told.
+    /// Does what a step says, and writes what is reported.
     fn step(&mut self, told: &mut String, sheet: &Sheet<'_>, given: &str) -> Result<(), RowFault>;
 }
 
@@ -68,7 +84,7 @@ impl Verdict {
         self.wrong != 0 || self.rows == 0
     }
 
-    /// The lines that are told.
+    /// The lines that are reported.
     pub fn report(&self) -> &str {
         self.report.as_str()
     }
@@ -97,7 +113,7 @@ impl Verdict {
         add(report, "\n")
     }
 
-    /// Compares what is told with what is wanted.
+    /// Compares what is reported with what is wanted.
     fn compare(&mut self, title: &str, line: Line<'_>, told: &str) -> Result<(), RowFault> {
         if told == line.wanted {
             return Ok(());
@@ -119,7 +135,7 @@ impl Verdict {
     }
 }
 
-/// Marks what is told as unread, where a row or a step means nothing.
+/// Marks what is reported as unread, where a row or a step means nothing.
 fn unread_in(told: &mut String, end: Result<(), RowFault>) -> Result<(), RowFault> {
     match end {
         Err(RowFault::Unread) => Ok(told.push_str(" unread")?),
@@ -136,7 +152,12 @@ fn judge_row<A: Answers>(
     line: Line<'_>,
 ) -> Result<(), RowFault> {
     let mut told = String::new(sheet.alloc);
-    let end = answers.answer(&mut told, sheet, heading.question, line.given);
+    let asked = Asked {
+        sheet,
+        question: heading.question,
+        given: line.given,
+    };
+    let end = answers.answer(&mut told, &asked);
     unread_in(&mut told, end)?;
     verdict.compare(heading.title, line, &told)
 }

@@ -2,7 +2,7 @@
 
 use crate::fault::RowFault;
 
-/// What stands before and behind a mark, without blanks round it; all of the text before, where the mark isn't there.
+/// What stands before and after a mark, without blanks round it; all of the text before, where the mark isn't there.
 pub fn split<'a>(text: &'a str, mark: char) -> (&'a str, &'a str) {
     let (before, behind) = text.split_once(mark).unwrap_or((text, ""));
     (before.trim(), behind.trim())

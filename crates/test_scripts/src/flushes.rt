@@ -1,5 +1,5 @@
 //! In which order a run asks its reader and its writer, reads that are interrupted, and flushes that fail. Worked out by
-//! hand from docs/SCRIPT.md. A want of memory can't be had here: `make memory` refuses each allocation.
+//! hand from docs/SCRIPT.md. Running out of memory can't be had here: `make memory` refuses each allocation.
 
 use crate::play::{QUIET, play};
 use crate::verdict::{holds, none_is_wrong};
@@ -87,7 +87,7 @@ impl Read for Pieces<'_> {
     }
 }
 
-/// Takes all bytes, or none, and fails at the flush behind so many.
+/// Takes all bytes, or none, and fails at the flush after n.
 #[derive(Drop)]
 struct Recorder<'a> {
     taken: Vec<u8>,
@@ -140,7 +140,7 @@ fn are_made(calls: &RefCell<Vec<Call>>, wanted: &[Call]) -> bool {
     }
 }
 
-/// A run whose calls are recorded, and whose flush behind so many fails.
+/// A run whose calls are recorded, and whose flush after n fails.
 fn recorded(
     alloc: Global,
     given: &[Given],
@@ -176,7 +176,7 @@ fn what_was_told_is_flushed_before_each_read(rt: HostRuntime) -> Result<(), Fail
     holds("the calls", is_in_order(rt.alloc(), &LAYOUTS, &MADE))
 }
 
-/// How a run ends: behind so many lines, or at a line for a cause.
+/// How a run ends: after n lines, or at a line for a cause.
 type End = Result<u64, (usize, Cause)>;
 
 fn ending(end: End) -> Result<Summary, ScriptFault> {
@@ -186,8 +186,8 @@ fn ending(end: End) -> Result<Summary, ScriptFault> {
     }
 }
 
-/// What reads give, and how the run ends: a read that is interrupted is tried again; a line is refused behind it; another
-/// fault ends the run.
+/// What reads give, and how the run ends: a read that is interrupted is tried again; a line is refused after it;
+/// another fault ends the run.
 #[rattlefmt::skip]
 const INTERRUPTED: [(&[Given], Given, End); 3] = [
     (&[Given::Interrupted, Given::Piece("layout\nlay"), Given::Interrupted, Given::Interrupted, Given::Piece("out\n")],
@@ -272,7 +272,7 @@ const TWO_LAYOUTS: [Given; 2] = [Given::Piece("layout\n"), Given::Piece("layout\
 /// Behind how many flushes one fails, and the line at which it ends the run.
 const UNREAD: [(usize, usize); 3] = [(0, 1), (1, 2), (2, 3)];
 
-/// Whether the flush behind so many ends a run that fails there, before the next read.
+/// Whether the flush after n ends a run that fails there, before the next read.
 fn is_unread(alloc: Global, given: &[Given], flushes: usize, line: usize) -> bool {
     let calls = RefCell::new(Vec::new(alloc));
     let end = recorded(alloc, given, flushes, &calls);
@@ -320,7 +320,7 @@ const ENDS: [Ends; 9] = [
     (&[],                                     Given::End,    1, true,  1, None),
 ];
 
-/// How a run ends where the flush behind so many fails.
+/// How a run ends where the flush after n fails.
 fn flushed(
     alloc: Global,
     given: &[Given],
@@ -375,7 +375,7 @@ fn a_last_flush_that_fails_is_told_whatever_ended_the_run(rt: HostRuntime) -> Re
     none_is_wrong(first_not_told(rt.alloc(), &ENDS))
 }
 
-/// Whether it is told behind too many reads.
+/// Whether it is reported after too many reads.
 fn is_told_behind_reads(alloc: Global) -> bool {
     let end = flushed(alloc, &[], Given::Piece("\n"), true, 1_000_000);
     is_lost(&end, 1_000_001)

@@ -41,7 +41,7 @@ const SAMPLES: [Sample; 2] = [
     },
 ];
 
-/// Gives a byte at a time, and an error in place of the byte behind so many.
+/// Gives a byte at a time, and an error in place of the byte after n.
 #[derive(Drop)]
 struct Trickle<'a> {
     bytes: &'a [u8],
@@ -157,7 +157,7 @@ fn ended_in(script: &[u8], left: usize) -> usize {
     script.iter().take(left).filter(|b| **b == b'\n').count()
 }
 
-/// Whether a read that fails behind so many bytes leaves the text of the lines before.
+/// Whether a read that fails after n bytes leaves the text of the lines before.
 fn is_left(alloc: Global, sample: &Sample, left: usize) -> bool {
     let mut reader = Trickle {
         bytes: sample.script.as_bytes(),
@@ -174,7 +174,7 @@ fn is_left(alloc: Global, sample: &Sample, left: usize) -> bool {
     }
 }
 
-/// The first number of bytes behind which it leaves something else.
+/// The first number of bytes after which it leaves something else.
 fn first_not_left(alloc: Global, sample: &Sample) -> Option<usize> {
     for left in 0..=sample.script.len() {
         if !is_left(alloc, sample, left) {
@@ -192,7 +192,7 @@ fn a_read_that_fails_leaves_the_text_of_the_lines_before(rt: HostRuntime) -> Res
     Ok(())
 }
 
-/// Whether a write that fails, or takes nothing, behind so many bytes leaves them, and its line is told.
+/// Whether a write that fails, or takes nothing, after n bytes leaves them, and its line is told.
 fn is_taken(alloc: Global, sample: &Sample, room: usize, fails: bool) -> bool {
     let mut reader = sample.script.as_bytes();
     let mut writer = Narrow {
@@ -205,7 +205,7 @@ fn is_taken(alloc: Global, sample: &Sample, room: usize, fails: bool) -> bool {
     is_fault(&end, ended + 1, Cause::Write) && is_front(sample, &writer.taken, room)
 }
 
-/// The first number of bytes behind which it leaves others.
+/// The first number of bytes after which it leaves others.
 fn first_not_taken(alloc: Global, sample: &Sample) -> Option<usize> {
     for room in 0..sample.text.len() {
         if !is_taken(alloc, sample, room, true) || !is_taken(alloc, sample, room, false) {
@@ -249,7 +249,7 @@ fn what_a_buffer_holds_is_flushed(rt: HostRuntime) -> Result<(), Fail> {
     Ok(())
 }
 
-/// Whether a script is refused at its second line, behind this text.
+/// Whether a script is refused at its second line, after this text.
 fn is_refused_behind(alloc: Global, script: &str, text: &str) -> io::Result<bool> {
     let mut writer = BufWriter::new(alloc, Vec::new(alloc))?;
     let end = buffered(alloc, script, QUIET, &mut writer);
@@ -263,7 +263,7 @@ fn what_comes_before_a_fault_is_flushed(rt: HostRuntime) -> Result<(), Fail> {
     holds("the text", is_refused_behind(rt.alloc(), script, text)?)
 }
 
-/// Whether a buffer that can't be flushed behind so many bytes is told at the line where the run stands.
+/// Whether a buffer that can't be flushed after n bytes is told at the line where the run stands.
 fn is_lost(alloc: Global, sample: &Sample, room: usize) -> io::Result<bool> {
     let mut reader = sample.script.as_bytes();
     let narrow = Narrow {
@@ -278,7 +278,7 @@ fn is_lost(alloc: Global, sample: &Sample, room: usize) -> io::Result<bool> {
     Ok(is_fault(&end, line, Cause::Write) && writer.get_ref().taken.len() == room)
 }
 
-/// The first number of bytes behind which it is told otherwise.
+/// The first number of bytes after which it is reported otherwise.
 fn first_not_lost(alloc: Global, sample: &Sample) -> io::Result<Option<usize>> {
     for room in 0..sample.text.len() {
         if !is_lost(alloc, sample, room)? {
@@ -298,7 +298,7 @@ fn a_buffer_that_cannot_be_flushed_is_a_fault_where_the_run_stands(
     Ok(())
 }
 
-/// Whether a script without end is given up behind a million reads.
+/// Whether a script without end is given up after a million reads.
 fn is_given_up(alloc: Global) -> bool {
     let mut written = Vec::new(alloc);
     let end = play(alloc, &mut Endless, &mut written, QUIET);

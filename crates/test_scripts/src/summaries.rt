@@ -15,7 +15,7 @@ const LINES: [(&str, u64); 4] = [
     ("layout\n", 1),
 ];
 
-/// Whether a script has so many lines, and no event.
+/// Whether a script has n lines, and no event.
 fn has_lines(alloc: Global, script: &str, lines: u64) -> bool {
     let mut reader = script.as_bytes();
     let mut written = Vec::new(alloc);

@@ -8,20 +8,15 @@ use crate::requests::tell_fields;
 use crate::sent::tell_sent;
 use crate::transactions::{tell_answers, tell_ends, tell_fate, tell_stuck};
 use crate::transfers::{tell_state, tell_transfer};
-use test_rows::{Answers, RowFault, Sheet, bytes_of, split};
+use test_rows::{Answers, Asked, RowFault};
 
 /// The questions of the tables.
 pub struct Questions;
 
 impl Answers for Questions {
-    fn answer(
-        &self,
-        told: &mut String,
-        sheet: &Sheet<'_>,
-        question: &str,
-        given: &str,
-    ) -> Result<(), RowFault> {
-        match question {
+    fn answer(&self, told: &mut String, asked: &Asked<'_>) -> Result<(), RowFault> {
+        let Asked { sheet, given, .. } = *asked;
+        match asked.question {
             "fits" => tell_fitting(told, given),
             "bodies" => tell_bodies(told, given),
             "ends" => tell_ends(told, sheet, given),
@@ -34,31 +29,16 @@ impl Answers for Questions {
             "faults" => tell_faults(told),
             "heard" => tell_heard(told, sheet, given),
             "reset" => tell_reset(told, sheet, given),
-            _ => tell_of_bytes(told, sheet, question, given),
+            _ => of_bytes(told, asked, &asked.bytes()?),
         }
     }
 }
 
-/// What is asked of bytes, and of the words behind a `|`.
-fn tell_of_bytes(
-    told: &mut String,
-    sheet: &Sheet<'_>,
-    question: &str,
-    given: &str,
-) -> Result<(), RowFault> {
-    let (bytes, words) = split(given, '|');
-    let bytes = bytes_of(sheet, bytes)?;
-    of_bytes(told, sheet, question, &bytes, words)
-}
-
-fn of_bytes(
-    told: &mut String,
-    sheet: &Sheet<'_>,
-    question: &str,
-    bytes: &[u8],
-    words: &str,
-) -> Result<(), RowFault> {
-    match question {
+/// What is asked of bytes, and of the words after a `|`.
+fn of_bytes(told: &mut String, asked: &Asked<'_>, bytes: &[u8]) -> Result<(), RowFault> {
+    let sheet = asked.sheet;
+    let words = asked.words();
+    match asked.question {
         "packet" => tell_decoded(told, bytes),
         "alone" => tell_alone(told, bytes),
         "joined" => tell_joined(told, bytes),

@@ -73,7 +73,7 @@ pub fn tell_changed(told: &mut String, words: &str) -> Result<(), RowFault> {
     tell_joined(told, &bytes)
 }
 
-/// What is read of the first bytes of the keyboard's descriptors, so many.
+/// What is read of the first bytes of the keyboard's descriptors, n.
 pub fn tell_prefixes(told: &mut String, words: &str) -> Result<(), RowFault> {
     for word in words.split_whitespace() {
         match CONFIG.get(..number_of(word)?) {
@@ -98,7 +98,7 @@ fn tell_device_in(told: &mut String, bytes: &[u8]) -> Result<(), RowFault> {
     }
 }
 
-/// What is read of so many of the device's bytes, two behind them included, with this type of descriptor.
+/// What is read of n of the device's bytes, two after them included, with this type of descriptor.
 pub fn tell_device(told: &mut String, words: &str) -> Result<(), RowFault> {
     let (count, kind) = split(words, ' ');
     let mut bytes = [0; 20];

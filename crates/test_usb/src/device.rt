@@ -65,8 +65,8 @@ fn hear_all(
     tell_effects(told, control.requests())
 }
 
-/// Packets that a new device hears, each with its answer behind `=` where it has one: each answer that is another one; and then
-/// how often a write took effect in them, and the output report that is kept.
+/// Packets that a new device hears, each with its answer after `=` where it has one: each answer that is another one;
+/// and then how often a write took effect in them, and the output report that is kept.
 pub fn tell_heard(told: &mut String, sheet: &Sheet<'_>, words: &str) -> Result<(), RowFault> {
     hear_all(told, sheet, &mut DevControl::new(Keyboard::new()), words)
 }

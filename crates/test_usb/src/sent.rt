@@ -54,7 +54,7 @@ fn tell_tries(
 }
 
 /// What the host sends in each try of a request with these data, where this comes in each; and how it ends. Words are the data,
-/// and behind `|` what comes.
+/// and after `|` what comes.
 pub fn tell_sent(
     told: &mut String,
     sheet: &Sheet<'_>,

@@ -7,7 +7,7 @@ use crate::packets::{read, tell_packet};
 use arrayvec::ArrayVec;
 use test_rows::{RowFault, Sheet, bytes_of, split, tell, tell_bytes, tell_numbers};
 use usb_packet::Packet;
-use usb_transact::{Bus, DevPipe, Fate, HostPipe, Phase, Took, carried, exchange, replied};
+use usb_transact::{Bus, DevPipe, Fate, HostPipe, Phase, Took, exchange, send_packet, send_reply};
 
 /// The fate of a try by what is lost in it.
 pub fn fate_of(word: &str) -> Option<Fate> {
@@ -140,7 +140,7 @@ fn play(
     tell_stand(told, host, device)
 }
 
-/// What two new ends tell, by an address and an endpoint and, behind `|`, steps.
+/// What two new ends tell, by an address and an endpoint and, after `|`, steps.
 pub fn tell_ends(told: &mut String, sheet: &Sheet<'_>, words: &str) -> Result<(), RowFault> {
     let (names, steps) = split(words, '|');
     let (addr, endp) = split(names, ' ');
@@ -193,7 +193,7 @@ pub fn tell_fate(told: &mut String, words: &str) -> Result<(), RowFault> {
     let Some(fate) = fate_of(fate) else {
         return Err(RowFault::Unread);
     };
-    tell_arrived(told, carried(&fate, phase_of(phase)?, &Packet::Nak))
+    tell_arrived(told, send_packet(&fate, phase_of(phase)?, &Packet::Nak))
 }
 
 /// A bus on which ACK arrives, whatever is sent.
@@ -204,7 +204,7 @@ impl Bus for Stuck {
 
     ghost arrives = { λ bus phase bytes. Some (0xD2 ∷ []) };
 
-    fn hand_on(&self, _phase: Phase, bytes: &mut ArrayVec<u8, 65>) -> bool {
+    fn transmit(&self, _phase: Phase, bytes: &mut ArrayVec<u8, 65>) -> bool {
         bytes.clear();
         bytes.push(0xD2);
         true
@@ -214,9 +214,9 @@ impl Bus for Stuck {
 /// What arrives on that bus of a NAK that is sent, one that is replied, or of nothing.
 pub fn tell_stuck(told: &mut String, word: &str) -> Result<(), RowFault> {
     let arrived = match word {
-        "sent" => carried(&Stuck, Phase::Reply, &Packet::Nak),
-        "replied" => replied(&Stuck, Phase::Reply, Some(&Packet::Nak)),
-        "nothing" => replied(&Stuck, Phase::Reply, None),
+        "sent" => send_packet(&Stuck, Phase::Reply, &Packet::Nak),
+        "replied" => send_reply(&Stuck, Phase::Reply, Some(&Packet::Nak)),
+        "nothing" => send_reply(&Stuck, Phase::Reply, None),
         _ => return Err(RowFault::Unread),
     };
     tell_arrived(told, arrived)

@@ -14,7 +14,7 @@ const MOST: u8 = 250;
 /// SET_CONFIGURATION of the configuration 1.
 const CONFIGURE: [u8; 8] = [0x00, 0x09, 0x01, 0x00, 0x00, 0x00, 0x00, 0x00];
 
-/// The data of writes, of which each sends the first: 257 bytes that count up, and begin again behind 250.
+/// The data of writes, of which each sends the first: 257 bytes that count up, and begin again after 250.
 fn push_data(data: &mut Vec<u8>) -> Result<(), RowFault> {
     let mut byte = 0u8;
     for _ in 0..257 {

@@ -82,7 +82,7 @@ impl<'a> Requests for Foreign<'a> {
     fn apply(&mut self, _bytes: &[u8]) {}
 }
 
-/// Plays a request without losses, up to its end or through so many tries: what its last try tells.
+/// Plays a request without losses, up to its end or through n tries: what its last try tells.
 fn asked(
     host: &mut HostDevice,
     control: &mut DevControl<Foreign>,
@@ -98,7 +98,7 @@ fn asked(
     Ok(Progress::Running)
 }
 
-/// The same of a device with these descriptors.
+/// Asks a device with these descriptors, until the transfer ends.
 fn asked_of(
     host: &mut HostDevice,
     configuration: &[u8],
@@ -136,7 +136,7 @@ fn tell_both_of(host: &mut HostDevice, configuration: &[u8], report: &[u8], told
     tell_state(host, told);
 }
 
-/// The same of a new host.
+/// Tells the state of a new host that has asked for both descriptors.
 fn tell_both(alloc: Global, configuration: &[u8], report: &[u8], told: &mut Told) {
     let mut host = cold(alloc);
     tell_both_of(&mut host, configuration, report, told);

@@ -54,7 +54,7 @@ fn tells_the_key(rt: &HostRuntime, device: &mut Device, host: &mut HostDevice) -
     Ok(is_told(&told) && out.as_slice() == [event_of(Given::Down(4))].as_slice())
 }
 
-/// The same, of a host that is made for it.
+/// Whether a host that is made for it is told the key.
 fn tells_a_host(rt: &HostRuntime, device: &mut Device, descriptor: &[u8]) -> Result<bool, Fail> {
     let mut host = ready_host(rt, descriptor)?;
     tells_the_key(rt, device, &mut host)

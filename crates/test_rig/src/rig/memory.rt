@@ -126,7 +126,7 @@ fn a_poll_is_made_again(rt: HostRuntime) -> Result<(), Fail> {
     is_polled(&rt, &mut rig)
 }
 
-/// The requests that bring a device up, and what its host knows behind each.
+/// The requests that bring a device up, and what its host knows after each.
 #[rattlefmt::skip]
 const BRINGS_UP: [(Request, HostState); 3] = [
     (Request::Config,    HostState::Described),
@@ -134,7 +134,7 @@ const BRINGS_UP: [(Request, HostState); 3] = [
     (Request::Configure, HostState::Ready),
 ];
 
-/// Whether a request is done, and the host knows this behind it.
+/// Whether a request is done, and the host knows this after it.
 fn leads_to(rig: &mut Rig, request: &Request, wanted: HostState, out: &mut Vec<Delivered>) -> bool {
     let told = asked(rig, request, out);
     matches!(&told, Ok(Told::Transfer(Progress::Done))) && state(rig) == Some(wanted)
@@ -177,7 +177,7 @@ fn a_device_is_brought_up_by_requests_that_are_begun_again(rt: HostRuntime) -> R
     is_brought_up_by_each(&rt, &mut rig)
 }
 
-/// Whether a reset lets the key go, and the host knows nothing behind it.
+/// Whether a reset lets the key go, and the host knows nothing after it.
 fn lets_go(rt: &HostRuntime, rig: &mut Rig) -> Result<bool, StackFault> {
     let mut out = Vec::new(rt.alloc());
     taken(rig, &step_of(1, Act::Reset), &mut out)?;

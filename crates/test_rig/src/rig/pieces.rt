@@ -1,7 +1,7 @@
-//! Which piece of a report of more than a packet goes out behind each step (USB 2.0, 5.7.3, 8.5.4, 8.6 and 9.4.5), worked out
-//! by hand from the definitions. What these steps tell and deliver stands in tests/scripts/pieces.rows.
+//! Which piece of a report of more than a packet goes out after each step (USB 2.0, 5.7.3, 8.5.4, 8.6 and 9.4.5),
+//! worked out by hand from the definitions. What these steps tell and deliver stands in tests/scripts/pieces.rows.
 
-use super::{Act, Asked, Asks, CLEAN, CLEAR, TRY, ask_all, attach_to, step_of, take_step};
+use super::{Act, Asks, CLEAN, CLEAR, RequestKind, TRY, ask_all, attach_to, step_of, take_step};
 use crate::verdict::none_is_wrong;
 use hid_device::Boot;
 use hid_stack::{Delivered, Rig, StackFault, Start};
@@ -20,10 +20,10 @@ const MOTIONS: [u8; 14] = [
     0x05, 0x01, 0x09, 0x30, 0x15, 0x81, 0x25, 0x7F, 0x75, 0x08, 0x95, 0x64, 0x81, 0x06,
 ];
 
-/// A step of device 1, and which piece goes out behind it.
+/// A step of device 1, and which piece goes out after it.
 type Row = (Act, Option<usize>);
 
-/// The descriptor of a device, its steps, and those behind the next configuration, if there is one.
+/// The descriptor of a device, its steps, and those after the next configuration, if there is one.
 type Schedule = (&'static [u8], &'static [Row], &'static [Row]);
 
 #[rattlefmt::skip]
@@ -61,7 +61,7 @@ const SCHEDULES: [Schedule; 11] = [
         (CLEAN,              Some(1)),
         (Act::Reset,         None),
     ], &[]),
-    // a reset behind the last piece
+    // a reset after the last piece
     (&MOTIONS, &[
         (Act::Move(0, 0, 5),       None),
         (CLEAN,                    Some(1)),
@@ -91,7 +91,7 @@ const SCHEDULES: [Schedule; 11] = [
         (CLEAN,                         Some(1)),
         (CLEAN,                         None),
     ], &[]),
-    // a clear behind the last piece, which had crossed
+    // a clear after the last piece, which had crossed
     (&MOTIONS, &[
         (Act::Move(0, 0, 5),       None),
         (CLEAN,                    Some(1)),
@@ -135,9 +135,9 @@ const SCHEDULES: [Schedule; 11] = [
 
 /// The requests that bring such a device up: its report descriptor has 14 or 15 bytes, which go in two pieces of endpoint 0.
 const BRINGS_UP: [Asks; 3] = [
-    (Asked::Config, 7),
-    (Asked::Report, 4),
-    (Asked::Configure, 2),
+    (RequestKind::Config, 7),
+    (RequestKind::Report, 4),
+    (RequestKind::Configure, 2),
 ];
 
 /// Whether each step leaves the piece that its row says.
@@ -151,7 +151,7 @@ fn are_left(rig: &mut Rig, rows: &[Row], out: &mut Vec<Delivered>) -> Result<boo
     Ok(true)
 }
 
-/// Whether a device's steps leave so, up to the end or to the next configuration, and behind that.
+/// Whether a device's steps leave so, up to the end or to the next configuration, and after that.
 fn goes(rig: &mut Rig, row: &Schedule, out: &mut Vec<Delivered>) -> Result<bool, StackFault> {
     let (descriptor, before, behind) = row;
     attach_to(rig, Boot::No, descriptor, Start::Ready)?;
@@ -164,7 +164,7 @@ fn goes(rig: &mut Rig, row: &Schedule, out: &mut Vec<Delivered>) -> Result<bool,
     are_left(rig, behind, out)
 }
 
-/// The same, on a bus of its own.
+/// Whether a device's steps leave so, on a bus of its own.
 fn goes_alone(rt: &HostRuntime, row: &Schedule) -> Result<bool, StackFault> {
     let mut rig = Rig::new(rt.alloc())?;
     let mut out = Vec::new(rt.alloc());

@@ -1,7 +1,9 @@
-//! What a bus refuses, with the steps behind it, which go on as if there had been none; and the codes that are printed. By
-//! docs/FORMATS.md and docs/SCRIPT.md.
+//! What a bus refuses, with the steps after it, which go on as if there had been none; and the codes that are
+//! printed. By docs/FORMATS.md and docs/SCRIPT.md.
 
-use super::{Act, Asked, Boots, CLEAN, CLEAR, NO_CONTROL, TRY, attach_all, step_of, take_step};
+use super::{
+    Act, Boots, CLEAN, CLEAR, NO_CONTROL, RequestKind, TRY, attach_all, step_of, take_step,
+};
 use crate::verdict::{holds, none_is_wrong};
 use hid_device::{Boot, DeviceCause, DeviceFault};
 use hid_layout::Cause;
@@ -35,33 +37,33 @@ const LOST: Act = Act::Control(Fate::TokenLost);
 /// A step of a device, and why it is refused, if it is.
 type Answer = (u8, Act, Option<StackFault>);
 
-/// Of a device whose host knows nothing of it; behind a reset; of a clear that gets no answer, behind which polls are
+/// Of a device whose host knows nothing of it; after a reset; of a clear that gets no answer, after which polls are
 /// refused until another one is done; of a clear that a reset ends; and of devices that there aren't. No such device comes
 /// first, then a transfer that runs, then the host's state.
 #[rattlefmt::skip]
 const ANSWERS: [Answer; 37] = [
     (1, CLEAN,                             NOT_READY),
     (1, TRY,                               NO_TRANSFER),
-    (1, Act::Begin(Asked::Configure),      NOT_READY),
-    (8, Act::Begin(Asked::Config),         NO_DEVICE),
+    (1, Act::Begin(RequestKind::Configure),      NOT_READY),
+    (8, Act::Begin(RequestKind::Config),         NO_DEVICE),
 
     (2, Act::Reset,                        None),
     (0, Act::Reset,                        NO_DEVICE),
     (8, Act::Reset,                        NO_DEVICE),
     (2, Act::Poll(Fate::TokenLost),        NOT_READY),
     (2, TRY,                               NO_TRANSFER),
-    (2, Act::Begin(Asked::Report),         NOT_READY),
-    (2, Act::Begin(Asked::Configure),      NOT_READY),
-    (2, Act::Begin(Asked::GetIdle),        NOT_READY),
+    (2, Act::Begin(RequestKind::Report),         NOT_READY),
+    (2, Act::Begin(RequestKind::Configure),      NOT_READY),
+    (2, Act::Begin(RequestKind::GetIdle),        NOT_READY),
     (2, Act::Press(9, 0),                  Some(NO_CONTROL)),
-    (2, Act::Begin(Asked::Config),         None),
-    (2, Act::Begin(Asked::Report),         BUSY),
+    (2, Act::Begin(RequestKind::Config),         None),
+    (2, Act::Begin(RequestKind::Report),         BUSY),
     (2, Act::Reset,                        None),
-    (2, Act::Begin(Asked::Report),         NOT_READY),
+    (2, Act::Begin(RequestKind::Report),         NOT_READY),
 
     (3, CLEAR,                             None),
     (3, CLEAN,                             NOT_READY),
-    (3, Act::Begin(Asked::Halt),           BUSY),
+    (3, Act::Begin(RequestKind::Halt),           BUSY),
     (3, LOST,                              None),
     (3, LOST,                              None),
     (3, LOST,                              None),
@@ -73,9 +75,9 @@ const ANSWERS: [Answer; 37] = [
 
     (4, CLEAR,                             None),
     (4, Act::Reset,                        None),
-    (4, Act::Begin(Asked::Halt),           NOT_READY),
+    (4, Act::Begin(RequestKind::Halt),           NOT_READY),
     (4, CLEAR,                             NOT_READY),
-    (4, Act::Begin(Asked::EndpointStatus), NOT_READY),
+    (4, Act::Begin(RequestKind::EndpointStatus), NOT_READY),
 
     (8, CLEAN,                             NO_DEVICE),
     (8, Act::Move(2, 0, 1),                NO_DEVICE),

@@ -2,8 +2,8 @@
 //! 9.1.1.3; HID 1.11, 7.2), worked out by hand from the definitions.
 
 use super::{
-    Act, Asked, Asks, Boots, CLEAN, TRY, ask, ask_all, attach_all, state_of, step_of, take_all,
-    take_step,
+    Act, Asks, Boots, CLEAN, RequestKind, TRY, ask, ask_all, attach_all, state_of, step_of,
+    take_all, take_step,
 };
 use crate::verdict::none_is_wrong;
 use arrayvec::ArrayVec;
@@ -43,7 +43,7 @@ const BEFORE: [&[Act]; 6] = [
     &[CLEAN],
 ];
 
-/// The first of these devices, from 1, that isn't forgotten behind its acts and a reset.
+/// The first of these devices, from 1, that isn't forgotten after its acts and a reset.
 fn first_remembered(
     rig: &mut Rig,
     rows: &[&'static [Act]],
@@ -80,9 +80,9 @@ const COLD: [Boots; 4] = [(Boot::Keyboard, Start::Cold); 4];
 #[rattlefmt::skip]
 const FRONTS: [&[Asks]; 4] = [
     &[],
-    &[(Asked::Config, 7)],
-    &[(Asked::Config, 7), (Asked::Report, 10)],
-    &[(Asked::Config, 7), (Asked::Report, 10), (Asked::Configure, 2)],
+    &[(RequestKind::Config, 7)],
+    &[(RequestKind::Config, 7), (RequestKind::Report, 10)],
+    &[(RequestKind::Config, 7), (RequestKind::Report, 10), (RequestKind::Configure, 2)],
 ];
 
 /// The first of these devices, from 1, of which a reset amid a transfer leaves anything.
@@ -93,7 +93,7 @@ fn first_not_reset(
 ) -> Result<Option<usize>, StackFault> {
     for (dev, requests) in (1..8).zip(rows.iter()) {
         ask_all(rig, dev, requests, out)?;
-        ask(rig, dev, (Asked::Status, 1), out)?;
+        ask(rig, dev, (RequestKind::Status, 1), out)?;
         take_step(rig, &step_of(dev, Act::Reset), out)?;
         if !is_forgotten(rig, dev)? {
             return Ok(Some(dev as usize));
@@ -154,7 +154,7 @@ fn begin_lights(
     Ok(())
 }
 
-/// Whether a reset ends the write behind these tries, with these lights before it and none behind.
+/// Whether a reset ends the write after these tries, with these lights before it and none after.
 fn is_ended(
     rig: &mut Rig,
     dev: u8,

@@ -1,5 +1,5 @@
 use Rattle.hid_layout.specs.Controls.{items_of}
-use Rattle.hid_snapshots.specs.Cells.{FitsSnapshot, FitsShown}
+use Rattle.hid_snapshots.specs.ControlStates.{FitsSnapshot, FitsShown}
 use Rattle.test_reports.proofs.snapshots.play.Given as goal
 
 abbrev pub invariant-loop-step : goal.invariant-loop-step
