@@ -8,14 +8,14 @@
  *     look. None is null, but with a length or room of 0 one may be. Nothing that a call writes overlaps another of its
  *     arguments.
  *   - A `struct hidstack` is all bytes zero before its first call (HIDSTACK_INIT), or was left by a call. While it is
- *     open it is not copied, and only hidstack_close ends it: what it keeps would else never be given back.
+ *     open, don't copy it, and end it by hidstack_close alone: otherwise its memory leaks.
  *   - No two calls are at work on one `struct hidstack` at once, calls that only read it included. It may go from one
  *     thread to another, as any variable may. Two handles never share anything, and the calls without a handle share
  *     nothing: they may run in any threads at once.
  *   - No call comes from a signal handler. `malloc`, `realloc` and `free` are the C library's own.
  *
  * The bytes may be any, and so may lengths and rooms that stand there, items, indices, options and the contents of an
- * element: what is wrong is told by a status. Every call returns.
+ * element: errors are reported by the status. Every call returns.
  *
  * Places: an `item` is the place of a listed item, the Input, Output and Feature items of a descriptor that have bits,
  * from 0 in its order. An `index` is the place of an element in its item, and of a control the place of its element, or
@@ -26,7 +26,7 @@
  * hidstack_feed, hidstack_number and hidstack_cause_words. The others give back what they took. Of the stack a call
  * takes 10 kB, and hidstack_run 37 kB, what a thread takes itself included (measured: docs/C.md).
  *
- * It compiles as C99 and as C++11. Link with -lhidstack. docs/C.md and docs/SCRIPT.md are installed below PREFIX as
+ * It compiles as C99 and as C++17. Link with -lhidstack. docs/C.md and docs/SCRIPT.md are installed below PREFIX as
  * share/doc/rulohevian, with the Debian package as /usr/share/doc/rulohevian. */
 #ifndef HIDSTACK_H
 #define HIDSTACK_H
@@ -45,14 +45,14 @@ extern "C" {
 /* What calls answer. A call that doesn't answer HIDSTACK_OK writes nothing but what is said there. */
 enum hidstack_status {
     HIDSTACK_OK = 0,      /* done */
-    HIDSTACK_REFUSED = 1, /* the descriptor is refused, or the script ended at a line: cause and place are told */
+    HIDSTACK_REFUSED = 1, /* the descriptor is refused, or the script ended at a line: cause and place are returned */
     HIDSTACK_BUSY = 2,    /* the handle is open already */
     HIDSTACK_CLOSED = 3,  /* the handle is closed */
-    HIDSTACK_NO_ROOM = 4, /* the table or text is too small: the room that it needs is told */
+    HIDSTACK_NO_ROOM = 4, /* the table or text is too small: the room that it needs is returned */
     HIDSTACK_SHORT = 5,   /* the report has fewer bytes than it should */
     HIDSTACK_UNKNOWN = 6, /* no Input report of the device, or another report than the element's */
     HIDSTACK_NONE = 7,    /* nothing stands at that place, or it has no value */
-    HIDSTACK_MEMORY = 8   /* memory was wanting */
+    HIDSTACK_MEMORY = 8   /* out of memory */
 };
 
 /* The kind of a report. */
@@ -62,14 +62,14 @@ enum hidstack_report_kind {
     HIDSTACK_FEATURE = 2 /* settings, either way */
 };
 
-/* What an event tells of its control. */
+/* What an event says of its control. */
 enum hidstack_event_kind {
     HIDSTACK_UP = 0,     /* a switch or a key that was held is up; value 0 */
     HIDSTACK_DOWN = 1,   /* a switch or a key that was up is held; value 1 */
     HIDSTACK_VALUE = 2,  /* an absolute control has this value now */
     HIDSTACK_NULL = 3,   /* an absolute control has no value now; value 0 */
     HIDSTACK_MOTION = 4, /* a relative control moved by this value */
-    HIDSTACK_DROPPED = 5 /* a motion that a reset, a halt or its end let go; no call tells it today */
+    HIDSTACK_DROPPED = 5 /* a motion that a reset, a halt or a clear dropped; no call reports it today */
 };
 
 /* Bits of the flags of an element (HID 1.11, 6.2.2.5). */
@@ -98,10 +98,10 @@ struct hidstack {
 
 #define HIDSTACK_INIT {NULL}
 
-/* What hidstack_open tells. */
+/* The result of hidstack_open. */
 struct hidstack_opened {
     uint64_t at;       /* where the refused item begins, in bytes; else 0 */
-    uint64_t room;     /* how many events a report tells at most: the room that hidstack_feed asks for */
+    uint64_t room;     /* how many events a report gives at most: the room that hidstack_feed asks for */
     uint64_t reports;  /* how many reports the device has, of all kinds */
     uint64_t items;    /* how many listed items it has */
     uint32_t cause;    /* 1 for L1 to 17 for L17 of docs/SCRIPT.md, where the descriptor is refused; else 0 */
@@ -162,7 +162,7 @@ struct hidstack_collection_info {
     uint16_t id;       /* .. and the ID, else 0 */
 };
 
-/* What hidstack_table tells. */
+/* The result of hidstack_table. */
 struct hidstack_tabled {
     uint64_t at;       /* where the refused item begins, in bytes; else 0 */
     uint64_t elements; /* how many elements the descriptor has; 0 where it is refused */
@@ -170,27 +170,27 @@ struct hidstack_tabled {
     uint32_t spare;    /* 0 */
 };
 
-/* What hidstack_run tells. */
+/* The result of hidstack_run. */
 struct hidstack_ran {
     uint64_t line;  /* the line that was refused, from 1; 0 where none was */
-    uint64_t told;  /* the bytes of what the script tells */
+    uint64_t told;  /* the length of the text that the script prints */
     uint64_t fault; /* the bytes of the line that names the fault, with its end */
 };
 
 /* ---- A device, a report at a time ---- */
 
 /* Reads a report descriptor of `length` bytes into a closed handle. It takes memory, which hidstack_close gives back.
- *   OK       the handle is open, and `opened` tells what it has. Nothing is held. An absolute control has no value where
+ *   OK       the handle is open, and `opened` has its counts. Nothing is held. An absolute control has no value where
  *            it has a null state; else its value is 0 where 0 is in range, and else the least one
- *   REFUSED  the handle is closed still; `opened` tells cause and place. Cause 17 at 0: memory was wanting
+ *   REFUSED  the handle is closed still; `opened` has cause and place. Cause 17 at 0: out of memory
  *   BUSY     the handle was open; it stays as it was, and so does `opened` */
 uint32_t hidstack_open(const uint8_t *descriptor, size_t length, struct hidstack *handle, struct hidstack_opened *opened);
 
-/* Reads the bytes of an Input report, its ID first where reports have IDs, and writes its events over the first places
- * of `events`, which has `room` places. Bytes behind the report's are ignored. It takes no memory.
- *   OK       `count` is how many events there are; the places behind them stay as they were. They come by rising item,
+/* Reads the bytes of an Input report, its ID first where reports have IDs, and writes its events into the first entries
+ * of `events`, which has `room` places. Bytes after the report are ignored. It takes no memory.
+ *   OK       `count` is how many events there are; the places after them are unchanged. They come by rising item,
  *            and in an item by rising index, but for an array: each key that went up, and then each that went down
- *   NO_ROOM  `room` is less than the `room` of hidstack_open, which `count` tells; whatever the report is
+ *   NO_ROOM  `room` is less than the `room` of hidstack_open, which `count` has; whatever the report is
  *   SHORT, UNKNOWN, CLOSED: `count` is 0
  * But for OK the view and the table stay as they were. */
 uint32_t hidstack_feed(struct hidstack *handle, const uint8_t *report, size_t length, struct hidstack_event *events, size_t room, uint64_t *count);
@@ -223,9 +223,9 @@ uint32_t hidstack_value(struct hidstack *handle, uint64_t item, uint64_t index, 
 
 /* Reads a report descriptor, and writes its data elements, item by item, over the first places of `table`, which has
  * `room` places. What it takes of memory it gives back.
- *   OK       `tabled` tells how many there are; the places behind them stay as they were
- *   NO_ROOM  `tabled` tells how many places they need, and the table stays as it was
- *   REFUSED  `tabled` tells cause and place, and the table stays as it was */
+ *   OK       `tabled` has how many there are; the places after them are unchanged
+ *   NO_ROOM  `tabled` has how many places they need, and the table stays as it was
+ *   REFUSED  `tabled` has cause and place, and the table stays as it was */
 uint32_t hidstack_table(const uint8_t *descriptor, size_t length, struct hidstack_element_info *table, size_t room, struct hidstack_tabled *tabled);
 
 /* The number of an element in the bytes of a report. Any element will do, also one that no call wrote.
@@ -236,12 +236,12 @@ uint32_t hidstack_number(const struct hidstack_element_info *element, const uint
 
 /* ---- Scripts and texts. None is ended by a zero byte. ---- */
 
-/* Runs a script of docs/SCRIPT.md, as `hidrun` does, and writes what it tells over the first bytes of `out`.
+/* Runs a script of docs/SCRIPT.md, as `hidrun` does, and writes what it prints into the first bytes of `out`.
  *   OK       all lines were run, and `fault` stays as it was
- *   REFUSED  the run ended at a line: what was told before is in `out`, the line that names the fault in `fault`. A line
- *            is refused by X1 to X4 and X9; by X7 memory was wanting at it, and by X6 memory for what the script tells
- *   NO_ROOM  a text is longer than its room: `ran` tells both lengths and the line, and neither text is written
- *   MEMORY   memory was wanting, and then also for the line that names the fault; neither text is written, `ran` is all 0 */
+ *   REFUSED  the run ended at a line: `out` has the text printed before it, `fault` the line that names the fault. A line
+ *            is refused by X1 to X4 and X9; X7 means out of memory at the line, X6 out of memory for its text
+ *   NO_ROOM  a text is longer than its room: `ran` has both lengths and the line, and neither text is written
+ *   MEMORY   out of memory, also for the line that names the fault; neither text is written, `ran` is all 0 */
 uint32_t hidstack_run(const uint8_t *script, size_t length, uint32_t options, uint8_t *out, size_t out_room, uint8_t *fault, size_t fault_room, struct hidstack_ran *ran);
 
 /* The code of a cause, `L10` of 10, over the first bytes of `out`; `told` is its length.

@@ -44,8 +44,8 @@ int main(void)
         feed(&device, pressed, sizeof pressed, events, opened.room);
         feed(&device, released, sizeof released, events, opened.room);
     }
-    hidstack_held(&device, 0, 2, &held);
-    printf("button 3 is %s\n", held ? "held" : "up");
+    if (hidstack_held(&device, 0, 2, &held) == HIDSTACK_OK)
+        printf("button 3 is %s\n", held ? "held" : "up");
     free(events);
     hidstack_close(&device);
     return 0;

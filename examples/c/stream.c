@@ -1,8 +1,8 @@
-/* stream DESCRIPTOR: reads Input reports from standard input, one behind the other, and prints their events. A hidraw
+/* stream DESCRIPTOR: reads Input reports from standard input, one after the other, and prints their events. A hidraw
  * device gives such a stream: stream /sys/class/hidraw/hidraw0/device/report_descriptor < /dev/hidraw0
  *
  * It ends with 0; with 1 where the descriptor is refused, bytes are of no report of the device, or the last report is
- * cut; and with 2 where something can't be read or written, or memory is wanting. */
+ * cut; and with 2 where something can't be read or written, or memory runs out. */
 #include "hidstack.h"
 #include <errno.h>
 #include <inttypes.h>
@@ -61,7 +61,7 @@ static int refused(const struct hidstack_opened *opened)
     if (hidstack_cause_words(opened->cause, words, sizeof words, &told) == HIDSTACK_OK)
         fprintf(stderr, ": %.*s", (int)told, (const char *)words);
     fputc('\n', stderr);
-    return opened->cause == 17 ? FAILED : REFUSED; /* 17: memory was wanting */
+    return opened->cause == 17 ? FAILED : REFUSED; /* 17: out of memory */
 }
 
 static int open_file(const char *name, struct stream *stream)
@@ -83,7 +83,7 @@ static int open_file(const char *name, struct stream *stream)
     return stream->events ? DONE : failed("events", ENOMEM);
 }
 
-/* Prints the events of the reports that are there whole, and keeps the bytes behind them. */
+/* Prints the events of the reports that are there whole, and keeps the bytes after them. */
 static int feed(struct stream *stream)
 {
     size_t at = 0;
@@ -118,7 +118,7 @@ static int play(struct stream *stream)
             return failed("standard output", errno);
     }
     if (status == DONE && stream->have > 0) {
-        fprintf(stderr, "stream: the last report is cut behind %zu bytes\n", stream->have);
+        fprintf(stderr, "stream: the last report ends after %zu bytes\n", stream->have);
         return REFUSED;
     }
     return status;
