@@ -1,5 +1,5 @@
-# Rulohevian: `make run` and `make test` need nothing but the toolchain (`rt`). The C library wants a C compiler too.
-# `make help` lists what there is to make: it prints the words behind ##.
+# Rulohevian. `make run` and `make test` need the Rattle kit, Python 3 and make; the C library also needs a C compiler.
+# `make help` prints the words after ##.
 
 HIDRUN := bin/hidrun
 HIDPLAY := bin/hidplay
@@ -17,16 +17,15 @@ MAJOR := $(firstword $(subst ., ,$(VERSION)))
 
 .PHONY: run test try hidrun hidplay hidmap bench examples library library-test library-check library-cost scale play-cost install deb deb-test documents tour format memory refusals mutants descriptors compare-linux help clean
 
-# The first line of each recipe that starts the toolchain: where there is no `rt`, make ends with one line.
+# The first line of each recipe that starts the toolchain: without `rt`, make ends with one line.
 NEEDS_RT = $(if $(shell command -v rt),,$(error rt is missing: it is in the bin folder of the Rattle kit (rattle-kit-13f), which belongs on the PATH))
 
 # Runs the mouse example on the proved program.
 run: $(HIDRUN)  ## proves and builds hidrun, and runs the mouse example
 	$(HIDRUN) < examples/layouts/mouse.script
 
-# Looks whether all that documents cite is there, each wrong body finds its text and each file is formatted; proves,
-# tests and builds everything from nothing, fails where a wrong body couldn't be tried, and runs each example on the program
-# that it built, and those of the C library where there is a C compiler.
+# Checks the documents, the wrong bodies and the formatting; proves, tests and builds everything from nothing; then runs all
+# examples, and those of the C library if there is a C compiler.
 test:  ## proves and tests everything from nothing, and runs all examples
 	$(NEEDS_RT)
 	$(MAKE) --no-print-directory documents format
@@ -47,8 +46,8 @@ PROGRAMS := hidrun hidplay hidmap hid_bench
 # (folders too, so that a file that was removed is seen)
 SOURCES := $(shell find crates/*/src crates/*/specs crates/*/proofs 2> /dev/null)
 
-# The proved programs, and the archive of the C library. `rt ci` leaves each in its out folder; where a source is newer, it
-# is proved and built again, the crates that don't stand on each other side by side.
+# The proved programs, and the archive of the C library. `rt ci` leaves each in its out folder; if a source is newer, it is
+# proved and built again, independent crates in parallel.
 $(foreach name,$(PROGRAMS),crates/$(name)/out/$(name)) crates/hidstack/out/libhidstack.a: crates.txt $(SOURCES)
 	$(NEEDS_RT)
 	tools/proof/build $(word 2,$(subst /, ,$@))
@@ -58,34 +57,35 @@ $(PROGRAMS:%=bin/%): bin/%: crates/$$*/out/$$*
 	mkdir -p bin
 	cp $< $@
 
-# Plays a folder of recordings by GNU parallel, stops it in the middle and resumes it: docs/SCALE.md.
+# Plays a folder of recordings with GNU parallel, stops in the middle and resumes: docs/SCALE.md.
 scale: $(HIDPLAY)  ## plays a folder of recordings in parallel
 	tools/check/scale $(HIDPLAY)
 
-# How many instructions a report takes in hidplay, by callgrind, and how much memory a recording of 1 GB.
+# Counts the instructions of a report in hidplay, by callgrind, and measures the memory for a recording of 1 GB.
 play-cost: $(HIDPLAY)  ## counts the instructions of a report in hidplay
 	tools/measure/cost hidplay $(HIDPLAY)
 
-# How many instructions the stack's work takes, by callgrind: the table of docs/SPEED.md.
+# Counts the instructions of the stack's work, by callgrind: the table of docs/SPEED.md.
 bench: $(BENCH)  ## counts the instructions of the stack's work
 	tools/measure/cost stack $(BENCH)
 
-# The C library: bin/lib/libhidstack.a and the shared libhidstack.so.$(VERSION), of the proved crate.
+# The C library: bin/lib/libhidstack.a and the shared libhidstack.so.$(VERSION), from the proved crate.
 library: bin/lib/libhidstack.a  ## bin/lib/libhidstack.a and .so, the C library
 
 bin/lib/libhidstack.a: crates/hidstack/out/libhidstack.a tools/package/library
 	$(NEEDS_RT)
 	tools/package/library $< bin/lib $(VERSION)
 
-# Holds the header against the exports, and runs the quick start, the examples in C, C++ and Python and the wrong calls.
+# Compares the header with the exports, and runs the quick start, the examples and wrong calls.
 library-test: library  ## runs the examples of the C library
 	tools/check/library
 
-# The same under valgrind and the sanitizers, and with each allocation of an opening, a table, a run and a text refused.
+# Runs the tests of the C library under valgrind and the sanitizers, and with each allocation of an opening, a table, a run and a
+# text refused.
 library-check: library  ## runs them under valgrind and the sanitizers, and without memory
 	tools/check/library --memory
 
-# How many instructions an opening and a report take, by callgrind.
+# Counts the instructions of an opening and of a report, by callgrind.
 library-cost: library  ## counts the instructions of calls of the C library
 	tools/measure/cost library
 
@@ -112,22 +112,20 @@ install: $(HIDRUN) $(HIDPLAY) $(HIDMAP) library  ## installs programs, library a
 	install -Dm644 -t $(DOCUMENTS)/docs/pictures docs/pictures/*.svg
 	find examples -type f -exec sh -c 'for it; do install -Dm644 "$$it" "$(DOCUMENTS)/$$it" || exit 1; done' - {} +
 
-# Debian packages of all that `install` puts in place: bin/rulohevian_$(VERSION)-1_ARCHITECTURE.deb, with libhidstack$(MAJOR) and
+# Debian packages of all that `install` installs: bin/rulohevian_$(VERSION)-1_ARCHITECTURE.deb, with libhidstack$(MAJOR) and
 # libhidstack-dev beside it.
 deb: $(HIDRUN) $(HIDPLAY) $(HIDMAP) library  ## makes Debian packages of it
 	tools/package/debian $(VERSION) bin
 
-# Installs the packages in a root of their own, and runs the programs and a C example there. It wants to be root.
+# Installs the packages in a root of their own, and runs the programs and a C example there. It needs to be root.
 deb-test: deb  ## installs and tries the packages in a root of their own, as root
 	tools/package/check bin/rulohevian_$(VERSION)-1_*.deb bin/libhidstack*_$(VERSION)-1_*.deb
 
 # The recordings that name a device, and the examples of pictures.
 PICTURED := $(shell grep -l '^N:' examples/recordings/*.hid) $(wildcard examples/pictures/*.hid)
 
-# Holds what examples are to print of layouts and reports against a second reader, and each page against the same
-# reader and a browser, manual pages and completion against what the programs say, runs each example and each row of scripts
-# on its proved program, the command lines of the tables, some scripts on a full device, and hidmap where what is around it
-# fails.
+# Compares the expected texts with a second reader, and the manual pages and completion with the programs; runs examples, rows
+# and command lines on the proved programs, also on failing streams.
 examples: $(HIDRUN) $(HIDPLAY) $(HIDMAP) $(BENCH)  ## runs all examples on the proved programs
 	tools/check/second-reader examples/*/*.script
 	tools/check/recordings examples/*/*.hid
@@ -139,11 +137,8 @@ examples: $(HIDRUN) $(HIDPLAY) $(HIDMAP) $(BENCH)  ## runs all examples on the p
 	tools/check/examples $(HIDRUN) $(HIDPLAY) $(HIDMAP)
 	tools/check/rows $(HIDRUN)
 
-# Looks whether each file, function, clause, definition and wrong body that documents cite is there, and then whether it
-# tells a wrong name; whether docs/DEFINITIONS.md is made of the comments in specs/, and the table of docs/THEOREM.md has the
-# definitions that the headline rests on; whether tools/proof/compare-statements tells a statement that was weakened, and
-# tools/proof/refusals a wrong body that is refused no longer; and whether names and comments can be read by themselves, and
-# each public function that can fail says when.
+# Checks that everything the documents cite exists, that DEFINITIONS and the table of THEOREM are as their tools make them, and
+# names and comments; then plants faults and checks that each is found.
 documents:  ## checks that what the documents cite exists
 	tools/check/documents
 	tools/check/documents --self-test
@@ -156,22 +151,22 @@ documents:  ## checks that what the documents cite exists
 	tools/check/words
 	tools/check/words --self-test
 
-# Runs the program of docs/LIBRARY.md without a proof, in a repository of its own: some minutes.
+# Runs the program of docs/LIBRARY.md without a proof, in a repository of its own. It takes some minutes.
 tour:  ## runs the program of docs/LIBRARY.md without a proof
 	tools/check/tour
 
-# Looks whether each file of code, definitions and proofs is as `rt fmt` writes it, which the gate says only when it comes to
-# the crate.
+# Checks that each file of code, definitions and proofs is as `rt fmt` writes it. (The gate checks this only when it reaches the
+# crate.)
 format:  ## checks that each file is as rt fmt writes it
 	$(NEEDS_RT)
 	@find crates -name out -prune -o \( -name '*.rt' -o -name '*.antt' \) -print | xargs $(dir $(realpath $(shell command -v rt)))rattle fmt --check
 
-# Compares the proved program with the second reader, on descriptors of the examples with some of their bytes changed.
+# Compares the proved program with the second reader, on descriptors of the examples with some bytes changed.
 descriptors: $(HIDRUN)  ## compares hidrun with the second reader: COUNT=20000
 	tools/check/second-reader --random $(COUNT) $(HIDRUN)
 
 # Compares hidplay, on the recordings of the examples and on some made from a seed, with Debian's Linux kernel in QEMU and
-# with tshark, and on what QEMU's own keyboard, mouse and tablet send: docs/COMPARISON.md. Outside of the gate; it wants
+# with tshark, and on what QEMU's own keyboard, mouse and tablet send: docs/COMPARISON.md. Not part of the gate. It needs
 # qemu-system-x86, tshark, gcc and Debian's apt, fetches kernel and busybox into bin/linux, and says what it leaves out.
 compare-linux: $(HIDPLAY)  ## compares hidplay with Linux, tshark and QEMU: SEED=1
 	tools/compare/tshark $(HIDPLAY) --seed $(SEED) --self-test
@@ -179,12 +174,12 @@ compare-linux: $(HIDPLAY)  ## compares hidplay with Linux, tshark and QEMU: SEED
 	tools/compare/qemu $(HIDPLAY)
 
 # Runs each example script on the proved program, and each test of calls that take memory, with each of its allocations
-# refused in turn: half a minute. It wants a C compiler, and the test programs that `rt ci` or `rt test` made of the
-# sources as they are; it says what it leaves out where these aren't there.
+# refused in turn: half a minute. It needs a C compiler, and the test programs that `rt ci` or `rt test` made from the current
+# sources; it says what it leaves out without them.
 memory: $(HIDRUN)  ## runs examples and tests with each allocation refused
 	tools/check/memory $(HIDRUN) --tests crates
 
-# Lists at which goal and clause each wrong body is refused: make refusals CRATES="usb_packet hid_items" (none: all)
+# Lists the goal and the clause at which each wrong body is refused: make refusals CRATES="usb_packet hid_items" (none: all)
 refusals:  ## lists how wrong bodies are refused: CRATES="usb_packet hid_items" (none: all)
 	$(NEEDS_RT)
 	tools/proof/refusals $(CRATES)
@@ -194,7 +189,7 @@ mutants:  ## lists wrong bodies that no test notices: CRATES=usb_packet
 	$(NEEDS_RT)
 	tools/proof/mutants $(CRATES)
 
-help:  ## lists what there is to make
+help:  ## lists the targets
 	@sed -n 's/^\([a-z-]*\):.*  ## \(.*\)/\1|\2/p' Makefile | awk -F'|' '{ printf "make %-14s %s\n", $$1, $$2 }'
 
 clean:  ## removes all that was built

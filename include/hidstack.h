@@ -1,30 +1,30 @@
 /* hidstack: HID report descriptors and reports, read by code that is proved (HID 1.11).
  *
- * What each call promises is a contract that was proved of the library's code: docs/C.md names it, call by call. What no
- * proof can see is what a C program does, so it owes this:
+ * What each call promises is a contract that was proved of the library's code: docs/C.md names the contract of each call. No
+ * proof covers the C program that calls, so it must keep these rules:
  *
- *   - Pointers are to what their types say, and live for the call. At the pointer of a descriptor, a report or a script
- *     stand the bytes that its length says, and at that of a table or a text the places that its room says: no call can
- *     look. None is null, but with a length or room of 0 one may be. Nothing that a call writes overlaps another of its
+ *   - Pointers are to what their types say, and live for the call. The pointer of a descriptor, a report or a script is to as
+ *     many bytes as its length says, and that of a table or a text to as many places as its room says: no call can check
+ *     this. A pointer may be null only with a length or room of 0. Nothing that a call writes overlaps another of its
  *     arguments.
  *   - A `struct hidstack` is all bytes zero before its first call (HIDSTACK_INIT), or was left by a call. While it is
  *     open, don't copy it, and end it by hidstack_close alone: otherwise its memory leaks.
- *   - No two calls are at work on one `struct hidstack` at once, calls that only read it included. It may go from one
- *     thread to another, as any variable may. Two handles never share anything, and the calls without a handle share
- *     nothing: they may run in any threads at once.
+ *   - No two calls work on one `struct hidstack` at once, not even calls that only read it. It may go from one thread to
+ *     another, as any variable may. Two handles never share anything, and the calls without a handle share nothing: they
+ *     may run in any threads at once.
  *   - No call comes from a signal handler. `malloc`, `realloc` and `free` are the C library's own.
  *
- * The bytes may be any, and so may lengths and rooms that stand there, items, indices, options and the contents of an
- * element: errors are reported by the status. Every call returns.
+ * Apart from these rules bytes, lengths, rooms, items, indices, options and the contents of an element may have any values:
+ * errors are reported by the status. Every call returns.
  *
  * Places: an `item` is the place of a listed item, the Input, Output and Feature items of a descriptor that have bits,
  * from 0 in its order. An `index` is the place of an element in its item, and of a control the place of its element, or
- * of an array the place of its key in the item's usage list. Bytes and numbers are those of the machine, which is one
- * of 64 bits. Each struct but `struct hidstack` has fields of fixed width alone, each at a multiple of its own width.
+ * of an array the place of its key in the item's usage list. Bytes and numbers are those of the machine, which has 64
+ * bits. Each struct but `struct hidstack` has only fields of fixed width, each at a multiple of its own width.
  *
  * Memory: hidstack_open takes some, until hidstack_close. Calls that read a handle take none, and neither do
- * hidstack_feed, hidstack_number and hidstack_cause_words. The others give back what they took. Of the stack a call
- * takes 10 kB, and hidstack_run 37 kB, what a thread takes itself included (measured: docs/C.md).
+ * hidstack_feed, hidstack_number and hidstack_cause_words. The others give back what they took. A call takes 10 kB of stack,
+ * and hidstack_run 37 kB, with what a thread takes itself (measured: docs/C.md).
  *
  * It compiles as C99 and as C++17. Link with -lhidstack. docs/C.md and docs/SCRIPT.md are installed below PREFIX as
  * share/doc/rulohevian, with the Debian package as /usr/share/doc/rulohevian. */
@@ -42,7 +42,7 @@
 extern "C" {
 #endif
 
-/* What calls answer. A call that doesn't answer HIDSTACK_OK writes nothing but what is said there. */
+/* What calls return. A call that doesn't return HIDSTACK_OK writes only what its comment says. */
 enum hidstack_status {
     HIDSTACK_OK = 0,      /* done */
     HIDSTACK_REFUSED = 1, /* the descriptor is refused, or the script ended at a line: cause and place are returned */
@@ -91,7 +91,7 @@ enum hidstack_option {
     HIDSTACK_POLLS = 2    /* a line for each poll, and for each try of a transfer */
 };
 
-/* A device: its layout, and what was read of it; or nothing, where it is closed. */
+/* A handle of a device: its layout, and what was read from its reports; nothing while the handle is closed. */
 struct hidstack {
     void *session; /* the library's own; null where the handle is closed */
 };
@@ -104,7 +104,7 @@ struct hidstack_opened {
     uint64_t room;     /* how many events a report gives at most: the room that hidstack_feed asks for */
     uint64_t reports;  /* how many reports the device has, of all kinds */
     uint64_t items;    /* how many listed items it has */
-    uint32_t cause;    /* 1 for L1 to 17 for L17 of docs/SCRIPT.md, where the descriptor is refused; else 0 */
+    uint32_t cause;    /* 1 for L1 to 17 for L17 of docs/FORMATS.md, where the descriptor is refused; else 0 */
     uint32_t numbered; /* 1 where the bytes of reports begin with their ID, else 0 */
 };
 
@@ -124,7 +124,7 @@ struct hidstack_element_info {
     int64_t max;          /* Logical Maximum */
     uint64_t item;        /* the place of its item .. */
     uint64_t index;       /* .. and its place there */
-    uint64_t collections; /* how many collections are open round it */
+    uint64_t collections; /* how many collections enclose it */
     uint32_t bit;         /* where it begins in the bytes of its report, in bits; a Report ID is counted */
     uint32_t width;       /* in bits, 1 to 32 */
     uint32_t usages;      /* how many usages its item lists */
@@ -153,7 +153,7 @@ struct hidstack_usage_info {
     uint16_t id;
 };
 
-/* A collection that is open round an item. */
+/* A collection that encloses an item. */
 struct hidstack_collection_info {
     uint8_t kind;      /* 0 Physical, 1 Application, 2 Logical, 3 Report, 4 Named Array, 5 Usage Switch, 6 Usage Modifier;
                           other numbers as they stand */
@@ -172,9 +172,9 @@ struct hidstack_tabled {
 
 /* The result of hidstack_run. */
 struct hidstack_ran {
-    uint64_t line;  /* the line that was refused, from 1; 0 where none was */
-    uint64_t told;  /* the length of the text that the script prints */
-    uint64_t fault; /* the bytes of the line that names the fault, with its end */
+    uint64_t line;   /* the line that was refused, from 1; 0 where none was */
+    uint64_t length; /* of the text that the script prints, in bytes */
+    uint64_t fault;  /* the length of the line that names the fault, with its end, in bytes */
 };
 
 /* ---- A device, a report at a time ---- */
@@ -195,10 +195,10 @@ uint32_t hidstack_open(const uint8_t *descriptor, size_t length, struct hidstack
  * But for OK the view and the table stay as they were. */
 uint32_t hidstack_feed(struct hidstack *handle, const uint8_t *report, size_t length, struct hidstack_event *events, size_t room, uint64_t *count);
 
-/* Closes a handle, and gives back what it kept. A closed one stays as it is. */
+/* Closes a handle, and gives back its memory. A closed one stays as it is. */
 void hidstack_close(struct hidstack *handle);
 
-/* ---- What an open handle shows. NONE and CLOSED write nothing; no call changes the handle. ---- */
+/* ---- Reading an open handle. With NONE and CLOSED nothing is written; no call here changes the handle. ---- */
 
 /* The report at a place, from 0, Input before Output before Feature and then by ID; NONE past the last. */
 uint32_t hidstack_report(struct hidstack *handle, uint64_t place, struct hidstack_report_info *report);
@@ -209,7 +209,7 @@ uint32_t hidstack_element(struct hidstack *handle, uint64_t item, uint64_t index
 /* A usage of a listed item's usage list, its ranges written out by rising ID; NONE past the last. */
 uint32_t hidstack_usage(struct hidstack *handle, uint64_t item, uint64_t index, struct hidstack_usage_info *usage);
 
-/* A collection that is open round a listed item, from 0 for the outermost; NONE past the innermost. */
+/* A collection that encloses a listed item, from 0 for the outermost; NONE past the innermost. */
 uint32_t hidstack_collection(struct hidstack *handle, uint64_t item, uint64_t level, struct hidstack_collection_info *collection);
 
 /* Whether a switch or a key is held: 1, else 0; 0 of another control too, and where there is none. */
@@ -222,13 +222,13 @@ uint32_t hidstack_value(struct hidstack *handle, uint64_t item, uint64_t index, 
 /* ---- Without a handle ---- */
 
 /* Reads a report descriptor, and writes its data elements, item by item, over the first places of `table`, which has
- * `room` places. What it takes of memory it gives back.
+ * `room` places. It gives back the memory that it takes.
  *   OK       `tabled` has how many there are; the places after them are unchanged
  *   NO_ROOM  `tabled` has how many places they need, and the table stays as it was
  *   REFUSED  `tabled` has cause and place, and the table stays as it was */
 uint32_t hidstack_table(const uint8_t *descriptor, size_t length, struct hidstack_element_info *table, size_t room, struct hidstack_tabled *tabled);
 
-/* The number of an element in the bytes of a report. Any element will do, also one that no call wrote.
+/* The number of an element in the bytes of a report. `element` may have any contents.
  *   SHORT    its bits don't lie in the bytes, or its width is 0 or over 32
  *   UNKNOWN  it has a Report ID, and the bytes don't begin with it
  * Both leave `value` as it was. */
@@ -244,20 +244,20 @@ uint32_t hidstack_number(const struct hidstack_element_info *element, const uint
  *   MEMORY   out of memory, also for the line that names the fault; neither text is written, `ran` is all 0 */
 uint32_t hidstack_run(const uint8_t *script, size_t length, uint32_t options, uint8_t *out, size_t out_room, uint8_t *fault, size_t fault_room, struct hidstack_ran *ran);
 
-/* The code of a cause, `L10` of 10, over the first bytes of `out`; `told` is its length.
- *   NO_ROOM  `told` is the room that it needs
- *   NONE, MEMORY: `told` is 0 */
-uint32_t hidstack_cause_text(uint32_t cause, uint8_t *out, size_t room, uint64_t *told);
+/* The code of a cause, `L10` of 10, over the first bytes of `out`; `length` is its length in bytes.
+ *   NO_ROOM  `length` is the room that it needs
+ *   NONE, MEMORY: `length` is 0 */
+uint32_t hidstack_cause_text(uint32_t cause, uint8_t *out, size_t room, uint64_t *length);
 
-/* The same in words: `a Pop without a Push` of 3. It takes no memory. */
-uint32_t hidstack_cause_words(uint32_t cause, uint8_t *out, size_t room, uint64_t *told);
+/* The words of a cause, `a Pop without a Push` of 3; else as hidstack_cause_text. It takes no memory. */
+uint32_t hidstack_cause_words(uint32_t cause, uint8_t *out, size_t room, uint64_t *length);
 
 /* A usage as page and ID in hex, `01:30`, of 5 to 9 bytes; else as hidstack_cause_text. */
-uint32_t hidstack_usage_text(uint16_t page, uint16_t id, uint8_t *out, size_t room, uint64_t *told);
+uint32_t hidstack_usage_text(uint16_t page, uint16_t id, uint8_t *out, size_t room, uint64_t *length);
 
 /* The name of a usage in the HID Usage Tables: `X`, `Button 1`; NONE where they have none that the library knows. Else
  * as hidstack_cause_text. */
-uint32_t hidstack_usage_name(uint16_t page, uint16_t id, uint8_t *out, size_t room, uint64_t *told);
+uint32_t hidstack_usage_name(uint16_t page, uint16_t id, uint8_t *out, size_t room, uint64_t *length);
 
 #ifdef __cplusplus
 }

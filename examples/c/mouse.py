@@ -30,10 +30,10 @@ hidstack.hidstack_usage_name.argtypes = [ctypes.c_uint16, ctypes.c_uint16, ctype
 
 def name_of(event):
     """What the usage of an event is called, or nothing."""
-    name, told = ctypes.create_string_buffer(80), ctypes.c_uint64()
-    if hidstack.hidstack_usage_name(event.page, event.id, name, len(name), ctypes.byref(told)) != 0:
+    name, length = ctypes.create_string_buffer(80), ctypes.c_uint64()
+    if hidstack.hidstack_usage_name(event.page, event.id, name, len(name), ctypes.byref(length)) != 0:
         return ""
-    return " " + name.raw[:told.value].decode()
+    return " " + name.raw[:length.value].decode()
 
 
 device, opened, count = Handle(), Opened(), ctypes.c_uint64()

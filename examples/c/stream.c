@@ -42,13 +42,13 @@ static int print(const struct hidstack_event *event)
 {
     static const char *const words[] = {"up", "down", "value", "null", "motion", "dropped"};
     uint8_t name[80];
-    uint64_t told;
-    uint32_t named = hidstack_usage_name(event->page, event->id, name, sizeof name, &told);
+    uint64_t length;
+    uint32_t named = hidstack_usage_name(event->page, event->id, name, sizeof name, &length);
     if (named == HIDSTACK_MEMORY)
         return failed("names", ENOMEM);
     printf("%s %02X:%02X %" PRId64, words[event->kind], event->page, event->id, event->value);
     if (named == HIDSTACK_OK)
-        printf(" %.*s", (int)told, (const char *)name);
+        printf(" %.*s", (int)length, (const char *)name);
     putchar('\n');
     return DONE;
 }
@@ -56,10 +56,10 @@ static int print(const struct hidstack_event *event)
 static int refused(const struct hidstack_opened *opened)
 {
     uint8_t words[80];
-    uint64_t told;
+    uint64_t length;
     fprintf(stderr, "refused: L%" PRIu32 " at %" PRIu64, opened->cause, opened->at);
-    if (hidstack_cause_words(opened->cause, words, sizeof words, &told) == HIDSTACK_OK)
-        fprintf(stderr, ": %.*s", (int)told, (const char *)words);
+    if (hidstack_cause_words(opened->cause, words, sizeof words, &length) == HIDSTACK_OK)
+        fprintf(stderr, ": %.*s", (int)length, (const char *)words);
     fputc('\n', stderr);
     return opened->cause == 17 ? FAILED : REFUSED; /* 17: out of memory */
 }

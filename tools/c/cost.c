@@ -1,4 +1,4 @@
-/* cost open|feed|table COUNT: so many calls, to be counted from outside. */
+/* cost open|feed|table COUNT: makes COUNT calls, whose instructions are counted from outside. */
 #include "hidstack.h"
 #include <stdlib.h>
 #include <string.h>

@@ -1,6 +1,6 @@
-/* descriptors COUNT [FIRST]: opens so many made descriptors of up to 4,200 bytes, the FIRSTth and those after it, and feeds
- * reports of 0 to 257 bytes to those that are accepted. It tells how many are, and which took longest; a wrong answer ends it with 1. The same
- * number makes the same descriptor, so that one alone can be run under valgrind. */
+/* descriptors COUNT [FIRST]: opens COUNT made descriptors of up to 4,200 bytes, from the FIRSTth on, and feeds reports of 0 to
+ * 257 bytes to those that are accepted. It prints how many are, and which took longest; a wrong answer ends it with 1. A number
+ * always makes the same descriptor, so that one alone can be run under valgrind. */
 #include "hidstack.h"
 #include <stdio.h>
 #include <stdlib.h>

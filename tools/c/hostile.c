@@ -1,5 +1,5 @@
-/* Wrong calls: each is told by its status, and changes nothing. Run as it is, under valgrind and under the address
- * sanitizer: rooms are of their exact size, so a step over one of their ends is seen. */
+/* Wrong calls: each returns its status, and changes nothing. Run it by itself, under valgrind and under the address
+ * sanitizer: buffers have their exact size, so an access past one of their ends is seen. */
 #include "hidstack.h"
 #include <stdio.h>
 #include <stdlib.h>
@@ -104,7 +104,7 @@ static void lengths(void)
     want("what it has", opened.room == 5 && opened.items == 3 && opened.reports == 1 && !opened.numbered, 1);
     want("open an open one", hidstack_open(mouse, sizeof mouse, &device, &opened), HIDSTACK_BUSY);
     want("with a wrong descriptor", hidstack_open(mouse, 1, &device, &opened), HIDSTACK_BUSY);
-    want("what was told stays", opened.room == 5 && opened.items == 3 && opened.reports == 1 && opened.cause == 0, 1);
+    want("the result stays", opened.room == 5 && opened.items == 3 && opened.reports == 1 && opened.cause == 0, 1);
     for (length = 0; length < 3; length++) {
         uint8_t *report = copy_of(mouse, length);
         want("cut short", hidstack_feed(&device, report, length, events, 5, &count), HIDSTACK_SHORT);
@@ -228,14 +228,14 @@ static void first_values(void)
     want("the least value where 0 is out of range", hidstack_value(&device, 1, 0, &value) == HIDSTACK_OK && value == 1, 1);
     want("0 where it is in range", hidstack_value(&device, 2, 0, &value) == HIDSTACK_OK && value == 0, 1);
     want("north", hidstack_feed(&device, (const uint8_t[]){0x10, 0}, 2, events, 3, &count), HIDSTACK_OK);
-    want("is told", count == 1 && events[0].kind == HIDSTACK_VALUE && events[0].value == 0 && events[0].id == 0x39, 1);
+    want("is reported", count == 1 && events[0].kind == HIDSTACK_VALUE && events[0].value == 0 && events[0].id == 0x39, 1);
     want("let go", hidstack_feed(&device, (const uint8_t[]){0x18, 0}, 2, events, 3, &count), HIDSTACK_OK);
-    want("is told", count == 1 && events[0].kind == HIDSTACK_NULL && events[0].value == 0, 1);
+    want("is reported", count == 1 && events[0].kind == HIDSTACK_NULL && events[0].value == 0, 1);
     want("no value any more", hidstack_value(&device, 0, 0, &value), HIDSTACK_NONE);
     hidstack_close(&device);
 }
 
-/* An array of two keys, and a switch before it: what is told of each report, in its order. */
+/* An array of two keys, and a switch before it: the events of each report, in order. */
 static void orders(void)
 {
     static const uint8_t keys[] = {0x05, 0x09, 0x09, 0x01, 0x15, 0x00, 0x25, 0x01, 0x75, 0x08, 0x95, 0x01, 0x81, 0x02, 0x05, 0x07, 0x19, 0x00, 0x29, 0x65, 0x15, 0x00, 0x25, 0x65, 0x95, 0x02, 0x81, 0x00};
@@ -352,11 +352,11 @@ static void words(void)
     want("L3 in words", hidstack_cause_words(3, shortest, sizeof shortest, &told), HIDSTACK_OK);
     want("its words", told == sizeof shortest && memcmp(shortest, pop, sizeof shortest) == 0, 1);
     want("one byte too few", hidstack_cause_words(3, text, sizeof shortest - 1, &told), HIDSTACK_NO_ROOM);
-    want("its length is told", told, sizeof shortest);
+    want("its length is reported", told, sizeof shortest);
     for (number = 1; number <= 17; number++)
         want("each cause has words", hidstack_cause_words(number, text, sizeof text, &told) == HIDSTACK_OK && told > 0, 1);
     want("no words of 0", hidstack_cause_words(0, text, sizeof text, &told), HIDSTACK_NONE);
-    want("nothing is told", told, 0);
+    want("nothing is reported", told, 0);
     want("no words of 18", hidstack_cause_words(18, text, sizeof text, &told), HIDSTACK_NONE);
     want("no words of the greatest", hidstack_cause_words(UINT32_MAX, NULL, 0, &told), HIDSTACK_NONE);
     want("01:02", hidstack_usage_name(1, 2, text, sizeof mouse_name - 1, &told), HIDSTACK_OK);
@@ -366,7 +366,7 @@ static void words(void)
     want("the last button", hidstack_usage_name(9, UINT16_MAX, text, sizeof text, &told), HIDSTACK_OK);
     want("has its number", told == sizeof button - 1 && memcmp(text, button, sizeof button - 1) == 0, 1);
     want("no button 0", hidstack_usage_name(9, 0, text, sizeof text, &told), HIDSTACK_NONE);
-    want("nothing is told", told, 0);
+    want("nothing is reported", told, 0);
     want("no name of a vendor's", hidstack_usage_name(0xFF00, 1, NULL, 0, &told), HIDSTACK_NONE);
     want("no room at null", hidstack_usage_name(1, 0x30, NULL, 0, &told), HIDSTACK_NO_ROOM);
     for (page = 0; page <= 0xFFFF; page += page < 0x120 ? 1 : 0x101)
@@ -397,11 +397,11 @@ static void runs(void)
     uint8_t out[sizeof told - 1], line[sizeof fault - 1];
     struct hidstack_ran ran;
     want("all but the last line", hidstack_run(bytes, sizeof script - 10, 0, out, sizeof out, NULL, 0, &ran), HIDSTACK_OK);
-    want("its text", ran.told == sizeof out && memcmp(out, told, sizeof out) == 0 && ran.line == 0, 1);
+    want("its text", ran.length == sizeof out && memcmp(out, told, sizeof out) == 0 && ran.line == 0, 1);
     want("the whole", hidstack_run(bytes, sizeof script - 1, 0, out, sizeof out, line, sizeof line, &ran), HIDSTACK_REFUSED);
     want("the line", ran.line == 3 && ran.fault == sizeof line && memcmp(line, fault, sizeof line) == 0, 1);
     want("too little room", hidstack_run(bytes, sizeof script - 1, 0, out, sizeof out - 1, line, sizeof line, &ran), HIDSTACK_NO_ROOM);
-    want("all three are told", ran.told == sizeof out && ran.fault == sizeof line && ran.line == 3, 1);
+    want("all three are reported", ran.length == sizeof out && ran.fault == sizeof line && ran.line == 3, 1);
     want("no line", hidstack_run(NULL, 0, 0, NULL, 0, NULL, 0, &ran), HIDSTACK_OK);
     want("options that there aren't", hidstack_run(bytes, sizeof script - 10, ~3u, out, sizeof out, NULL, 0, &ran), HIDSTACK_OK);
     late_line();

@@ -1,5 +1,5 @@
-/* Each allocation of an opening, a table, a run and a text fails in turn, alone and with all after it. What only reads
-   takes none, and a handle goes to another thread.
+/* Each allocation of an opening, a table, a run and a text fails in turn, alone and with all after it. Calls that only read
+   take no memory, and a handle goes to another thread.
    cc -Wl,--wrap=malloc -Wl,--wrap=realloc -pthread */
 #include "hidstack.h"
 #include <pthread.h>
@@ -81,13 +81,13 @@ static int runs(void)
         out[0] = fault[0] = 'U';
         status = hidstack_run((const uint8_t *)script, sizeof script - 1, HIDSTACK_POLLS, out, sizeof out, fault, sizeof fault, &ran);
         if (calls <= fails)
-            return status != HIDSTACK_OK || ran.line != 0 || ran.told == 0 || ran.fault != 0;
+            return status != HIDSTACK_OK || ran.line != 0 || ran.length == 0 || ran.fault != 0;
         if (status == HIDSTACK_OK) /* it does without */
             is_right = !all && ran.line == 0 && fault[0] == 'U';
         else if (status == HIDSTACK_REFUSED)
             is_right = !all && ran.line >= 1 && ran.line <= 4 && ran.fault == 11 && (!memcmp(fault + 6, ": X6\n", 5) || !memcmp(fault + 6, ": X7\n", 5));
         else
-            is_right = status == HIDSTACK_MEMORY && ran.line + ran.told + ran.fault == 0 && out[0] == 'U' && fault[0] == 'U';
+            is_right = status == HIDSTACK_MEMORY && ran.line + ran.length + ran.fault == 0 && out[0] == 'U' && fault[0] == 'U';
         if (!is_right)
             return 1;
     }

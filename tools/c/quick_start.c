@@ -1,5 +1,5 @@
-/* quick_start DEVICE: what the quick start of docs/C.md prints of reports of a device of this name. It is linked with the
- * page's own text. */
+/* quick_start DEVICE: prints what the quick start of docs/C.md prints for reports of the device of this name. It is linked with
+ * the code of that page. */
 #include "hidstack.h"
 #include <stdio.h>
 #include <stdlib.h>

@@ -1,5 +1,5 @@
-/* Stands before malloc: refuses one allocation, the one whose number, counted from 1, is in the environment as REFUSE_AT,
- * and then writes a byte to the file descriptor in REFUSE_TELL. tools/check/memory preloads it. */
+/* Replaces malloc: refuses the allocation whose number, counted from 1, is in REFUSE_AT of the environment, and then writes a
+ * byte to the file descriptor in REFUSE_TELL. tools/check/memory preloads it. */
 #include <errno.h>
 #include <stdlib.h>
 #include <unistd.h>

@@ -10,7 +10,7 @@
  *     report D LINE, then:
  *       N TYPE CODE VALUE         its input events but EV_SYN, in the order of each node; auto-repeat is off
  *
- * It wants to be root of a system that does nothing else. */
+ * It needs to be root of a system that does nothing else. */
 #include <dirent.h>
 #include <fcntl.h>
 #include <linux/input.h>
@@ -195,7 +195,7 @@ static void plug(int number, int line, char *text)
     for (int i = 0; i < device->count; i++) print_axes(i, device->nodes[i]);
 }
 
-/* A report: the kernel has told its events when the write is over. */
+/* A report: the kernel has delivered its events when the write is over. */
 static void send_report(int number, int line, char *text)
 {
     static struct uhid_event event;

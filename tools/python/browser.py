@@ -1,6 +1,4 @@
-"""A headless Chromium that opens a page, and what it tells of it: its text, the names that a screen reader is told, and how
-well its words stand out.
-"""
+"""A headless Chromium that opens a page and reports its text, the names in the accessibility tree, and the contrast of words."""
 import json
 import os
 import pathlib
@@ -38,8 +36,8 @@ MISPLACED = """(() => {
         if (Math.abs(other.y.baseVal[0].value - name.y.baseVal[0].value) < 12) found.push('on one another: ' + name.textContent + ', ' + other.textContent);
     });
     const ruler = [...picture.querySelectorAll('text.r')].filter(text => text.textContent.length == 1);
-    for (const frame of picture.querySelectorAll('rect.o'))
-      if (ruler.some(text => box(text).bottom > box(frame).top + 1)) found.push('a frame on the ruler');
+    for (const bracket of picture.querySelectorAll('rect.o'))
+      if (ruler.some(text => box(text).bottom > box(bracket).top + 1)) found.push('a bracket on the ruler');
   }
   return JSON.stringify(found);
 })()"""
@@ -52,7 +50,7 @@ MEDIA = {
 
 
 class Browser:
-    """A browser in which a page is open; it is spoken to over a pipe, each message with a 0 behind it."""
+    """A browser in which a page is open; it is spoken to over a pipe, each message with a 0 after it."""
 
     def __init__(self, program, page, form="html"):
         self.folder = tempfile.TemporaryDirectory(ignore_cleanup_errors=True)
@@ -122,7 +120,7 @@ class Browser:
         return re.findall(r"<(?:h2|title|td)[^>]*>([^<]*)<", tree)
 
     def names(self, role):
-        """The names of all parts of a role, as links, as a screen reader is told them."""
+        """The names of all parts of a role, such as links, as a screen reader gets them."""
         self.ask("Accessibility.enable")
         nodes = self.ask("Accessibility.getFullAXTree")["nodes"]
         return [node["name"]["value"] for node in nodes if not node["ignored"] and node["role"]["value"] == role]

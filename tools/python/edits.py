@@ -112,7 +112,7 @@ OWNER = re.compile(r"(?:pub(?:\([^)]*\))? )?(impl|trait)\b(?:<[^>]*>)?\s*(.*)")
 
 
 def owner_of(line):
-    """The name that the prover gives an `impl` or a trait: the type's, and behind it the trait's."""
+    """The name that the prover gives an `impl` or a trait: the type's, and after it the trait's."""
     found = OWNER.match(line)
     if not found:
         return None

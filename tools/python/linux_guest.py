@@ -1,8 +1,8 @@
 """Debian's Linux in QEMU, and recordings played into it.
 
 fetch() downloads Debian's kernel and busybox by `apt-get download` into a folder and unpacks them there: nothing is
-installed. play() boots that kernel with tools/c/uhidplay.c as its only program, and gives what it prints. What is wanting
-is told as Missing, with the package to install.
+installed. play() boots that kernel with tools/c/uhidplay.c as its only program, and gives what it prints. A missing program is
+reported as Missing, with the package to install.
 """
 import pathlib
 import shutil

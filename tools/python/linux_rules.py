@@ -1,9 +1,9 @@
 """What Linux makes of a report, by the rules of its hid-core.c, hid-input.c and input.c (6.1), one after another.
 
-There follows the kernel's own map of usages to codes. Where a rule makes of an element's number something else than the
-standard does, its name stands in `fired` beside the code: the class of the difference; in `apart` it stands for as long as
-what is held of that code may be another than here. What this says is held against what the kernel told, so a rule that is
-wrong or missing shows as a difference that isn't explained.
+The rules use the kernel's own map of usages to codes. If a rule makes something else of an element's number than the standard
+does, its name stands in `fired` beside the code: the class of the difference. In `apart` it stands as long as the kernel's state
+of that code may differ from the one here. The result is compared with the kernel's events, so a rule that is wrong or missing
+shows as a difference that isn't explained.
 """
 from linux_sides import ABS, KEY, MOST_USAGES, NULL, POWER, REL, RELATIVE, VARIABLE, usage_list
 
@@ -133,7 +133,7 @@ class There:
         return min(max(value, least), greatest)
 
     def tell(self, item, j, node, code, value):
-        """Tells a key, a motion or an axis; of a key that changes its usage as well."""
+        """Adds a key, a motion or an axis; for a key that changes also its usage."""
         if code[0] == KEY and item.flags & VARIABLE and ((item.least, item.greatest) != (0, 1) or item.flags & NULL):
             self.fire(item, j, "a key of more numbers than two")
         is_kept = self.values.get(item, [0] * item.count)[j] if item.flags & VARIABLE and j < item.count else None
@@ -202,7 +202,7 @@ class There:
         self.tool[report] = tool
 
     def core(self, node, kind, code, value):
-        """input.c: what changes nothing isn't told, but 2, auto-repeat, always is; a joystick's axis is smoothed."""
+        """input.c: what changes nothing isn't reported, but 2, auto-repeat, always is; a joystick's axis is smoothed."""
         where = (node, kind, code)
         if kind == KEY:
             if value != 2 and ((node, code) in self.down) == bool(value):

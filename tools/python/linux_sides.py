@@ -1,8 +1,8 @@
 """What the standard makes of a report, and which code Linux gives to each of its elements.
 
-Here reads the layout of the second reader and keeps a view, as the definitions of this repository say it; it shares
-nothing with the programs. Said goes the other way: from events to the numbers that a report must have had. Map is the
-kernel's own map of usages to codes, as tools/c/uhidplay.c printed it.
+Here reads the layout of the second reader and keeps a view, as the definitions of this repository say; it shares nothing
+with the programs. Said goes the other way: from events to the numbers that a report must have had. Map is the kernel's own
+map of usages to codes, as tools/c/uhidplay.c printed it.
 """
 import functools
 
@@ -133,7 +133,7 @@ class Here:
 
 
 class Said:
-    """The numbers of reports that the events of a view say, from one report to the next; `wrong` tells where a report has others."""
+    """The numbers of reports that the events of a view say, from one report to the next; `wrong` says where a report has others."""
 
     def __init__(self, layout):
         self.layout, self.held, self.wrong = layout, {}, ""
@@ -177,12 +177,12 @@ class Said:
             return actual
         if {i for i in named if Here.is_key(item, i, usages[i])} == held:
             return actual
-        self.wrong = "keys %s are told, and the report has %s" % (sorted(held), sorted(set(named)))
+        self.wrong = "keys %s are reported, and the report has %s" % (sorted(held), sorted(set(named)))
         return actual
 
 
 def texts(events):
-    """The events as hidplay tells them."""
+    """The events as hidplay prints them."""
     for _, _, word, usage, number in events:
         yield "%s %s" % (word, second_reader.shown(usage)) + (" %d" % number if word in ("value", "motion") else "")
 

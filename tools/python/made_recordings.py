@@ -1,7 +1,7 @@
-"""Recordings that programs are compared on: given ones, and ones made from a seed, for each descriptor each sort of report
-that tells readers of reports apart.
+"""Recordings on which programs are compared: given ones, and ones made from a seed. For each descriptor these have each kind of
+report that readers may take differently.
 
-recordings() gives names and texts, run_hidplay() and of_hidplay() what hidplay tells of them. The descriptors are those of
+recordings() gives names and texts, run_hidplay() and of_hidplay() give what hidplay prints for them. The descriptors are those of
 the given recordings, and some of OURS, each for something that no real one among them has.
 """
 import collections
@@ -18,7 +18,7 @@ OURS = {
     # a hat from 0 to 7 and one from 1 to 8, both without Null State, and buttons
     "made_hats": "05 01 09 05 a1 01 09 39 15 00 25 07 75 04 95 01 81 02 09 39 15 01 25 08 81 02 05 09 19 01 29 08 15 00 25 01 75 01 95 08 81 02 c0",
     "made_hat_from_one": "05 01 09 05 a1 01 09 39 15 01 25 08 75 04 95 01 81 02 05 09 19 01 29 04 15 00 25 01 75 01 95 04 81 02 c0",
-    # a Usage Page behind a Usage, for both
+    # a Usage Page after a Usage, for both
     "made_page_behind_usage": "05 01 09 02 a1 01 09 30 05 09 09 01 15 00 25 01 75 01 95 02 81 02 75 06 95 01 81 01 c0",
     # a range of 0..0, and one of 3..3
     "made_one_number": "05 01 09 02 a1 01 05 09 09 01 15 00 25 00 75 04 95 01 81 02 09 02 15 03 25 03 81 02 05 01 09 30 15 00 25 00 75 08 81 02 09 31 81 06 c0",
@@ -309,7 +309,7 @@ def run_hidplay(program, files, *options):
 
 
 def of_hidplay(text, first):
-    """What hidplay told: (file, line, device) to events, (file, line) to the code of a refusal, and with --values
+    """What hidplay printed: (file, line, device) to events, (file, line) to the code of a refusal, and with --values
     (file, line, device) to the numbers of elements. The first file is `first`."""
     events, refusals, values, file = collections.defaultdict(list), {}, {}, first
     for line in text.splitlines():

@@ -1,4 +1,4 @@
-"""Rows: tests as text, in the language of docs/TESTING.md, "Rows". What is given and told of a row is its reader's business."""
+"""Rows: tests as text, in the language of docs/TESTING.md, "Rows". What a row gives and expects, its reader knows."""
 import os
 import re
 import sys
@@ -22,7 +22,7 @@ def is_remark(text):
 
 
 def parted(text):
-    """What stands in front of the first mark, the mark (`>`, `=` or none), and what stands behind it."""
+    """What stands before the first mark, the mark (`>`, `=` or none), and what stands after it."""
     found = re.search(r" ([>=])(?: |$)", " " + text)
     return (f" {text}"[:found.start()].strip(), found[1], f" {text}"[found.end():]) if found else (text.strip(), "", "")
 
@@ -48,7 +48,7 @@ def blocks_of(lines):
 
 
 class Step:
-    """A row or a step: its name, what is given, the lines that are told, or the text that is put in place."""
+    """A row or a step: its name, what is given, the lines that are expected, or the text of a file or a stream."""
 
     def __init__(self, file, number, text, below):
         self.file, self.place = file, f"{os.path.relpath(file.path, ROOT)}:{number}"
@@ -121,7 +121,7 @@ class File:
                 yield Step(self, number, text, below)
 
     def filled(self, text):
-        """A text with what its words in braces mean: a name, or so many of a word."""
+        """A text with what its words in braces mean: a name, or a word several times."""
         def meant(found):
             words = found[1]
             times = re.fullmatch(r"(.+?)( x |\*)(\d+)", words)

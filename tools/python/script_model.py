@@ -224,7 +224,7 @@ def blank_snapshot(layout):
 
 
 def after_change(layout, snapshot, control, op, n):
-    """The snapshot behind a change, or the first of U1 to U7 that stands."""
+    """The snapshot after a change, or the first of U1 to U7 that applies."""
     item = layout.items[control[0]]
     kind = item.kind_of(control[1])
     want = {"press": ("switch", "key"), "release": ("switch", "key"), "set": ("value", "nullable"), "null": ("value", "nullable"), "move": ("relative",)}[op]
@@ -393,7 +393,7 @@ class Life:
         self.frames = {r: n + 1 for r, n in self.frames.items()}
 
     def view(self, rounds):
-        """The host's view behind some rounds."""
+        """The host's view after some rounds."""
         view = initial_view(self.layout)
         for r in rounds:
             if r.crossed():

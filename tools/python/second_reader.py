@@ -1,6 +1,6 @@
 """A second reader of report descriptors, which shares nothing with the program: from HID 1.11, 5 and 6.2.2, and docs/.
 
-`told` works out what the `layout` and `values` lines of a script print, up to the first line of a device.
+`told` gives what the `layout` and `values` lines of a script print, up to the first line of a device.
 """
 KINDS = {0x80: "input", 0x90: "output", 0xB0: "feature"}
 PAGE, MINIMUM, MAXIMUM, SIZE, ID, COUNT, PUSH, POP = 0x04, 0x14, 0x24, 0x74, 0x84, 0x94, 0xA4, 0xB4

@@ -15,18 +15,18 @@
 //! or standard output can't be written.
 #![tactic(auto)]
 
+mod args;
 mod fault;
 mod reading;
 mod stepping;
-mod turns;
-mod words;
+mod work;
 mod writing;
 
+use args::parse_args;
 use fault::BenchFault;
 use std::env;
 use std::process::ExitCode;
-use turns::done;
-use words::parse_args;
+use work::done;
 
 /// Standard output or memory failed.
 const OUTSIDE: u8 = 3;
@@ -46,7 +46,7 @@ fn main(rt: HostRuntime) -> ExitCode {
     }
 }
 
-/// Prints what the work told, or why none was done.
+/// Prints the result of the work, or why none was done.
 fn tell(rt: &HostRuntime, told: Result<u64, BenchFault>) -> ExitCode {
     match told {
         Ok(told) => {

@@ -50,7 +50,7 @@ impl Reading {
         Ok(Reading { reader, events })
     }
 
-    /// Reads an Input report, and says how many events it tells.
+    /// Reads an Input report, and returns its number of events.
     ///
     /// # Errors
     /// [`BenchFault::Report`] where the bytes are no Input report of the device: what was read of it stays.

@@ -88,6 +88,7 @@ impl Stepping {
     }
 }
 
+/// The step that moves a control by 5.
 fn moved(dev: u8, control: ControlId) -> Step {
     Step::Change {
         dev,

@@ -93,7 +93,7 @@ pub fn control_of(layout: &Layout, word: &[u8]) -> Result<ControlId, BenchFault>
 }
 
 impl Writing {
-    ghost use Rattle.hid_snapshots.specs.Encoded.{part_bytes};
+    ghost use Rattle.hid_snapshots.specs.PartBytes.{part_bytes};
 
     /// Reads a report descriptor, changes the controls of these usages, and shows them in the report of the first one.
     ///

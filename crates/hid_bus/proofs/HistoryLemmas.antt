@@ -5,7 +5,7 @@ use Rattle.std.proofs.lemmas.Bool.Decides.{nat_tests}
 use Rattle.hid_layout.specs.Controls.{Item}
 use Rattle.hid_snapshots.specs.declared.control_state.ControlState.{ControlState}
 use Rattle.hid_snapshots.specs.declared.change.Change.{Change}
-use Rattle.hid_snapshots.specs.declared.change.ChangeFault.{ChangeFault}
+use Rattle.hid_snapshots.specs.declared.fault.ChangeFault.{ChangeFault}
 use Rattle.hid_snapshots.specs.declared.event.Event.{Event}
 use Rattle.hid_snapshots.specs.ControlStates.{blank}
 use Rattle.hid_snapshots.specs.Pieces.{pieces_of}
@@ -15,19 +15,19 @@ use Rattle.usb_transact.specs.declared.transaction.Fate.{Fate}
 use Rattle.usb_transact.specs.declared.transaction.Fate.TheVariants.{Clean, TokenLost, ReplyLost, AckLost}
 use Rattle.hid_snapshots.proofs.PieceLemmas.{some_piece}
 use Rattle.hid_bus.specs.ReportState.{ReportState, initial_reports, first_due, due_where, after_change, after_frame, with_idle, no_idle, with_abort, after_opening}
-use Rattle.hid_bus.specs.Rounds.{Changes, Frame, Polls, Round, RoundHistory, new_round, is_clean, closed_count, has_crossed_after, has_crossed_after_all, crossed_count, pieces_closed, pieces_crossed, has_crossed, has_closed, with_poll, part_events, with_opened_round, rounds_closed_by_poll, history_after_poll}
-use Rattle.hid_bus.specs.LinkState.{LinkState, Open, is_whole, first_open_piece, with_open_report, state_after_answer, poll_events}
+use Rattle.hid_bus.specs.Rounds.{Changes, Frame, Polls, Round, RoundHistory, new_round, is_clean, closed_count, is_host_ahead_after, is_host_ahead_after_all, crossed_count, pieces_closed, pieces_crossed, has_crossed, has_closed, with_poll, part_events, with_opened_round, rounds_closed_by_poll, history_after_poll}
+use Rattle.hid_bus.specs.LinkState.{LinkState, OpenRound, has_all_pieces, first_open_piece, with_open_report, state_after_answer, poll_events}
 use Rattle.hid_bus.specs.DeviceHistory.{BusEvent, Own, Idles, Configures, Halts, Clears, Resets, LinkOutcome, RoundEnded, rounds_as_outcomes, outcomes_of_events, history_after_all, crossed_round_events, view_after_round, aborted_round_events, lost_round_events, events_of_outcomes, view_after_outcomes, flipped_toggle, toggle_after_round, toggle_after_outcomes, state_after_all, events_of_history}
 use Rattle.hid_bus.specs.HistoryState.{FollowsHistory}
 
 abbrev pub history : ReportState → Option Round → Bool → RoundHistory
 history d current halted = record { reports = d; current = current; halted = halted }
 
-abbrev pub link : ReportState → Option Open → Bool → List ControlState → Bool → LinkState
+abbrev pub link : ReportState → Option OpenRound → Bool → List ControlState → Bool → LinkState
 link d current odd view halted = record { reports = d; current = current; toggle = odd; view = view; halted = halted }
 
 -- a round with this piece at hand
-abbrev pub open_at : Round → ℕ → Bool → Open
+abbrev pub open_at : Round → ℕ → Bool → OpenRound
 open_at r piece crossed = record { report = r.report; pieces = r.pieces; piece = piece; crossed = crossed }
 
 -- ---- toggles
@@ -67,21 +67,21 @@ closed_push (x ∷ polls) ReplyLost = ap (λ (n : ℕ). cond (is_clean x) 1 0 + 
 closed_push (x ∷ polls) AckLost = ap (λ (n : ℕ). cond (is_clean x) 1 0 + n) (closed_push polls AckLost)
 
 ahead_push : (ahead : Bool) (polls : List Fate) (fate : Fate)
-    → has_crossed_after_all ahead (polls ++ fate ∷ []) ≡ has_crossed_after (has_crossed_after_all ahead polls) fate
+    → is_host_ahead_after_all ahead (polls ++ fate ∷ []) ≡ is_host_ahead_after (is_host_ahead_after_all ahead polls) fate
 ahead_push ahead [] fate = refl
-ahead_push ahead (x ∷ polls) fate = ahead_push (has_crossed_after ahead x) polls fate
+ahead_push ahead (x ∷ polls) fate = ahead_push (is_host_ahead_after ahead x) polls fate
 
 -- An open round, as the round history and as the link state have it: the piece at hand, whether that one has crossed,
 -- and whether all have.
 pub record Links (r : Round) (piece : ℕ) (crossed whole : Bool) (d : ReportState) : Type 0 where
   piece_is : piece ≡ pieces_closed r
-  ahead_is : crossed ≡ has_crossed_after_all false r.polls
+  ahead_is : crossed ≡ is_host_ahead_after_all false r.polls
   unclosed : piece < r.pieces
   whole_is : has_crossed r ≡ whole
   parts : r.parts ≡ d.fixed
 
 whether_crossed : (r : Round) (piece : ℕ) (crossed : Bool) → piece ≡ pieces_closed r
-    → crossed ≡ has_crossed_after_all false r.polls → has_crossed r ≡ nat_le r.pieces (crossed_count piece crossed)
+    → crossed ≡ is_host_ahead_after_all false r.polls → has_crossed r ≡ nat_le r.pieces (crossed_count piece crossed)
 whether_crossed r piece crossed closed ahead =
     ap (λ (b : Bool). nat_le r.pieces (crossed_count (pieces_closed r) b)) (sym ahead)
     ∙ ap (λ (n : ℕ). nat_le r.pieces (crossed_count n crossed)) (sym closed)
@@ -92,19 +92,19 @@ whether_closed r piece crossed whole d fate l = ap (nat_le r.pieces) (closed_pus
 
 links_on : (r : Round) (piece : ℕ) (crossed whole : Bool) (d : ReportState) (fate : Fate) (whole_then : Bool)
     → Links r piece crossed whole d → closed_after piece fate < r.pieces
-    → nat_le r.pieces (crossed_count (closed_after piece fate) (has_crossed_after crossed fate)) ≡ whole_then
-    → Links (with_poll r fate) (closed_after piece fate) (has_crossed_after crossed fate) whole_then d
+    → nat_le r.pieces (crossed_count (closed_after piece fate) (is_host_ahead_after crossed fate)) ≡ whole_then
+    → Links (with_poll r fate) (closed_after piece fate) (is_host_ahead_after crossed fate) whole_then d
 links_on r piece crossed whole d fate whole_then l within is =
     let closed : closed_after piece fate ≡ pieces_closed (with_poll r fate) =
     ap (λ (n : ℕ). closed_after n fate) l.piece_is ∙ sym (closed_push r.polls fate) in
-    let ahead : has_crossed_after crossed fate ≡ has_crossed_after_all false (r.polls ++ fate ∷ []) =
-    ap (λ (b : Bool). has_crossed_after b fate) l.ahead_is ∙ sym (ahead_push false r.polls fate) in
+    let ahead : is_host_ahead_after crossed fate ≡ is_host_ahead_after_all false (r.polls ++ fate ∷ []) =
+    ap (λ (b : Bool). is_host_ahead_after b fate) l.ahead_is ∙ sym (ahead_push false r.polls fate) in
     record {
       piece_is = closed;
       ahead_is = ahead;
       unclosed = within;
       whole_is =
-          whether_crossed (with_poll r fate) (closed_after piece fate) (has_crossed_after crossed fate) closed ahead
+          whether_crossed (with_poll r fate) (closed_after piece fate) (is_host_ahead_after crossed fate) closed ahead
           ∙ is;
       parts = l.parts;
     }
@@ -127,7 +127,7 @@ whole_at n piece false within = sym (above n piece within)
 
 -- whether the open round of a link state has crossed as a whole, by the piece at hand
 whole_open : (r : Round) (piece : ℕ) (crossed whole : Bool) (d : ReportState) → Links r piece crossed whole d
-    → is_whole (open_at r piece crossed) ≡ whole
+    → has_all_pieces (open_at r piece crossed) ≡ whole
 whole_open r piece crossed whole d l = whole_at r.pieces piece crossed l.unclosed ∙ whole_by r piece crossed whole d l
 
 and_true : (b : Bool) → b && true ≡ b
@@ -447,7 +447,7 @@ toggles_anew items (Resets ∷ bus_events) d changes x y going = refl
 cut_told_as : (items : List Item) (d : ReportState) (view : List ControlState) (r : Round) (piece : ℕ)
     (crossed whole : Bool) (told behind : List Event) → Links r piece crossed whole d → told ≡ behind
     → crossed_round_events items view whole r
-    ++ (cond (is_whole (open_at r piece crossed)) []
+    ++ (cond (has_all_pieces (open_at r piece crossed)) []
     (drops_between items r.report (view_after_round items view whole r) (view_after_round items view whole r) d.fixed)
     ++ told)
     ≡ aborted_round_events items view whole r ++ behind

@@ -13,18 +13,18 @@ use Rattle.hid_layout.specs.declared.control.Controls.{Controls}
 use Rattle.hid_layout.specs.declared.control.Controls.TheVariants as head
 use Rattle.hid_layout.specs.declared.control.ControlKind.{ControlKind}
 use Rattle.hid_layout.specs.declared.control.ControlKind.TheVariants.{Switch, Value, NullValue, Relative}
-use Rattle.hid_descriptor.specs.declared.usage.Usage.{Usage}
-use Rattle.hid_layout.specs.Controls.{Form, NoControls, Elements, Keys, Key, control_in, control_of_key, head_of}
+use Rattle.hid_report_descriptor.specs.declared.usage.Usage.{Usage}
+use Rattle.hid_layout.specs.Controls.{Form, NoControls, Elements, Keys, Key, control_in, control_of_key, controls_of_form}
 use Rattle.hid_snapshots.specs.declared.control_state.ControlState.{ControlState}
 use Rattle.hid_snapshots.specs.declared.control_state.ControlState.TheVariants.{Absent, Switches, Values, Motions, RollOver}
 use Rattle.hid_snapshots.specs.declared.change.Change.{Change}
 use Rattle.hid_snapshots.specs.declared.change.Change.TheVariants.{Press, Release, Set, Null, Move}
-use Rattle.hid_snapshots.specs.declared.change.ChangeFault.{ChangeFault}
-use Rattle.hid_snapshots.specs.declared.change.ChangeFault.TheVariants.{NoDirection, MotionFull}
+use Rattle.hid_snapshots.specs.declared.fault.ChangeFault.{ChangeFault}
+use Rattle.hid_snapshots.specs.declared.fault.ChangeFault.TheVariants.{NoDirection, MotionFull}
 use Rattle.hid_snapshots.specs.declared.event.Event.{Event}
 use Rattle.hid_snapshots.specs.declared.event.Event.TheVariants as event
 use Rattle.hid_snapshots.specs.ControlStates.{is_i32, blank_state, HasRoom, switch_count}
-use Rattle.hid_snapshots.specs.Events.{at, switch_event, value_event, motion_event, up_event, down_event, ups, downs, element_list_events, element_events, key_events, key_usages, change_events}
+use Rattle.hid_snapshots.specs.Events.{control_at, switch_event, value_event, motion_event, up_event, down_event, ups, downs, element_list_events, element_events, key_events, key_usages, change_events}
 use Rattle.hid_snapshots.specs.Parts.{clamp, shown_state, differences, minus_motion}
 use Rattle.hid_snapshots.specs.Snapshots.{OrFault, unless, motion_in, with_pressed, with_value, with_motion, has_direction, changed_state, target}
 use Rattle.hid_snapshots.specs.Views.{form_motions}
@@ -33,7 +33,7 @@ use Rattle.hid_snapshots.proofs.FillLemmas.{set_length}
 use Rattle.hid_bus.specs.Motion.{kept_motions, relative_controls, motion_of_events, is_same_control}
 
 -- a control state with room for an item's controls moves as they do
-pub room_moves : (form : Form) (state : ControlState) → HasRoom (head_of form) state
+pub room_moves : (form : Form) (state : ControlState) → HasRoom (controls_of_form form) state
     → kept_motions state ≡ relative_controls form
 room_moves NoControls Absent room = refl
 room_moves NoControls (Switches ps) room = absurd room
@@ -66,7 +66,7 @@ room_moves (Keys elements rolls keys) (Values vs) room = absurd room
 room_moves (Keys elements rolls keys) (Motions ms) room = absurd room
 room_moves (Keys elements rolls keys) (RollOver ps) room = refl
 
-pub blank_moves : (form : Form) → kept_motions (blank_state (head_of form)) ≡ relative_controls form
+pub blank_moves : (form : Form) → kept_motions (blank_state (controls_of_form form)) ≡ relative_controls form
 blank_moves NoControls = refl
 blank_moves (Elements Switch least greatest us) = refl
 blank_moves (Elements Value least greatest us) = refl
@@ -368,19 +368,19 @@ quiet_value c d u (Some v) (Some w) = by_same (int_eq v w)
 quiet_elements : (c : ControlId) (i : ℕ) (us : List Usage) (before after : ControlState)
     → motion_of_events c (element_events i us before after) ≡ pos 0
 quiet_elements c i us (Switches bs) (Switches xs) =
-    quiet_each c (λ j u p. switch_event (at i j) u p.0 p.1) 0 us (zip bs xs)
-    (λ j u p. quiet_switch c (at i j) u p.0 p.1)
+    quiet_each c (λ j u p. switch_event (control_at i j) u p.0 p.1) 0 us (zip bs xs)
+    (λ j u p. quiet_switch c (control_at i j) u p.0 p.1)
 quiet_elements c i us (Values bs) (Values xs) =
-    quiet_each c (λ j u p. value_event (at i j) u p.0 p.1) 0 us (zip bs xs)
-    (λ j u p. quiet_value c (at i j) u p.0 p.1)
+    quiet_each c (λ j u p. value_event (control_at i j) u p.0 p.1) 0 us (zip bs xs)
+    (λ j u p. quiet_value c (control_at i j) u p.0 p.1)
 quiet_elements c i us before after = refl
 
 quiet_keys : (c : ControlId) (i : ℕ) (us : List Usage) (before after : ControlState)
     → motion_of_events c (key_events i us before after) ≡ pos 0
 quiet_keys c i us (Switches bs) (Switches xs) =
     none_joined c (ups i us bs xs) (downs i us bs xs)
-    (quiet_each c (λ j u p. up_event (at i j) u p.0 p.1) 0 us (zip bs xs) (λ j u p. quiet_up c (at i j) u p.0 p.1))
-    (quiet_each c (λ j u p. down_event (at i j) u p.0 p.1) 0 us (zip bs xs) (λ j u p. quiet_down c (at i j) u p.0 p.1))
+    (quiet_each c (λ j u p. up_event (control_at i j) u p.0 p.1) 0 us (zip bs xs) (λ j u p. quiet_up c (control_at i j) u p.0 p.1))
+    (quiet_each c (λ j u p. down_event (control_at i j) u p.0 p.1) 0 us (zip bs xs) (λ j u p. quiet_down c (control_at i j) u p.0 p.1))
 quiet_keys c i us before after = refl
 
 pub quiet_changes : (c : ControlId) (i : ℕ) (form : Form) (before after : ControlState)
@@ -404,58 +404,58 @@ given_one c d u m = by_zero (int_eq m (pos 0)) refl
     by_zero false e = sum_zero (cond (is_same_control d c) m (pos 0))
 
 abbrev motions_from : ℕ → ℕ → List Usage → List ℤ → List Event
-motions_from i j us ms = element_list_events (λ k u m. motion_event (at i k) u m) j us ms
+motions_from i j us ms = element_list_events (λ k u m. motion_event (control_at i k) u m) j us ms
 
-same_place : (i j : ℕ) → is_same_control (at i j) (at i j) ≡ true
+same_place : (i j : ℕ) → is_same_control (control_at i j) (control_at i j) ≡ true
 same_place i j = grind (arith, nat_tests)
 
 -- elements of another item, and those after a place, tell nothing of it
 other_item : (c : ControlId) (i : ℕ) (j : ℕ) (us : List Usage) (ms : List ℤ) → (i == c.item) ≡ false
     → motion_of_events c (motions_from i j us ms) ≡ pos 0
-other_item c i j us ms h = quiet_each c (λ k u m. motion_event (at i k) u m) j us ms (λ k u m. given_one c (at i k) u m ∙ ap (λ (b : Bool). cond (b && (k == c.index)) m (pos 0)) h)
+other_item c i j us ms h = quiet_each c (λ k u m. motion_event (control_at i k) u m) j us ms (λ k u m. given_one c (control_at i k) u m ∙ ap (λ (b : Bool). cond (b && (k == c.index)) m (pos 0)) h)
 
 behind : (i j l : ℕ) (us : List Usage) (ms : List ℤ) → l < j
-    → motion_of_events (at i l) (motions_from i j us ms) ≡ pos 0
+    → motion_of_events (control_at i l) (motions_from i j us ms) ≡ pos 0
 behind i j l [] ms h = refl
 behind i j l (u ∷ us) [] h = refl
 behind i j l (u ∷ us) (m ∷ ms) h =
-    let apart : is_same_control (at i j) (at i l) ≡ false = grind (arith, nat_tests) in
-    none_joined (at i l) (motion_event (at i j) u m) (motions_from i (j + 1) us ms)
-    (given_one (at i l) (at i j) u m ∙ ap (λ (b : Bool). cond b m (pos 0)) apart) (behind i (j + 1) l us ms (omega arith))
+    let apart : is_same_control (control_at i j) (control_at i l) ≡ false = grind (arith, nat_tests) in
+    none_joined (control_at i l) (motion_event (control_at i j) u m) (motions_from i (j + 1) us ms)
+    (given_one (control_at i l) (control_at i j) u m ∙ ap (λ (b : Bool). cond b m (pos 0)) apart) (behind i (j + 1) l us ms (omega arith))
 
 -- each element's motion is reported once
 given_from : (i j k : ℕ) (us : List Usage) (ms : List ℤ) → length ms ≡ length us
-    → motion_of_events (at i (j + k)) (motions_from i j us ms) ≡ nth ms k
+    → motion_of_events (control_at i (j + k)) (motions_from i j us ms) ≡ nth ms k
 given_from i j k [] [] h = refl
 given_from i j k [] (m ∷ ms) h = absurd (omega arith)
 given_from i j k (u ∷ us) [] h = absurd (omega arith)
 given_from i j zero (u ∷ us) (m ∷ ms) h =
     let here : j + 0 ≡ j = omega arith in
-    let one : motion_of_events (at i j) (motion_event (at i j) u m) ≡ m =
-    given_one (at i j) (at i j) u m ∙ ap (λ (b : Bool). cond b m (pos 0)) (same_place i j) in
-    let rest : motion_of_events (at i j) (motions_from i (j + 1) us ms) ≡ pos 0 =
+    let one : motion_of_events (control_at i j) (motion_event (control_at i j) u m) ≡ m =
+    given_one (control_at i j) (control_at i j) u m ∙ ap (λ (b : Bool). cond b m (pos 0)) (same_place i j) in
+    let rest : motion_of_events (control_at i j) (motions_from i (j + 1) us ms) ≡ pos 0 =
     behind i (j + 1) j us ms (omega arith) in
-    ap (λ (n : ℕ). motion_of_events (at i n) (motions_from i j (u ∷ us) (m ∷ ms))) here
-    ∙ given_append (at i j) (motion_event (at i j) u m) (motions_from i (j + 1) us ms)
-    ∙ ap (λ (x : ℤ). x +ℤ motion_of_events (at i j) (motions_from i (j + 1) us ms)) one
+    ap (λ (n : ℕ). motion_of_events (control_at i n) (motions_from i j (u ∷ us) (m ∷ ms))) here
+    ∙ given_append (control_at i j) (motion_event (control_at i j) u m) (motions_from i (j + 1) us ms)
+    ∙ ap (λ (x : ℤ). x +ℤ motion_of_events (control_at i j) (motions_from i (j + 1) us ms)) one
     ∙ ap (λ (x : ℤ). m +ℤ x) rest
     ∙ sum_zero m
 given_from i j (suc k) (u ∷ us) (m ∷ ms) h =
     let there : j + suc k ≡ (j + 1) + k = omega arith in
-    let apart : is_same_control (at i j) (at i ((j + 1) + k)) ≡ false = grind (arith, nat_tests) in
-    let one : motion_of_events (at i ((j + 1) + k)) (motion_event (at i j) u m) ≡ pos 0 =
-    given_one (at i ((j + 1) + k)) (at i j) u m ∙ ap (λ (b : Bool). cond b m (pos 0)) apart in
-    let rest : motion_of_events (at i ((j + 1) + k)) (motions_from i (j + 1) us ms) ≡ nth ms k =
+    let apart : is_same_control (control_at i j) (control_at i ((j + 1) + k)) ≡ false = grind (arith, nat_tests) in
+    let one : motion_of_events (control_at i ((j + 1) + k)) (motion_event (control_at i j) u m) ≡ pos 0 =
+    given_one (control_at i ((j + 1) + k)) (control_at i j) u m ∙ ap (λ (b : Bool). cond b m (pos 0)) apart in
+    let rest : motion_of_events (control_at i ((j + 1) + k)) (motions_from i (j + 1) us ms) ≡ nth ms k =
     given_from i (j + 1) k us ms (omega arith) in
-    ap (λ (n : ℕ). motion_of_events (at i n) (motions_from i j (u ∷ us) (m ∷ ms))) there
-    ∙ given_append (at i ((j + 1) + k)) (motion_event (at i j) u m) (motions_from i (j + 1) us ms)
-    ∙ ap (λ (x : ℤ). x +ℤ motion_of_events (at i ((j + 1) + k)) (motions_from i (j + 1) us ms)) one
+    ap (λ (n : ℕ). motion_of_events (control_at i n) (motions_from i j (u ∷ us) (m ∷ ms))) there
+    ∙ given_append (control_at i ((j + 1) + k)) (motion_event (control_at i j) u m) (motions_from i (j + 1) us ms)
+    ∙ ap (λ (x : ℤ). x +ℤ motion_of_events (control_at i ((j + 1) + k)) (motions_from i (j + 1) us ms)) one
     ∙ ap (λ (x : ℤ). pos 0 +ℤ x) rest
     ∙ zero_sum (nth ms k)
 
 -- What is told of an item's part: its motion, of each control once, and none of another item.
 pub told_here : (i j : ℕ) (form : Form) (part : ControlState) → kept_motions part ≡ relative_controls form
-    → motion_of_events (at i j) (form_motions i form part) ≡ motion_in part j
+    → motion_of_events (control_at i j) (form_motions i form part) ≡ motion_in part j
 told_here i j NoControls Absent h = refl
 told_here i j NoControls (Switches ps) h = refl
 told_here i j NoControls (Values vs) h = refl
@@ -469,7 +469,7 @@ told_here i j (Elements Value least greatest us) (Motions ms) h = absurd (cc)
 told_here i j (Elements NullValue least greatest us) (Motions ms) h = absurd (cc)
 told_here i j (Elements Relative least greatest us) (Motions ms) h =
     let start : 0 + j ≡ j = omega arith in
-    ap (λ (n : ℕ). motion_of_events (at i n) (motions_from i 0 us ms)) (sym start)
+    ap (λ (n : ℕ). motion_of_events (control_at i n) (motions_from i 0 us ms)) (sym start)
     ∙ given_from i 0 j us ms (some_same _ _ h)
 told_here i j (Elements kind least greatest us) (RollOver ps) h = refl
 told_here i j (Keys elements rolls keys) Absent h = refl

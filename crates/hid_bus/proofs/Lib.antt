@@ -3,7 +3,7 @@ pub mod HistoryEventLemmas
 pub mod PieceLemmas
 pub mod ScheduleLemmas
 pub mod ItemMotionLemmas
-pub mod HaltLemmas
+pub mod AbortedRoundLemmas
 pub mod MotionLemmas
 mod Vectors
 pub mod DeliveredLemmas

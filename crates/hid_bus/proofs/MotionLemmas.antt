@@ -8,13 +8,13 @@ use Rattle.std.proofs.lemmas.Bool.Decides.{nat_tests, Decides-eqb}
 use Rattle.std.proofs.lemmas.Option.{slice_get_within}
 use Rattle.hid_layout.specs.declared.control.Control.{Control}
 use Rattle.hid_layout.specs.declared.control.ControlId.{ControlId}
-use Rattle.hid_layout.specs.Controls.{Form, NoControls, Elements, Keys, Item, control_of, form_at, head_of}
+use Rattle.hid_layout.specs.Controls.{Form, NoControls, Elements, Keys, Item, control_of, form_at, controls_of_form}
 use Rattle.hid_snapshots.specs.declared.control_state.ControlState.{ControlState}
 use Rattle.hid_snapshots.specs.declared.control_state.ControlState.TheVariants.{Absent}
 use Rattle.hid_snapshots.specs.declared.change.Change.{Change}
 use Rattle.hid_snapshots.specs.declared.change.Change.TheVariants.{Press, Release, Set, Null, Move}
-use Rattle.hid_snapshots.specs.ControlStates.{HasRoom, Suits, InSnapshot, InPart, FitsSnapshot, FitsShown, FitsView, blank_state, blank}
-use Rattle.hid_snapshots.specs.Events.{at, change_events}
+use Rattle.hid_snapshots.specs.ControlStates.{HasRoom, FitControlStates, InSnapshot, InPart, FitsSnapshot, FitsShown, FitsView, blank_state, blank}
+use Rattle.hid_snapshots.specs.Events.{control_at, change_events}
 use Rattle.hid_snapshots.specs.Parts.{blank_parts, is_of, item_at, by_item, shown_state, shown_part_of, shown_parts, minus_motion, without_motion_of, without_part_motion, motion_of}
 use Rattle.hid_snapshots.specs.Snapshots.{OrFault, motion_in, changed_state, target, state_at, with_state, change_at, snapshot_after}
 use Rattle.hid_snapshots.specs.Views.{view_item_after, view_after_part, form_motions, part_of, events_from, events_between, changes_from, changes_between, drops_between, as_dropped}
@@ -24,10 +24,10 @@ use Rattle.hid_snapshots.specs.declared.event.Event.{Event}
 use Rattle.hid_snapshots.specs.declared.event.Event.TheVariants as event
 use Rattle.usb_transact.specs.declared.transaction.Fate.{Fate}
 use Rattle.usb_transact.specs.declared.transaction.Fate.TheVariants.{Clean, TokenLost, ReplyLost, AckLost}
-use Rattle.hid_bus.specs.Motion.{Conserves, open_motion, accepted_steps_of_events, AreBetweenRounds, KeepsThroughHistory, motion_of_event, motion_of_events, motion_of_change, motion_of_steps, link_motion, is_done, is_accepted, step_if, accepted_steps, are_accepted, KeepsEach, HasMotions, kept_motions, relative_controls, KeepsMotion, KeepsAccepted}
+use Rattle.hid_bus.specs.Motion.{Conserves, open_motion, accepted_steps_of_events, AreBetweenRounds, KeepsThroughHistory, motion_of_event, motion_of_events, motion_of_change, motion_of_steps, link_motion, is_done, is_move_accepted, step_if, accepted_steps, are_accepted, KeepsEach, HasMotions, kept_motions, relative_controls, KeepsMotion, KeepsAccepted}
 use Rattle.hid_bus.specs.Rounds.{OwnStep, Changes, Frame, Polls, part_events}
 use Rattle.hid_bus.specs.ReportState.{ReportState, due_where, with_abort}
-use Rattle.hid_bus.specs.LinkState.{LinkState, Open, open_report, is_last, is_whole, completes, next_piece, initial_link, with_open_report, state_at_token, state_before_answer, state_after_answer, state_after_step, poll_events, events_of_step, events_of_steps, state_after_steps}
+use Rattle.hid_bus.specs.LinkState.{LinkState, OpenRound, open_report, is_last, has_all_pieces, completes, piece_after, initial_link, with_open_report, state_at_token, state_before_answer, state_after_answer, state_after_step, poll_events, events_of_step, events_of_steps, state_after_steps}
 use Rattle.hid_bus.specs.DeviceHistory.{BusEvent, Own, Idles, Configures, Halts, Clears, Resets, steps_as_events, state_after, state_after_all, abort_events, reset_events, events_of_history}
 use Rattle.hid_bus.proofs.HistoryLemmas.{link}
 use Rattle.hid_bus.proofs.ScheduleLemmas.{own_told, own_stands}
@@ -44,7 +44,7 @@ rest_same x y xs ys h = cc
 
 rooms_moving : (items : List Item) (item_states : List ControlState) → length item_states ≡ length items
     → ((i : ℕ) (item : Item) (item_state : ControlState) → slice_get items i ≡ Some item → slice_get item_states i ≡ Some item_state
-    → HasRoom (head_of item.form) item_state) → KeepsEach items item_states
+    → HasRoom (controls_of_form item.form) item_state) → KeepsEach items item_states
 rooms_moving [] [] same rooms = refl
 rooms_moving [] (item_state ∷ item_states) same rooms = absurd (omega arith)
 rooms_moving (item ∷ items) [] same rooms = absurd (omega arith)
@@ -52,7 +52,7 @@ rooms_moving (item ∷ items) (item_state ∷ item_states) same rooms =
     joined (kept_motions item_state) (relative_controls item.form) _ _ (room_moves item.form item_state (rooms 0 item item_state refl refl)) (rooms_moving items item_states (omega arith) (λ i. rooms (suc i)))
 
 suits_moving : (stands : Form → ControlState → Type 0) (items : List Item) (item_states : List ControlState)
-    → Suits stands items item_states → KeepsEach items item_states
+    → FitControlStates stands items item_states → KeepsEach items item_states
 suits_moving stands items item_states fits = rooms_moving items item_states fits.one_each fits.room
 
 moving_length : (items : List Item) (item_states : List ControlState) → KeepsEach items item_states → length item_states ≡ length items
@@ -79,8 +79,8 @@ moving_shown items r item_states parts =
   where
     by_report : (item : Item) (a b : ControlState) (of_it : Bool) → kept_motions a ≡ relative_controls item.form
         → kept_motions b ≡ relative_controls item.form
-        → kept_motions (cond of_it (shown_state (head_of item.form) a) b) ≡ relative_controls item.form
-    by_report item a b true h k = shown_moves (head_of item.form) a ∙ h
+        → kept_motions (cond of_it (shown_state (controls_of_form item.form) a) b) ≡ relative_controls item.form
+    by_report item a b true h k = shown_moves (controls_of_form item.form) a ∙ h
     by_report item a b false h k = k
 
 moving_taken : (items : List Item) (r : ℕ) (item_states parts : List ControlState) → KeepsEach items item_states
@@ -137,17 +137,17 @@ none_told c n r (item ∷ items) (b ∷ bs) (a ∷ xs) (p ∷ ps) h =
     omega (arith, ints, front, both, quiet, told, rest)
 
 told_of_part : (i j r : ℕ) (item : Item) (p : ControlState) → kept_motions p ≡ relative_controls item.form
-    → motion_of_events (at i j) (form_motions i item.form (part_of r item p))
+    → motion_of_events (control_at i j) (form_motions i item.form (part_of r item p))
     ≡ cond (is_of r item) (motion_in p j) (pos 0)
 told_of_part i j r item p h = by_report (is_of r item)
   where
-    none : (form : Form) → motion_of_events (at i j) (form_motions i form Absent) ≡ pos 0
+    none : (form : Form) → motion_of_events (control_at i j) (form_motions i form Absent) ≡ pos 0
     none NoControls = refl
     none (Elements kind least greatest us) = refl
     none (Keys elements rolls keys) = refl
 
     by_report : (of_it : Bool)
-        → motion_of_events (at i j) (form_motions i item.form (cond of_it p Absent))
+        → motion_of_events (control_at i j) (form_motions i item.form (cond of_it p Absent))
         ≡ cond of_it (motion_in p j) (pos 0)
     by_report true = told_here i j item.form p h
     by_report false = none item.form
@@ -282,7 +282,9 @@ changed_sum : (items : List Item) (item_states new : List ControlState) (change 
 changed_sum items item_states new change moving h = by_control (control_of items (target change)) refl h
   where
     by_state : (control : Control) (o : OrFault ControlState) → control_of items (target change) ≡ Some control
-        → changed_state control.kind (head_of (form_at items (target change).item)) (state_at item_states (target change).item) change ≡ o → with_state item_states (target change).item o ≡ Ok new → Shifts items item_states new change
+        → changed_state control.kind (controls_of_form (form_at items (target change).item))
+        (state_at item_states (target change).item) change ≡ o
+        → with_state item_states (target change).item o ≡ Ok new → Shifts items item_states new change
     by_state control (Err fault) is e k = absurd (cc)
     by_state control (Ok item_state) is e k =
         let found = control_found items (target change) control is in
@@ -292,10 +294,14 @@ changed_sum items item_states new change moving h = by_control (control_of items
         let old = got item_states i (omega (arith, there, same_length)) in
         let at_it : state_at item_states i ≡ old.0 = state_there item_states i old.0 old.1 in
         let kept_there : kept_motions old.0 ≡ relative_controls found.item.form = moving_at items item_states i found.item old.0 moving found.there old.1 in
-        let done : changed_state control.kind (head_of (form_at items i)) old.0 change ≡ Ok item_state =
-        ap (λ (x : ControlState). changed_state control.kind (head_of (form_at items i)) x change) (sym at_it)
+        let done : changed_state control.kind (controls_of_form (form_at items i)) old.0 change ≡ Ok item_state =
+        ap (λ (x : ControlState). changed_state control.kind (controls_of_form (form_at items i)) x change)
+        (sym at_it)
         ∙ e in
-        let changes : ChangesMotion old.0 item_state change = changed_motion control.kind (head_of (form_at items i)) old.0 item_state change (λ relative. has_motion_at found.item.form old.0 (target change).index control kept_there found.is relative) done in
+        let changes : ChangesMotion old.0 item_state change =
+        changed_motion control.kind (controls_of_form (form_at items i)) old.0 item_state change
+        (λ relative. has_motion_at found.item.form old.0
+        (target change).index control kept_there found.is relative) done in
         shifts_along items item_states (slice_set item_states i item_state) new change (states_same _ _ k)
         (record { moving = moving_set item_states i old.0 item_state old.1 changes.same ∙ moving; sums = λ c. set_sum item_states change old.0 item_state c old.1 changes })
 
@@ -307,7 +313,7 @@ changed_sum items item_states new change moving h = by_control (control_of items
 -- One step keeps the motion of each control, and what the link state keeps suits its items again.
 abbrev Keeps : List Item → LinkState → OwnStep → ControlId → Type 0
 Keeps items s x c =
-    link_motion items s c +ℤ motion_of_steps c (step_if (is_accepted items s x) x)
+    link_motion items s c +ℤ motion_of_steps c (step_if (is_move_accepted items s x) x)
     ≡ motion_of_events c (events_of_step items s x) +ℤ link_motion items (state_after_step items s x) c
 
 -- a change, by what comes of it
@@ -362,14 +368,16 @@ opened_by_moving items s (Some r) moving =
           moving.view;
     }
 
-opened_same : (items : List Item) (d : ReportState) (current : Option Open) (odd : Bool) (view : List ControlState)
+opened_same : (items : List Item) (d : ReportState) (current : Option OpenRound) (odd : Bool)
+    (view : List ControlState)
     (halted : Bool) (c : ControlId) → KeepsEach items d.snapshot → KeepsEach items d.fixed
     → link_motion items (link d current odd view halted) c
     ≡ link_motion items (state_at_token items (link d current odd view halted)) c
 opened_same items d (Some round) odd view halted c h k = refl
 opened_same items d None odd view halted c h k = opened_by_same items d odd view halted (due_where items halted d) c h k
 
-opened_moving : (items : List Item) (d : ReportState) (current : Option Open) (odd : Bool) (view : List ControlState)
+opened_moving : (items : List Item) (d : ReportState) (current : Option OpenRound) (odd : Bool)
+    (view : List ControlState)
     (halted : Bool) → HasMotions items (link d current odd view halted)
     → HasMotions items (state_at_token items (link d current odd view halted))
 opened_moving items d (Some round) odd view halted moving = moving
@@ -399,13 +407,13 @@ motion_if items fixed r whole c = cond (not whole && is_of r (item_at items c.it
 
 -- A round tells its motion where it crosses, and carries none from then on: by whether the piece at hand is the last, and
 -- has crossed.
-abbrev ClosesSo : List Item → ReportState → Open → List ControlState → ControlId → Bool → Bool → Type 0
+abbrev ClosesSo : List Item → ReportState → OpenRound → List ControlState → ControlId → Bool → Bool → Type 0
 ClosesSo items d round view c crossed last =
     motion_of d.snapshot c +ℤ motion_if items d.fixed round.report (crossed && last) c
     ≡ motion_of_events c (cond (last && not crossed) (part_events items round.report view d.fixed) [])
-    +ℤ (motion_of d.snapshot c +ℤ open_motion items d.fixed (cond last None (Some (next_piece round))) c)
+    +ℤ (motion_of d.snapshot c +ℤ open_motion items d.fixed (cond last None (Some (piece_after round))) c)
 
-closes_so : (items : List Item) (d : ReportState) (round : Open) (view : List ControlState) (c : ControlId)
+closes_so : (items : List Item) (d : ReportState) (round : OpenRound) (view : List ControlState) (c : ControlId)
     (crossed last : Bool) → KeepsEach items d.fixed → length view ≡ length items
     → ClosesSo items d round view c crossed last
 closes_so items d round view c true true h k = omega (arith, ints)
@@ -427,7 +435,8 @@ crosses_so items d r view c false true h k = let told = crossing_sum c r items v
 crosses_so items d r view c true false h k = omega (arith, ints)
 crosses_so items d r view c false false h k = omega (arith, ints)
 
-answer_keeps : (items : List Item) (d : ReportState) (current : Option Open) (odd : Bool) (view : List ControlState)
+answer_keeps : (items : List Item) (d : ReportState) (current : Option OpenRound) (odd : Bool)
+    (view : List ControlState)
     (halted : Bool) (fate : Fate) (c : ControlId) → KeepsEach items d.fixed → length view ≡ length items
     → let s : LinkState = link d current odd view halted in
     link_motion items s c
@@ -448,7 +457,8 @@ view_length : (items : List Item) (r : ℕ) (sees : Bool) (view parts : List Con
 view_length items r true view parts h k = seen_length items r view parts h k
 view_length items r false view parts h k = h
 
-answer_moving : (items : List Item) (d : ReportState) (current : Option Open) (odd : Bool) (view : List ControlState)
+answer_moving : (items : List Item) (d : ReportState) (current : Option OpenRound) (odd : Bool)
+    (view : List ControlState)
     (halted : Bool) (fate : Fate) → HasMotions items (link d current odd view halted)
     → HasMotions items (state_after_answer items (link d current odd view halted) fate)
 answer_moving items d None odd view halted fate moving = moving
@@ -492,10 +502,13 @@ blank_each (item ∷ items) = joined _ _ _ _ (blank_moves item.form) (blank_each
 
 blank_parts_each : (items : List Item) → KeepsEach items (blank_parts items)
 blank_parts_each [] = refl
-blank_parts_each (item ∷ items) = joined _ _ _ _ (shown_moves (head_of item.form) (blank_state (head_of item.form)) ∙ blank_moves item.form) (blank_parts_each items)
+blank_parts_each (item ∷ items) =
+    joined _ _ _ _
+    (shown_moves (controls_of_form item.form) (blank_state (controls_of_form item.form)) ∙ blank_moves item.form)
+    (blank_parts_each items)
 
 blank_length : (items : List Item) → length (blank items) ≡ length items
-blank_length items = length-map items (λ item. blank_state (head_of item.form))
+blank_length items = length-map items (λ item. blank_state (controls_of_form item.form))
 
 -- a round that is cut leaves the snapshot, the parts and the view
 cut_snapshot : (o : Option ℕ) (d : ReportState) → (with_abort o d).snapshot ≡ d.snapshot
@@ -544,7 +557,7 @@ bus_event_moving items s Resets moving =
 configured_same : (items : List Item) (s : LinkState) (c : ControlId) → s.current ≡ None
     → link_motion items s c ≡ link_motion items (state_after items s Configures) c
 configured_same items s c none_open =
-    ap (λ (o : Option Open). motion_of s.reports.snapshot c +ℤ open_motion items s.reports.fixed o c) none_open
+    ap (λ (o : Option OpenRound). motion_of s.reports.snapshot c +ℤ open_motion items s.reports.fixed o c) none_open
 
 -- dropped motion counts as told motion does, and what changes between views is none
 dropped_gives : (c : ControlId) (e : Event) → motion_of_event c (as_dropped e) ≡ motion_of_event c e
@@ -590,13 +603,13 @@ gone_by items d r view c false h k =
     let dropped = drops_give c (events_between items r view (blank items) d.fixed) in
     omega (arith, ints, told, dropped)
 
-gone_with : (items : List Item) (d : ReportState) (current : Option Open) (odd : Bool) (view : List ControlState)
+gone_with : (items : List Item) (d : ReportState) (current : Option OpenRound) (odd : Bool) (view : List ControlState)
     (halted : Bool) (c : ControlId) → KeepsEach items d.fixed → length view ≡ length items
     → let s : LinkState = link d current odd view halted in
     link_motion items s c
     ≡ motion_of_events c (reset_events items s) +ℤ link_motion items (state_after items s Resets) c
 gone_with items d None odd view halted c h k = let quiet = quiet_between c 0 items view (blank items) in omega (arith, ints, quiet)
-gone_with items d (Some round) odd view halted c h k = gone_by items d round.report view c (is_whole round) h k
+gone_with items d (Some round) odd view halted c h k = gone_by items d round.report view c (has_all_pieces round) h k
 
 -- A halt and a clear tell it too.
 abbrev CutSo : List Item → ReportState → ℕ → List ControlState → ControlId → Bool → Type 0
@@ -613,54 +626,55 @@ cut_by items d r view c false h k =
     let dropped = drops_give c (events_between items r view view d.fixed) in
     omega (arith, ints, told, dropped)
 
-cut_with : (items : List Item) (d : ReportState) (current : Option Open) (odd : Bool) (view : List ControlState)
+cut_with : (items : List Item) (d : ReportState) (current : Option OpenRound) (odd : Bool) (view : List ControlState)
     (halted still even : Bool) (c : ControlId) → KeepsEach items d.fixed → length view ≡ length items
     → let s : LinkState = link d current odd view halted in
     link_motion items s c ≡ motion_of_events c (abort_events items s) +ℤ link_motion items (cut_off s still even) c
 cut_with items d None odd view halted still even c h k = omega (arith, ints)
-cut_with items d (Some round) odd view halted still even c h k = cut_by items d round.report view c (is_whole round) h k
+cut_with items d (Some round) odd view halted still even c h k =
+    cut_by items d round.report view c (has_all_pieces round) h k
 
-pub lives_keep : (items : List Item) (s : LinkState) → HasMotions items s → (bus_events : List BusEvent)
+pub histories_keep_motion : (items : List Item) (s : LinkState) → HasMotions items s → (bus_events : List BusEvent)
     → AreBetweenRounds items s bus_events → KeepsThroughHistory items s bus_events
-lives_keep items s moving [] between c = omega (arith, ints)
-lives_keep items s moving (Own x ∷ bus_events) between c =
+histories_keep_motion items s moving [] between c = omega (arith, ints)
+histories_keep_motion items s moving (Own x ∷ bus_events) between c =
     let one : Keeps items s x c = step_keeps items s x c moving in
-    let rest = lives_keep items (state_after_step items s x) (step_moving items s x moving) bus_events between.1 c in
+    let rest = histories_keep_motion items (state_after_step items s x) (step_moving items s x moving) bus_events between.1 c in
     let added =
-    moved_append c (step_if (is_accepted items s x) x)
+    moved_append c (step_if (is_move_accepted items s x) x)
     (accepted_steps_of_events items (state_after_step items s x) bus_events) in
     let told =
     given_append c (events_of_step items s x) (events_of_history items (state_after_step items s x) bus_events) in
     omega (arith, ints, one, rest, added, told)
-lives_keep items s moving (Idles idle ∷ bus_events) between c =
-    lives_keep items (state_after items s (Idles idle))
+histories_keep_motion items s moving (Idles idle ∷ bus_events) between c =
+    histories_keep_motion items (state_after items s (Idles idle))
     (bus_event_moving items s (Idles idle) moving) bus_events between.1 c
-lives_keep items s moving (Configures ∷ bus_events) between c =
+histories_keep_motion items s moving (Configures ∷ bus_events) between c =
     let same : link_motion items s c ≡ link_motion items (state_after items s Configures) c =
     configured_same items s c between.0 in
     let rest =
-    lives_keep items (state_after items s Configures)
+    histories_keep_motion items (state_after items s Configures)
     (bus_event_moving items s Configures moving) bus_events between.1 c in
     omega (arith, ints, same, rest)
-lives_keep items s moving (Halts ∷ bus_events) between c =
+histories_keep_motion items s moving (Halts ∷ bus_events) between c =
     let aborted = cut_with items s.reports s.current s.toggle s.view s.halted true s.toggle c moving.fixed moving.view in
     let rest =
-    lives_keep items (state_after items s Halts) (bus_event_moving items s Halts moving) bus_events between.1 c in
+    histories_keep_motion items (state_after items s Halts) (bus_event_moving items s Halts moving) bus_events between.1 c in
     let told =
     given_append c (abort_events items s) (events_of_history items (state_after items s Halts) bus_events) in
     omega (arith, ints, aborted, rest, told)
-lives_keep items s moving (Clears ∷ bus_events) between c =
+histories_keep_motion items s moving (Clears ∷ bus_events) between c =
     let aborted = cut_with items s.reports s.current s.toggle s.view s.halted false false c moving.fixed moving.view in
     let rest =
-    lives_keep items (state_after items s Clears)
+    histories_keep_motion items (state_after items s Clears)
     (bus_event_moving items s Clears moving) bus_events between.1 c in
     let told =
     given_append c (abort_events items s) (events_of_history items (state_after items s Clears) bus_events) in
     omega (arith, ints, aborted, rest, told)
-lives_keep items s moving (Resets ∷ bus_events) between c =
+histories_keep_motion items s moving (Resets ∷ bus_events) between c =
     let gone = gone_with items s.reports s.current s.toggle s.view s.halted c moving.fixed moving.view in
     let rest =
-    lives_keep items (state_after items s Resets)
+    histories_keep_motion items (state_after items s Resets)
     (bus_event_moving items s Resets moving) bus_events between.1 c in
     let told =
     given_append c (reset_events items s) (events_of_history items (state_after items s Resets) bus_events) in
@@ -682,7 +696,7 @@ own_accepted : (items : List Item) (s : LinkState) (steps : List OwnStep)
     → accepted_steps_of_events items s (steps_as_events steps) ≡ accepted_steps items s steps
 own_accepted items s [] = refl
 own_accepted items s (x ∷ steps) =
-    ap (λ (xs : List OwnStep). step_if (is_accepted items s x) x ++ xs)
+    ap (λ (xs : List OwnStep). step_if (is_move_accepted items s x) x ++ xs)
     (own_accepted items (state_after_step items s x) steps)
 
 pub kept : (items : List Item) (s : LinkState) → HasMotions items s → (steps : List OwnStep)
@@ -695,13 +709,13 @@ kept items s has steps c =
     (subst (λ (xs : List OwnStep). Conserves c xs (link_motion items s c)
     (events_of_history items s (steps_as_events steps))
     (link_motion items (state_after_all items s (steps_as_events steps)) c)) (own_accepted items s steps)
-    (lives_keep items s has (steps_as_events steps) (own_between items s steps) c)))
+    (histories_keep_motion items s has (steps_as_events steps) (own_between items s steps) c)))
 
 all_accepted : (items : List Item) (s : LinkState) (steps : List OwnStep) → are_accepted items s steps ≡ true
     → accepted_steps items s steps ≡ steps
 all_accepted items s [] h = refl
 all_accepted items s (x ∷ steps) h =
-    by_first (is_accepted items s x) h (all_accepted items (state_after_step items s x) steps)
+    by_first (is_move_accepted items s x) h (all_accepted items (state_after_step items s x) steps)
   where
     by_first : (b : Bool) → (b && are_accepted items (state_after_step items s x) steps) ≡ true
         → (are_accepted items (state_after_step items s x) steps ≡ true
@@ -727,11 +741,17 @@ suits_has items s snapshot fixed view = record {
 }
 
 pub fresh_has : (items : List Item) (idle : List ℕ) → HasMotions items (initial_link items (blank items) idle)
-fresh_has items idle = record { snapshot = blank_each items; fixed = blank_parts_each items; view = length-map items (λ item. blank_state (head_of item.form)) }
+fresh_has items idle =
+    record {
+      snapshot = blank_each items;
+      fixed = blank_parts_each items;
+      view =
+          length-map items (λ item. blank_state (controls_of_form item.form));
+    }
 
 pub after_has : (items : List Item) (s : LinkState) (steps : List OwnStep) → HasMotions items s
     → HasMotions items (state_after_steps items s steps)
 after_has items s steps has =
     subst (HasMotions items) (own_stands items steps s) (lived_has items s (steps_as_events steps) has)
 
-pub ruleset keeps = (kept, kept_accepted, lives_keep)
+pub ruleset keeps = (kept, kept_accepted, histories_keep_motion)

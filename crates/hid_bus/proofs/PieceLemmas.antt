@@ -11,8 +11,8 @@ use Rattle.hid_snapshots.proofs.PieceLemmas.{some_piece}
 use Rattle.usb_transact.specs.declared.transaction.Fate.{Fate}
 use Rattle.usb_transact.specs.declared.transaction.Fate.TheVariants.{Clean, TokenLost, ReplyLost, AckLost}
 use Rattle.hid_bus.specs.ReportState.{ReportState, due_where}
-use Rattle.hid_bus.specs.Rounds.{Changes, Frame, Polls, Round, reaches_host, is_clean, closed_count, has_crossed_after_all, crossed_count, pieces_closed, pieces_crossed, has_crossed, has_closed, part_events}
-use Rattle.hid_bus.specs.LinkState.{Open, LinkState, HasPieces, is_last, next_piece, open_next, with_open_report, state_at_token, state_before_answer, state_after_answer}
+use Rattle.hid_bus.specs.Rounds.{Changes, Frame, Polls, Round, reaches_host, is_clean, closed_count, is_host_ahead_after_all, crossed_count, pieces_closed, pieces_crossed, has_crossed, has_closed, part_events}
+use Rattle.hid_bus.specs.LinkState.{OpenRound, LinkState, HasPieces, is_last, piece_after, open_next, with_open_report, state_at_token, state_before_answer, state_after_answer}
 use Rattle.hid_bus.specs.DeviceHistory.{BusEvent, Own, Idles, Configures, Halts, Clears, Resets, state_after, state_after_all}
 use Rattle.hid_bus.specs.HistoryState.{IsQuietPoll}
 use Rattle.hid_bus.proofs.HistoryLemmas.{link}
@@ -33,20 +33,20 @@ some_crossed n false = grind (arith, nat_tests)
 
 -- of polls of one piece, which had crossed before or not
 one_crosses : (ahead : Bool) (polls : List Fate)
-    → nat_le 1 (crossed_count (closed_count polls) (has_crossed_after_all ahead polls)) ≡ ahead
+    → nat_le 1 (crossed_count (closed_count polls) (is_host_ahead_after_all ahead polls)) ≡ ahead
     || list_any reaches_host polls
 one_crosses true [] = refl
 one_crosses false [] = refl
 one_crosses ahead (Clean ∷ polls) =
-    some_crossed (closed_count polls) (has_crossed_after_all false polls) ∙ sym (or_true ahead)
+    some_crossed (closed_count polls) (is_host_ahead_after_all false polls) ∙ sym (or_true ahead)
 one_crosses ahead (TokenLost ∷ polls) =
-    ap (λ (n : ℕ). nat_le 1 (crossed_count n (has_crossed_after_all ahead polls))) (none_more (closed_count polls))
+    ap (λ (n : ℕ). nat_le 1 (crossed_count n (is_host_ahead_after_all ahead polls))) (none_more (closed_count polls))
     ∙ one_crosses ahead polls
 one_crosses ahead (ReplyLost ∷ polls) =
-    ap (λ (n : ℕ). nat_le 1 (crossed_count n (has_crossed_after_all ahead polls))) (none_more (closed_count polls))
+    ap (λ (n : ℕ). nat_le 1 (crossed_count n (is_host_ahead_after_all ahead polls))) (none_more (closed_count polls))
     ∙ one_crosses ahead polls
 one_crosses ahead (AckLost ∷ polls) =
-    ap (λ (n : ℕ). nat_le 1 (crossed_count n (has_crossed_after_all true polls))) (none_more (closed_count polls))
+    ap (λ (n : ℕ). nat_le 1 (crossed_count n (is_host_ahead_after_all true polls))) (none_more (closed_count polls))
     ∙ one_crosses true polls ∙ sym (or_true ahead)
 
 some_closed : (n : ℕ) → nat_le 1 (1 + n) ≡ true
@@ -66,7 +66,8 @@ pub short_closes : (round : Round) → round.pieces ≡ 1 → has_closed round �
 short_closes round one = ap (λ (n : ℕ). nat_le n (pieces_closed round)) one ∙ one_closes round.polls
 
 -- a piece before the last
-earlier : (items : List Item) (d : ReportState) (round : Open) (odd : Bool) (view : List ControlState) (halted : Bool)
+earlier : (items : List Item) (d : ReportState) (round : OpenRound) (odd : Bool) (view : List ControlState)
+    (halted : Bool)
     (fate : Fate) → is_last round ≡ false → IsQuietPoll items (link d (Some round) odd view halted) fate
 earlier items d round odd view halted Clean more = (
   ap (λ (b : Bool). cond (b && not round.crossed) (part_events items round.report view d.fixed) []) more,
@@ -79,24 +80,26 @@ earlier items d round odd view halted AckLost more = (
   ap (λ (b : Bool). cond (b && not round.crossed) (view_after_part items round.report view d.fixed) view) more,
 )
 
-pub earlier_is_quiet : (items : List Item) (s : LinkState) (round : Open) (fate : Fate) → s.current ≡ Some round
+pub earlier_is_quiet : (items : List Item) (s : LinkState) (round : OpenRound) (fate : Fate) → s.current ≡ Some round
     → is_last round ≡ false → IsQuietPoll items s fate
 earlier_is_quiet items s round fate is more =
-    subst (λ (o : Option Open). IsQuietPoll items (link s.reports o s.toggle s.view s.halted) fate) (sym is)
+    subst (λ (o : Option OpenRound). IsQuietPoll items (link s.reports o s.toggle s.view s.halted) fate) (sym is)
     (earlier items s.reports round s.toggle s.view s.halted fate more)
 
 -- ---- the piece at hand is one of its report's
 
-abbrev IsPiece : List Item → Open → Type 0
+abbrev IsPiece : List Item → OpenRound → Type 0
 IsPiece items round = (round.pieces ≡ pieces_of items round.report) × (round.piece < round.pieces)
 
 last_or_not : (n m : ℕ) → (nat_le n m ≡ true) ⊎ ((nat_le n m ≡ false) × (m < n))
 last_or_not n m = grind (arith, nat_tests)
 
-next_has : (items : List Item) (round : Open) → IsPiece items round → IfSome (open_next round) (IsPiece items)
+next_has : (items : List Item) (round : OpenRound) → IsPiece items round → IfSome (open_next round) (IsPiece items)
 next_has items round has = elim (last_or_not round.pieces (round.piece + 1)) [
-  | inl last ↦ subst (λ (b : Bool). IfSome (cond b None (Some (next_piece round))) (IsPiece items)) (sym last) tt
-  | inr more ↦ subst (λ (b : Bool). IfSome (cond b None (Some (next_piece round))) (IsPiece items)) (sym more.0) (has.0, more.1)
+  | inl last ↦ subst (λ (b : Bool). IfSome (cond b None (Some (piece_after round))) (IsPiece items)) (sym last) tt
+  | inr more ↦
+      subst (λ (b : Bool). IfSome (cond b None (Some (piece_after round))) (IsPiece items)) (sym more.0)
+      (has.0, more.1)
 ]
 
 opened_by_has : (items : List Item) (d : ReportState) (odd : Bool) (view : List ControlState) (halted : Bool)
@@ -104,7 +107,8 @@ opened_by_has : (items : List Item) (d : ReportState) (odd : Bool) (view : List 
 opened_by_has items d odd view halted None = tt
 opened_by_has items d odd view halted (Some r) = (refl, some_piece items r)
 
-opened_has : (items : List Item) (d : ReportState) (current : Option Open) (odd : Bool) (view : List ControlState)
+opened_has : (items : List Item) (d : ReportState) (current : Option OpenRound) (odd : Bool)
+    (view : List ControlState)
     (halted : Bool) → HasPieces items (link d current odd view halted)
     → HasPieces items (state_at_token items (link d current odd view halted))
 opened_has items d (Some round) odd view halted has = has
@@ -117,7 +121,8 @@ arrived_has items s Clean has = opened_has items s.reports s.current s.toggle s.
 arrived_has items s ReplyLost has = opened_has items s.reports s.current s.toggle s.view s.halted has
 arrived_has items s AckLost has = opened_has items s.reports s.current s.toggle s.view s.halted has
 
-answered_has : (items : List Item) (d : ReportState) (current : Option Open) (odd : Bool) (view : List ControlState)
+answered_has : (items : List Item) (d : ReportState) (current : Option OpenRound) (odd : Bool)
+    (view : List ControlState)
     (halted : Bool) (fate : Fate) → HasPieces items (link d current odd view halted)
     → HasPieces items (state_after_answer items (link d current odd view halted) fate)
 answered_has items d None odd view halted fate has = tt

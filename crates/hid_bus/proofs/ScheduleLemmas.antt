@@ -9,11 +9,11 @@ use Rattle.usb_transact.specs.declared.transaction.Fate.{Fate}
 use Rattle.usb_transact.specs.declared.transaction.Fate.TheVariants.{Clean, TokenLost, ReplyLost, AckLost}
 use Rattle.hid_bus.specs.ReportState.{ReportState, after_change, after_frame, due_where, with_idle}
 use Rattle.hid_bus.specs.Rounds.{OwnStep, Changes, Frame, Polls, Round, RoundHistory, pieces_closed, pieces_crossed, has_crossed, rounds, events_of_rounds, view_after_rounds, events_of_epoch, part_events, rounds_closed_by_step, open_rounds, history_after_step, history_after_steps}
-use Rattle.hid_bus.specs.LinkState.{LinkState, Open, initial_link, state_after_step, state_after_steps, state_after_answer, state_before_answer, events_of_step, events_of_steps, expected_toggle, state_at_token, with_open_report}
+use Rattle.hid_bus.specs.LinkState.{LinkState, OpenRound, initial_link, state_after_step, state_after_steps, state_after_answer, state_before_answer, events_of_step, events_of_steps, expected_toggle, state_at_token, with_open_report}
 use Rattle.hid_bus.specs.DeviceHistory.{BusEvent, Own, Idles, Configures, Halts, Clears, Resets, steps_as_events, LinkOutcome, rounds_as_outcomes, outcomes_of_events, ended_rounds, AreWithinEpoch, history_after, history_after_all, crossed_round_events, view_after_round, events_of_outcomes, view_after_outcomes, flipped_toggle, toggle_after_outcomes, state_after, state_after_all, events_of_history}
 use Rattle.hid_bus.specs.HistoryState.{history_from, HistoryHolds, pieces_in, FollowsRounds, StandsByRounds, StandsInEpoch}
 use Rattle.hid_bus.proofs.HistoryLemmas.{history, link}
-use Rattle.hid_bus.proofs.HistoryEventLemmas.{lives_on}
+use Rattle.hid_bus.proofs.HistoryEventLemmas.{history_goes_on}
 
 pub own_told : (items : List Item) (steps : List OwnStep) (s : LinkState)
     → events_of_history items s (steps_as_events steps) ≡ events_of_steps items s steps
@@ -87,11 +87,12 @@ tells_rounds : (items : List Item) (from : LinkState) (bus_events : List BusEven
     → from.current ≡ None → outcomes_of_events items bus_events (history_from from) ≡ rounds_as_outcomes gone
     → events_of_history items from bus_events ≡ events_of_rounds items from.view (filter has_crossed gone)
 tells_rounds items from bus_events gone none_open outcomes =
-    (lives_on items from bus_events none_open).events ∙ ap (events_of_outcomes items from.view) outcomes
+    (history_goes_on items from bus_events none_open).events ∙ ap (events_of_outcomes items from.view) outcomes
     ∙ told_of_rounds items from.view gone
 
 -- within an epoch an endpoint stays halted, or not
-answered_halts : (items : List Item) (d : ReportState) (current : Option Open) (odd : Bool) (view : List ControlState)
+answered_halts : (items : List Item) (d : ReportState) (current : Option OpenRound) (odd : Bool)
+    (view : List ControlState)
     (halted : Bool) (fate : Fate) → (state_after_answer items (link d current odd view halted) fate).halted ≡ halted
 answered_halts items d None odd view halted fate = refl
 answered_halts items d (Some round) odd view halted Clean = refl
@@ -104,7 +105,8 @@ opened_by_halts : (items : List Item) (s : LinkState) (due : Option ℕ)
 opened_by_halts items s None = refl
 opened_by_halts items s (Some r) = refl
 
-opened_halts : (items : List Item) (d : ReportState) (current : Option Open) (odd : Bool) (view : List ControlState)
+opened_halts : (items : List Item) (d : ReportState) (current : Option OpenRound) (odd : Bool)
+    (view : List ControlState)
     (halted : Bool) → (state_at_token items (link d current odd view halted)).halted ≡ halted
 opened_halts items d (Some round) odd view halted = refl
 opened_halts items d None odd view halted =
@@ -186,7 +188,7 @@ expects_rounds items d odd view true bus_events (r ∷ gone) within outcomes =
     let none : [] ≡ rounds_as_outcomes (r ∷ gone) =
     sym (silent items bus_events d odd view within).happened ∙ outcomes in absurd (cc)
 expects_rounds items d odd view false bus_events gone within outcomes =
-    (lives_on items (link d None odd view false) bus_events refl).expects
+    (history_goes_on items (link d None odd view false) bus_events refl).expects
     (epoch_halts items bus_events (link d None odd view false) within)
     ∙ ap (toggle_after_outcomes pieces_crossed odd) outcomes ∙ toggle_of_rounds pieces_crossed odd gone
 
@@ -196,7 +198,7 @@ follows_rounds : (items : List Item) (from : LinkState) (bus_events : List BusEv
     → FollowsRounds items from.view from.toggle gone (history_after_all items bus_events (history_from from))
     (state_after_all items from bus_events)
 follows_rounds items from bus_events gone none_open within outcomes =
-    let lived : HistoryHolds items from bus_events = lives_on items from bus_events none_open in
+    let lived : HistoryHolds items from bus_events = history_goes_on items from bus_events none_open in
     record {
       reports = lived.reports;
       open_round = lived.open_round;
@@ -206,7 +208,7 @@ follows_rounds items from bus_events gone none_open within outcomes =
       toggle = lived.toggle ∙ ap (toggle_after_outcomes pieces_closed from.toggle) outcomes
           ∙ toggle_of_rounds pieces_closed from.toggle gone;
       expects =
-          subst (λ (o : Option Open). expected_toggle
+          subst (λ (o : Option OpenRound). expected_toggle
           (state_after_all items (link from.reports o from.toggle from.view from.halted) bus_events)
           ≡ flipped_toggle (pieces_in pieces_crossed gone) from.toggle) (sym none_open)
           (expects_rounds items from.reports from.toggle from.view from.halted bus_events gone within outcomes);

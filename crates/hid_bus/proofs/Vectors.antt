@@ -8,7 +8,7 @@ use Rattle.hid_snapshots.specs.declared.event.Event.{Event}
 use Rattle.hid_snapshots.specs.declared.event.Event.TheVariants as event
 use Rattle.usb_transact.specs.declared.transaction.Fate.TheVariants.{Clean, TokenLost, ReplyLost, AckLost}
 use Rattle.hid_snapshots.specs.ControlStates.{blank}
-use Rattle.hid_snapshots.specs.Events.{at}
+use Rattle.hid_snapshots.specs.Events.{control_at}
 use Rattle.hid_snapshots.specs.Parts.{blank_parts}
 use Rattle.hid_snapshots.specs.Samples.{usage, keyboard, mouse, hat, wheel_and_button}
 use Rattle.hid_bus.specs.ReportState.{initial_reports, first_due, after_frame}
@@ -16,10 +16,10 @@ use Rattle.hid_bus.specs.Rounds.{OwnStep, Changes, Frame, Polls, RoundHistory, h
 use Rattle.hid_bus.specs.DeviceHistory.{flipped_toggle}
 use Rattle.hid_bus.specs.LinkState.{expected_toggle}
 use Rattle.hid_bus.specs.Motion.{motion_of_steps, motion_of_events, link_motion}
-use Rattle.hid_bus.specs.HistoryRows.{press, release, move, set, key_down, motion_x, state_after_own_steps}
+use Rattle.hid_bus.specs.WorkedHistories.{press, release, move, set, key_down, motion_x, state_after_own_steps}
 
 abbrev null : ℕ → ℕ → OwnStep
-null i j = Changes (change.Null (at i j))
+null i j = Changes (change.Null (control_at i j))
 
 -- the events since the configuration of a device on which nothing was pressed or moved before, without idle times
 abbrev told : List Item → ℕ → List OwnStep → List Event
@@ -86,7 +86,7 @@ seven_keys = press 4 4 ∷ press 4 5 ∷ press 4 6 ∷ press 4 7 ∷ press 4 8 �
 rolled_over : told keyboard 1 (
     seven_keys ++ press 0 1 ∷ Polls Clean ∷ press 4 11 ∷ Polls Clean
     ∷ release 4 10 ∷ release 4 11 ∷ Polls Clean ∷ press 4 10 ∷ Polls Clean ∷ [])
-    ≡ event.Down (at 0 1) (usage 7 0xE1)
+    ≡ event.Down (control_at 0 1) (usage 7 0xE1)
     ∷ key_down 4 ∷ key_down 5 ∷ key_down 6 ∷ key_down 7 ∷ key_down 8 ∷ key_down 9 ∷ []
 rolled_over = refl
 
@@ -96,15 +96,15 @@ same_rollover = refl
 
 -- a hat switch begins at null, which isn't told
 hat_turns : told hat 1 (Polls Clean ∷ set 0 0 (pos 0) ∷ Polls Clean ∷ null 0 0 ∷ Polls Clean ∷ [])
-    ≡ event.Value (at 0 0) (usage 1 0x39) (pos 0) ∷ event.Null (at 0 0) (usage 1 0x39) ∷ []
+    ≡ event.Value (control_at 0 0) (usage 1 0x39) (pos 0) ∷ event.Null (control_at 0 0) (usage 1 0x39) ∷ []
 hat_turns = refl
 
-hat_north_west : told hat 1 (set 0 0 (pos 7) ∷ Polls Clean ∷ []) ≡ event.Value (at 0 0) (usage 1 0x39) (pos 7) ∷ []
+hat_north_west : told hat 1 (set 0 0 (pos 7) ∷ Polls Clean ∷ []) ≡ event.Value (control_at 0 0) (usage 1 0x39) (pos 7) ∷ []
 hat_north_west = refl
 
 -- of two due reports the lower one goes first, and a token that is lost opens no round
 two_reports : told wheel_and_button 2 (press 1 0 ∷ move 0 0 (negsuc 0) ∷ Polls TokenLost ∷ Polls Clean ∷ Polls Clean ∷ Polls Clean ∷ [])
-    ≡ event.Motion (at 0 0) (usage 1 0x30) (negsuc 0) ∷ event.Down (at 1 0) (usage 9 1) ∷ []
+    ≡ event.Motion (control_at 0 0) (usage 1 0x30) (negsuc 0) ∷ event.Down (control_at 1 0) (usage 9 1) ∷ []
 two_reports = refl
 
 no_round_yet : kinds wheel_and_button 2 (press 1 0 ∷ Polls TokenLost ∷ []) ≡ []
@@ -150,15 +150,15 @@ kept_over = refl
 -- what is pressed before a configuration is told after it
 pressed_before : events_of_epoch mouse
     (Switches (true ∷ false ∷ false ∷ []) ∷ Absent ∷ Motions (pos 0 ∷ pos 0 ∷ []) ∷ []) (0 ∷ []) (Polls Clean ∷ [])
-    ≡ event.Down (at 0 0) (usage 9 1) ∷ []
+    ≡ event.Down (control_at 0 0) (usage 9 1) ∷ []
 pressed_before = refl
 
 -- the motion to the right that is given, and the one that changes add
-given_so_far : motion_of_events (at 2 0) (told mouse 1 (move 2 0 (pos 200) ∷ Polls Clean ∷ Polls Clean ∷ []))
+given_so_far : motion_of_events (control_at 2 0) (told mouse 1 (move 2 0 (pos 200) ∷ Polls Clean ∷ Polls Clean ∷ []))
     ≡ pos 200
 given_so_far = refl
 
-moved_so_far : motion_of_steps (at 2 0) (move 2 0 (pos 200) ∷ move 2 1 (pos 9) ∷ press 0 0 ∷ move 2 0 (negsuc 4) ∷ [])
+moved_so_far : motion_of_steps (control_at 2 0) (move 2 0 (pos 200) ∷ move 2 1 (pos 9) ∷ press 0 0 ∷ move 2 0 (negsuc 4) ∷ [])
     ≡ pos 195
 moved_so_far = refl
 
@@ -181,7 +181,7 @@ four_changes = refl
 
 -- what a mouse still has of 200 to the right: all of it until its report crossed, then what the report couldn't carry
 abbrev kept_x : List OwnStep → ℤ
-kept_x steps = link_motion mouse (state_after_own_steps mouse steps) (at 2 0)
+kept_x steps = link_motion mouse (state_after_own_steps mouse steps) (control_at 2 0)
 
 in_snapshot_alone : kept_x (move 2 0 (pos 200) ∷ []) ≡ pos 200
 in_snapshot_alone = refl

@@ -6,7 +6,7 @@ use Rattle.usb_transact.specs.declared.transaction.Fate.{Fate}
 use Rattle.usb_transact.specs.declared.transaction.Fate.TheVariants.{Clean, TokenLost, ReplyLost, AckLost}
 use Rattle.hid_bus.specs.ReportState.{due_where, is_due}
 use Rattle.hid_bus.specs.Rounds.{OwnStep, Changes, Frame, Polls}
-use Rattle.hid_bus.specs.LinkState.{LinkState, Open, first_open_piece, state_at_token}
+use Rattle.hid_bus.specs.LinkState.{LinkState, OpenRound, first_open_piece, state_at_token}
 use Rattle.hid_bus.specs.DeviceHistory.{BusEvent, Own, Idles, Configures, Halts, Clears, Resets, state_after, state_after_all}
 
 -- each report has its frames and its abort flag, the report of the open round too
@@ -50,7 +50,7 @@ AreWithoutRound items r s (x ∷ bus_events) =
 -- further halts and clears, and polls that open no round of it.
 abbrev pub StaysDue : List Item → LinkState → BusEvent → List BusEvent → Type 0
 StaysDue items s aborts bus_events =
-    (round : Open) → s.current ≡ Some round → HasAbortFlags s
+    (round : OpenRound) → s.current ≡ Some round → HasAbortFlags s
     → AreWithoutRound items round.report (state_after items s aborts) bus_events
     → is_due items (state_after_all items s (aborts ∷ bus_events)).reports round.report ≡ true
 

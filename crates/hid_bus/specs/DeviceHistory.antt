@@ -8,7 +8,7 @@ use Rattle.hid_snapshots.specs.ControlStates.{blank}
 use Rattle.hid_snapshots.specs.Views.{view_after_part, changes_between, drops_between}
 use Rattle.hid_bus.specs.ReportState.{with_idle, no_idle, with_abort}
 use Rattle.hid_bus.specs.Rounds.{OwnStep, Round, RoundHistory, has_crossed, round_report, initial_history, history_after_step, rounds_closed_by_step, open_rounds, part_events}
-use Rattle.hid_bus.specs.LinkState.{LinkState, open_report, is_whole, initial_link, state_after_step, events_of_step}
+use Rattle.hid_bus.specs.LinkState.{LinkState, open_report, has_all_pieces, initial_link, state_after_step, events_of_step}
 
 -- What happens to a device: an own step, idle times that are set, a configuration that takes effect, a halt of its
 -- endpoint, the end of a halt, or a reset of the bus.
@@ -207,7 +207,7 @@ state_after_all items s (x ∷ bus_events) = state_after_all items (state_after 
 abbrev pub abort_events : List Item → LinkState → List Event
 abort_events items s = elim s.current [
   | None ↦ []
-  | Some round ↦ (if is_whole round then []
+  | Some round ↦ (if has_all_pieces round then []
       else drops_between items round.report s.view s.view s.reports.fixed)
 ]
 
@@ -216,7 +216,7 @@ abort_events items s = elim s.current [
 abbrev pub reset_events : List Item → LinkState → List Event
 reset_events items s = elim s.current [
   | None ↦ changes_between items s.view (blank items)
-  | Some round ↦ (if is_whole round then changes_between items s.view (blank items)
+  | Some round ↦ (if has_all_pieces round then changes_between items s.view (blank items)
       else drops_between items round.report s.view (blank items) s.reports.fixed)
 ]
 

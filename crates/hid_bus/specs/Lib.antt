@@ -5,5 +5,5 @@ pub mod DeviceHistory
 pub mod HistoryState
 pub mod AbortedRounds
 pub mod Motion
-pub mod HistoryRows
+pub mod WorkedHistories
 pub mod Delivered

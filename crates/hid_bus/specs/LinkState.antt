@@ -15,7 +15,7 @@ use Rattle.hid_bus.specs.Rounds.{OwnStep, Changes, Frame, Polls, part_events}
 
 -- The open round: its report, whose part is the one that was fixed last, how many pieces it has, the place of the
 -- current one, from 0, and whether that has crossed.
-pub record Open : Type 0 where
+pub record OpenRound : Type 0 where
   pub report : ℕ
   pub pieces : ℕ
   pub piece : ℕ
@@ -26,7 +26,7 @@ pub record Open : Type 0 where
 -- the last clear.
 pub record LinkState : Type 0 where
   pub reports : ReportState
-  pub current : Option Open
+  pub current : Option OpenRound
   pub toggle : Bool
   pub view : List ControlState
   pub halted : Bool
@@ -37,7 +37,7 @@ HasPieces items s =
     IfSome s.current (λ round. (round.pieces ≡ pieces_of items round.report) × (round.piece < round.pieces))
 
 -- the report of the open round, if one is open
-abbrev pub open_report : Option Open → Option ℕ
+abbrev pub open_report : Option OpenRound → Option ℕ
 open_report current = option_map (λ round. round.report) current
 
 -- the link state of both ends freshly configured: no round is open, none has closed, the host's view is the initial
@@ -52,7 +52,7 @@ initial_link items snapshot idle = record {
 }
 
 -- a round of this report, at its first piece
-abbrev pub first_open_piece : List Item → ℕ → Open
+abbrev pub first_open_piece : List Item → ℕ → OpenRound
 first_open_piece items r = record { report = r; pieces = pieces_of items r; piece = 0; crossed = false }
 
 -- the link state once a round of a report opens, if one does
@@ -75,34 +75,34 @@ state_before_answer items s ReplyLost = state_at_token items s
 state_before_answer items s AckLost = state_at_token items s
 
 -- the current piece of an open round is its last one
-abbrev pub is_last : Open → Bool
+abbrev pub is_last : OpenRound → Bool
 is_last round = nat_le round.pieces (round.piece + 1)
 
 -- all pieces of an open round have crossed
-abbrev pub is_whole : Open → Bool
-is_whole round = round.crossed && is_last round
+abbrev pub has_all_pieces : OpenRound → Bool
+has_all_pieces round = round.crossed && is_last round
 
 -- the current piece completes the report of an open round: it is the last one, and hasn't crossed yet
-abbrev pub completes : Open → Bool
+abbrev pub completes : OpenRound → Bool
 completes round = is_last round && not round.crossed
 
 -- the host's view once the current piece reached it: it takes the part where that piece completes the report
-abbrev pub view_with : List Item → LinkState → Open → List ControlState
+abbrev pub view_with : List Item → LinkState → OpenRound → List ControlState
 view_with items s round =
     if completes round then view_after_part items round.report s.view s.reports.fixed else s.view
 
 -- an open round at its next piece
-abbrev pub next_piece : Open → Open
-next_piece round =
+abbrev pub piece_after : OpenRound → OpenRound
+piece_after round =
     record { report = round.report; pieces = round.pieces; piece = round.piece + 1; crossed = false }
 
 -- what is open once the current piece of a round closed: the round at its next piece, or none after the last one
-abbrev pub open_next : Open → Option Open
-open_next round = if is_last round then None else Some (next_piece round)
+abbrev pub open_next : OpenRound → Option OpenRound
+open_next round = if is_last round then None else Some (piece_after round)
 
 -- the link state after a poll of the open round: the current piece crosses where it reaches the host, and closes where
 -- nothing is lost
-abbrev pub round_after_poll : List Item → LinkState → Open → Fate → LinkState
+abbrev pub round_after_poll : List Item → LinkState → OpenRound → Fate → LinkState
 round_after_poll items s round Clean =
     record s { current = open_next round; toggle = not s.toggle; view = view_with items s round }
 round_after_poll items s round AckLost =
@@ -125,12 +125,12 @@ state_after_step items s Frame = record s { reports = after_frame s.reports }
 state_after_step items s (Polls fate) = state_after_answer items (state_before_answer items s fate) fate
 
 -- the events of the current piece once it reached the host: those of the part, where it completes the report
-abbrev pub piece_events : List Item → LinkState → Open → List Event
+abbrev pub piece_events : List Item → LinkState → OpenRound → List Event
 piece_events items s round =
     if completes round then part_events items round.report s.view s.reports.fixed else []
 
 -- the events of a poll of the open round, by its fate: a poll that doesn't reach the host has none
-abbrev pub open_round_events : List Item → LinkState → Open → Fate → List Event
+abbrev pub open_round_events : List Item → LinkState → OpenRound → Fate → List Event
 open_round_events items s round Clean = piece_events items s round
 open_round_events items s round AckLost = piece_events items s round
 open_round_events items s round TokenLost = []

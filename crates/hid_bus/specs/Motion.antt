@@ -8,13 +8,13 @@ use Rattle.hid_snapshots.specs.declared.control_state.ControlState.{ControlState
 use Rattle.hid_snapshots.specs.declared.control_state.ControlState.TheVariants.{Absent, Switches, Values, Motions, RollOver}
 use Rattle.hid_snapshots.specs.declared.change.Change.{Change}
 use Rattle.hid_snapshots.specs.declared.change.Change.TheVariants as change
-use Rattle.hid_snapshots.specs.declared.change.ChangeFault.{ChangeFault}
+use Rattle.hid_snapshots.specs.declared.fault.ChangeFault.{ChangeFault}
 use Rattle.hid_snapshots.specs.declared.event.Event.{Event}
 use Rattle.hid_snapshots.specs.declared.event.Event.TheVariants as event
 use Rattle.hid_snapshots.specs.Parts.{is_of, item_at, motion_of}
 use Rattle.hid_snapshots.specs.Snapshots.{snapshot_after}
 use Rattle.hid_bus.specs.Rounds.{OwnStep, Changes, Frame, Polls}
-use Rattle.hid_bus.specs.LinkState.{LinkState, Open, is_whole, state_after_step, state_after_steps, events_of_steps}
+use Rattle.hid_bus.specs.LinkState.{LinkState, OpenRound, has_all_pieces, state_after_step, state_after_steps, events_of_steps}
 use Rattle.hid_bus.specs.DeviceHistory.{BusEvent, Own, Idles, Configures, Halts, Clears, Resets, state_after, state_after_all, events_of_history}
 
 -- two IDs name the same control
@@ -60,10 +60,10 @@ Conserves c steps kept_before events kept_after =
     kept_before +ℤ motion_of_steps c steps ≡ motion_of_events c events +ℤ kept_after
 
 -- what the open round carries of a control's motion, unless all its pieces have crossed
-abbrev pub open_motion : List Item → List ControlState → Option Open → ControlId → ℤ
+abbrev pub open_motion : List Item → List ControlState → Option OpenRound → ControlId → ℤ
 open_motion items fixed None c = pos 0
 open_motion items fixed (Some round) c =
-    if not (is_whole round) && is_of round.report (item_at items c.item) then motion_of fixed c else pos 0
+    if not (has_all_pieces round) && is_of round.report (item_at items c.item) then motion_of fixed c else pos 0
 
 -- the motion that a link state still has: in its snapshot, and in an open round that hasn't crossed. Example: of 200
 -- moved 127 are given and 73 kept
@@ -77,10 +77,10 @@ is_done (Ok item_states) = true
 is_done (Err fault) = false
 
 -- a change is accepted where the snapshot is changed by it; frames and polls are never refused
-abbrev pub is_accepted : List Item → LinkState → OwnStep → Bool
-is_accepted items s (Changes change) = is_done (snapshot_after items s.reports.snapshot change)
-is_accepted items s Frame = true
-is_accepted items s (Polls fate) = true
+abbrev pub is_move_accepted : List Item → LinkState → OwnStep → Bool
+is_move_accepted items s (Changes change) = is_done (snapshot_after items s.reports.snapshot change)
+is_move_accepted items s Frame = true
+is_move_accepted items s (Polls fate) = true
 
 -- the step as a list, where it is kept, else an empty list
 abbrev pub step_if : Bool → OwnStep → List OwnStep
@@ -90,13 +90,13 @@ step_if kept x = if kept then x ∷ [] else []
 abbrev pub accepted_steps : List Item → LinkState → List OwnStep → List OwnStep
 accepted_steps items s [] = []
 accepted_steps items s (x ∷ steps) =
-    step_if (is_accepted items s x) x ++ accepted_steps items (state_after_step items s x) steps
+    step_if (is_move_accepted items s x) x ++ accepted_steps items (state_after_step items s x) steps
 
 -- each change of these steps is accepted where it comes
 abbrev pub are_accepted : List Item → LinkState → List OwnStep → Bool
 are_accepted items s [] = true
 are_accepted items s (x ∷ steps) =
-    is_accepted items s x && are_accepted items (state_after_step items s x) steps
+    is_move_accepted items s x && are_accepted items (state_after_step items s x) steps
 
 -- how many motions a control state keeps, if it keeps motions
 abbrev pub kept_motions : ControlState → Option ℕ
@@ -142,7 +142,7 @@ KeepsAccepted items s steps =
 abbrev pub accepted_steps_of_events : List Item → LinkState → List BusEvent → List OwnStep
 accepted_steps_of_events items s [] = []
 accepted_steps_of_events items s (Own x ∷ bus_events) =
-    step_if (is_accepted items s x) x
+    step_if (is_move_accepted items s x) x
     ++ accepted_steps_of_events items (state_after_step items s x) bus_events
 accepted_steps_of_events items s (Idles idle ∷ bus_events) =
     accepted_steps_of_events items (state_after items s (Idles idle)) bus_events

@@ -10,8 +10,8 @@ use Rattle.hid_snapshots.specs.Parts.{blank_parts, shown_parts, without_part_mot
 
 -- The controls as they are now; the parts that were fixed last, blank where none was; and for each Input report the
 -- frames since its last round opened, or since the configuration, its idle time in units of four frames, and whether
--- its round was aborted: a halt or a clear ended its last one, and none opened since, nor did a configuration take
--- effect.
+-- its round was aborted: a halt or a clear ended its last one, and since then no round of it opened, no configuration
+-- took effect, and the bus wasn't reset.
 pub record ReportState : Type 0 where
   pub snapshot : List ControlState
   pub fixed : List ControlState

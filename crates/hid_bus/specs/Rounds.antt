@@ -48,18 +48,18 @@ abbrev pub closed_count : List Fate → ℕ
 closed_count [] = 0
 closed_count (fate ∷ polls) = (if is_clean fate then 1 else 0) + closed_count polls
 
--- Whether the current piece has crossed after one more poll: it crosses at its first poll that reaches the host. A poll
--- of which nothing is lost closes it, and the next piece is current.
-abbrev pub has_crossed_after : Bool → Fate → Bool
-has_crossed_after ahead Clean = false
-has_crossed_after ahead TokenLost = ahead
-has_crossed_after ahead ReplyLost = ahead
-has_crossed_after ahead AckLost = true
+-- Whether, after one more poll, the host has the current piece and the device doesn't know it: it crosses at its first
+-- poll that reaches the host. After a poll of which nothing is lost both know, and the next piece is current.
+abbrev pub is_host_ahead_after : Bool → Fate → Bool
+is_host_ahead_after ahead Clean = false
+is_host_ahead_after ahead TokenLost = ahead
+is_host_ahead_after ahead ReplyLost = ahead
+is_host_ahead_after ahead AckLost = true
 
 -- whether the current piece has crossed after a list of polls
-abbrev pub has_crossed_after_all : Bool → List Fate → Bool
-has_crossed_after_all ahead [] = ahead
-has_crossed_after_all ahead (fate ∷ polls) = has_crossed_after_all (has_crossed_after ahead fate) polls
+abbrev pub is_host_ahead_after_all : Bool → List Fate → Bool
+is_host_ahead_after_all ahead [] = ahead
+is_host_ahead_after_all ahead (fate ∷ polls) = is_host_ahead_after_all (is_host_ahead_after ahead fate) polls
 
 -- how many pieces crossed, by how many closed and by whether the current one has crossed
 abbrev pub crossed_count : ℕ → Bool → ℕ
@@ -72,7 +72,7 @@ pieces_closed round = closed_count round.polls
 -- how many pieces of a round crossed: each at its first poll that reaches the host. Example: of two pieces a clean poll
 -- and a lost ACK: two crossed, one closed
 abbrev pub pieces_crossed : Round → ℕ
-pieces_crossed round = crossed_count (pieces_closed round) (has_crossed_after_all false round.polls)
+pieces_crossed round = crossed_count (pieces_closed round) (is_host_ahead_after_all false round.polls)
 
 -- A round crosses with its last piece.
 abbrev pub has_crossed : Round → Bool

@@ -12,13 +12,13 @@ ghost use Rattle.hid_bus.specs.AbortedRounds.{HasAbortFlags, OpensNext, StaysDue
 ghost use Rattle.hid_bus.specs.DeviceHistory.{Clears, BusEvent, Halts, AreWithinEpoch, outcomes_of_events, ended_rounds, events_of_outcomes, events_of_history, state_after_all};
 ghost use Rattle.hid_bus.specs.Motion.{HasMotions, KeepsMotion, KeepsAccepted, KeepsThroughHistory, AreBetweenRounds, are_accepted};
 ghost use Rattle.hid_bus.specs.Rounds.{OwnStep, Round, reaches_host, is_clean, has_crossed, has_closed, rounds, events_of_rounds, events_of_epoch, initial_history};
-ghost use Rattle.hid_bus.specs.LinkState.{LinkState, Open, HasPieces, is_last, initial_link, state_after_steps, events_of_steps};
+ghost use Rattle.hid_bus.specs.LinkState.{LinkState, OpenRound, HasPieces, is_last, initial_link, state_after_steps, events_of_steps};
 
 /// Over all that happens to a device, from any link state without an open round on, what is reported is the events of
 /// what came of it, and the link state stands after it as that says: the view, the open round, and both toggles.
 #[tactic(auto, using(crate::proofs::HistoryEventLemmas::delivers_life))]
 pub fn histories_give_events()
-    ensures lives { (items : List Item) (from : LinkState) (bus_events : List BusEvent)
+    ensures history { (items : List Item) (from : LinkState) (bus_events : List BusEvent)
         → from.current ≡ None → HistoryHolds items from bus_events }
     ensures fresh { (items : List Item) (snapshot : List ControlState) (idle : List ℕ)
         (bus_events : List BusEvent)
@@ -27,7 +27,7 @@ pub fn histories_give_events()
         (outcomes_of_events items bus_events (initial_history items snapshot idle)) }
 {}
 
-/// Of a device that was just configured its own steps tell the events of its epoch.
+/// The own steps of a device that was just configured deliver the events of its epoch.
 #[tactic(auto, using(crate::proofs::ScheduleLemmas::schedules))]
 pub fn epochs_give_events()
     ensures { (items : List Item) (snapshot : List ControlState) (idle : List ℕ)
@@ -62,12 +62,12 @@ pub fn rounds_say_all_of_an_epoch()
         → StandsInEpoch items from bus_events (state_after_all items from bus_events) }
 {}
 
-/// A report is told whole or not at all: a poll of a piece before the last one tells nothing and leaves the view, whatever is
-/// lost of it. (What is reported where the last one crosses is the part that was fixed as the round opened:
+/// A report is delivered whole or not at all: a poll of a piece before the last delivers nothing and keeps the view, whatever
+/// is lost. (When the last piece crosses, the part that was fixed as the round opened is delivered:
 /// `histories_give_events`.)
 #[tactic(auto, using(crate::proofs::PieceLemmas::pieces))]
 pub fn reports_cross_whole()
-    ensures { (items : List Item) (s : LinkState) (round : Open) (fate : Fate)
+    ensures { (items : List Item) (s : LinkState) (round : OpenRound) (fate : Fate)
         → s.current ≡ Some round → is_last round ≡ false → IsQuietPoll items s fate }
 {}
 
@@ -110,9 +110,9 @@ pub fn halts_lose_nothing()
 {}
 
 /// Steps neither lose nor double the motion of a control: what a link state had of it and what accepted moves added is
-/// what was told of it and what the link state still has. A link state keeps its motions after any steps. Idle times
-/// that are set lose no motion either, halts, clears and resets none, since what they drop is told, and
-/// configurations none where no round is open.
+/// what was delivered of it and what the link state still has. A link state keeps its motions after any steps. Idle times
+/// that are set lose no motion either. Halts, clears and resets lose none, since what they drop is delivered as dropped.
+/// Configurations lose none where no round is open.
 #[tactic(auto, using(crate::proofs::MotionLemmas::keeps))]
 pub fn motion_is_kept()
     ensures kept { (items : List Item) (s : LinkState) → HasMotions items s → (steps : List OwnStep)
@@ -125,7 +125,7 @@ pub fn motion_is_kept()
         → HasMotions items (initial_link items (blank items) idle) }
     ensures after { (items : List Item) (s : LinkState) (steps : List OwnStep) → HasMotions items s
         → HasMotions items (state_after_steps items s steps) }
-    ensures lives { (items : List Item) (s : LinkState) → HasMotions items s
+    ensures history { (items : List Item) (s : LinkState) → HasMotions items s
         → (bus_events : List BusEvent)
         → AreBetweenRounds items s bus_events → KeepsThroughHistory items s bus_events }
     ensures lived { (items : List Item) (s : LinkState) (bus_events : List BusEvent)

@@ -35,9 +35,9 @@
 #![tactic(auto)]
 
 pub mod laws;
-pub mod rows;
 mod start;
 mod step;
+pub mod worked_histories;
 
 pub use start::Start;
 pub use step::{Delivered, Step, Told};

@@ -1,4 +1,4 @@
-//! The steps of a bus, and what they tell and deliver.
+//! The steps of a bus, their results and the events that they deliver.
 use arrayvec::ArrayVec;
 use hid_requests::Request;
 use hid_snapshots::{Change, Event};
@@ -73,6 +73,6 @@ pub enum Told {
 pub struct Delivered {
     /// The device, from 1.
     pub dev: u8,
-    /// What its host was told.
+    /// The event.
     pub event: Event,
 }

@@ -14,15 +14,15 @@ use Rattle.hid_bus.specs.declared.step.Step.{Step}
 use Rattle.hid_bus.specs.declared.step.Delivered.{Delivered}
 use Rattle.hid_bus.specs.Delivered.{from_device}
 use Rattle.hid_host.specs.declared.fault.StackFault.{StackFault}
-use Rattle.hid_stack.specs.Attaching.{Attaches, Suits, IsAttached}
+use Rattle.hid_stack.specs.Attaching.{Attaches, CanAttach, IsAttached}
 use Rattle.hid_stack.specs.Headline.{DeliversChanges, KeepsToRounds}
-use Rattle.hid_host.specs.Host.{HostEnd}
+use Rattle.hid_host.specs.Host.{HostDeviceState}
 use Rattle.hid_host.specs.declared.phase.HostState.TheVariants as states
 use Rattle.hid_host.specs.Phase.{IfReady, state_of}
 use Rattle.hid_bus.specs.declared.start.Start.TheVariants as starts
 use Rattle.hid_stack.specs.Members.{Member, fresh_member}
 use Rattle.hid_stack.specs.Rig.{HasOnlySchedule, StopsAt, device_steps}
-use Rattle.hid_stack.specs.Accessors.{ShowsPhase, ShowsHost, GivesOf}
+use Rattle.hid_stack.specs.Accessors.{ShowsPhase, ShowsHost, MemberGives}
 use Rattle.hid_client.specs.Playing.{IsPlayed, IsStopped}
 
 -- what a ready host holds is what its member's view holds
@@ -38,9 +38,11 @@ held_shown m (Ready known) control is_held ready shows is =
 same_member : (m n : Member) → (let o = Some m in o) ≡ Some n → m ≡ n
 same_member m n e = cc
 
-pub played : (config : Config) (descriptor : List ℕ) (steps : List Step) (control : ControlId) (none members after : List Member) (dev : ℕ) (before given : List Delivered) (host : HostEnd)
+pub played : (config : Config) (descriptor : List ℕ) (steps : List Step) (control : ControlId)
+    (none members after : List Member) (dev : ℕ) (before given : List Delivered) (host : HostDeviceState)
     (is_held : Bool) → none ≡ [] → IsAttached config descriptor starts.Ready none dev members → before ≡ [] → DeliversChanges members steps before given → KeepsToRounds members steps after
-    → GivesOf ShowsHost after dev host → IfReady host.phase (λ known. is_held ≡ is_pressed (state_at known.view control.item) control.index)
+    → MemberGives ShowsHost after dev host
+    → IfReady host.phase (λ known. is_held ≡ is_pressed (state_at known.view control.item) control.index)
     → IsPlayed config descriptor steps control given is_held
 played config descriptor steps control none members after dev before given host is_held none_is attached before_is headline keeps shows held_is =
     let first : dev ≡ 1 = attached.number ∙ ap (λ (ms : List Member). length ms + 1) none_is in
@@ -51,7 +53,7 @@ played config descriptor steps control none members after dev before given host 
     let own_of : HasOnlySchedule 1 steps → HasOnlySchedule dev steps = subst (λ (d : ℕ). HasOnlySchedule d steps) (sym first) in
     record {
       layout = layout;
-      suits = subst (λ (d : ℕ). Suits d config descriptor layout) first attached.suits;
+      suits = subst (λ (d : ℕ). CanAttach d config descriptor layout) first attached.suits;
       events = λ only. subst
           (λ (d : ℕ). from_device d given
           ≡ events_of_rounds items (blank items)
@@ -85,7 +87,7 @@ stopped config descriptor steps room none members dev at fault none_is attaches 
     ∙ ap (λ (d : ℕ). fresh_member d config descriptor layout ∷ []) first in
     record {
       layout = layout;
-      suits = subst (λ (d : ℕ). Suits d config descriptor layout) first attaches.2.1;
+      suits = subst (λ (d : ℕ). CanAttach d config descriptor layout) first attaches.2.1;
       at = at;
       stops = subst (λ (ms : List Member). StopsAt ms steps at fault) alone stops;
     }

@@ -16,7 +16,7 @@ use Rattle.hid_bus.specs.declared.step.Delivered.{Delivered}
 use Rattle.hid_bus.specs.Delivered.{from_device}
 use Rattle.hid_host.specs.declared.fault.StackFault.{StackFault}
 use Rattle.hid_host.specs.declared.fault.StackFault.TheVariants.{Memory}
-use Rattle.hid_stack.specs.Attaching.{IsNoPair, Suits}
+use Rattle.hid_stack.specs.Attaching.{CanAttach, IsAttachFault}
 use Rattle.hid_stack.specs.Members.{fresh_member}
 use Rattle.hid_stack.specs.Rig.{HasOnlySchedule, StopsAt, device_steps}
 
@@ -43,7 +43,7 @@ view_played layout steps =
 pub record IsPlayed (config : Config) (descriptor : List ℕ) (steps : List Step) (control : ControlId)
     (given : List Delivered) (is_held : Bool) : Type 0 where
   pub layout : Contents
-  pub suits : Suits 1 config descriptor layout
+  pub suits : CanAttach 1 config descriptor layout
   pub events : HasOnlySchedule 1 steps → from_device 1 given ≡ events_played layout steps
   pub held : HasOnlySchedule 1 steps
       → is_held ≡ is_pressed (state_at (view_played layout steps) control.item) control.index
@@ -51,7 +51,7 @@ pub record IsPlayed (config : Config) (descriptor : List ℕ) (steps : List Step
 -- A step is refused on the bus that has this device alone, once those before it are done.
 pub record IsStopped (config : Config) (descriptor : List ℕ) (steps : List Step) (fault : StackFault) : Type 0 where
   pub layout : Contents
-  pub suits : Suits 1 config descriptor layout
+  pub suits : CanAttach 1 config descriptor layout
   pub at : ℕ
   pub stops : StopsAt (fresh_member 1 config descriptor layout ∷ []) steps at fault
 
@@ -59,4 +59,4 @@ pub record IsStopped (config : Config) (descriptor : List ℕ) (steps : List Ste
 -- boot keyboard is S3 U1
 abbrev pub IsNotPlayed : Config → List ℕ → List Step → StackFault → Type 0
 IsNotPlayed config descriptor steps fault =
-    (fault ≡ Memory) ⊎ IsNoPair 1 config descriptor fault ⊎ IsStopped config descriptor steps fault
+    (fault ≡ Memory) ⊎ IsAttachFault 1 config descriptor fault ⊎ IsStopped config descriptor steps fault

@@ -71,7 +71,7 @@ fn played(
     play(rt.alloc(), &CONFIG, descriptor, steps, control)
 }
 
-/// A key that is pressed while an acknowledgement is lost is told in the next round.
+/// A key that is pressed while an acknowledgement is lost is reported in the next round.
 #[test]
 fn each_key_is_told_once(rt: HostRuntime) -> Result<(), Fail> {
     let steps = [
@@ -103,7 +103,7 @@ fn a_key_is_held_until_its_release_crosses(rt: HostRuntime) -> Result<(), Fail> 
     Ok(())
 }
 
-/// A reset tells that the key goes up, and a host that knows nothing holds nothing.
+/// A reset delivers that the key goes up, and a host that knows nothing holds nothing.
 #[test]
 fn a_reset_lets_a_key_go(rt: HostRuntime) -> Result<(), Fail> {
     let steps = [press(4), poll(Fate::Clean), Step::Reset { dev: 1 }];

@@ -6,11 +6,11 @@ use Rattle.hid_layout.specs.Controls.{Item, items_of}
 use Rattle.hid_layout.specs.Layout.{Contents}
 use Rattle.hid_snapshots.specs.declared.control_state.ControlState.{ControlState}
 use Rattle.hid_snapshots.specs.Pieces.{piece_of, pieces_of}
-use Rattle.hid_snapshots.specs.Encoded.{part_bytes}
+use Rattle.hid_snapshots.specs.PartBytes.{part_bytes}
 use Rattle.usb_transact.specs.Device.{toggle_after}
 use Rattle.hid_device.specs.Inputs.{input_count}
-use Rattle.hid_device.specs.ReportState.{ReportState, with_abort}
-use Rattle.hid_device.specs.Core.{CoreState, IsPiece, IsQuiet, IsSound, core_after_ack, halted_core, next_piece, next_piece_of, piece_armed, round_after_piece, toggle_after_ack}
+use Rattle.hid_bus.specs.ReportState.{ReportState, with_abort}
+use Rattle.hid_device.specs.Core.{CoreState, HasNoRoundWhileHalted, IsPiece, IsSound, core_after_ack, halted_core, next_piece, next_piece_of, piece_armed, round_after_piece, toggle_after_ack}
 
 abbrev with_cut : List Bool → ReportState → ReportState
 with_cut aborted d = record d { aborted = aborted }
@@ -100,7 +100,8 @@ next_is items (Some r) piece next goes_on = by_place (nat_le (pieces_of items r)
     by_place true last e = absurd (cc)
     by_place false more e = grind (arith, nat_tests, more, e)
 
-pub next_quiet : (items : List Item) (current : Option ℕ) (piece next : ℕ) (halted : Bool) → next_piece items current piece ≡ Some next → IsQuiet current halted → halted ≡ false
+pub next_quiet : (items : List Item) (current : Option ℕ) (piece next : ℕ) (halted : Bool)
+    → next_piece items current piece ≡ Some next → HasNoRoundWhileHalted current halted → halted ≡ false
 next_quiet items None piece next halted goes_on quiet = absurd (cc)
 next_quiet items (Some r) piece next halted goes_on quiet = quiet
 

@@ -9,9 +9,9 @@ use Rattle.usb_packet.specs.declared.packet.TokenKind.TheVariants.{Out, In, Setu
 use Rattle.usb_control.specs.TryFunctions.{answer_to}
 use Rattle.hid_layout.specs.Controls.{items_of}
 use Rattle.hid_requests.specs.declared.codes.TheConstants.{REPORT_ENDPOINT}
-use Rattle.hid_device.specs.ReportState.{due_where}
+use Rattle.hid_bus.specs.ReportState.{due_where}
 use Rattle.hid_device.specs.Core.{CoreState, core_after_ack, core_after_due, core_at_poll, core_with_due_round, poll_response}
-use Rattle.hid_device.specs.Device.{DeviceState, after_ignored_packet, control_answer, core_of, device_after, device_after_effect, device_after_other, device_after_poll, device_after_unheard, device_answer, effect_of, is_control, is_poll}
+use Rattle.hid_device.specs.Device.{DeviceState, after_ignored_packet, control_answer, core_of, device_after, device_after_effect, device_after_other, device_after_poll, device_after_ignored, device_answer, effect_of, is_control, is_poll}
 
 -- a test that fails last fails
 never : (a b : Bool) → a && (b && false) ≡ false
@@ -29,13 +29,13 @@ no_poll d In addr endp zero = rw zero (never (core_of d).is_configured (addr == 
 given : (d : DeviceState) (kind : TokenKind) (addr endp : ℕ) → addr ≡ d.addr → endp ≡ 0 → is_control d (Token kind addr endp) ≡ true
 given d kind addr endp here zero = grind (arith, nat_tests, here, zero)
 
--- so endpoint 0 hears it, and answers
+-- so endpoint 0 receives it, and answers
 pub token_after : (d : DeviceState) (packet : Packet) (kind : TokenKind) (addr endp : ℕ) → packet ≡ Token kind addr endp → addr ≡ d.addr → endp ≡ 0
     → device_after d packet ≡ device_after_effect d (effect_of d packet)
 token_after d packet kind addr endp is here zero =
     ap (λ (b : Bool). if b then device_after_poll d (core_at_poll (core_of d)) else device_after_other d packet)
     (ap (is_poll d) is ∙ no_poll d kind addr endp zero)
-    ∙ ap (λ (b : Bool). if b then device_after_effect d (effect_of d packet) else device_after_unheard d packet)
+    ∙ ap (λ (b : Bool). if b then device_after_effect d (effect_of d packet) else device_after_ignored d packet)
     (ap (is_control d) is ∙ given d kind addr endp here zero)
 
 pub token_answer : (d : DeviceState) (packet : Packet) (kind : TokenKind) (addr endp : ℕ) → packet ≡ Token kind addr endp → addr ≡ d.addr → endp ≡ 0
@@ -49,7 +49,7 @@ token_answer d packet kind addr endp is here zero =
 pub ack_after : (d : DeviceState) → d.awaits_ack ≡ true
     → device_after d Ack ≡ after_ignored_packet d (core_after_ack (core_of d)) false
 ack_after d awaits_ack =
-    ap (λ (w : Bool). if not w then device_after_effect d (effect_of d Ack) else device_after_unheard d Ack) awaits_ack
+    ap (λ (w : Bool). if not w then device_after_effect d (effect_of d Ack) else device_after_ignored d Ack) awaits_ack
 
 pub ack_answer : (d : DeviceState) → d.awaits_ack ≡ true → device_answer d Ack ≡ None
 ack_answer d awaits_ack = ap (λ (w : Bool). if not w then answer_to (effect_of d Ack) else None) awaits_ack

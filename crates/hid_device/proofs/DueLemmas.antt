@@ -4,7 +4,7 @@ use Rattle.std.specs.Prelude.{nat_eq, ◌||◌}
 use Rattle.std.specs.List.{find, range_with_len}
 use Rattle.hid_layout.specs.Controls.{Item}
 use Rattle.hid_snapshots.specs.Parts.{is_changed}
-use Rattle.hid_device.specs.ReportState.{ReportState, is_due, due_where, first_due}
+use Rattle.hid_bus.specs.ReportState.{ReportState, is_due, due_where, first_due}
 use Rattle.std.proofs.lemmas.Grind.{common_steps}
 
 pub find_next : (p : ℕ → Bool) (n i : ℕ) → i < n → p i ≡ false → find p (range_with_len i (n - i)) ≡ find p (range_with_len (i + 1) (n - (i + 1)))

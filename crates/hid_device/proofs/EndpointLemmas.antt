@@ -4,7 +4,7 @@ use Rattle.std.specs.Prelude.{if◌then◌else◌, Result, Ok, Err}
 use Rattle.hid_layout.specs.Controls.{items_of}
 use Rattle.hid_snapshots.specs.declared.control_state.ControlState.{ControlState}
 use Rattle.hid_snapshots.specs.declared.change.Change.{Change}
-use Rattle.hid_snapshots.specs.declared.change.ChangeFault.{ChangeFault}
+use Rattle.hid_snapshots.specs.declared.fault.ChangeFault.{ChangeFault}
 use Rattle.hid_snapshots.specs.Snapshots.{snapshot_after}
 use Rattle.usb_packet.specs.declared.packet.Packet.{Packet}
 use Rattle.usb_packet.specs.declared.packet.Packet.TheVariants.{Token, Data, Ack, Nak, Stall}
@@ -15,10 +15,10 @@ use Rattle.hid_device.specs.declared.decisions.PendingWrite.{PendingWrite}
 use Rattle.hid_device.specs.declared.decisions.PendingWrite.TheVariants as pendings
 use Rattle.hid_device.specs.EndpointIndependence.{LeavesEndpoint, LeavesRequests, LeavesRounds, LeavesWaits, core_after_abort, effect_aborts_round, effect_sets_configuration, with_halt}
 use Rattle.hid_device.specs.RequestDecisions.{RequestDecision, Refuses, Reads, Writes}
-use Rattle.hid_device.specs.ReportState.{ReportState, due_where, with_abort, with_idle}
+use Rattle.hid_bus.specs.ReportState.{ReportState, due_where, with_abort, with_idle}
 use Rattle.hid_device.specs.Core.{CoreState, configured_core, core_after_ack, core_after_due, core_at_poll, core_with_due_round, halted_core}
 use Rattle.hid_device.specs.RequestTable.{core_after_decision, core_after_write, core_table, decide}
-use Rattle.hid_device.specs.Device.{DeviceState, after_ignored_packet, changed_device, core_of, device_after, device_after_effect, device_after_poll, device_after_unheard, effect_of, framed_device, halted_device, is_control, is_poll, with_core}
+use Rattle.hid_device.specs.Device.{DeviceState, after_ignored_packet, changed_device, core_of, device_after, device_after_effect, device_after_poll, device_after_ignored, effect_of, framed_device, halted_device, is_control, is_poll, with_core}
 
 -- ---- what endpoint 0 leaves
 
@@ -119,7 +119,7 @@ passes : (d : DeviceState) (core : CoreState) (awaits_ack : Bool) → LeavesRequ
     → LeavesEndpoint d (after_ignored_packet d core awaits_ack)
 passes d core awaits_ack leaves = record { address = refl; stage = refl; requests = leaves }
 
-unheard_leaves : (d : DeviceState) (packet : Packet) → LeavesEndpoint d (device_after_unheard d packet)
+unheard_leaves : (d : DeviceState) (packet : Packet) → LeavesEndpoint d (device_after_ignored d packet)
 unheard_leaves d Ack = passes d (core_after_ack (core_of d)) false refl
 unheard_leaves d (Token kind addr endp) = passes d (core_of d) false refl
 unheard_leaves d (Data one payload) = passes d (core_of d) false refl
@@ -135,7 +135,7 @@ leaves_if d false false polled last_packet other none here there = there
 pub polls_leave : (d : DeviceState) (packet : Packet) → is_control d packet ≡ false → LeavesEndpoint d (device_after d packet)
 polls_leave d packet none =
     leaves_if d (is_poll d packet) (is_control d packet) (device_after_poll d (core_at_poll (core_of d)))
-    (device_after_effect d (effect_of d packet)) (device_after_unheard d packet) none
+    (device_after_effect d (effect_of d packet)) (device_after_ignored d packet) none
     (passes d (core_at_poll (core_of d)) _ (opened_where (core_of d) (core_of d).current)) (unheard_leaves d packet)
 
 change_leaves : (core : CoreState) (result : Result (List ControlState) ChangeFault)

@@ -2,15 +2,15 @@
 use Rattle.std.proofs.Common.{◌≡◌, ℕ, zero, suc, ◌<◌, Bool, true, false, cond, List, [], ◌∷◌, ◌++◌, length, ◌==◌, refl, sym, ◌∙◌, subst, append_assoc, arith}
 use Rattle.std.specs.List.{flat_map}
 use Rattle.std.proofs.lemmas.List.Sums.{sum_by-cons}
-use Rattle.hid_descriptor.specs.declared.report.Report.{Report}
-use Rattle.hid_descriptor.specs.declared.report.ReportKind.{ReportKind}
-use Rattle.hid_descriptor.specs.declared.report.ReportKind.TheVariants.{Input, Output, Feature}
-use Rattle.hid_descriptor.specs.Kinds.{same_kind}
+use Rattle.hid_report_descriptor.specs.declared.report.Report.{Report}
+use Rattle.hid_report_descriptor.specs.declared.report.ReportKind.{ReportKind}
+use Rattle.hid_report_descriptor.specs.declared.report.ReportKind.TheVariants.{Input, Output, Feature}
+use Rattle.hid_report_descriptor.specs.Kinds.{same_kind}
 use Rattle.hid_layout.specs.Controls.{is_input}
-use Rattle.hid_descriptor.specs.Fields.{Field, fields, report_bits}
-use Rattle.hid_descriptor.specs.Faults.{upward}
+use Rattle.hid_report_descriptor.specs.Fields.{Field, fields, report_bits}
+use Rattle.hid_report_descriptor.specs.Faults.{numbers_from}
 use Rattle.hid_layout.specs.Layout.{Contents}
-use Rattle.hid_descriptor.specs.Reporting.{report_if_any, reports_of_kind, reports_of}
+use Rattle.hid_report_descriptor.specs.Reporting.{report_if_any, reports_of_kind, reports_of}
 use Rattle.hid_device.specs.Core.{CoreState, IsSound}
 use Rattle.hid_device.specs.Inputs.{input_count, AreInputsFirst}
 use Rattle.hid_device.specs.Creation.{ParsesTo}
@@ -68,10 +68,12 @@ first_of_two xs ys h k =
 reports_split : (fs : List Field) → AreInputsFirst (reports_of fs)
 unfolding reports_of reports_of_kind
 reports_split fs =
-    let xs = flat_map (report_if_any fs Input) (upward 0 256) in
-    let ys = flat_map (report_if_any fs Output) (upward 0 256) in
-    let zs = flat_map (report_if_any fs Feature) (upward 0 256) in
-    subst AreInputsFirst (sym (append_assoc xs ys zs)) (first_of_two xs (ys ++ zs) (of_kind fs Input (upward 0 256)) (all_appended false ys zs (of_kind fs Output (upward 0 256)) (of_kind fs Feature (upward 0 256))))
+    let xs = flat_map (report_if_any fs Input) (numbers_from 0 256) in
+    let ys = flat_map (report_if_any fs Output) (numbers_from 0 256) in
+    let zs = flat_map (report_if_any fs Feature) (numbers_from 0 256) in
+    subst AreInputsFirst (sym (append_assoc xs ys zs))
+    (first_of_two xs (ys ++ zs) (of_kind fs Input (numbers_from 0 256))
+    (all_appended false ys zs (of_kind fs Output (numbers_from 0 256)) (of_kind fs Feature (numbers_from 0 256))))
 
 pub inputs_first : (descriptor : List ℕ) (layout : Contents) → ParsesTo descriptor layout
     → AreInputsFirst layout.reports

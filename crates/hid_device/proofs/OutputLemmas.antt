@@ -7,9 +7,9 @@ use Rattle.std.proofs.lemmas.List.{drop_all, length-drop, length-replicate, leng
 use Rattle.std.proofs.lemmas.List.FromFn.{length-map-range_with_len}
 use Rattle.std.proofs.lemmas.Option.{slice_get-get_or, slice_get-map, slice_get_within}
 use Rattle.std.proofs.lemmas.List.Quantifiers.{position-Some}
-use Rattle.hid_descriptor.specs.declared.report.Report.{Report}
-use Rattle.hid_descriptor.specs.declared.report.ReportKind.TheVariants.{Input}
-use Rattle.hid_descriptor.specs.Kinds.{same_kind}
+use Rattle.hid_report_descriptor.specs.declared.report.Report.{Report}
+use Rattle.hid_report_descriptor.specs.declared.report.ReportKind.TheVariants.{Input}
+use Rattle.hid_report_descriptor.specs.Kinds.{same_kind}
 use Rattle.hid_layout.specs.Controls.{is_input, is_input_report}
 use Rattle.hid_layout.specs.Layout.{Contents}
 use Rattle.hid_layout.specs.Reports.{report_bytes}
@@ -22,8 +22,8 @@ use Rattle.hid_requests.specs.declared.class.Protocol.{Protocol}
 use Rattle.hid_device.specs.Core.{CoreState, IsSound}
 use Rattle.hid_device.specs.RequestTable.{with_idle_time}
 use Rattle.hid_device.specs.Inputs.{input_count}
-use Rattle.hid_device.specs.Outputs.{AreOutputs, bare_outputs, in_place_of, is_named, kept_bytes, kept_reports, number_of, with_report}
-use Rattle.hid_device.specs.ReportState.{ReportState, with_idle}
+use Rattle.hid_device.specs.Outputs.{AreOutputs, bare_outputs, in_place_of, is_output_named, kept_bytes, kept_reports, report_number_of, with_report}
+use Rattle.hid_bus.specs.ReportState.{ReportState, with_idle}
 
 bare_length : (layout : Contents) (r : ℕ) → length (bare_report layout r) ≡ report_bytes layout r
 bare_length layout r = by_ids layout.numbered refl
@@ -123,10 +123,11 @@ kept_is outputs i bytes output new at is = ap (λ (x : List ℕ). slice_set outp
     by_place (Some there) h = let e : output ≡ there = cc in ap (λ (x : List ℕ). slice_set outputs i (in_place_of x bytes)) e
 
 -- the report that is found by its kind is of that kind
-pub named_input : (reports : List Report) (id r : ℕ) → number_of reports Input id ≡ Some r → is_input reports r ≡ true
+pub named_input : (reports : List Report) (id r : ℕ) → report_number_of reports Input id ≡ Some r
+    → is_input reports r ≡ true
 named_input reports id r found =
     let d : Report = record { kind = Input; id = id; bits = 0 } in
-    let p = position-Some (is_named Input id) reports r d found in
+    let p = position-Some (is_output_named Input id) reports r d found in
     let named : same_kind (get_or reports r d).kind Input && ((get_or reports r d).id == id) ≡ true = p.1 in
     let kind : same_kind (get_or reports r d).kind Input ≡ true = grind (arith, named) in
     ap is_input_report (slice_get-get_or reports r d p.0) ∙ kind

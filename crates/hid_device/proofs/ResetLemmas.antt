@@ -3,7 +3,7 @@ use Rattle.std.proofs.Common.{◌≡◌, ℕ, Bool, false, List, length, replica
 use Rattle.std.proofs.lemmas.List.{length-replicate}
 use Rattle.hid_layout.specs.Controls.{items_of}
 use Rattle.hid_snapshots.specs.Parts.{blank_parts}
-use Rattle.hid_device.specs.ReportState.{no_idle}
+use Rattle.hid_bus.specs.ReportState.{no_idle}
 use Rattle.hid_device.specs.Inputs.{input_count}
 use Rattle.hid_device.specs.Core.{CoreState, IsSound, reset_core}
 use Rattle.hid_device.specs.Device.{DeviceState, core_of, reset_device, with_core}

@@ -1,12 +1,12 @@
 -- Worked values of known devices: each is worked out by hand, and a wrong one fails the check.
 use Rattle.std.specs.Prelude.{◌≡◌, ℕ, Bool, true, false, List, [], ◌∷◌, Some, None, refl}
-use Rattle.hid_descriptor.specs.declared.report.Report.{Report}
-use Rattle.hid_descriptor.specs.declared.report.ReportKind.{ReportKind}
-use Rattle.hid_descriptor.specs.declared.report.ReportKind.TheVariants.{Input, Output, Feature}
+use Rattle.hid_report_descriptor.specs.declared.report.Report.{Report}
+use Rattle.hid_report_descriptor.specs.declared.report.ReportKind.{ReportKind}
+use Rattle.hid_report_descriptor.specs.declared.report.ReportKind.TheVariants.{Input, Output, Feature}
 use Rattle.hid_layout.specs.declared.boot.TheConstants.{KEYBOARD, MOUSE}
 use Rattle.hid_device.specs.Config.{is_config}
 use Rattle.hid_device.specs.Inputs.{input_count}
-use Rattle.hid_device.specs.Outputs.{kept_place, number_of, with_report}
+use Rattle.hid_device.specs.Outputs.{kept_place, report_number_of, with_report}
 use Rattle.hid_device.specs.RequestTable.{config_info, configuration_number, endpoint_status, with_idle_time}
 use Rattle.hid_device.specs.RequestDecisions.{Refuses, Reads, reads_if}
 use Rattle.hid_requests.specs.Descriptors.{configuration_bytes}
@@ -95,7 +95,7 @@ no_second = refl
 abbrev reports : List Report
 reports = report Input 1 ∷ report Input 3 ∷ report Output 1 ∷ report Feature 2 ∷ []
 
-second_input : number_of reports Input 3 ≡ Some 1
+second_input : report_number_of reports Input 3 ≡ Some 1
 second_input = refl
 
 second_kept : kept_place reports Feature 2 ≡ Some 1

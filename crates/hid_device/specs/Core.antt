@@ -8,7 +8,7 @@ use Rattle.hid_snapshots.specs.declared.change.Change.{Change}
 use Rattle.hid_snapshots.specs.ControlStates.{FitsSnapshot, FitsShown}
 use Rattle.hid_snapshots.specs.Codes.{has_empty_codes}
 use Rattle.hid_snapshots.specs.Pieces.{is_last_piece, piece_of, pieces_of}
-use Rattle.hid_snapshots.specs.Encoded.{part_bytes}
+use Rattle.hid_snapshots.specs.PartBytes.{part_bytes}
 use Rattle.hid_snapshots.specs.Encoding.{IsEncoding, IsOnlyEncoding, AreBytes, part_numbers}
 use Rattle.hid_snapshots.specs.Parts.{has_zeros, is_changed}
 use Rattle.usb_packet.specs.declared.packet.Packet.{Packet}
@@ -21,25 +21,35 @@ use Rattle.hid_device.specs.declared.decisions.PendingWrite.TheVariants.{Nothing
 use Rattle.hid_layout.specs.Parsing.{ParsesTo}
 use Rattle.hid_device.specs.Inputs.{input_count, AreInputsFirst}
 use Rattle.hid_device.specs.Outputs.{AreOutputs, bare_outputs}
-use Rattle.hid_device.specs.ReportState.{ReportState, initial_reports, with_abort, due_where, after_change, after_frame, after_opening, no_idle}
+use Rattle.hid_bus.specs.ReportState.{ReportState, initial_reports, with_abort, due_where, after_change, after_frame, after_opening, no_idle}
 
--- The core of a device: its layout, its configuration and its descriptor; whether SET_CONFIGURATION took effect; the
--- state of its reports; the report of the open round, if there is one, and which of its pieces goes out, from 0; whether
--- data go out as DATA1, and whether that endpoint is halted; its protocol, and its Output and Feature reports as they
--- were set last; of the last request the answer, if it has one, and what is carried out when its status is asked for.
+-- The core of a device: what polls and requests depend on.
 pub record CoreState : Type 0 where
+  -- the layout of its reports
   pub layout : Contents
+  -- the configuration that it was made with
   pub config : Config
+  -- the report descriptor that it was made with
   pub descriptor : List ℕ
+  -- whether SET_CONFIGURATION took effect
   pub is_configured : Bool
+  -- the state of the Input reports
   pub reports : ReportState
+  -- the report of the open round, if there is one
   pub current : Option ℕ
+  -- the piece that goes out next, from 0
   pub piece : ℕ
+  -- whether data go out as DATA1
   pub toggle : Bool
+  -- whether the interrupt endpoint is halted
   pub halted : Bool
+  -- the protocol, boot or report
   pub protocol : Protocol
+  -- the Output and Feature reports as they were set last
   pub outputs : List (List ℕ)
+  -- the answer to the last request, if it has one
   pub answer : Option (List ℕ)
+  -- what is carried out when the status of the last request is asked for
   pub pending : PendingWrite
 
 -- A round of a report opens: the part that it shows is fixed, and the first piece of its bytes goes out.
@@ -178,10 +188,10 @@ IsPiece items (Some r) piece = piece < pieces_of items r
 abbrev pub SendsPart : Contents → List ControlState → Option ℕ → Type 0
 SendsPart layout parts current = IfSome current (λ r. AreBytesOf layout parts r (part_bytes layout r parts))
 
--- no round is open while the endpoint is halted
-abbrev pub IsQuiet : Option ℕ → Bool → Type 0
-IsQuiet None halted = Unit {0}
-IsQuiet (Some r) halted = halted ≡ false
+-- either no round is open, or the endpoint isn't halted
+abbrev pub HasNoRoundWhileHalted : Option ℕ → Bool → Type 0
+HasNoRoundWhileHalted None halted = Unit {0}
+HasNoRoundWhileHalted (Some r) halted = halted ≡ false
 
 -- A device's core is sound: its layout is that of its descriptor, it can send that nothing is pressed or has moved, its
 -- lists have one entry for each Input report, and the open round is of an Input report and has its part's bytes.
@@ -198,7 +208,7 @@ pub record IsSound (core : CoreState) : Type 0 where
   pub of_input : IsBelow (input_count core.layout.reports) core.current
   pub piece : IsPiece (items_of core.layout) core.current core.piece
   pub sends : SendsPart core.layout core.reports.fixed core.current
-  pub quiet : IsQuiet core.current core.halted
+  pub quiet : HasNoRoundWhileHalted core.current core.halted
   pub outputs : AreOutputs core.layout core.outputs
 
 -- the bytes that are kept of an open round

@@ -1,10 +1,10 @@
 -- Which descriptors and configurations make a device, and why others don't (our choice).
 use Rattle.std.specs.Prelude.{◌≡◌, ℕ, true, false, List, replicate, None, Result, Ok, Err}
-use Rattle.hid_descriptor.specs.Faults.{Explains}
+use Rattle.hid_report_descriptor.specs.Faults.{Explains}
 use Rattle.hid_layout.specs.Layout.{Contents}
 use Rattle.hid_layout.specs.Controls.{items_of}
 use Rattle.hid_snapshots.specs.declared.control_state.ControlState.{ControlState}
-use Rattle.hid_snapshots.specs.Full.{IsFull}
+use Rattle.hid_snapshots.specs.ExactCapacity.{IsFull}
 use Rattle.hid_snapshots.specs.ControlStates.{blank, FitsSnapshot, FitsShown}
 use Rattle.hid_snapshots.specs.Codes.{has_empty_codes}
 use Rattle.hid_snapshots.specs.Parts.{blank_parts, has_zeros}
@@ -12,7 +12,7 @@ use Rattle.hid_device.specs.declared.config.Config.{Config}
 use Rattle.hid_requests.specs.declared.fault.DeviceCause.{DeviceCause}
 use Rattle.hid_requests.specs.declared.fault.DeviceCause.TheVariants.{BadConfig, Layout, NoEmptyCode, RelativeWithoutZero, Memory}
 use Rattle.hid_requests.specs.declared.fault.DeviceFault.{DeviceFault}
-use Rattle.hid_device.specs.declared.room.Room.{Room}
+use Rattle.hid_device.specs.declared.storage.Room.{Room}
 use Rattle.hid_device.specs.Config.{is_config}
 use Rattle.hid_device.specs.Inputs.{input_count}
 use Rattle.hid_device.specs.Outputs.{bare_outputs}
@@ -21,7 +21,7 @@ use Rattle.usb_control.specs.Device.{idle_control}
 use Rattle.hid_device.specs.declared.decisions.PendingWrite.TheVariants.{Nothing}
 pub use Rattle.hid_layout.specs.Parsing.{ParsesTo}
 use Rattle.hid_device.specs.Core.{CoreState}
-use Rattle.hid_device.specs.ReportState.{ReportState}
+use Rattle.hid_bus.specs.ReportState.{ReportState}
 use Rattle.hid_device.specs.Device.{DeviceState, with_core}
 
 -- A device that isn't configured yet: nothing is pressed and nothing has moved, no idle time is set (our choice),

@@ -72,17 +72,17 @@ device_after_effect d effect =
 
 -- the device after a packet that is neither a poll nor endpoint 0's: its wait ends, and an ACK directly after the data
 -- of a poll closes their piece
-abbrev pub device_after_unheard : DeviceState → Packet → DeviceState
-device_after_unheard d Ack = after_ignored_packet d (core_after_ack (core_of d)) false
-device_after_unheard d (Token kind addr endp) = after_ignored_packet d (core_of d) false
-device_after_unheard d (Data one payload) = after_ignored_packet d (core_of d) false
-device_after_unheard d Nak = after_ignored_packet d (core_of d) false
-device_after_unheard d Stall = after_ignored_packet d (core_of d) false
+abbrev pub device_after_ignored : DeviceState → Packet → DeviceState
+device_after_ignored d Ack = after_ignored_packet d (core_after_ack (core_of d)) false
+device_after_ignored d (Token kind addr endp) = after_ignored_packet d (core_of d) false
+device_after_ignored d (Data one payload) = after_ignored_packet d (core_of d) false
+device_after_ignored d Nak = after_ignored_packet d (core_of d) false
+device_after_ignored d Stall = after_ignored_packet d (core_of d) false
 
 -- the device after a packet that isn't a poll, by whether it is endpoint 0's
 abbrev pub device_after_other : DeviceState → Packet → DeviceState
 device_after_other d packet =
-    if is_control d packet then device_after_effect d (effect_of d packet) else device_after_unheard d packet
+    if is_control d packet then device_after_effect d (effect_of d packet) else device_after_ignored d packet
 
 -- The device after a packet arrived.
 abbrev pub device_after : DeviceState → Packet → DeviceState

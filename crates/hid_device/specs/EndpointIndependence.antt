@@ -4,7 +4,7 @@ use Rattle.std.specs.Prelude.{◌≡◌, Bool, true, false}
 use Rattle.usb_control.specs.Device.{Effect, Applies}
 use Rattle.hid_device.specs.declared.decisions.PendingWrite.{PendingWrite}
 use Rattle.hid_device.specs.declared.decisions.PendingWrite.TheVariants.{Configure, Halt, Clear}
-use Rattle.hid_device.specs.ReportState.{with_idle}
+use Rattle.hid_bus.specs.ReportState.{with_idle}
 use Rattle.hid_device.specs.Core.{CoreState, cleared_core, halted_core}
 use Rattle.hid_device.specs.Device.{DeviceState, core_of, with_core}
 

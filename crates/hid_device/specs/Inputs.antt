@@ -1,8 +1,8 @@
 -- The Input reports of a layout: they come first among its reports (our choice of their order; HID 1.11, 5.6).
 use Rattle.std.specs.Prelude.{◌≡◌, ℕ, ◌<◌, true, List, count_by}
-use Rattle.hid_descriptor.specs.declared.report.Report.{Report}
-use Rattle.hid_descriptor.specs.declared.report.ReportKind.TheVariants.{Input}
-use Rattle.hid_descriptor.specs.Kinds.{same_kind}
+use Rattle.hid_report_descriptor.specs.declared.report.Report.{Report}
+use Rattle.hid_report_descriptor.specs.declared.report.ReportKind.TheVariants.{Input}
+use Rattle.hid_report_descriptor.specs.Kinds.{same_kind}
 use Rattle.hid_layout.specs.Controls.{is_input}
 
 -- how many of the reports are Input reports

@@ -1,4 +1,3 @@
-pub use Rattle.hid_bus.specs.ReportState
 pub mod Config
 pub mod Inputs
 pub mod Outputs

@@ -1,21 +1,21 @@
 -- The reports of a device by kind and ID, and what is kept of those that a host sets (HID 1.11, 5.6, 7.2.1 and 7.2.2).
 use Rattle.std.specs.Prelude.{◌≡◌, ℕ, ◌+◌, ◌-◌, Bool, ◌&&◌, ◌==◌, if◌then◌else◌, List, length, map, drop, position, slice_get, slice_set, Option, Some, None}
 use Rattle.std.specs.List.{range_with_len}
-use Rattle.hid_descriptor.specs.declared.report.Report.{Report}
-use Rattle.hid_descriptor.specs.declared.report.ReportKind.{ReportKind}
-use Rattle.hid_descriptor.specs.Kinds.{same_kind}
+use Rattle.hid_report_descriptor.specs.declared.report.Report.{Report}
+use Rattle.hid_report_descriptor.specs.declared.report.ReportKind.{ReportKind}
+use Rattle.hid_report_descriptor.specs.Kinds.{same_kind}
 use Rattle.hid_layout.specs.Layout.{Contents}
 use Rattle.hid_layout.specs.Reports.{report_bytes}
 use Rattle.hid_snapshots.specs.Encoding.{bare_report}
 use Rattle.hid_device.specs.Inputs.{input_count}
 
 -- a report of this kind and ID
-abbrev pub is_named : ReportKind → ℕ → Report → Bool
-is_named kind id report = same_kind report.kind kind && (report.id == id)
+abbrev pub is_output_named : ReportKind → ℕ → Report → Bool
+is_output_named kind id report = same_kind report.kind kind && (report.id == id)
 
 -- The number of the report of this kind and ID, where there is one.
-abbrev pub number_of : List Report → ReportKind → ℕ → Option ℕ
-number_of reports kind id = position (is_named kind id) reports
+abbrev pub report_number_of : List Report → ReportKind → ℕ → Option ℕ
+report_number_of reports kind id = position (is_output_named kind id) reports
 
 -- the reports that a host sets, Output and Feature: they stand after the Input reports
 abbrev pub kept_reports : List Report → List Report
@@ -23,7 +23,7 @@ kept_reports reports = drop (input_count reports) reports
 
 -- the place of the report of this kind and ID among the Output and Feature reports, if one is there
 abbrev pub kept_place : List Report → ReportKind → ℕ → Option ℕ
-kept_place reports kind id = position (is_named kind id) (kept_reports reports)
+kept_place reports kind id = position (is_output_named kind id) (kept_reports reports)
 
 -- how many bytes the report at a place among the Output and Feature reports has
 abbrev pub kept_bytes : Contents → ℕ → ℕ

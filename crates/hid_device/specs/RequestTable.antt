@@ -2,11 +2,11 @@
 -- 4.3, 7.1 and 7.2).
 use Rattle.std.specs.Prelude.{◌≡◌, ℕ, Bool, true, false, not, ◌&&◌, ◌==◌, nat_le, if◌then◌else◌, List, [], ◌∷◌, length, replicate, slice_get, slice_set, Option, Some, None, option_map}
 use Rattle.std.specs.Option.{option_and_then}
-use Rattle.hid_descriptor.specs.declared.report.ReportKind.{ReportKind}
-use Rattle.hid_descriptor.specs.declared.report.ReportKind.TheVariants.{Input, Output, Feature}
+use Rattle.hid_report_descriptor.specs.declared.report.ReportKind.{ReportKind}
+use Rattle.hid_report_descriptor.specs.declared.report.ReportKind.TheVariants.{Input, Output, Feature}
 use Rattle.hid_layout.specs.Controls.{items_of}
 use Rattle.hid_snapshots.specs.Parts.{blank_parts, still_parts}
-use Rattle.hid_snapshots.specs.Encoded.{part_bytes}
+use Rattle.hid_snapshots.specs.PartBytes.{part_bytes}
 use Rattle.usb_control.specs.declared.device.TheConstants.{MAX_WRITE}
 use Rattle.usb_control.specs.declared.setup.Setup.{Setup}
 use Rattle.usb_control.specs.declared.descriptors.DeviceInfo.{DeviceInfo}
@@ -15,7 +15,7 @@ use Rattle.usb_control.specs.TryFunctions.{Table}
 use Rattle.hid_requests.specs.declared.request_kinds.RequestKind.{RequestKind}
 use Rattle.hid_requests.specs.declared.request_kinds.RequestKind.TheVariants.{Status, InterfaceStatus, ControlStatus, ReportStatus, DeviceDescriptor, Configuration, HidDescriptor, ReportDescriptor, GetConfiguration, GetInterface, SetConfiguration, ClearFeature, SetFeature, GetReport, GetIdle, GetProtocol, SetReport, SetIdle, SetProtocol}
 use Rattle.hid_requests.specs.RequestKinds.{request_kind_of}
-use Rattle.hid_requests.specs.Class.{number_of as protocol_number}
+use Rattle.hid_requests.specs.Class.{protocol_number}
 use Rattle.hid_requests.specs.Descriptors.{device_bytes, configuration_bytes, hid_bytes}
 use Rattle.hid_requests.specs.Boot.{is_boot, protocol_of, subclass_of}
 use Rattle.hid_device.specs.declared.config.Config.{Config}
@@ -23,8 +23,8 @@ use Rattle.hid_requests.specs.declared.codes.TheConstants.{REPORT_ENDPOINT}
 use Rattle.hid_device.specs.declared.decisions.PendingWrite.{PendingWrite}
 use Rattle.hid_device.specs.declared.decisions.PendingWrite.TheVariants.{Nothing, Configure, Keep, Idle, Halt, Clear}
 use Rattle.hid_device.specs.declared.decisions.PendingWrite.TheVariants as pendings
-use Rattle.hid_device.specs.Outputs.{kept_bytes, kept_place, number_of, with_report}
-use Rattle.hid_device.specs.ReportState.{with_idle}
+use Rattle.hid_device.specs.Outputs.{kept_bytes, kept_place, report_number_of, with_report}
+use Rattle.hid_bus.specs.ReportState.{with_idle}
 use Rattle.hid_device.specs.RequestDecisions.{RequestDecision, Refuses, Reads, Writes, is_accepted, reads_if, writes_if}
 use Rattle.hid_device.specs.Core.{CoreState, cleared_core, configured_core, halted_core}
 
@@ -64,25 +64,25 @@ output_of core kind id = option_and_then (slice_get core.outputs) (kept_place co
 
 -- the report of this kind and ID as it is now (HID 1.11, 7.2.1)
 abbrev pub report_now : CoreState → ReportKind → ℕ → Option (List ℕ)
-report_now core Input id = option_map (still_bytes core) (number_of core.layout.reports Input id)
+report_now core Input id = option_map (still_bytes core) (report_number_of core.layout.reports Input id)
 report_now core Output id = output_of core Output id
 report_now core Feature id = output_of core Feature id
 
--- a read of what there is
-abbrev pub reads_any : Option (List ℕ) → RequestDecision
-reads_any None = Refuses
-reads_any (Some bytes) = Reads bytes
+-- a read of these bytes, refused where there are none
+abbrev pub reads_optional : Option (List ℕ) → RequestDecision
+reads_optional None = Refuses
+reads_optional (Some bytes) = Reads bytes
 
 -- the idle time of the Input report with this ID, or for 0 of the first (HID 1.11, 7.2.3)
 abbrev pub idle_time_of : CoreState → ℕ → Option ℕ
 idle_time_of core id =
     if id == 0 then slice_get core.reports.idle 0
-    else option_and_then (slice_get core.reports.idle) (number_of core.layout.reports Input id)
+    else option_and_then (slice_get core.reports.idle) (report_number_of core.layout.reports Input id)
 
 -- a report is set with as many bytes as it has (HID 1.11, 7.2.2), which are no more than a device takes
-abbrev pub keeps : CoreState → ℕ → Option ℕ → RequestDecision
-keeps core len None = Refuses
-keeps core len (Some i) = writes_if ((len == kept_bytes core.layout i) && nat_le len MAX_WRITE) (Keep i)
+abbrev pub sets_report : CoreState → ℕ → Option ℕ → RequestDecision
+sets_report core len None = Refuses
+sets_report core len (Some i) = writes_if ((len == kept_bytes core.layout i) && nat_le len MAX_WRITE) (Keep i)
 
 -- the idle time of a report is set where there is one
 abbrev pub sets_idle_of : ℕ → Option ℕ → RequestDecision
@@ -93,7 +93,7 @@ sets_idle_of time (Some r) = Writes (Idle (Some r) time)
 abbrev pub sets_idle : CoreState → ℕ → ℕ → RequestDecision
 sets_idle core id time =
     if id == 0 then Writes (Idle None time)
-    else sets_idle_of time (number_of core.layout.reports Input id)
+    else sets_idle_of time (report_number_of core.layout.reports Input id)
 
 -- What is decided on each row of the request tables. A status is two bytes of zeros: neither powered by itself nor able
 -- to wake its host, and endpoint 0 is never halted; that of the other endpoint reports its halt (9.4.5). No such
@@ -114,10 +114,10 @@ row_decision core GetInterface = reads_if core.is_configured (0 ∷ [])
 row_decision core SetConfiguration = Writes Configure
 row_decision core ClearFeature = writes_if core.is_configured Clear
 row_decision core SetFeature = writes_if core.is_configured Halt
-row_decision core (GetReport kind id) = reads_any (report_now core kind id)
-row_decision core (GetIdle id) = reads_any (option_map (λ time. time ∷ []) (idle_time_of core id))
+row_decision core (GetReport kind id) = reads_optional (report_now core kind id)
+row_decision core (GetIdle id) = reads_optional (option_map (λ time. time ∷ []) (idle_time_of core id))
 row_decision core GetProtocol = reads_if (is_boot core.config.boot) (protocol_number core.protocol ∷ [])
-row_decision core (SetReport kind id len) = keeps core len (kept_place core.layout.reports kind id)
+row_decision core (SetReport kind id len) = sets_report core len (kept_place core.layout.reports kind id)
 row_decision core (SetIdle id time) = sets_idle core id time
 row_decision core (SetProtocol protocol) =
     writes_if (is_boot core.config.boot && not core.is_configured) (pendings.Protocol protocol)

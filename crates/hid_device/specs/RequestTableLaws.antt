@@ -9,17 +9,17 @@ use Rattle.usb_control.specs.TryFunctions.{AppliesBy, PreparesBy}
 use Rattle.hid_requests.specs.declared.request_kinds.RequestKind.{RequestKind}
 use Rattle.hid_requests.specs.declared.request_kinds.RequestKind.TheVariants.{Status, InterfaceStatus, ControlStatus, ReportStatus, DeviceDescriptor, Configuration, HidDescriptor, ReportDescriptor, GetConfiguration, GetInterface, SetConfiguration, ClearFeature, SetFeature, GetReport, GetIdle, GetProtocol, SetReport, SetIdle, SetProtocol}
 use Rattle.hid_requests.specs.RequestKinds.{IsSorted, request_kind_of}
-use Rattle.hid_descriptor.specs.declared.report.ReportKind.TheVariants.{Input}
-use Rattle.hid_requests.specs.Class.{number_of as protocol_number}
-use Rattle.hid_requests.proofs.AskedLemmas.{sorted}
+use Rattle.hid_report_descriptor.specs.declared.report.ReportKind.TheVariants.{Input}
+use Rattle.hid_requests.specs.Class.{protocol_number}
+use Rattle.hid_requests.proofs.RequestKindLemmas.{sorted}
 use Rattle.hid_requests.specs.Boot.{is_boot}
 use Rattle.hid_device.specs.declared.decisions.PendingWrite.{PendingWrite}
 use Rattle.hid_device.specs.declared.decisions.PendingWrite.TheVariants.{Nothing, Configure, Keep, Idle, Halt, Clear}
 use Rattle.hid_device.specs.declared.decisions.PendingWrite.TheVariants as pendings
 use Rattle.hid_device.specs.Core.{CoreState}
 use Rattle.hid_device.specs.RequestDecisions.{RequestDecision, Refuses, Reads, Writes, is_accepted, reads_if, writes_if}
-use Rattle.hid_device.specs.Outputs.{kept_bytes, kept_place, number_of}
-use Rattle.hid_device.specs.RequestTable.{core_after_decision, core_after_write, core_table, decide, decision_on, endpoint_status, idle_time_of, keeps, reads_any, report_now, row_decision, sets_idle, sets_idle_of}
+use Rattle.hid_device.specs.Outputs.{kept_bytes, kept_place, report_number_of}
+use Rattle.hid_device.specs.RequestTable.{core_after_decision, core_after_write, core_table, decide, decision_on, endpoint_status, idle_time_of, reads_optional, report_now, row_decision, sets_idle, sets_idle_of, sets_report}
 
 -- a decision fits a setup: a read one that reads, and a write one that writes no more bytes than a device takes
 abbrev IsOf : Setup → RequestDecision → Type 0
@@ -33,7 +33,7 @@ of_reads setup true bytes is = is
 of_reads setup false bytes is = tt
 
 -- a read of what there is fits a setup that reads
-of_any : (setup : Setup) (bytes : Option (List ℕ)) → reads setup ≡ true → IsOf setup (reads_any bytes)
+of_any : (setup : Setup) (bytes : Option (List ℕ)) → reads setup ≡ true → IsOf setup (reads_optional bytes)
 of_any setup None is = tt
 of_any setup (Some bytes) is = is
 
@@ -52,7 +52,7 @@ of_writes setup false pending writes short = tt
 -- a report that is set fits a setup that writes as many bytes
 of_keeps :
     (core : CoreState) (setup : Setup) (len : ℕ) (place : Option ℕ) → reads setup ≡ false → setup.length ≡ len
-    → IsOf setup (keeps core len place)
+    → IsOf setup (sets_report core len place)
 of_keeps core setup len None writes same = tt
 of_keeps core setup len (Some i) writes same =
     of_writes setup ((len == kept_bytes core.layout i) && nat_le len MAX_WRITE) (Keep i) writes
@@ -76,9 +76,10 @@ of_idle :
     (core : CoreState) (setup : Setup) (id time : ℕ) → reads setup ≡ false → setup.length ≡ 0
     → IsOf setup (sets_idle core id time)
 of_idle core setup id time writes none =
-    of_either setup (id == 0) (Writes (Idle None time)) (sets_idle_of time (number_of core.layout.reports Input id))
+    of_either setup (id == 0) (Writes (Idle None time))
+    (sets_idle_of time (report_number_of core.layout.reports Input id))
     (of_write setup (Idle None time) writes none)
-    (of_idle_of setup time (number_of core.layout.reports Input id) writes none)
+    (of_idle_of setup time (report_number_of core.layout.reports Input id) writes none)
 
 -- what is decided on a row of the request tables fits the setups of that row
 of_row : (core : CoreState) (setup : Setup) (asked : RequestKind) → IsSorted setup asked

@@ -9,7 +9,7 @@ use hid_requests::{Boot, REPORT_ENDPOINT};
 use usb_control::{ConfigInfo, DeviceInfo};
 use usb_packet::MAX_ADDRESS;
 
-/// What the standard descriptors tell of a device (USB 2.0, 9.6).
+/// What the standard descriptors say of a device (USB 2.0, 9.6).
 #[derive(Clone, Copy, Debug, PartialEq, Eq)]
 pub struct Config {
     /// idVendor (USB 2.0, 9.6.1).

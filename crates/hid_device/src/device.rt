@@ -4,15 +4,15 @@ ghost use Rattle.std.specs.Prelude.{◌≡◌, true, IfSome};
 ghost use Rattle.std.specs.Option.{option_copied};
 ghost use Rattle.hid_layout.specs.Controls.{items_of};
 ghost use Rattle.hid_snapshots.specs.Snapshots.{Changes};
-ghost use Rattle.usb_packet.specs.PacketRef.{to_owned, IsShort};
-ghost use Rattle.usb_packet.specs.Spelling.{Fits};
+ghost use Rattle.usb_packet.specs.PacketRef.{to_owned, PayloadFits};
+ghost use Rattle.usb_packet.specs.PacketEncoding.{Fits};
 ghost use Rattle.hid_device.specs.Core.{IsSound, armed_bytes, core_at_poll, piece_at, poll_response, round_of};
 ghost use Rattle.hid_device.specs.Device.{is_poll, device_after, device_answer, configured_device, halted_device, device_after_effect, core_of, changed_device, effect_of, framed_device, after_ignored_packet, device_after_poll, reset_device};
 ghost use Rattle.hid_device.specs.RequestTable.{output_of};
 ghost use Rattle.hid_device.specs.Creation.{MakesDevice};
 
 use crate::config::{Config, is_config};
-use crate::state::Core;
+use crate::device_core::Core;
 use hid_layout::{Layout, ReportKind};
 use hid_requests::{DeviceCause, DeviceFault, REPORT_ENDPOINT};
 use hid_snapshots::{Change, ChangeFault, Shown};
@@ -46,7 +46,7 @@ impl Device {
     ghost use Rattle.std.specs.Borrow.{Lends, sem};
     ghost use Rattle.usb_control.specs.contracts.device.DevControl.{the_row as control_row};
     ghost use Rattle.hid_device.specs.contracts.device.Device.{the_row as device_row};
-    ghost use Rattle.hid_device.specs.contracts.state.Core.{the_row as core_row};
+    ghost use Rattle.hid_device.specs.contracts.device_core.Core.{the_row as core_row};
 
     /// A device at this address that isn't configured yet: nothing is pressed and nothing has moved. It makes all room that
     /// the other calls fill.
@@ -150,7 +150,7 @@ impl Device {
     /// |---|---|
     /// | a token to its address and endpoint 0 | endpoint 0 |
     /// | IN to its address and [`REPORT_ENDPOINT`], once it is configured | the pipe: a poll |
-    /// | data | endpoint 0, which looks whether its token stands before it |
+    /// | data | endpoint 0, which checks that its token came directly before |
     /// | ACK directly after the data of a poll | the pipe: the piece is closed, and with the last one its round |
     /// | another ACK | endpoint 0 |
     /// | all else | none; it ends what either waits for |
@@ -201,8 +201,8 @@ impl Device {
         }
     }
 
-    /// A poll has arrived, which [`Device::is_poll`] tells: a round is opened where none is open and some report is due.
-    /// What [`Device::on_packet`] makes of it but for its answer, which is [`Device::poll_response`].
+    /// A poll has arrived, as [`Device::is_poll`] found: a round is opened where none is open and some report is due.
+    /// [`Device::on_packet`] does this too, and then answers by [`Device::poll_response`].
     pub fn receive_poll(&mut self)
         requires configured { (core_of self.old).is_configured ≡ true }
         ensures device { self.new ≡ device_after_poll self.old (core_at_poll (core_of self.old)) }
@@ -212,12 +212,12 @@ impl Device {
         self.awaits_ack = self.control.requests().open_round().is_some();
     }
 
-    /// The answer to a poll that was heard, with its payload where it stands.
+    /// The answer to a poll that [`Device::receive_poll`] took, with its payload where it stands.
     pub fn poll_response(&self) -> PacketRef<'_>
         requires configured { (core_of self.now).is_configured ≡ true }
         ensures answer { to_owned result ≡ poll_response (core_of self.now) }
         ensures fits { Fits (to_owned result) }
-        ensures short { IsShort result }
+        ensures short { PayloadFits result }
         ensures sound { IsSound (core_of self.now) }
     {
         self.control.requests().poll_response()
@@ -284,7 +284,7 @@ impl Device {
         self.control.requests().is_configured() && (addr == self.addr && endp == REPORT_ENDPOINT)
     }
 
-    /// Endpoint 0 hears a packet.
+    /// Endpoint 0 receives a packet.
     fn receive(&mut self, packet: &Packet) -> Option<Packet>
         requires { self.old.awaits_ack ≡ false }
         ensures device { self.new ≡ device_after_effect self.old (effect_of self.old packet.now) }
@@ -299,7 +299,7 @@ impl Device {
         answer
     }
 
-    /// A packet that isn't endpoint 0's passes: what endpoint 0 heard before it counts no more.
+    /// Endpoint 0 ignores a packet of another endpoint, and forgets the packet before it.
     fn ignore_packet(&mut self)
         ensures { self.new ≡ after_ignored_packet self.old (core_of self.old) self.old.awaits_ack }
     {

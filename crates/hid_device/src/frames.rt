@@ -2,7 +2,7 @@
 
 ghost use Rattle.std.specs.Prelude.{◌≡◌, ◌+◌, map, min};
 ghost use Rattle.hid_device.specs.RequestTable.{with_idle_time};
-ghost use Rattle.hid_device.specs.ReportState.{is_idle_over, most_frames};
+ghost use Rattle.hid_bus.specs.ReportState.{is_idle_over, most_frames};
 
 /// Frames are counted up to the longest idle time, 255 units of four frames (HID 1.11, 7.2.4).
 pub(crate) const MAX_FRAMES: u16 = 1020;

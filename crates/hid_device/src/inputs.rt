@@ -1,11 +1,12 @@
 //! The Input reports of a layout.
 
 ghost use Rattle.std.specs.Prelude.{◌≡◌, ◌≤◌, length};
-ghost use Rattle.hid_descriptor.specs.Kinds.{same_kind};
+ghost use Rattle.hid_report_descriptor.specs.Kinds.{same_kind};
 ghost use Rattle.hid_device.specs.Inputs.{input_count};
 
 use hid_layout::{Layout, Report, ReportKind};
 
+/// Whether it is an Input report.
 fn is_input(report: &Report) -> bool
     ensures { result ≡ same_kind report.now.kind ReportKind.Input }
 {

@@ -10,10 +10,10 @@ ghost use Rattle.hid_device.specs.RequestTable.{core_table};
 ghost use Rattle.hid_device.specs.Device.{DeviceState, changed_device, core_of, device_after, framed_device, halted_device, is_control, reset_device};
 ghost use Rattle.hid_device.specs.Creation.{new_device_with};
 
-/// The endpoints of a device are apart. Whatever endpoint 0 is brought to by a packet, by itself or in a host's transfer, the
-/// snapshot stays, and polls go on as they did unless a configuration, a halt or its end takes effect. A packet that isn't
-/// endpoint 0's, a change, a frame and a halt of the device leave endpoint 0: the packet and the halt but for what was waited
-/// for, the others that too; and after the halt it is the halted one that endpoint 0 tells of.
+/// The endpoints of a device are separate. Whatever a packet does to endpoint 0, by itself or in a host's transfer, the
+/// snapshot stays, and polls go on as before unless a configuration, a halt or a clear takes effect. A change and a frame
+/// leave endpoint 0 as it was. A packet to the other endpoint and a halt by the device change only what endpoint 0 waits for.
+/// After the halt, endpoint 0 reports that endpoint as halted.
 pub fn ends_are_apart()
     ensures snapshot { (effect : Effect) (core : CoreState)
         → (control_after core_table effect core).requests.reports.snapshot

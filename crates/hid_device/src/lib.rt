@@ -46,15 +46,15 @@
 mod config;
 mod decisions;
 mod device;
+mod device_core;
 mod frames;
 mod inputs;
 pub mod laws;
 mod outputs;
-mod room;
-mod state;
+mod storage;
 
 pub use config::Config;
 pub use device::Device;
+pub use device_core::Core;
 pub use hid_layout::boot::{KEYBOARD, MOUSE};
 pub use hid_requests::{Boot, DeviceCause, DeviceFault};
-pub use state::Core;

@@ -2,10 +2,10 @@
 
 ghost use Rattle.std.specs.Prelude.{◌≡◌, ◌<◌, ◌≤◌, length, position, IfOk, IfSome, true};
 ghost use Rattle.hid_layout.specs.Controls.{is_input};
-ghost use Rattle.hid_descriptor.specs.declared.report.ReportKind.TheVariants.{Input};
-ghost use Rattle.hid_snapshots.specs.Full.{IsFull};
+ghost use Rattle.hid_report_descriptor.specs.declared.report.ReportKind.TheVariants.{Input};
+ghost use Rattle.hid_snapshots.specs.ExactCapacity.{IsFull};
 ghost use Rattle.hid_snapshots.specs.Encoding.{bare_report};
-ghost use Rattle.hid_device.specs.Outputs.{bare_outputs, in_place_of, is_named, kept_place, kept_reports, number_of};
+ghost use Rattle.hid_device.specs.Outputs.{bare_outputs, in_place_of, is_output_named, kept_place, kept_reports, report_number_of};
 
 use crate::inputs::input_count;
 use arrayvec::ArrayVec;
@@ -37,6 +37,7 @@ impl KeptReport {
         self.bytes.len()
     }
 
+    /// The bytes of the report, at most 256.
     pub(crate) fn bytes(&self) -> &[u8]
         ensures bytes { result.now ≡ self.now }
         ensures short { length result.now ≤ 256 }
@@ -92,15 +93,16 @@ pub(crate) fn bare_outputs(alloc: Global, layout: &Layout) -> Result<Vec<KeptRep
     Ok(outputs)
 }
 
+/// Whether the report has this kind and ID.
 fn is_named(report: &Report, kind: ReportKind, id: u8) -> bool
-    ensures { result ≡ is_named kind id report.now }
+    ensures { result ≡ is_output_named kind id report.now }
 {
     report.kind.is(kind) && report.id == id
 }
 
 /// The place of the first of these reports that is of this kind and ID.
 fn place_among(reports: &[Report], kind: ReportKind, id: u8) -> Option<usize>
-    ensures place { result ≡ position (is_named kind id) reports.now }
+    ensures place { result ≡ position (is_output_named kind id) reports.now }
     ensures within { IfSome result (λ i. i < length reports.now) }
 {
     reports.iter().position(|report| is_named(report, kind, id))
@@ -108,7 +110,7 @@ fn place_among(reports: &[Report], kind: ReportKind, id: u8) -> Option<usize>
 
 /// The number of the Input report with this ID.
 pub(crate) fn input_with(layout: &Layout, id: u8) -> Option<usize>
-    ensures number { result ≡ number_of layout.now.reports Input id }
+    ensures number { result ≡ report_number_of layout.now.reports Input id }
     ensures input { IfSome result (λ r. is_input layout.now.reports r ≡ true) }
 {
     place_among(layout.reports(), ReportKind::Input, id)

@@ -8,22 +8,22 @@ use Rattle.std.proofs.lemmas.Bool.Decides.{nat_tests}
 use Rattle.std.proofs.lemmas.Bool.{and_parts}
 use Rattle.std.proofs.lemmas.List.{take_all}
 use Rattle.std.proofs.lemmas.List.Sums.{sum_by-cons}
-use Rattle.hid_items.specs.Spelling.{IsSpelling}
-use Rattle.hid_descriptor.specs.declared.report.Report.{Report}
-use Rattle.hid_descriptor.specs.declared.report.ReportKind.{ReportKind}
-use Rattle.hid_descriptor.specs.declared.shape.Shape.{Shape}
-use Rattle.hid_descriptor.specs.declared.shape.Shape.TheVariants.{Padding, Variable, Array}
-use Rattle.hid_descriptor.specs.Kinds.{same_kind}
-use Rattle.hid_descriptor.specs.Fields.{Field, fields, report_bits, is_padding, bits_of}
-use Rattle.hid_descriptor.specs.Faults.{Accepts}
-use Rattle.hid_descriptor.specs.Items.{Spelled, is, REPORT_ID}
-use Rattle.hid_descriptor.specs.Reporting.{reports_of}
-use Rattle.hid_descriptor.specs.Totals.{is_report, bits_in, place_of}
-use Rattle.hid_descriptor.proofs.FieldFacts.{AreListed, AreSpelled}
-use Rattle.hid_descriptor.proofs.ListedLemmas.{id_of, listed}
-use Rattle.hid_descriptor.proofs.ReportsLemmas.{bits_added, bits_in-reports_of}
-use Rattle.hid_descriptor.proofs.Taking.{reverse_more}
-use Rattle.hid_descriptor.proofs.Shares.{is_of, same_kind_itself, kinds_equal}
+use Rattle.hid_items.specs.ItemEncoding.{IsItemEncoding}
+use Rattle.hid_report_descriptor.specs.declared.report.Report.{Report}
+use Rattle.hid_report_descriptor.specs.declared.report.ReportKind.{ReportKind}
+use Rattle.hid_report_descriptor.specs.declared.shape.Shape.{Shape}
+use Rattle.hid_report_descriptor.specs.declared.shape.Shape.TheVariants.{Padding, Variable, Array}
+use Rattle.hid_report_descriptor.specs.Kinds.{same_kind}
+use Rattle.hid_report_descriptor.specs.Fields.{Field, fields, report_bits, is_padding, bits_of}
+use Rattle.hid_report_descriptor.specs.Faults.{Accepts}
+use Rattle.hid_report_descriptor.specs.Items.{EncodedItem, is, REPORT_ID}
+use Rattle.hid_report_descriptor.specs.Reporting.{reports_of}
+use Rattle.hid_report_descriptor.specs.Totals.{is_report, bits_in_report, report_place}
+use Rattle.hid_report_descriptor.proofs.FieldFacts.{AreListed, AreSpelled}
+use Rattle.hid_report_descriptor.proofs.ListedLemmas.{id_of, listed}
+use Rattle.hid_report_descriptor.proofs.ReportsLemmas.{bits_added, bits_in_report-reports_of}
+use Rattle.hid_report_descriptor.proofs.Taking.{reverse_more}
+use Rattle.hid_report_descriptor.proofs.Shares.{is_of, same_kind_itself, kinds_equal}
 use Rattle.hid_layout.specs.declared.main_item.MainItem.{MainItem}
 use Rattle.hid_layout.specs.Layout.{Contents, main_item, contents_of, layout_of}
 use Rattle.hid_layout.specs.Reports.{IsLayout, first_bit, report_bytes, bits_of as bits_of_report, element_of, field_at}
@@ -121,7 +121,7 @@ shape_lies layout i item at some narrow = by_shape item.shape refl
 -- a report that is the only one of its kind and ID is found by them
 only_one : (rs : List Report) (r : ℕ) (report : Report) → slice_get rs r ≡ Some report
     → ((k : ℕ) (b : Report) → slice_get rs k ≡ Some b → b.kind ≡ report.kind → b.id ≡ report.id → k ≡ r)
-    → (place_of report.kind report.id rs ≡ r) × (bits_in report.kind report.id rs ≡ report.bits)
+    → (report_place report.kind report.id rs ≡ r) × (bits_in_report report.kind report.id rs ≡ report.bits)
 only_one [] r report at one = absurd cc
 only_one (x ∷ rs) zero report at one =
     let same : x ≡ report = cc in
@@ -138,8 +138,9 @@ only_one (x ∷ rs) (suc r) report at one =
     both false b e = absurd cc
 
     by_case : (b : Bool) → is_report report.kind report.id x ≡ b
-        → (place_of report.kind report.id rs ≡ r) × (bits_in report.kind report.id rs ≡ report.bits)
-        → (cond b 0 (place_of report.kind report.id rs + 1) ≡ suc r) × (cond b x.bits (bits_in report.kind report.id rs) ≡ report.bits)
+        → (report_place report.kind report.id rs ≡ r) × (bits_in_report report.kind report.id rs ≡ report.bits)
+        → (cond b 0 (report_place report.kind report.id rs + 1) ≡ suc r)
+        × (cond b x.bits (bits_in_report report.kind report.id rs) ≡ report.bits)
     by_case true e rest =
         let tests = both (same_kind x.kind report.kind) (nat_eq x.id report.id) e in
         let there : 0 ≡ suc r = one 0 x refl (kinds_equal x.kind report.kind tests.0) (let t = tests.1 in grind (arith, nat_tests)) in
@@ -147,18 +148,21 @@ only_one (x ∷ rs) (suc r) report at one =
     by_case false e rest = (omega (arith, rest.0), rest.1)
 
 -- the report at the place of a kind and an ID has them
-placed_is : (rs : List Report) (kind : ReportKind) (id r : ℕ) (report : Report) → place_of kind id rs ≡ r → slice_get rs r ≡ Some report
+placed_is : (rs : List Report) (kind : ReportKind) (id r : ℕ) (report : Report) → report_place kind id rs ≡ r
+    → slice_get rs r ≡ Some report
     → is_report kind id report ≡ true
 placed_is [] kind id r report place at = absurd cc
 placed_is (x ∷ rs) kind id zero report place at = by_case (is_report kind id x) refl place
   where
-    by_case : (b : Bool) → is_report kind id x ≡ b → cond b 0 (place_of kind id rs + 1) ≡ 0 → is_report kind id report ≡ true
+    by_case : (b : Bool) → is_report kind id x ≡ b → cond b 0 (report_place kind id rs + 1) ≡ 0
+        → is_report kind id report ≡ true
     by_case true e place = let same : x ≡ report = cc in ap (is_report kind id) (sym same) ∙ e
     by_case false e place = absurd (omega (arith, place))
 placed_is (x ∷ rs) kind id (suc r) report place at =
     by_case (is_report kind id x) place (λ later. placed_is rs kind id r report later at)
   where
-    by_case : (b : Bool) → cond b 0 (place_of kind id rs + 1) ≡ suc r → (place_of kind id rs ≡ r → is_report kind id report ≡ true)
+    by_case : (b : Bool) → cond b 0 (report_place kind id rs + 1) ≡ suc r
+        → (report_place kind id rs ≡ r → is_report kind id report ≡ true)
         → is_report kind id report ≡ true
     by_case true place rest = absurd (omega (arith, place))
     by_case false place rest = rest (omega (arith, place))
@@ -200,17 +204,21 @@ item_lies fs numbered r report a h at i f there = rw there_in (by_report (is_of 
         ≡ report_bits report.kind report.id (take i fs) + cond (is_of report.kind report.id f) (bits_of f) 0
     more = ap (report_bits report.kind report.id) (one_more fs i f there) ∙ bits_added report.kind report.id (take i fs) f
 
-    place : f.kind ≡ report.kind → f.id ≡ report.id → place_of f.kind f.id (reports_of fs) ≡ r
-    place kind id = ap (λ (k : ReportKind). place_of k f.id (reports_of fs)) kind ∙ ap (λ (n : ℕ). place_of report.kind n (reports_of fs)) id
+    place : f.kind ≡ report.kind → f.id ≡ report.id → report_place f.kind f.id (reports_of fs) ≡ r
+    place kind id =
+        ap (λ (k : ReportKind). report_place k f.id (reports_of fs)) kind
+        ∙ ap (λ (n : ℕ). report_place report.kind n (reports_of fs)) id
         ∙ (only_one (reports_of fs) r report at (λ k b e kinds ids. h.one_place k r b report e at kinds ids)).0
 
     by_report : (b : Bool) → is_of report.kind report.id f ≡ b
         → LieFrom (first_bit layout + report_bits report.kind report.id (take i fs))
-        (cond (nat_eq (place_of f.kind f.id (reports_of fs)) r) (shape_pieces layout i (main_item (reports_of fs) f) f.shape) [])
+        (cond (nat_eq (report_place f.kind f.id (reports_of fs)) r)
+        (shape_pieces layout i (main_item (reports_of fs) f) f.shape) [])
         (first_bit layout + report_bits report.kind report.id (take (suc i) fs))
     by_report true e =
         let own = id_of report.kind report.id f e in
-        let here : nat_eq (place_of f.kind f.id (reports_of fs)) r ≡ true = (let p = place own.0 own.1 in grind (arith, nat_tests)) in
+        let here : nat_eq (report_place f.kind f.id (reports_of fs)) r ≡ true =
+        (let p = place own.0 own.1 in grind (arith, nat_tests)) in
         let offset : f.offset ≡ report_bits report.kind report.id (take i fs) =
         a.offsets i f there ∙ ap (λ (k : ReportKind). report_bits k f.id (take i fs)) own.0 ∙ ap (λ (n : ℕ). report_bits report.kind n (take i fs)) own.1 in
         let grown : report_bits report.kind report.id (take (suc i) fs) ≡ report_bits report.kind report.id (take i fs) + bits_of f =
@@ -219,7 +227,8 @@ item_lies fs numbered r report a h at i f there = rw there_in (by_report (is_of 
         (same_ends _ _ _ _ (shape_pieces layout i (main_item (reports_of fs) f) f.shape) (omega (arith, offset)) (omega (arith, offset, grown))
         (shape_lies layout i (main_item (reports_of fs) f) there_in (a.sound i f there).some_bits (λ plain. ((a.sound i f there).values plain).some_bits)))
     by_report false e =
-        let other : nat_eq (place_of f.kind f.id (reports_of fs)) r ≡ false = by_place (nat_eq (place_of f.kind f.id (reports_of fs)) r) refl in
+        let other : nat_eq (report_place f.kind f.id (reports_of fs)) r ≡ false =
+        by_place (nat_eq (report_place f.kind f.id (reports_of fs)) r) refl in
         rw other
         (let none = more ∙ ap (λ (b : Bool). report_bits report.kind report.id (take i fs) + cond b (bits_of f) 0) e in omega (arith, none))
       where
@@ -233,9 +242,9 @@ item_lies fs numbered r report a h at i f there = rw there_in (by_report (is_of 
                 grind (arith, common_steps, nat_tests)
             by_kind false k e = absurd cc
 
-        by_place : (b : Bool) → nat_eq (place_of f.kind f.id (reports_of fs)) r ≡ b → b ≡ false
+        by_place : (b : Bool) → nat_eq (report_place f.kind f.id (reports_of fs)) r ≡ b → b ≡ false
         by_place true p =
-            let same : place_of f.kind f.id (reports_of fs) ≡ r = grind (arith, nat_tests) in
+            let same : report_place f.kind f.id (reports_of fs) ≡ r = grind (arith, nat_tests) in
             absurd (let q : true ≡ false = sym (turned (placed_is (reports_of fs) f.kind f.id r report same at)) ∙ e in cc)
         by_place false p = refl
 
@@ -295,7 +304,8 @@ unfolding pieces_of
 report_filled fs numbered r report a h at =
     let found = only_one (reports_of fs) r report at (λ k b e kinds ids. h.one_place k r b report e at kinds ids) in
     let bits : report_bits report.kind report.id (take (length fs) fs) ≡ report.bits =
-    ap (report_bits report.kind report.id) (take_all (length fs) fs (omega arith)) ∙ sym (bits_in-reports_of report.kind report.id fs (h.byte_id r report at)) ∙ found.1 in
+    ap (report_bits report.kind report.id) (take_all (length fs) fs (omega arith))
+    ∙ sym (bits_in_report-reports_of report.kind report.id fs (h.byte_id r report at)) ∙ found.1 in
     let all : length (contents_of fs numbered).items ≡ length fs = map_length (main_item (reports_of fs)) fs in
     rw (at, all)
     (behind 0 (first_bit (contents_of fs numbered) + report.bits) _
@@ -311,28 +321,28 @@ report_filled fs numbered r report a h at =
     (items_lie fs numbered r report a h at (length fs) (omega arith))))
     (filler_lies (contents_of fs numbered) r report at))
 
--- each of some items that are all spellings, the last one first, is one
-are_spelled : (before : List Spelled) → All IsSpelling (reverse before) → AreSpelled before
+-- each of some items that are all encodings, the last one first, is one
+are_spelled : (before : List EncodedItem) → All IsItemEncoding (reverse before) → AreSpelled before
 are_spelled [] all = tt
 are_spelled (item ∷ before) all =
-    let split = subst (All IsSpelling) (reverse_more before item) all in
-    (All-head IsSpelling item [] (All-right (reverse before) (item ∷ []) split), are_spelled before (All-left (reverse before) (item ∷ []) split))
+    let split = subst (All IsItemEncoding) (reverse_more before item) all in
+    (All-head IsItemEncoding item [] (All-right (reverse before) (item ∷ []) split), are_spelled before (All-left (reverse before) (item ∷ []) split))
   where
-    All-left : (xs ys : List Spelled) → All IsSpelling (xs ++ ys) → All IsSpelling xs
-    All-left [] ys all = All-nil IsSpelling
+    All-left : (xs ys : List EncodedItem) → All IsItemEncoding (xs ++ ys) → All IsItemEncoding xs
+    All-left [] ys all = All-nil IsItemEncoding
     All-left (x ∷ xs) ys all =
-        All-cons IsSpelling x xs (All-head IsSpelling x (xs ++ ys) all) (All-left xs ys (All-tail IsSpelling x (xs ++ ys) all))
+        All-cons IsItemEncoding x xs (All-head IsItemEncoding x (xs ++ ys) all) (All-left xs ys (All-tail IsItemEncoding x (xs ++ ys) all))
 
-    All-right : (xs ys : List Spelled) → All IsSpelling (xs ++ ys) → All IsSpelling ys
+    All-right : (xs ys : List EncodedItem) → All IsItemEncoding (xs ++ ys) → All IsItemEncoding ys
     All-right [] ys all = all
-    All-right (x ∷ xs) ys all = All-right xs ys (All-tail IsSpelling x (xs ++ ys) all)
+    All-right (x ∷ xs) ys all = All-right xs ys (All-tail IsItemEncoding x (xs ++ ys) all)
 
-pub reports_filled : (descriptor : List ℕ) (before : List Spelled) (r : ℕ) → Accepts descriptor before → r < length (layout_of before).reports
+pub reports_filled : (descriptor : List ℕ) (before : List EncodedItem) (r : ℕ) → Accepts descriptor before → r < length (layout_of before).reports
     → LieFrom 0 (pieces_of (layout_of before) r) (8 * report_bytes (layout_of before) r)
 reports_filled descriptor before r a there =
     let report = some_at (reports_of (fields before)) r there in
     report_filled (fields before) (list_any (is REPORT_ID) before) r report.0
-    (listed before a.reaches.accepted (are_spelled before a.reaches.items.spelled)) (layout_of_accepted descriptor before a) report.1
+    (listed before a.reaches.accepted (are_spelled before a.reaches.items.encoded)) (layout_of_accepted descriptor before a) report.1
 
 -- which bits a piece has
 within : (bit : ℕ) (piece : ByteSlice) → has_bit bit piece ≡ true
@@ -394,7 +404,7 @@ one_in bit from to (piece ∷ pieces) lie first last =
         let not_here : has_bit bit piece ≡ false = has_not bit piece (λ a b. omega (arith, over, b)) in
         rw (not_here, later over) refl
 
-pub bits_once : (descriptor : List ℕ) (before : List Spelled) (r bit : ℕ) → Accepts descriptor before → r < length (layout_of before).reports
+pub bits_once : (descriptor : List ℕ) (before : List EncodedItem) (r bit : ℕ) → Accepts descriptor before → r < length (layout_of before).reports
     → bit < 8 * report_bytes (layout_of before) r → count_by (has_bit bit) (pieces_of (layout_of before) r) ≡ 1
 bits_once descriptor before r bit a there below =
     one_in bit 0 (8 * report_bytes (layout_of before) r) (pieces_of (layout_of before) r) (reports_filled descriptor before r a there) (omega arith) below

@@ -10,7 +10,7 @@ use Rattle.hid_drawing.specs.Lines.{line_at, line_count}
 use Rattle.hid_drawing.specs.Terminal.{row_number}
 use Rattle.hid_drawing.specs.declared.glyphs.TheConstants as glyphs
 
--- the lowest bit of byte 1 stands at the right end of the second row, right of 52 and of one frame
+-- the lowest bit of byte 1 stands at the right end of the second row, right of 52 and of one bracket
 bit_0 : piece_area 1 (2 ∷ 2 ∷ []) (record { part = Field 0 0; byte = 1; low = 0; high = 1; front = 0; width = 1 })
     ≡ record { x = 842; y = 82; width = 112; height = 36 }
 unfolding left_of piece_area
@@ -64,10 +64,10 @@ between_bits : glyphs.DOWNWARD.now ∷ glyphs.UPWARD.now ∷ glyphs.CROSS.now �
 unfolding in_utf8
 between_bits = refl
 
--- a frame begins with an arc down and left, ends with one up and left, and goes on with a vertical line
-frames : glyphs.FRAME_FIRST.now ∷ glyphs.FRAME_LAST.now ∷ glyphs.SIDE.now ∷ [] ≡ map in_utf8 (0x256E ∷ 0x256F ∷ 0x2502 ∷ [])
+-- a bracket begins with an arc down and left, ends with one up and left, and goes on with a vertical line
+brackets : glyphs.BRACKET_FIRST.now ∷ glyphs.BRACKET_LAST.now ∷ glyphs.SIDE.now ∷ [] ≡ map in_utf8 (0x256E ∷ 0x256F ∷ 0x2502 ∷ [])
 unfolding in_utf8
-frames = refl
+brackets = refl
 
 -- nine of the horizontal ones are a bit
 bit_line : glyphs.BIT_LINE.now ≡ concat_below 9 (λ k. glyphs.FLAT.now)

@@ -3,23 +3,23 @@ use Rattle.std.proofs.Common.{◌≡◌, ℕ, ◌+◌, ◌≤◌, Bool, true, fa
 use Rattle.std.specs.Prelude.{slice_get, ◌&&◌}
 use Rattle.std.proofs.Math.Nat.{mul-le-mul_left}
 use Rattle.std.proofs.lemmas.Bool.{and_parts, ltb-true}
-use Rattle.hid_descriptor.specs.declared.report.Report.{Report}
-use Rattle.hid_descriptor.specs.Fields.{is_padding}
+use Rattle.hid_report_descriptor.specs.declared.report.Report.{Report}
+use Rattle.hid_report_descriptor.specs.Fields.{is_padding}
 use Rattle.hid_layout.specs.declared.main_item.MainItem.{MainItem}
 use Rattle.hid_layout.specs.declared.main_item.Element.{Element}
 use Rattle.hid_layout.specs.Layout.{Contents}
 use Rattle.hid_layout.specs.Reports.{IsLayout, first_bit, bits_of, field_at, element_in, element_of}
-use Rattle.hid_drawing.specs.Pieces.{LiesIn}
+use Rattle.hid_drawing.specs.Pieces.{SliceLiesIn}
 
 pub item_lies : (layout : Contents) (i : ℕ) (item : MainItem) → IsLayout layout → slice_get layout.items i ≡ Some item
-    → LiesIn layout item
+    → SliceLiesIn layout item
 item_lies layout i item h at = omega (arith, h.inside i item at, h.short item.report)
 
 some_if : {A : Type 0} (b : Bool) (x y : A) → cond b (Some x) None ≡ Some y → (b ≡ true) × (x ≡ y)
 some_if true x y e = (refl, cc)
 some_if false x y e = cc
 
-field_ends : (layout : Contents) (j : ℕ) (item : MainItem) (element : Element) → LiesIn layout item
+field_ends : (layout : Contents) (j : ℕ) (item : MainItem) (element : Element) → SliceLiesIn layout item
     → element_in item j ≡ Some element → (first_bit layout + element.bit) + element.width ≤ 2048
 field_ends layout j item element lies e =
     let found = some_if (not (is_padding item.shape) && nat_lt j item.count) (field_at item j) element e in
@@ -29,7 +29,8 @@ field_ends layout j item element lies e =
     subst (λ (x : Element). (first_bit layout + x.bit) + x.width ≤ 2048) found.1 (omega (arith, lies, ends))
 
 pub element_ends : (layout : Contents) (i j : ℕ) (item : MainItem) (element : Element) → slice_get layout.items i ≡ Some item
-    → LiesIn layout item → element_of layout i j ≡ Some element → (first_bit layout + element.bit) + element.width ≤ 2048
+    → SliceLiesIn layout item → element_of layout i j ≡ Some element
+    → (first_bit layout + element.bit) + element.width ≤ 2048
 element_ends layout i j item element at lies e =
     field_ends layout j item element lies (rw at at e)
 

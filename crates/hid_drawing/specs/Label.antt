@@ -1,6 +1,6 @@
 -- What a usage is called in a picture (our choice: docs/PICTURES.md).
 use Rattle.std.specs.Prelude.{ℕ, List, Option, None, Some}
-use Rattle.hid_descriptor.specs.declared.usage.Usage.{Usage}
+use Rattle.hid_report_descriptor.specs.declared.usage.Usage.{Usage}
 use Rattle.hid_names.specs.Names.{Name, name_of, name_text}
 use Rattle.hid_notation.specs.Text.{usage_text}
 

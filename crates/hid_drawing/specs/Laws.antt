@@ -1,35 +1,35 @@
 -- Laws of what is drawn (HID 1.11, 6.2.2.4 and 6.2.2.7).
 use Rattle.std.specs.Prelude.{◌≡◌, ℕ, zero, suc, ◌+◌, ◌*◌, ◌/◌, ◌%◌, ◌<◌, ◌≤◌, Bool, ◌==◌, ◌&&◌, nat_le, nat_lt, List, [], ◌∷◌, length, map, count_by}
-use Rattle.hid_descriptor.specs.Faults.{Accepts}
-use Rattle.hid_descriptor.specs.Fields.{Field, fields, field_of}
-use Rattle.hid_descriptor.specs.Items.{Spelled}
-use Rattle.hid_items.specs.declared.spelling.Item.{Item}
+use Rattle.hid_report_descriptor.specs.Faults.{Accepts}
+use Rattle.hid_report_descriptor.specs.Fields.{Field, fields, field_of}
+use Rattle.hid_report_descriptor.specs.Items.{EncodedItem}
+use Rattle.hid_items.specs.declared.encoding.Item.{Item}
 use Rattle.hid_layout.specs.Layout.{main_item, layout_of}
 use Rattle.hid_layout.specs.Reports.{report_bytes}
-use Rattle.hid_drawing.specs.Items.{AreItemsOf, item_spelling_at}
-use Rattle.hid_drawing.specs.Makers.{listed_places}
+use Rattle.hid_drawing.specs.Items.{AreItemsOf, item_encoding_at}
+use Rattle.hid_drawing.specs.Origins.{listed_places}
 use Rattle.hid_drawing.specs.Pieces.{pieces_of}
 use Rattle.hid_drawing.specs.declared.pieces.ByteSlice.{ByteSlice}
 
 -- the first items, this many, the last one first
-abbrev pub spelled_before : List Item → ℕ → List Spelled
-spelled_before items zero = []
-spelled_before items (suc k) = item_spelling_at items k ∷ spelled_before items k
+abbrev pub encoded_before : List Item → ℕ → List EncodedItem
+encoded_before items zero = []
+encoded_before items (suc k) = item_encoding_at items k ∷ encoded_before items k
 
 -- the field that the main item at a place describes
 abbrev pub field_from : List Item → ℕ → Field
 field_from items m =
-    field_of (fields (spelled_before items m)) (spelled_before items m) (item_spelling_at items m)
+    field_of (fields (encoded_before items m)) (encoded_before items m) (item_encoding_at items m)
 
 -- the fields of a descriptor are those that the places with bits describe, in order
 abbrev pub ListsAllFields : Type 0
-ListsAllFields = (descriptor : List ℕ) (items : List Item) (before : List Spelled)
+ListsAllFields = (descriptor : List ℕ) (items : List Item) (before : List EncodedItem)
     → AreItemsOf descriptor items → Accepts descriptor before
     → fields before ≡ map (field_from items) (listed_places items (length items))
 
 -- The listed items of a descriptor's layout are those of the places with bits, in order.
 abbrev pub ListsAllItems : Type 0
-ListsAllItems = (descriptor : List ℕ) (items : List Item) (before : List Spelled)
+ListsAllItems = (descriptor : List ℕ) (items : List Item) (before : List EncodedItem)
     → AreItemsOf descriptor items → Accepts descriptor before
     → (layout_of before).items
     ≡ map (λ m. main_item (layout_of before).reports (field_from items m))
@@ -44,7 +44,7 @@ LieFrom from (piece ∷ pieces) to =
 
 -- the pieces of a report lie one after another, from its first bit to the last one of its last byte
 abbrev pub FillReports : Type 0
-FillReports = (descriptor : List ℕ) (before : List Spelled) (r : ℕ)
+FillReports = (descriptor : List ℕ) (before : List EncodedItem) (r : ℕ)
     → Accepts descriptor before → r < length (layout_of before).reports
     → LieFrom 0 (pieces_of (layout_of before) r) (8 * report_bytes (layout_of before) r)
 
@@ -54,6 +54,6 @@ has_bit bit piece = (piece.byte == bit / 8) && (nat_le piece.low (bit % 8) && na
 
 -- each bit of a report is in one piece, and in one alone
 abbrev pub HaveBitsOnce : Type 0
-HaveBitsOnce = (descriptor : List ℕ) (before : List Spelled) (r bit : ℕ)
+HaveBitsOnce = (descriptor : List ℕ) (before : List EncodedItem) (r bit : ℕ)
     → Accepts descriptor before → r < length (layout_of before).reports → bit < 8 * report_bytes (layout_of before) r
     → count_by (has_bit bit) (pieces_of (layout_of before) r) ≡ 1

@@ -1,8 +1,8 @@
 pub mod Label
 pub mod Items
-pub mod Makers
+pub mod Origins
 pub mod Pieces
-pub mod Frames
+pub mod Brackets
 pub mod Words
 pub mod Laws
 pub mod Areas
@@ -10,4 +10,4 @@ pub mod Escape
 pub mod Lines
 pub mod Svg
 pub mod Terminal
-pub mod PictureWords
+pub mod BracketNames

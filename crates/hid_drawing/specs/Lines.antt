@@ -2,11 +2,11 @@
 use Rattle.std.specs.Prelude.{ℕ, zero, suc, ◌+◌, ◌-◌, ◌*◌, ◌^◌, min, max, Bool, true, ◌==◌, nat_lt, List, [], ◌∷◌, length, slice_get, unwrap_or, take, drop, if◌then◌else◌, Option, None, Some}
 use Rattle.hid_layout.specs.Layout.{Contents}
 use Rattle.hid_notation.specs.Text.{concat_below}
-use Rattle.hid_drawing.specs.declared.frames.Frame.{Frame}
+use Rattle.hid_drawing.specs.declared.brackets.Bracket.{Bracket}
 use Rattle.hid_drawing.specs.declared.pieces.ByteSlice.{ByteSlice}
 use Rattle.hid_drawing.specs.Words.{piece_name, part_details}
-use Rattle.hid_drawing.specs.declared.lines.TheConstants.{NAME_COLUMNS, LEAST_LINES}
-use Rattle.hid_drawing.specs.PictureWords.{frame_name}
+use Rattle.hid_drawing.specs.declared.lines.TheConstants.{NAME_COLUMNS, MIN_LINES}
+use Rattle.hid_drawing.specs.BracketNames.{bracket_name}
 
 -- the byte at a place, and a space after the end
 abbrev pub byte_at : List ℕ → ℕ → ℕ
@@ -78,33 +78,33 @@ most_lines layout r drawn byte lines (piece ∷ pieces) =
 
 -- how many lines a row has: those of its cells, and no less than two
 abbrev pub row_lines : Contents → ℕ → Bool → ℕ → List ByteSlice → ℕ
-row_lines layout r drawn byte pieces = most_lines layout r drawn byte LEAST_LINES pieces
+row_lines layout r drawn byte pieces = most_lines layout r drawn byte MIN_LINES pieces
 
 -- a line of a cell: of its name, and below that of what is said of it. A line ends at the last space that has room, or
 -- when it is full. Example: Keyboard LeftControl in nine columns has three lines
-abbrev pub line_of : List ℕ → List ℕ → ℕ → ℕ → List ℕ
-line_of name details columns k =
+abbrev pub name_line_of : List ℕ → List ℕ → ℕ → ℕ → List ℕ
+name_line_of name details columns k =
     if nat_lt k (line_count name columns) then line_at name columns k
     else line_at details columns (k - line_count name columns)
 
--- how many lines the name of a frame has, where it begins in the byte
-abbrev pub name_lines : Contents → ℕ → Option Frame → ℕ
+-- how many lines the name of a bracket has, where it begins in the byte
+abbrev pub name_lines : Contents → ℕ → Option Bracket → ℕ
 name_lines layout byte None = 0
-name_lines layout byte (Some frame) =
-    if frame.first == byte then line_count (frame_name layout frame) NAME_COLUMNS else 0
+name_lines layout byte (Some bracket) =
+    if bracket.first == byte then line_count (bracket_name layout bracket) NAME_COLUMNS else 0
 
--- how many lines the names of the first k frames have beside the byte
-abbrev pub lines_in_front : Contents → List Frame → ℕ → ℕ → ℕ
-lines_in_front layout frames byte zero = 0
-lines_in_front layout frames byte (suc k) =
-    min (lines_in_front layout frames byte k + name_lines layout byte (slice_get frames k)) (2 ^ 16 - 1)
+-- how many lines the names of the first k brackets have beside the byte
+abbrev pub lines_in_front : Contents → List Bracket → ℕ → ℕ → ℕ
+lines_in_front layout brackets byte zero = 0
+lines_in_front layout brackets byte (suc k) =
+    min (lines_in_front layout brackets byte k + name_lines layout byte (slice_get brackets k)) (2 ^ 16 - 1)
 
--- how many lines a row of a drawing has, for its cells and for the names of the frames beside it
-abbrev pub drawn_lines : Contents → ℕ → List Frame → List ByteSlice → ℕ → ℕ
-drawn_lines layout r frames pieces byte =
-    max (row_lines layout r true byte pieces) (lines_in_front layout frames byte (length frames))
+-- how many lines a row of a drawing has, for its cells and for the names of the brackets beside it
+abbrev pub drawn_lines : Contents → ℕ → List Bracket → List ByteSlice → ℕ → ℕ
+drawn_lines layout r brackets pieces byte =
+    max (row_lines layout r true byte pieces) (lines_in_front layout brackets byte (length brackets))
 
 -- the numbers of lines of the rows of a drawing
-abbrev pub rows_of : Contents → ℕ → ℕ → List Frame → List ByteSlice → List ℕ
-rows_of layout r bytes frames pieces =
-    concat_below bytes (λ byte. drawn_lines layout r frames pieces byte ∷ [])
+abbrev pub rows_of : Contents → ℕ → ℕ → List Bracket → List ByteSlice → List ℕ
+rows_of layout r bytes brackets pieces =
+    concat_below bytes (λ byte. drawn_lines layout r brackets pieces byte ∷ [])

@@ -2,21 +2,21 @@
 use Rattle.std.specs.Prelude.{ℕ, ◌+◌, ◌-◌, min, Bool, false, ◌==◌, ◌&&◌, ◌||◌, nat_le, nat_lt, List, [], ◌∷◌, ◌++◌, length, slice_get, if◌then◌else◌, Option, None, Some, codes}
 use Rattle.std.specs.List.{flat_map, list_any}
 use Rattle.std.specs.Fmt.{decimal}
-use Rattle.hid_descriptor.specs.Usages.{Entry}
-use Rattle.hid_descriptor.specs.declared.report.Report.{Report}
+use Rattle.hid_report_descriptor.specs.Usages.{Entry}
+use Rattle.hid_report_descriptor.specs.declared.report.Report.{Report}
 use Rattle.hid_layout.specs.declared.main_item.MainItem.{MainItem}
 use Rattle.hid_layout.specs.Layout.{Contents}
 use Rattle.hid_layout.specs.Reports.{first_bit, report_bytes}
 use Rattle.hid_notation.specs.Text.{concat_below}
-use Rattle.hid_drawing.specs.declared.frames.Frame.{Frame}
+use Rattle.hid_drawing.specs.declared.brackets.Bracket.{Bracket}
 use Rattle.hid_drawing.specs.declared.pieces.ByteSlice.{ByteSlice}
 use Rattle.hid_drawing.specs.declared.glyphs.TheConstants as glyphs
-use Rattle.hid_drawing.specs.declared.terminal.TheConstants.{MOST_STEPS}
+use Rattle.hid_drawing.specs.declared.terminal.TheConstants.{MAX_STEPS}
 use Rattle.hid_drawing.specs.Escape.{printable_byte}
-use Rattle.hid_drawing.specs.Frames.{frame_depth}
-use Rattle.hid_drawing.specs.Lines.{byte_at, columns_of, line_of, row_lines}
-use Rattle.hid_drawing.specs.PictureWords.{frame_name}
-use Rattle.hid_drawing.specs.Words.{report_name, count_text, piece_name, part_details, entry_text, bit_text, flags_text, is_input_item}
+use Rattle.hid_drawing.specs.Brackets.{bracket_depth}
+use Rattle.hid_drawing.specs.Lines.{byte_at, columns_of, name_line_of, row_lines}
+use Rattle.hid_drawing.specs.BracketNames.{bracket_name}
+use Rattle.hid_drawing.specs.Words.{report_title, count_text, piece_name, part_details, entry_text, bit_text, flags_text, is_input_item}
 
 -- words in this many columns: what has room, and spaces
 unfoldable pub padded_words : List ℕ → ℕ → List ℕ
@@ -51,50 +51,50 @@ unfoldable pub edge_line : List ByteSlice → ℕ → List ℕ
 edge_line pieces byte =
     concat_below 8 (λ i. corner_at pieces byte (8 - i) ++ glyphs.BIT_LINE.now) ++ corner_at pieces byte 0
 
--- whether a frame of a level holds a byte
-abbrev pub is_held : List Frame → ℕ → ℕ → Bool
-is_held frames level byte =
-    list_any (λ frame. (frame.level == level) && (nat_le frame.first byte && nat_le byte frame.last)) frames
+-- whether a bracket of a level holds a byte
+abbrev pub is_held : List Bracket → ℕ → ℕ → Bool
+is_held brackets level byte =
+    list_any (λ bracket. (bracket.level == level) && (nat_le bracket.first byte && nat_le byte bracket.last)) brackets
 
--- one frame of a level holds both a byte and the one in front of it
-abbrev pub is_held_on : List Frame → ℕ → ℕ → Bool
-is_held_on frames level byte =
-    list_any (λ frame. (frame.level == level) && (nat_lt frame.first byte && nat_le byte frame.last)) frames
+-- one bracket of a level holds both a byte and the one in front of it
+abbrev pub is_held_on : List Bracket → ℕ → ℕ → Bool
+is_held_on brackets level byte =
+    list_any (λ bracket. (bracket.level == level) && (nat_lt bracket.first byte && nat_le byte bracket.last)) brackets
 
--- the character of a frame on the line above a byte: it goes on, or one ends, or one begins
-abbrev pub bracket : Bool → Bool → Bool → List ℕ
-bracket on above below =
+-- the character of a bracket on the line above a byte: it goes on, or one ends, or one begins
+abbrev pub bracket_corner : Bool → Bool → Bool → List ℕ
+bracket_corner on above below =
     if on then glyphs.SIDE.now
-    else if above then (if below then glyphs.RIGHT_BOTH.now else glyphs.FRAME_LAST.now)
-    else (if below then glyphs.FRAME_FIRST.now else glyphs.BLANK.now)
+    else if above then (if below then glyphs.RIGHT_BOTH.now else glyphs.BRACKET_LAST.now)
+    else (if below then glyphs.BRACKET_FIRST.now else glyphs.BLANK.now)
 
--- the frame of a level on the line above a byte
-unfoldable pub bracket_at : List Frame → ℕ → ℕ → List ℕ
-bracket_at frames level byte =
-    bracket (is_held_on frames level byte) (nat_lt 0 byte && is_held frames level (byte - 1))
-    (is_held frames level byte)
+-- the bracket of a level on the line above a byte
+unfoldable pub bracket_corner_at : List Bracket → ℕ → ℕ → List ℕ
+bracket_corner_at brackets level byte =
+    bracket_corner (is_held_on brackets level byte) (nat_lt 0 byte && is_held brackets level (byte - 1))
+    (is_held brackets level byte)
 
--- the frames on the line above a byte, the innermost first
-unfoldable pub brackets : List Frame → ℕ → ℕ → List ℕ
-brackets frames depth byte = concat_below depth (λ i. bracket_at frames (depth - i) byte)
+-- the brackets on the line above a byte, the innermost first
+unfoldable pub bracket_corners : List Bracket → ℕ → ℕ → List ℕ
+bracket_corners brackets depth byte = concat_below depth (λ i. bracket_corner_at brackets (depth - i) byte)
 
--- the frame of a level beside a byte
-abbrev pub side_at : List Frame → ℕ → ℕ → List ℕ
-side_at frames level byte = if is_held frames level byte then glyphs.SIDE.now else glyphs.BLANK.now
+-- the bracket of a level beside a byte
+abbrev pub side_at : List Bracket → ℕ → ℕ → List ℕ
+side_at brackets level byte = if is_held brackets level byte then glyphs.SIDE.now else glyphs.BLANK.now
 
--- the frames beside a byte, the innermost first
-unfoldable pub sides : List Frame → ℕ → ℕ → List ℕ
-sides frames depth byte = concat_below depth (λ i. side_at frames (depth - i) byte)
+-- the brackets beside a byte, the innermost first
+unfoldable pub sides : List Bracket → ℕ → ℕ → List ℕ
+sides brackets depth byte = concat_below depth (λ i. side_at brackets (depth - i) byte)
 
 -- a line of a cell: its name, and below it what is said of it
 unfoldable pub cell_line : Contents → ℕ → ℕ → ByteSlice → List ℕ
 cell_line layout r k piece =
     glyphs.SIDE.now
     ++ padded_words
-    (line_of (piece_name layout piece) (part_details layout r piece.part) (columns_of false piece) k)
+    (name_line_of (piece_name layout piece) (part_details layout r piece.part) (columns_of false piece) k)
     (columns_of false piece)
 
--- a line of a piece that there may be, where it lies in the byte
+-- a line of a piece that lies in the byte; no text for another piece or none
 abbrev pub byte_cell : Contents → ℕ → ℕ → ℕ → Option ByteSlice → List ℕ
 byte_cell layout r k byte None = []
 byte_cell layout r k byte (Some piece) = if piece.byte == byte then cell_line layout r k piece else []
@@ -105,9 +105,9 @@ cells_line layout r k byte pieces =
     concat_below (length pieces) (λ i. byte_cell layout r k byte (slice_get pieces ((length pieces - 1) - i)))
 
 -- the line above a row
-unfoldable pub line_above : ℕ → List Frame → List ByteSlice → List ℕ
-line_above byte frames pieces =
-    codes "   " ++ edge_line pieces byte ++ brackets frames (frame_depth frames) byte ++ 10 ∷ []
+unfoldable pub line_above : ℕ → List Bracket → List ByteSlice → List ℕ
+line_above byte brackets pieces =
+    codes "   " ++ edge_line pieces byte ++ bracket_corners brackets (bracket_depth brackets) byte ++ 10 ∷ []
 
 -- the number of a byte, at the right of two columns
 abbrev pub two_columns : ℕ → List ℕ
@@ -125,23 +125,23 @@ abbrev pub line_number : ℕ → ℕ → ℕ → List ℕ
 line_number bytes byte k = if k == 0 then row_number bytes byte else codes "   "
 
 -- a line of a row
-unfoldable pub row_line : Contents → ℕ → ℕ → ℕ → List Frame → List ByteSlice → ℕ → List ℕ
-row_line layout r bytes byte frames pieces k =
+unfoldable pub row_line : Contents → ℕ → ℕ → ℕ → List Bracket → List ByteSlice → ℕ → List ℕ
+row_line layout r bytes byte brackets pieces k =
     line_number bytes byte k ++ cells_line layout r k byte pieces ++ glyphs.SIDE.now
-    ++ sides frames (frame_depth frames) byte ++ 10 ∷ []
+    ++ sides brackets (bracket_depth brackets) byte ++ 10 ∷ []
 
 -- a row: the line above it, and the lines of its cells
-unfoldable pub row_text : Contents → ℕ → ℕ → List Frame → List ByteSlice → ℕ → List ℕ
-row_text layout r bytes frames pieces byte =
-    line_above byte frames pieces
-    ++ concat_below (row_lines layout r false byte pieces) (row_line layout r bytes byte frames pieces)
+unfoldable pub row_text : Contents → ℕ → ℕ → List Bracket → List ByteSlice → ℕ → List ℕ
+row_text layout r bytes brackets pieces byte =
+    line_above byte brackets pieces
+    ++ concat_below (row_lines layout r false byte pieces) (row_line layout r bytes byte brackets pieces)
 
--- a frame by its name and its bytes, indented by its level as far as the columns have room for it
-unfoldable pub frame_line : Contents → Frame → List ℕ
-frame_line layout frame =
-    concat_below (min (frame.level - 1) MOST_STEPS) (λ i. codes "  ") ++ frame_name layout frame
+-- a bracket by its name and its bytes, indented by its level as far as the columns have room for it
+unfoldable pub bracket_line : Contents → Bracket → List ℕ
+bracket_line layout bracket =
+    concat_below (min (bracket.level - 1) MAX_STEPS) (λ i. codes "  ") ++ bracket_name layout bracket
     ++ codes ": bytes "
-    ++ decimal frame.first ++ codes " to " ++ decimal frame.last ++ 10 ∷ []
+    ++ decimal bracket.first ++ codes " to " ++ decimal bracket.last ++ 10 ∷ []
 
 -- the usages of a field, a line each
 unfoldable pub usage_lines : List Entry → List ℕ
@@ -153,7 +153,7 @@ item_lines layout i item entries =
     codes "field " ++ decimal i ++ codes ": " ++ bit_text (first_bit layout + item.offset) ++ 10 ∷ 32 ∷ 32 ∷
     flags_text (is_input_item layout item) item.flags.0 ++ 10 ∷ usage_lines entries
 
--- the lines of an item that there may be, where it stands in the report
+-- the lines of an item that stands in the report; no text for another item or none
 abbrev pub field_lines : Contents → ℕ → ℕ → Option MainItem → Option (List Entry) → List ℕ
 field_lines layout r i (Some item) (Some entries) = if item.report == r then item_lines layout i item entries else []
 field_lines layout r i _ _ = []
@@ -167,25 +167,25 @@ fields_text layout r =
 -- what the picture of a report begins with
 unfoldable pub terminal_head : Bool → ℕ → Report → List ℕ
 terminal_head numbered bytes report =
-    report_name numbered report ++ 58 ∷ 32 ∷ count_text bytes (codes "byte") ++ 10 ∷ glyphs.BIT_RULER.now
+    report_title numbered report ++ 58 ∷ 32 ∷ count_text bytes (codes "byte") ++ 10 ∷ glyphs.BIT_RULER.now
 
 -- the rows of a report
-unfoldable pub rows_text : Contents → ℕ → ℕ → List Frame → List ByteSlice → List ℕ
-rows_text layout r bytes frames pieces =
-    concat_below bytes (row_text layout r bytes frames pieces) ++ line_above bytes frames pieces
+unfoldable pub rows_text : Contents → ℕ → ℕ → List Bracket → List ByteSlice → List ℕ
+rows_text layout r bytes brackets pieces =
+    concat_below bytes (row_text layout r bytes brackets pieces) ++ line_above bytes brackets pieces
 
--- the frames of a report
-unfoldable pub frame_lines : Contents → List Frame → List ℕ
-frame_lines layout frames = flat_map (λ frame. frame_line layout frame) frames
+-- the brackets of a report
+unfoldable pub bracket_lines : Contents → List Bracket → List ℕ
+bracket_lines layout brackets = flat_map (λ bracket. bracket_line layout bracket) brackets
 
 -- the picture of a report of n bytes
-unfoldable pub terminal_of : Contents → ℕ → ℕ → List Frame → List ByteSlice → Report → List ℕ
-terminal_of layout r bytes frames pieces report =
-    terminal_head layout.numbered bytes report ++ rows_text layout r bytes frames pieces
-    ++ frame_lines layout frames ++ fields_text layout r
+unfoldable pub terminal_of : Contents → ℕ → ℕ → List Bracket → List ByteSlice → Report → List ℕ
+terminal_of layout r bytes brackets pieces report =
+    terminal_head layout.numbered bytes report ++ rows_text layout r bytes brackets pieces
+    ++ bracket_lines layout brackets ++ fields_text layout r
 
 -- the picture in characters of the report at a place, or nothing if there is none
-abbrev pub terminal_at : Contents → ℕ → List Frame → List ByteSlice → Option Report → List ℕ
-terminal_at layout r frames pieces None = []
-terminal_at layout r frames pieces (Some report) =
-    terminal_of layout r (report_bytes layout r) frames pieces report
+abbrev pub terminal_at : Contents → ℕ → List Bracket → List ByteSlice → Option Report → List ℕ
+terminal_at layout r brackets pieces None = []
+terminal_at layout r brackets pieces (Some report) =
+    terminal_of layout r (report_bytes layout r) brackets pieces report

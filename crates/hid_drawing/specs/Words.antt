@@ -3,22 +3,22 @@
 use Rattle.std.specs.Prelude.{ℕ, ◌+◌, ◌-◌, ◌*◌, ◌/◌, ◌%◌, Bool, true, false, ◌==◌, ◌&&◌, nat_le, min, bit_and, List, [], ◌∷◌, ◌++◌, length, slice_get, if◌then◌else◌, Option, None, Some, codes}
 use Rattle.std.specs.List.{flat_map}
 use Rattle.std.specs.Fmt.{decimal, signed_decimal}
-use Rattle.hid_descriptor.specs.Flags.{has_flag, RELATIVE, NULL_STATE}
-use Rattle.hid_descriptor.specs.Usages.{Entry, usage_list}
-use Rattle.hid_descriptor.specs.declared.collection.Collection.{Collection}
-use Rattle.hid_descriptor.specs.declared.report.Report.{Report}
-use Rattle.hid_descriptor.specs.declared.report.ReportKind.{ReportKind}
-use Rattle.hid_descriptor.specs.declared.report.ReportKind.TheVariants.{Input, Output, Feature}
-use Rattle.hid_descriptor.specs.declared.shape.Shape.{Shape}
-use Rattle.hid_descriptor.specs.declared.shape.Shape.TheVariants.{Padding, Variable, Array}
-use Rattle.hid_descriptor.specs.declared.usage.Usage.{Usage}
+use Rattle.hid_report_descriptor.specs.Flags.{has_flag, RELATIVE, NULL_STATE}
+use Rattle.hid_report_descriptor.specs.Usages.{Entry, usage_list}
+use Rattle.hid_report_descriptor.specs.declared.collection.Collection.{Collection}
+use Rattle.hid_report_descriptor.specs.declared.report.Report.{Report}
+use Rattle.hid_report_descriptor.specs.declared.report.ReportKind.{ReportKind}
+use Rattle.hid_report_descriptor.specs.declared.report.ReportKind.TheVariants.{Input, Output, Feature}
+use Rattle.hid_report_descriptor.specs.declared.shape.Shape.{Shape}
+use Rattle.hid_report_descriptor.specs.declared.shape.Shape.TheVariants.{Padding, Variable, Array}
+use Rattle.hid_report_descriptor.specs.declared.usage.Usage.{Usage}
 use Rattle.hid_layout.specs.declared.main_item.MainItem.{MainItem}
 use Rattle.hid_layout.specs.Layout.{Contents}
 use Rattle.hid_layout.specs.Reports.{usage_of}
 use Rattle.hid_drawing.specs.declared.pieces.BitSource.{BitSource}
 use Rattle.hid_drawing.specs.declared.pieces.BitSource.TheVariants.{ReportId, Field, FinalPadding}
 use Rattle.hid_drawing.specs.declared.pieces.ByteSlice.{ByteSlice}
-use Rattle.hid_drawing.specs.declared.words.TheConstants.{FLAG_WORDS}
+use Rattle.hid_drawing.specs.declared.captions.TheConstants.{FLAG_WORDS}
 use Rattle.hid_drawing.specs.Label.{usage_label}
 
 -- what a flag says: the second text where it is 1
@@ -36,15 +36,15 @@ flags_text input flags =
     ++ flag_words flags 0x080 [] (bit_7_words input) ++ flag_words flags 0x100 [] (codes ", buffered bytes")
 
 -- whether these are Input reports
-abbrev pub is_input : ReportKind → Bool
-is_input Input = true
-is_input Output = false
-is_input Feature = false
+abbrev pub is_input_report : ReportKind → Bool
+is_input_report Input = true
+is_input_report Output = false
+is_input_report Feature = false
 
--- whether a report that there may be is an Input report
+-- whether an optional report is an Input report; false for none
 abbrev pub is_input_at : Option Report → Bool
 is_input_at None = false
-is_input_at (Some report) = is_input report.kind
+is_input_at (Some report) = is_input_report report.kind
 
 -- whether an item stands in an Input report
 abbrev pub is_input_item : Contents → MainItem → Bool
@@ -57,8 +57,8 @@ kind_name Output = codes "Output"
 kind_name Feature = codes "Feature"
 
 -- a report by its kind, and by its ID where reports have one
-unfoldable pub report_name : Bool → Report → List ℕ
-report_name numbered report =
+unfoldable pub report_title : Bool → Report → List ℕ
+report_title numbered report =
     kind_name report.kind ++ codes " report" ++ (if numbered then 32 ∷ decimal report.id else [])
 
 -- a number of things, in words
@@ -84,8 +84,8 @@ purpose_text None = []
 purpose_text (Some usage) = usage_label usage ++ 32 ∷ []
 
 -- a collection by its usage and its kind. Example: Mouse (Application)
-unfoldable pub collection_text : Collection → List ℕ
-collection_text collection = purpose_text collection.usage ++ 40 ∷ collection_name collection.kind ++ 41 ∷ []
+unfoldable pub collection_words : Collection → List ℕ
+collection_words collection = purpose_text collection.usage ++ 40 ∷ collection_name collection.kind ++ 41 ∷ []
 
 -- a range of usages by its ends, or the one usage of a range with equal ends
 unfoldable pub entry_text : Entry → List ℕ
@@ -103,7 +103,7 @@ abbrev pub choice_text : List Entry → List ℕ
 choice_text [] = []
 choice_text (entry ∷ more) = choice_from entry.0 entry.1 more
 
--- a usage that there may be
+-- the text of a usage; empty where there is none
 abbrev pub usage_words : Option Usage → List ℕ
 usage_words None = []
 usage_words (Some usage) = usage_label usage
@@ -118,7 +118,7 @@ name_in layout i j Padding entries = codes "padding"
 name_in layout i j Variable entries = usage_words (field_usage layout i j entries)
 name_in layout i j Array entries = choice_text entries
 
--- what a field of an item that there may be is called
+-- what a field of an item is called; no text where there is no item
 abbrev pub field_name : Contents → ℕ → ℕ → Option MainItem → Option (List Entry) → List ℕ
 field_name layout i j (Some item) (Some entries) = name_in layout i j item.shape entries
 field_name layout i j _ _ = []
@@ -141,8 +141,8 @@ unfoldable pub piece_name : Contents → ByteSlice → List ℕ
 piece_name layout piece = part_name layout piece.part ++ share_text piece
 
 -- a range, and what sets its numbers apart
-abbrev pub range_text : MainItem → List ℕ
-range_text item =
+abbrev pub range_words : MainItem → List ℕ
+range_words item =
     signed_decimal item.min ++ codes ".." ++ signed_decimal item.max
     ++ (if has_flag RELATIVE item.flags.0 then codes " relative" else [])
     ++ (if has_flag NULL_STATE item.flags.0 then codes " null" else [])
@@ -150,15 +150,15 @@ range_text item =
 -- what is said of an item's fields
 abbrev pub details_in : Shape → MainItem → List ℕ
 details_in Padding item = count_text (item.size * item.count) (codes "bit")
-details_in Variable item = range_text item
-details_in Array item = range_text item
+details_in Variable item = range_words item
+details_in Array item = range_words item
 
--- what is said of the fields of an item that there may be
+-- what is said of the fields of an item; no text where there is no item
 abbrev pub item_details : Option MainItem → List ℕ
 item_details None = []
 item_details (Some item) = details_in item.shape item
 
--- the ID of a report that there may be
+-- the ID of a report; no text where there is no report
 abbrev pub id_text : Option Report → List ℕ
 id_text None = []
 id_text (Some report) = decimal report.id
@@ -169,7 +169,7 @@ part_details layout r ReportId = id_text (slice_get layout.reports r)
 part_details layout r FinalPadding = []
 part_details layout r (Field i j) = item_details (slice_get layout.items i)
 
--- the flags of an item that there may be
+-- the flags of an item; no text where there is no item
 abbrev pub item_flags : Contents → Option MainItem → List ℕ
 item_flags layout None = []
 item_flags layout (Some item) = flags_text (is_input_item layout item) item.flags.0

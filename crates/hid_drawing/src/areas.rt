@@ -1,16 +1,16 @@
 //! Where the parts of a picture stand, in its units.
 
 ghost use Rattle.std.specs.Prelude.{◌≡◌, ◌≤◌, ◌+◌, ◌*◌};
-ghost use Rattle.hid_drawing.specs.Areas.{inset, gap_of, left_of, cell_height, row_top, piece_area, frame_area, bit_middle, name_left};
+ghost use Rattle.hid_drawing.specs.Areas.{inset, gap_of, left_of, cell_height, row_top, piece_area, bracket_area, bit_middle, name_left};
 
-use crate::frames::Frame;
+use crate::brackets::Bracket;
 use crate::pieces::ByteSlice;
 use hid_layout::MAX_OPEN_COLLECTIONS;
 
 /// The width of a bit.
 pub const BIT: u64 = 112;
 
-/// From one byte to the next, where two frames have room.
+/// From one byte to the next, where two brackets have room.
 pub const GAP: u64 = 12;
 
 /// The height of a cell of two lines.
@@ -19,16 +19,16 @@ pub const CELL: u64 = 36;
 /// The height of each more line.
 pub const LINE: u64 = 14;
 
-/// Above the first byte and its frames.
+/// Above the first byte and its brackets.
 pub const TOP: u64 = 28;
 
-/// Left of the frames.
+/// Left of the brackets.
 pub const LEFT: u64 = 52;
 
-/// From one frame to the one in it.
+/// From one bracket to the one in it.
 pub const STEP: u64 = 6;
 
-/// From where the names of the frames begin to the right end of the picture.
+/// From where the names of the brackets begin to the right end of the picture.
 pub const RIGHT: u64 = 182;
 
 /// A rectangle by its upper left corner.
@@ -40,7 +40,7 @@ pub struct Area {
     pub height: u64,
 }
 
-/// What n frames take at one side.
+/// What n brackets take at one side.
 fn inset(level: usize) -> u64
     ensures value { result ≡ inset level }
     ensures bound { result ≤ 96 }
@@ -56,7 +56,7 @@ pub fn gap_of(depth: usize) -> u64
     GAP.max(inset(depth))
 }
 
-/// Where the bits begin, right of the frames.
+/// Where the bits begin, right of the brackets.
 #[tactic(auto, unfolding(crate::specs::Areas::left_of))]
 pub fn left_of(depth: usize) -> u64
     ensures value { result ≡ left_of depth }
@@ -102,15 +102,15 @@ pub fn piece_area(depth: usize, rows: &[u16], piece: &ByteSlice) -> Area
     }
 }
 
-/// The area of a frame.
-#[tactic(auto, unfolding(crate::specs::Areas::frame_area))]
-pub fn frame_area(depth: usize, rows: &[u16], frame: &Frame) -> Area
-    ensures { result ≡ frame_area depth rows.now frame.now }
+/// The area of a bracket.
+#[tactic(auto, unfolding(crate::specs::Areas::bracket_area))]
+pub fn bracket_area(depth: usize, rows: &[u16], bracket: &Bracket) -> Area
+    ensures { result ≡ bracket_area depth rows.now bracket.now }
 {
-    let outer = frame.level.saturating_sub(1);
+    let outer = bracket.level.saturating_sub(1);
     let room = inset(depth.saturating_sub(outer));
-    let top = row_top(depth, rows, frame.first);
-    let bottom = row_top(depth, rows, frame.last) + cell_height(rows, frame.last);
+    let top = row_top(depth, rows, bracket.first);
+    let bottom = row_top(depth, rows, bracket.last) + cell_height(rows, bracket.last);
     Area {
         x: LEFT + inset(outer),
         y: top.saturating_sub(room / 2),
@@ -128,7 +128,7 @@ pub fn bit_middle(left: u64, k: u64) -> u64
     left + 7u64.saturating_sub(k) * BIT + BIT / 2
 }
 
-/// Where the names of the frames begin, right of all frames.
+/// Where the names of the brackets begin, right of all brackets.
 #[tactic(auto, unfolding(crate::specs::Areas::name_left))]
 pub fn name_left(depth: usize) -> u64
     ensures value { result ≡ name_left depth }

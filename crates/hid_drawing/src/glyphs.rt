@@ -33,14 +33,14 @@ pub const FLAT: &str = "─";
 /// After a corner, as wide as a bit.
 pub const BIT_LINE: &str = "─────────";
 
-/// The side of a cell or a frame.
+/// The side of a cell or a bracket.
 pub const SIDE: &str = "│";
 
-/// The first corner of a frame's bracket.
-pub const FRAME_FIRST: &str = "╮";
+/// The first corner of a bracket.
+pub const BRACKET_FIRST: &str = "╮";
 
-/// The last corner of a frame's bracket.
-pub const FRAME_LAST: &str = "╯";
+/// The last corner of a bracket.
+pub const BRACKET_LAST: &str = "╯";
 
 /// No line.
 pub const BLANK: &str = " ";

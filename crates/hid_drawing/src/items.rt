@@ -2,8 +2,8 @@
 
 ghost use Rattle.std.specs.Prelude.{◌≡◌, ◌==◌, ◌<◌, ◌^◌, not, length, slice_get, IfOk};
 ghost use Rattle.std.specs.List.{list_any};
-ghost use Rattle.hid_items.specs.Spelling.{prefix_of};
-ghost use Rattle.hid_drawing.specs.Items.{AreItemsOf, item_spelling_at, place_of, is_positive};
+ghost use Rattle.hid_items.specs.ItemEncoding.{prefix_of};
+ghost use Rattle.hid_drawing.specs.Items.{AreItemsOf, item_encoding_at, item_place, is_positive};
 
 use hid_items::{Item, Items};
 use std::alloc::{AllocError, Global};
@@ -27,18 +27,18 @@ pub fn read_items(alloc: Global, descriptor: &[u8]) -> Result<Vec<Item<'_>>, All
 }
 
 /// The prefix of an item: its first byte without the size.
-pub fn prefix_of(spelled: &[u8]) -> u8
-    ensures { result ≡ prefix_of spelled.now }
+pub fn prefix_of(encoded: &[u8]) -> u8
+    ensures { result ≡ prefix_of encoded.now }
 {
-    match spelled {
+    match encoded {
         [] => 0,
         [first, ..] => *first - *first % 4,
     }
 }
 
-/// How the item at a place is spelled; no bytes where there is none.
-pub fn item_spelling_at<'a>(items: &[Item<'a>], k: usize) -> &'a [u8]
-    ensures { result.now ≡ item_spelling_at items.now k }
+/// How the item at a place is encoded; no bytes where there is none.
+pub fn item_encoding_at<'a>(items: &[Item<'a>], k: usize) -> &'a [u8]
+    ensures { result.now ≡ item_encoding_at items.now k }
 {
     match items.get(k) {
         None => &[],
@@ -48,7 +48,7 @@ pub fn item_spelling_at<'a>(items: &[Item<'a>], k: usize) -> &'a [u8]
 
 /// The byte of the descriptor at which an item begins.
 pub fn place_of(items: &[Item], k: usize) -> usize
-    ensures { result ≡ place_of (slice_get items.now k) }
+    ensures { result ≡ item_place (slice_get items.now k) }
 {
     match items.get(k) {
         None => 0,
@@ -64,10 +64,10 @@ fn is_any_set(bytes: &[u8]) -> bool
 }
 
 /// Whether some byte of an item's data isn't 0.
-pub fn is_positive(spelled: &[u8]) -> bool
-    ensures { result ≡ is_positive spelled.now }
+pub fn is_positive(encoded: &[u8]) -> bool
+    ensures { result ≡ is_positive encoded.now }
 {
-    match spelled {
+    match encoded {
         [] => false,
         [_, data @ ..] => is_any_set(data),
     }

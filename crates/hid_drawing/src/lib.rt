@@ -1,10 +1,10 @@
 //! Drawings of reports, as SVG and in characters: where each field stands, which items of the descriptor made it, its words.
 //! ```text
-//!   Layout         ---- pieces_of -------> pieces   what of a field lies in one byte
-//!   descriptor     ---- read_items ------> items    by their places, up to where it is cut off
-//!   items          ---- frames ----------> frames   the bytes of each collection
-//!   pieces, frames ---- print_picture ---> SVG: a cell for each piece, in its area
-//!   pieces, frames ---- print_terminal --> the picture in characters
+//!   Layout           ---- pieces_of -------> pieces    what of a field lies in one byte
+//!   descriptor       ---- read_items ------> items     by their places, up to where it is cut off
+//!   items            ---- brackets --------> brackets  the bytes of each collection
+//!   pieces, brackets ---- print_picture ---> SVG: a cell for each piece, in its area
+//!   pieces, brackets ---- print_terminal --> the picture in characters
 //!
 //!      ┌─────────────────────────────────────────────────┬─────────┬─────────┬─────────┐╮╮
 //!    0 │padding                                          │Button 3 │Button 2 │Button 1 │││
@@ -21,35 +21,35 @@
 #![tactic(auto)]
 
 mod areas;
+mod bracket_names;
+mod brackets;
+mod captions;
 mod escape;
-mod frames;
 mod glyphs;
 mod items;
 mod label;
 pub mod laws;
 mod lines;
-mod listed;
-mod makers;
-mod picture_words;
+mod lookups;
+mod origins;
 mod pieces;
 mod svg;
 mod terminal;
-mod words;
 
 pub use areas::{RIGHT, gap_of, name_left, row_top};
+pub use brackets::{Bracket, Drawn, bracket_depth, main_at, round_at};
+pub use captions::{
+    collection_name, is_input_item, print_bit, print_collection, print_count, print_entry,
+    print_flags, print_report_name,
+};
 pub use escape::{push_escaped, words_are_inert};
-pub use frames::{Drawn, Frame, frame_depth, main_at, round_at};
 pub use items::{place_of, prefix_of, read_items};
 pub use label::UsageLabel;
 pub use lines::rows_of;
-pub use listed::{first_bit_of, item_at, report_at};
-pub use makers::{
-    COLLECTION, InForce, global_place, in_force, is_field, is_main, listed_places, makes,
+pub use lookups::{first_bit_of, item_at, report_at};
+pub use origins::{
+    InForce, global_place, is_field, is_main, is_origin, listed_places, origins_in_force,
 };
 pub use pieces::{BitSource, ByteSlice, pieces_of};
 pub use svg::print_picture;
 pub use terminal::print_terminal;
-pub use words::{
-    collection_name, is_input_item, print_bit, print_collection, print_count, print_entry,
-    print_flags, print_report_name,
-};

@@ -1,20 +1,20 @@
 //! Words in lines of n columns, and how high they make a row.
 
 ghost use Rattle.std.specs.Prelude.{◌≡◌, ◌≤◌, ◌<◌, length, Some, IfOk};
-ghost use Rattle.hid_drawing.specs.Lines.{byte_at, last_space, first_width, after_line, line_at, line_count, columns_of, both_counts, piece_lines, row_lines, line_of, name_lines, lines_in_front, rows_of};
+ghost use Rattle.hid_drawing.specs.Lines.{byte_at, last_space, first_width, after_line, line_at, line_count, columns_of, both_counts, piece_lines, row_lines, name_line_of, name_lines, lines_in_front, rows_of};
 
-use crate::frames::Frame;
-use crate::picture_words::print_frame_name;
+use crate::bracket_names::print_bracket_name;
+use crate::brackets::Bracket;
+use crate::captions::{print_part_details, print_piece_name};
 use crate::pieces::ByteSlice;
-use crate::words::{print_part_details, print_piece_name};
 use hid_layout::Layout;
 use std::alloc::{AllocError, Global};
 
-/// So many columns has the name of a frame.
+/// The columns of a bracket's name.
 pub const NAME_COLUMNS: usize = 24;
 
-/// So many lines has each row at least.
-pub const LEAST_LINES: u16 = 2;
+/// The least lines of a row.
+pub const MIN_LINES: u16 = 2;
 
 /// The byte at a place, and a space after the end.
 pub fn byte_at(words: &[u8], k: usize) -> u8
@@ -86,7 +86,7 @@ pub fn line_count(words: &[u8], columns: usize) -> u16
     count
 }
 
-/// So many columns has a cell.
+/// How many columns a cell has.
 pub fn columns_of(drawn: bool, piece: &ByteSlice) -> usize
     ensures { result ≡ columns_of drawn piece.now }
 {
@@ -100,7 +100,7 @@ pub fn columns_of(drawn: bool, piece: &ByteSlice) -> usize
 
 /// The line of two texts, one below the other.
 pub fn line_of<'a>(name: &'a [u8], details: &'a [u8], columns: usize, k: u16) -> &'a [u8]
-    ensures { result.now ≡ line_of name.now details.now columns k }
+    ensures { result.now ≡ name_line_of name.now details.now columns k }
 {
     let count = line_count(name, columns);
     if k < count {
@@ -151,7 +151,7 @@ pub fn row_lines(
     requires { r < length layout.now.reports }
     ensures { IfOk result (λ lines. lines ≡ row_lines layout.now r drawn byte pieces.now) }
 {
-    let mut lines = LEAST_LINES;
+    let mut lines = MIN_LINES;
     for piece in pieces {
         if piece.byte == byte {
             lines = lines.max(piece_lines(alloc, layout, r, drawn, piece)?);
@@ -160,40 +160,45 @@ pub fn row_lines(
     Ok(lines)
 }
 
-/// How many lines the name of a frame has, where it begins in the byte.
-fn name_lines(alloc: Global, layout: &Layout, byte: u32, frame: &Frame) -> Result<u16, AllocError>
-    ensures { IfOk result (λ lines. lines ≡ name_lines layout.now byte (Some frame.now)) }
+/// How many lines the name of a bracket has, where it begins in the byte.
+fn name_lines(
+    alloc: Global,
+    layout: &Layout,
+    byte: u32,
+    bracket: &Bracket,
+) -> Result<u16, AllocError>
+    ensures { IfOk result (λ lines. lines ≡ name_lines layout.now byte (Some bracket.now)) }
 {
-    if frame.first != byte {
+    if bracket.first != byte {
         return Ok(0);
     }
     let mut name = String::new(alloc);
-    print_frame_name(&mut name, layout, frame)?;
+    print_bracket_name(&mut name, layout, bracket)?;
     Ok(line_count(name.as_bytes(), NAME_COLUMNS))
 }
 
-/// How many lines the names of the first frames have beside the byte.
+/// How many lines the names of the first brackets have beside the byte.
 ///
 /// # Errors
 /// Out of memory.
 pub fn lines_in_front(
     alloc: Global,
     layout: &Layout,
-    frames: &[Frame],
+    brackets: &[Bracket],
     byte: u32,
     count: usize,
 ) -> Result<u16, AllocError>
-    requires { count ≤ length frames.now }
-    ensures { IfOk result (λ lines. lines ≡ lines_in_front layout.now frames.now byte count) }
+    requires { count ≤ length brackets.now }
+    ensures { IfOk result (λ lines. lines ≡ lines_in_front layout.now brackets.now byte count) }
 {
     let mut lines = 0u16;
     for k in 0..count {
-        lines = lines.saturating_add(name_lines(alloc, layout, byte, &frames[k])?);
+        lines = lines.saturating_add(name_lines(alloc, layout, byte, &brackets[k])?);
     }
     Ok(lines)
 }
 
-/// The lines of the rows of a drawing, for cells and for the names of the frames.
+/// The lines of the rows of a drawing, for cells and for the names of the brackets.
 ///
 /// # Errors
 /// Out of memory.
@@ -202,17 +207,17 @@ pub fn rows_of(
     layout: &Layout,
     r: usize,
     bytes: u32,
-    frames: &[Frame],
+    brackets: &[Bracket],
     pieces: &[ByteSlice],
 ) -> Result<Vec<u16>, AllocError>
     requires { r < length layout.now.reports }
     ensures { IfOk result (λ rows. rows.items
-        ≡ rows_of layout.now r bytes frames.now pieces.now) }
+        ≡ rows_of layout.now r bytes brackets.now pieces.now) }
 {
     let mut rows = Vec::new(alloc);
     for byte in 0..bytes {
         let cells = row_lines(alloc, layout, r, true, byte, pieces)?;
-        let names = lines_in_front(alloc, layout, frames, byte, frames.len())?;
+        let names = lines_in_front(alloc, layout, brackets, byte, brackets.len())?;
         rows.push(cells.max(names))?;
     }
     Ok(rows)

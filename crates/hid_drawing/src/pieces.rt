@@ -2,9 +2,9 @@
 
 ghost use Rattle.std.specs.Prelude.{◌≡◌, ◌++◌, ◌+◌, ◌<◌, ◌≤◌, ◌/◌, ◌%◌, ◌^◌, length, slice_get, Some, IfOk, OnOk};
 ghost use Rattle.hid_layout.specs.Reports.{first_bit, element_of};
-ghost use Rattle.hid_drawing.specs.Pieces.{LiesIn, concat_lists, piece_of, segment_pieces, element_pieces, shape_pieces, item_pieces, id_pieces, padding_pieces, pieces_of};
+ghost use Rattle.hid_drawing.specs.Pieces.{SliceLiesIn, concat_lists, piece_of, segment_pieces, element_pieces, shape_pieces, item_pieces, id_pieces, padding_pieces, pieces_of};
 
-use crate::listed::{first_bit, first_bit_of, item_at, report_at};
+use crate::lookups::{first_bit, first_bit_of, item_at, report_at};
 use hid_layout::{Layout, MainItem, Shape};
 use std::alloc::{AllocError, Global};
 
@@ -83,7 +83,7 @@ fn push_element(
     item: &MainItem,
 ) -> Result<(), AllocError>
     requires at { slice_get layout.now.items i ≡ Some item.now }
-    requires lies { LiesIn layout.now item.now }
+    requires lies { SliceLiesIn layout.now item.now }
     ensures { OnOk result (pieces.new.items
         ≡ pieces.old.items ++ element_pieces layout.now i j (element_of layout.now i j)) }
 {
@@ -110,7 +110,7 @@ fn push_padding(
     i: usize,
     item: &MainItem,
 ) -> Result<(), AllocError>
-    requires { LiesIn layout.now item.now }
+    requires { SliceLiesIn layout.now item.now }
     ensures { OnOk result (pieces.new.items
         ≡ pieces.old.items ++ shape_pieces layout.now i item.now Shape.Padding) }
 {
@@ -135,7 +135,7 @@ fn push_elements(
     item: &MainItem,
 ) -> Result<(), AllocError>
     requires at { slice_get layout.now.items i ≡ Some item.now }
-    requires lies { LiesIn layout.now item.now }
+    requires lies { SliceLiesIn layout.now item.now }
     ensures { OnOk result (pieces.new.items
         ≡ pieces.old.items
         ++ concat_lists item.now.count
@@ -156,7 +156,7 @@ fn push_item(
     item: &MainItem,
 ) -> Result<(), AllocError>
     requires at { slice_get layout.now.items i ≡ Some item.now }
-    requires lies { LiesIn layout.now item.now }
+    requires lies { SliceLiesIn layout.now item.now }
     ensures { OnOk result (pieces.new.items
         ≡ pieces.old.items ++ item_pieces layout.now r i (Some item.now)) }
 {

@@ -2,26 +2,27 @@
 
 ghost use Rattle.std.specs.Prelude.{◌≡◌, ◌++◌, ◌<◌, ◌≤◌, ◌^◌, length, slice_get, Some, OnOk, string_bytes};
 ghost use Rattle.hid_drawing.specs.Escape.{escaped_words};
-ghost use Rattle.hid_drawing.specs.Frames.{frame_depth};
+ghost use Rattle.hid_drawing.specs.Brackets.{bracket_depth};
 ghost use Rattle.hid_drawing.specs.Words.{piece_name};
-ghost use Rattle.hid_drawing.specs.PictureWords.{frame_name};
-ghost use Rattle.hid_drawing.specs.Svg.{area_text, color_class, field_class, part_class, part_saying, cell_title, line_class, line_head, text_line, text_lines, cell_words, edge_text, cell_head, cell_text, frame_title, label_head, label_line, label_lines, frame_label, frame_backdrop, frames_text, cells_text, bit_number, bit_ruler, byte_number, byte_ruler, rulers, measures, opening, description, picture_head, picture_by, picture_at};
+ghost use Rattle.hid_drawing.specs.BracketNames.{bracket_name};
+ghost use Rattle.hid_drawing.specs.Svg.{area_text, color_class, field_class, part_class, part_description, cell_title, line_class, line_head, text_line, text_lines, cell_words, edge_text, cell_head, cell_text, bracket_title, label_head, label_line, label_lines, bracket_label, bracket_backdrop, brackets_text, cells_text, bit_number, bit_ruler, byte_number, byte_ruler, rulers, measures, opening, description, picture_head, picture_by, picture_at};
 
 use crate::areas::{
-    Area, LINE, RIGHT, bit_middle, cell_height, frame_area, left_of, name_left, piece_area, row_top,
+    Area, LINE, RIGHT, bit_middle, bracket_area, cell_height, left_of, name_left, piece_area,
+    row_top,
 };
-use crate::escape::push_escaped;
-use crate::frames::{Frame, frame_depth};
-use crate::lines::{
-    NAME_COLUMNS, both_counts, columns_of, line_count, line_of, lines_in_front, rows_of,
-};
-use crate::listed::{item_at, report_at};
-use crate::picture_words::print_frame_name;
-use crate::pieces::{BitSource, ByteSlice};
-use crate::words::{
+use crate::bracket_names::print_bracket_name;
+use crate::brackets::{Bracket, bracket_depth};
+use crate::captions::{
     print_count, print_part_details, print_part_flags, print_piece_name, print_place,
     print_report_name,
 };
+use crate::escape::push_escaped;
+use crate::lines::{
+    NAME_COLUMNS, both_counts, columns_of, line_count, line_of, lines_in_front, rows_of,
+};
+use crate::lookups::{item_at, report_at};
+use crate::pieces::{BitSource, ByteSlice};
 use hid_layout::{Layout, MainItem, Report, Shape};
 use std::alloc::{AllocError, Global};
 
@@ -107,8 +108,8 @@ fn print_escaped_name(
 }
 
 /// Adds what is said of a part after its place.
-#[tactic(auto, unfolding(crate::specs::Svg::part_saying))]
-fn print_saying(
+#[tactic(auto, unfolding(crate::specs::Svg::part_description))]
+fn print_part_description(
     text: &mut String,
     layout: &Layout,
     r: usize,
@@ -116,7 +117,7 @@ fn print_saying(
 ) -> Result<(), AllocError>
     requires { r < length layout.now.reports }
     ensures { OnOk result (string_bytes text.new
-        ≡ string_bytes text.old ++ part_saying layout.now r part) }
+        ≡ string_bytes text.old ++ part_description layout.now r part) }
 {
     match part {
         BitSource::FinalPadding => Ok(()),
@@ -150,7 +151,7 @@ fn print_title(
     print_escaped_name(alloc, text, layout, piece)?;
     text.push_str(": ")?;
     print_place(text, piece)?;
-    print_saying(text, layout, r, piece.part)?;
+    print_part_description(text, layout, r, piece.part)?;
     text.push_str("</title>")
 }
 
@@ -284,35 +285,35 @@ fn print_cell(
     text.push_str("</svg></a>\n")
 }
 
-/// Adds what a frame is called, as it stands in a page.
-fn print_escaped_frame(
+/// Adds what a bracket is called, as it stands in a page.
+fn print_escaped_bracket(
     alloc: Global,
     text: &mut String,
     layout: &Layout,
-    frame: &Frame,
+    bracket: &Bracket,
 ) -> Result<(), AllocError>
     ensures { OnOk result (string_bytes text.new
-        ≡ string_bytes text.old ++ escaped_words (frame_name layout.now frame.now)) }
+        ≡ string_bytes text.old ++ escaped_words (bracket_name layout.now bracket.now)) }
 {
     let mut name = String::new(alloc);
-    print_frame_name(&mut name, layout, frame)?;
+    print_bracket_name(&mut name, layout, bracket)?;
     push_escaped(text, name.as_bytes())
 }
 
-/// Adds what a frame is read as.
-#[tactic(auto, unfolding(crate::specs::Svg::frame_title))]
-fn print_frame_title(
+/// Adds what a bracket is read as.
+#[tactic(auto, unfolding(crate::specs::Svg::bracket_title))]
+fn print_bracket_title(
     alloc: Global,
     text: &mut String,
     layout: &Layout,
-    frame: &Frame,
+    bracket: &Bracket,
 ) -> Result<(), AllocError>
     ensures { OnOk result (string_bytes text.new
-        ≡ string_bytes text.old ++ frame_title layout.now frame.now) }
+        ≡ string_bytes text.old ++ bracket_title layout.now bracket.now) }
 {
-    let Frame { first, last, .. } = *frame;
+    let Bracket { first, last, .. } = *bracket;
     text.push_str("<g><title>")?;
-    print_escaped_frame(alloc, text, layout, frame)?;
+    print_escaped_bracket(alloc, text, layout, bracket)?;
     write!(text, ": bytes {first} to {last}</title>")
 }
 
@@ -324,7 +325,7 @@ fn print_label_head(text: &mut String, x: u64, y: u64) -> Result<(), AllocError>
     write!(text, "<text class='o' x='{x}' y='{y}'>")
 }
 
-/// Adds a line of the name beside a frame.
+/// Adds a line of the name beside a bracket.
 #[tactic(auto, unfolding(crate::specs::Svg::label_line))]
 fn print_label_line(
     text: &mut String,
@@ -342,7 +343,7 @@ fn print_label_line(
     text.push_str("</text>")
 }
 
-/// Adds the name beside a frame.
+/// Adds the name beside a bracket.
 #[tactic(auto, unfolding(crate::specs::Svg::label_lines))]
 fn print_label_lines(
     text: &mut String,
@@ -360,48 +361,48 @@ fn print_label_lines(
     text.push_str("</g>\n")
 }
 
-/// Adds the name beside a frame, below n other lines.
-#[tactic(auto, unfolding(crate::specs::Svg::frame_label))]
-fn print_frame_label(
+/// Adds the name beside a bracket, below n other lines.
+#[tactic(auto, unfolding(crate::specs::Svg::bracket_label))]
+fn print_bracket_label(
     alloc: Global,
     text: &mut String,
     layout: &Layout,
     depth: usize,
     rows: &[u16],
     front: u16,
-    frame: &Frame,
+    bracket: &Bracket,
 ) -> Result<(), AllocError>
     ensures { OnOk result (string_bytes text.new
-        ≡ string_bytes text.old ++ frame_label layout.now depth rows.now front frame.now) }
+        ≡ string_bytes text.old ++ bracket_label layout.now depth rows.now front bracket.now) }
 {
     let mut name = String::new(alloc);
-    print_frame_name(&mut name, layout, frame)?;
-    let top = row_top(depth, rows, frame.first) + 11 + LINE * u64::from(front);
+    print_bracket_name(&mut name, layout, bracket)?;
+    let top = row_top(depth, rows, bracket.first) + 11 + LINE * u64::from(front);
     print_label_lines(text, depth, top, name.as_bytes())
 }
 
-/// Adds the frame of a collection, with its name beside it.
-#[tactic(auto, unfolding(crate::specs::Svg::frame_backdrop, crate::specs::Svg::frame_text))]
-fn print_frame(
+/// Adds the bracket of a collection, with its name beside it.
+#[tactic(auto, unfolding(crate::specs::Svg::bracket_backdrop, crate::specs::Svg::bracket_text))]
+fn print_bracket(
     alloc: Global,
     text: &mut String,
     layout: &Layout,
     depth: usize,
     rows: &[u16],
-    frames: &[Frame],
+    brackets: &[Bracket],
     k: usize,
-    frame: &Frame,
+    bracket: &Bracket,
 ) -> Result<(), AllocError>
-    requires { k ≤ length frames.now }
+    requires { k ≤ length brackets.now }
     ensures { OnOk result (string_bytes text.new ≡ string_bytes text.old
-        ++ frame_backdrop layout.now depth rows.now frames.now k (Some frame.now)) }
+        ++ bracket_backdrop layout.now depth rows.now brackets.now k (Some bracket.now)) }
 {
-    let front = lines_in_front(alloc, layout, frames, frame.first, k)?;
-    print_frame_title(alloc, text, layout, frame)?;
+    let front = lines_in_front(alloc, layout, brackets, bracket.first, k)?;
+    print_bracket_title(alloc, text, layout, bracket)?;
     text.push_str("<rect class='o' rx='4'")?;
-    print_area(text, frame_area(depth, rows, frame))?;
+    print_area(text, bracket_area(depth, rows, bracket))?;
     text.push_str("/>")?;
-    print_frame_label(alloc, text, layout, depth, rows, front, frame)
+    print_bracket_label(alloc, text, layout, depth, rows, front, bracket)
 }
 
 /// Adds the number above a bit.
@@ -529,37 +530,37 @@ fn print_head(
     text.push_str("</style>\n")
 }
 
-/// The frame at a place.
-fn frame_at(frames: &[Frame], k: usize) -> &Frame
-    requires { k < length frames.now }
-    ensures { slice_get frames.now k ≡ Some result.now }
+/// The bracket at a place.
+fn bracket_at(brackets: &[Bracket], k: usize) -> &Bracket
+    requires { k < length brackets.now }
+    ensures { slice_get brackets.now k ≡ Some result.now }
 {
-    &frames[k]
+    &brackets[k]
 }
 
-/// Adds the frames of a report.
-#[tactic(auto, unfolding(crate::specs::Svg::frames_text))]
-fn print_frames(
+/// Adds the brackets of a report.
+#[tactic(auto, unfolding(crate::specs::Svg::brackets_text))]
+fn print_brackets(
     alloc: Global,
     text: &mut String,
     layout: &Layout,
     depth: usize,
     rows: &[u16],
-    frames: &[Frame],
+    brackets: &[Bracket],
 ) -> Result<(), AllocError>
     ensures { OnOk result (string_bytes text.new
-        ≡ string_bytes text.old ++ frames_text layout.now depth rows.now frames.now) }
+        ≡ string_bytes text.old ++ brackets_text layout.now depth rows.now brackets.now) }
 {
-    for k in 0..frames.len() {
-        print_frame(
+    for k in 0..brackets.len() {
+        print_bracket(
             alloc,
             text,
             layout,
             depth,
             rows,
-            frames,
+            brackets,
             k,
-            frame_at(frames, k),
+            bracket_at(brackets, k),
         )?;
     }
     Ok(())
@@ -594,26 +595,26 @@ fn print_by(
     layout: &Layout,
     r: usize,
     bytes: u32,
-    frames: &[Frame],
+    brackets: &[Bracket],
     pieces: &[ByteSlice],
     report: &Report,
     rows: &[u16],
 ) -> Result<(), AllocError>
     requires { r < length layout.now.reports }
     ensures { OnOk result (string_bytes text.new ≡ string_bytes text.old
-        ++ picture_by layout.now r bytes frames.now pieces.now report.now
-        (frame_depth frames.now) rows.now) }
+        ++ picture_by layout.now r bytes brackets.now pieces.now report.now
+        (bracket_depth brackets.now) rows.now) }
 {
-    let depth = frame_depth(frames);
+    let depth = bracket_depth(brackets);
     print_head(text, layout.numbered(), depth, rows, bytes, report)?;
     write!(text, "<g id='g{r}'>")?;
     print_rulers(text, depth, rows, bytes)?;
-    print_frames(alloc, text, layout, depth, rows, frames)?;
+    print_brackets(alloc, text, layout, depth, rows, brackets)?;
     print_cells(alloc, text, layout, r, depth, rows, pieces)?;
     text.push_str("</g></svg>\n")
 }
 
-/// Adds the picture of a report, by its frames and its pieces.
+/// Adds the picture of a report, by its brackets and its pieces.
 ///
 /// # Errors
 /// Out of memory; part of the text may be added then.
@@ -623,15 +624,17 @@ pub fn print_picture(
     text: &mut String,
     layout: &Layout,
     r: usize,
-    frames: &[Frame],
+    brackets: &[Bracket],
     pieces: &[ByteSlice],
 ) -> Result<(), AllocError>
     requires { r < length layout.now.reports }
     ensures { OnOk result (string_bytes text.new ≡ string_bytes text.old
-        ++ picture_at layout.now r frames.now pieces.now (slice_get layout.now.reports r)) }
+        ++ picture_at layout.now r brackets.now pieces.now (slice_get layout.now.reports r)) }
 {
     let report = report_at(layout, r);
     let bytes = layout.report_bytes(r) as u32;
-    let rows = rows_of(alloc, layout, r, bytes, frames, pieces)?;
-    print_by(alloc, text, layout, r, bytes, frames, pieces, report, &rows)
+    let rows = rows_of(alloc, layout, r, bytes, brackets, pieces)?;
+    print_by(
+        alloc, text, layout, r, bytes, brackets, pieces, report, &rows,
+    )
 }

@@ -2,30 +2,30 @@
 
 ghost use Rattle.std.specs.Prelude.{◌≡◌, ◌++◌, ◌-◌, ◌<◌, min, codes, length, slice_get, Some, OnOk, string_bytes};
 ghost use Rattle.hid_notation.specs.Text.{concat_below};
-ghost use Rattle.hid_drawing.specs.Pieces.{LiesIn};
-ghost use Rattle.hid_drawing.specs.declared.terminal.TheConstants.{MOST_STEPS};
-ghost use Rattle.hid_drawing.specs.Terminal.{padded_words, is_edge, is_edge_above, end_corner, corner, corner_at, edge_line, is_held, is_held_on, bracket, bracket_at, brackets, side_at, sides, cell_line, byte_cell, cells_line, line_number, row_line, line_above, two_columns, row_number, row_text, frame_line, frame_lines, usage_lines, item_lines, field_lines, fields_text, terminal_head, rows_text, terminal_of, terminal_at};
+ghost use Rattle.hid_drawing.specs.Pieces.{SliceLiesIn};
+ghost use Rattle.hid_drawing.specs.declared.terminal.TheConstants.{MAX_STEPS};
+ghost use Rattle.hid_drawing.specs.Terminal.{padded_words, is_edge, is_edge_above, end_corner, corner, corner_at, edge_line, is_held, is_held_on, bracket_corner, bracket_corner_at, bracket_corners, side_at, sides, cell_line, byte_cell, cells_line, line_number, row_line, line_above, two_columns, row_number, row_text, bracket_line, bracket_lines, usage_lines, item_lines, field_lines, fields_text, terminal_head, rows_text, terminal_of, terminal_at};
 
-use crate::escape::push_printed;
-use crate::frames::{Frame, frame_depth};
-use crate::glyphs::{
-    BIT_LINE, BIT_RULER, BLANK, CROSS, DOWNWARD, FLAT, FRAME_FIRST, FRAME_LAST, LEFT_BOTH,
-    LEFT_FIRST, LEFT_LAST, RIGHT_BOTH, RIGHT_FIRST, RIGHT_LAST, SIDE, UPWARD,
-};
-use crate::lines::{byte_at, columns_of, line_of, row_lines};
-use crate::listed::{first_bit_of, item_at, report_at};
-use crate::picture_words::print_frame_name;
-use crate::pieces::{ByteSlice, piece_at};
-use crate::words::{
+use crate::bracket_names::print_bracket_name;
+use crate::brackets::{Bracket, bracket_depth};
+use crate::captions::{
     is_input_item, print_bit, print_count, print_entry, print_flags, print_part_details,
     print_piece_name, print_report_name,
 };
+use crate::escape::push_printed;
+use crate::glyphs::{
+    BIT_LINE, BIT_RULER, BLANK, BRACKET_FIRST, BRACKET_LAST, CROSS, DOWNWARD, FLAT, LEFT_BOTH,
+    LEFT_FIRST, LEFT_LAST, RIGHT_BOTH, RIGHT_FIRST, RIGHT_LAST, SIDE, UPWARD,
+};
+use crate::lines::{byte_at, columns_of, line_of, row_lines};
+use crate::lookups::{first_bit_of, item_at, report_at};
+use crate::pieces::{ByteSlice, piece_at};
 use hid_layout::{Layout, MainItem, Report, Usage};
 use std::alloc::{AllocError, Global};
 
-/// The name of a frame is indented by n steps at most: the longest line, of a name of
+/// The name of a bracket is indented by n steps at most: the longest line, of a name of
 /// 55 columns and bytes of three digits, then has 99.
-pub const MOST_STEPS: usize = 13;
+pub const MAX_STEPS: usize = 13;
 
 /// Adds n columns of words: what has room, and spaces.
 #[tactic(auto, unfolding(crate::specs::Terminal::padded_words))]
@@ -119,99 +119,101 @@ fn print_edge_line(text: &mut String, pieces: &[ByteSlice], byte: u32) -> Result
     print_corner(text, pieces, byte, 0)
 }
 
-/// Whether a frame of a level holds a byte.
-fn is_held(frames: &[Frame], level: usize, byte: u32) -> bool
-    ensures { result ≡ is_held frames.now level byte }
+/// Whether a bracket of a level holds a byte.
+fn is_held(brackets: &[Bracket], level: usize, byte: u32) -> bool
+    ensures { result ≡ is_held brackets.now level byte }
 {
-    frames.iter().any(|frame| frame.level == level && (frame.first <= byte && byte <= frame.last))
+    brackets.iter().any(|bracket| bracket.level == level
+        && (bracket.first <= byte && byte <= bracket.last))
 }
 
-/// Whether one frame of a level holds a byte and the one in front of it.
-fn is_held_on(frames: &[Frame], level: usize, byte: u32) -> bool
-    ensures { result ≡ is_held_on frames.now level byte }
+/// Whether one bracket of a level holds a byte and the one in front of it.
+fn is_held_on(brackets: &[Bracket], level: usize, byte: u32) -> bool
+    ensures { result ≡ is_held_on brackets.now level byte }
 {
-    frames.iter().any(|frame| frame.level == level && (frame.first < byte && byte <= frame.last))
+    brackets.iter().any(|bracket| bracket.level == level
+        && (bracket.first < byte && byte <= bracket.last))
 }
 
-/// The character of a frame on the line above a byte.
-fn bracket(on: bool, above: bool, below: bool) -> &'static str
-    ensures { result.now ≡ bracket on above below }
+/// The character of a bracket on the line above a byte.
+fn bracket_corner(on: bool, above: bool, below: bool) -> &'static str
+    ensures { result.now ≡ bracket_corner on above below }
 {
     if on {
         return SIDE;
     }
     match (above, below) {
         (true, true) => RIGHT_BOTH,
-        (true, false) => FRAME_LAST,
-        (false, true) => FRAME_FIRST,
+        (true, false) => BRACKET_LAST,
+        (false, true) => BRACKET_FIRST,
         (false, false) => BLANK,
     }
 }
 
-/// Adds the frame of a level on the line above a byte.
-#[tactic(auto, unfolding(crate::specs::Terminal::bracket_at))]
-fn print_bracket(
+/// Adds the bracket of a level on the line above a byte.
+#[tactic(auto, unfolding(crate::specs::Terminal::bracket_corner_at))]
+fn print_bracket_corner(
     text: &mut String,
-    frames: &[Frame],
+    brackets: &[Bracket],
     level: usize,
     byte: u32,
 ) -> Result<(), AllocError>
     ensures { OnOk result (string_bytes text.new
-        ≡ string_bytes text.old ++ bracket_at frames.now level byte) }
+        ≡ string_bytes text.old ++ bracket_corner_at brackets.now level byte) }
 {
-    let on = is_held_on(frames, level, byte);
-    let above = 0 < byte && is_held(frames, level, byte - 1);
-    let below = is_held(frames, level, byte);
-    text.push_str(bracket(on, above, below))
+    let on = is_held_on(brackets, level, byte);
+    let above = 0 < byte && is_held(brackets, level, byte - 1);
+    let below = is_held(brackets, level, byte);
+    text.push_str(bracket_corner(on, above, below))
 }
 
-/// Adds the frames on the line above a byte, the innermost first.
-#[tactic(auto, unfolding(crate::specs::Terminal::brackets))]
-fn print_brackets(
+/// Adds the brackets on the line above a byte, the innermost first.
+#[tactic(auto, unfolding(crate::specs::Terminal::bracket_corners))]
+fn print_bracket_corners(
     text: &mut String,
-    frames: &[Frame],
+    brackets: &[Bracket],
     depth: usize,
     byte: u32,
 ) -> Result<(), AllocError>
     ensures { OnOk result (string_bytes text.new
-        ≡ string_bytes text.old ++ brackets frames.now depth byte) }
+        ≡ string_bytes text.old ++ bracket_corners brackets.now depth byte) }
 {
     for i in 0..depth {
-        print_bracket(text, frames, depth - i, byte)?;
+        print_bracket_corner(text, brackets, depth - i, byte)?;
     }
     Ok(())
 }
 
-/// Adds the frame of a level beside a byte.
+/// Adds the bracket of a level beside a byte.
 fn print_side(
     text: &mut String,
-    frames: &[Frame],
+    brackets: &[Bracket],
     level: usize,
     byte: u32,
 ) -> Result<(), AllocError>
     ensures { OnOk result (string_bytes text.new
-        ≡ string_bytes text.old ++ side_at frames.now level byte) }
+        ≡ string_bytes text.old ++ side_at brackets.now level byte) }
 {
-    if is_held(frames, level, byte) {
+    if is_held(brackets, level, byte) {
         text.push_str(SIDE)
     } else {
         text.push_str(BLANK)
     }
 }
 
-/// Adds the frames beside a byte, the innermost first.
+/// Adds the brackets beside a byte, the innermost first.
 #[tactic(auto, unfolding(crate::specs::Terminal::sides))]
 fn print_sides(
     text: &mut String,
-    frames: &[Frame],
+    brackets: &[Bracket],
     depth: usize,
     byte: u32,
 ) -> Result<(), AllocError>
     ensures { OnOk result (string_bytes text.new
-        ≡ string_bytes text.old ++ sides frames.now depth byte) }
+        ≡ string_bytes text.old ++ sides brackets.now depth byte) }
 {
     for i in 0..depth {
-        print_side(text, frames, depth - i, byte)?;
+        print_side(text, brackets, depth - i, byte)?;
     }
     Ok(())
 }
@@ -290,15 +292,15 @@ fn print_cells_line(
 fn print_line_above(
     text: &mut String,
     byte: u32,
-    frames: &[Frame],
+    brackets: &[Bracket],
     pieces: &[ByteSlice],
 ) -> Result<(), AllocError>
     ensures { OnOk result (string_bytes text.new
-        ≡ string_bytes text.old ++ line_above byte frames.now pieces.now) }
+        ≡ string_bytes text.old ++ line_above byte brackets.now pieces.now) }
 {
     text.push_str("   ")?;
     print_edge_line(text, pieces, byte)?;
-    print_brackets(text, frames, frame_depth(frames), byte)?;
+    print_bracket_corners(text, brackets, bracket_depth(brackets), byte)?;
     text.push_str("\n")
 }
 
@@ -349,19 +351,19 @@ fn print_row_line(
     layout: &Layout,
     r: usize,
     bytes: u32,
-    frames: &[Frame],
+    brackets: &[Bracket],
     pieces: &[ByteSlice],
     byte: u32,
     k: u16,
 ) -> Result<(), AllocError>
     requires { r < length layout.now.reports }
     ensures { OnOk result (string_bytes text.new
-        ≡ string_bytes text.old ++ row_line layout.now r bytes byte frames.now pieces.now k) }
+        ≡ string_bytes text.old ++ row_line layout.now r bytes byte brackets.now pieces.now k) }
 {
     print_line_number(text, bytes, byte, k)?;
     print_cells_line(alloc, text, layout, r, k, byte, pieces)?;
     text.push_str(SIDE)?;
-    print_sides(text, frames, frame_depth(frames), byte)?;
+    print_sides(text, brackets, bracket_depth(brackets), byte)?;
     text.push_str("\n")
 }
 
@@ -373,18 +375,18 @@ fn print_row(
     layout: &Layout,
     r: usize,
     bytes: u32,
-    frames: &[Frame],
+    brackets: &[Bracket],
     pieces: &[ByteSlice],
     byte: u32,
 ) -> Result<(), AllocError>
     requires { r < length layout.now.reports }
     ensures { OnOk result (string_bytes text.new
-        ≡ string_bytes text.old ++ row_text layout.now r bytes frames.now pieces.now byte) }
+        ≡ string_bytes text.old ++ row_text layout.now r bytes brackets.now pieces.now byte) }
 {
-    print_line_above(text, byte, frames, pieces)?;
+    print_line_above(text, byte, brackets, pieces)?;
     let lines = row_lines(alloc, layout, r, false, byte, pieces)?;
     for k in 0..lines {
-        print_row_line(alloc, text, layout, r, bytes, frames, pieces, byte, k)?;
+        print_row_line(alloc, text, layout, r, bytes, brackets, pieces, byte, k)?;
     }
     Ok(())
 }
@@ -392,34 +394,42 @@ fn print_row(
 /// Adds the indentation of a level.
 fn print_indentation(text: &mut String, level: usize) -> Result<(), AllocError>
     ensures { OnOk result (string_bytes text.new
-        ≡ string_bytes text.old ++ concat_below (min (level - 1) MOST_STEPS) (λ i. codes "  ")) }
+        ≡ string_bytes text.old ++ concat_below (min (level - 1) MAX_STEPS) (λ i. codes "  ")) }
 {
-    for _i in 0..level.saturating_sub(1).min(MOST_STEPS) {
+    for _i in 0..level.saturating_sub(1).min(MAX_STEPS) {
         text.push_str("  ")?;
     }
     Ok(())
 }
 
-/// Adds a frame by its name and its bytes.
-#[tactic(auto, unfolding(crate::specs::Terminal::frame_line))]
-fn print_frame_line(text: &mut String, layout: &Layout, frame: &Frame) -> Result<(), AllocError>
+/// Adds a bracket by its name and its bytes.
+#[tactic(auto, unfolding(crate::specs::Terminal::bracket_line))]
+fn print_bracket_line(
+    text: &mut String,
+    layout: &Layout,
+    bracket: &Bracket,
+) -> Result<(), AllocError>
     ensures { OnOk result (string_bytes text.new
-        ≡ string_bytes text.old ++ frame_line layout.now frame.now) }
+        ≡ string_bytes text.old ++ bracket_line layout.now bracket.now) }
 {
-    let Frame { first, last, .. } = *frame;
-    print_indentation(text, frame.level)?;
-    print_frame_name(text, layout, frame)?;
+    let Bracket { first, last, .. } = *bracket;
+    print_indentation(text, bracket.level)?;
+    print_bracket_name(text, layout, bracket)?;
     writeln!(text, ": bytes {first} to {last}")
 }
 
-/// Adds the frames of a report.
-#[tactic(auto, unfolding(crate::specs::Terminal::frame_lines))]
-fn print_frame_lines(text: &mut String, layout: &Layout, frames: &[Frame]) -> Result<(), AllocError>
+/// Adds the brackets of a report.
+#[tactic(auto, unfolding(crate::specs::Terminal::bracket_lines))]
+fn print_bracket_lines(
+    text: &mut String,
+    layout: &Layout,
+    brackets: &[Bracket],
+) -> Result<(), AllocError>
     ensures { OnOk result (string_bytes text.new
-        ≡ string_bytes text.old ++ frame_lines layout.now frames.now) }
+        ≡ string_bytes text.old ++ bracket_lines layout.now brackets.now) }
 {
-    for frame in frames {
-        print_frame_line(text, layout, frame)?;
+    for bracket in brackets {
+        print_bracket_line(text, layout, bracket)?;
     }
     Ok(())
 }
@@ -447,7 +457,7 @@ fn print_item_lines(
     item: &MainItem,
     entries: &[(Usage, Usage)],
 ) -> Result<(), AllocError>
-    requires { LiesIn layout.now item.now }
+    requires { SliceLiesIn layout.now item.now }
     ensures { OnOk result (string_bytes text.new
         ≡ string_bytes text.old ++ item_lines layout.now i item.now entries.now) }
 {
@@ -468,7 +478,7 @@ fn print_field_lines(
     item: &MainItem,
     entries: &[(Usage, Usage)],
 ) -> Result<(), AllocError>
-    requires { LiesIn layout.now item.now }
+    requires { SliceLiesIn layout.now item.now }
     ensures { OnOk result (string_bytes text.new ≡ string_bytes text.old
         ++ field_lines layout.now r i (Some item.now) (Some entries.now)) }
 {
@@ -516,17 +526,17 @@ fn print_rows(
     layout: &Layout,
     r: usize,
     bytes: u32,
-    frames: &[Frame],
+    brackets: &[Bracket],
     pieces: &[ByteSlice],
 ) -> Result<(), AllocError>
     requires { r < length layout.now.reports }
     ensures { OnOk result (string_bytes text.new
-        ≡ string_bytes text.old ++ rows_text layout.now r bytes frames.now pieces.now) }
+        ≡ string_bytes text.old ++ rows_text layout.now r bytes brackets.now pieces.now) }
 {
     for byte in 0..bytes {
-        print_row(alloc, text, layout, r, bytes, frames, pieces, byte)?;
+        print_row(alloc, text, layout, r, bytes, brackets, pieces, byte)?;
     }
-    print_line_above(text, bytes, frames, pieces)
+    print_line_above(text, bytes, brackets, pieces)
 }
 
 /// Adds the picture of a report of n bytes.
@@ -537,21 +547,21 @@ fn print_sized(
     layout: &Layout,
     r: usize,
     bytes: u32,
-    frames: &[Frame],
+    brackets: &[Bracket],
     pieces: &[ByteSlice],
     report: &Report,
 ) -> Result<(), AllocError>
     requires { r < length layout.now.reports }
     ensures { OnOk result (string_bytes text.new ≡ string_bytes text.old
-        ++ terminal_of layout.now r bytes frames.now pieces.now report.now) }
+        ++ terminal_of layout.now r bytes brackets.now pieces.now report.now) }
 {
     print_head(text, layout.numbered(), u64::from(bytes), report)?;
-    print_rows(alloc, text, layout, r, bytes, frames, pieces)?;
-    print_frame_lines(text, layout, frames)?;
+    print_rows(alloc, text, layout, r, bytes, brackets, pieces)?;
+    print_bracket_lines(text, layout, brackets)?;
     print_fields(text, layout, r)
 }
 
-/// Adds the picture of a report in characters, by its frames and its pieces.
+/// Adds the picture of a report in characters, by its brackets and its pieces.
 ///
 /// # Errors
 /// Out of memory; part of the text may be added then.
@@ -560,14 +570,14 @@ pub fn print_terminal(
     text: &mut String,
     layout: &Layout,
     r: usize,
-    frames: &[Frame],
+    brackets: &[Bracket],
     pieces: &[ByteSlice],
 ) -> Result<(), AllocError>
     requires { r < length layout.now.reports }
     ensures { OnOk result (string_bytes text.new ≡ string_bytes text.old
-        ++ terminal_at layout.now r frames.now pieces.now (slice_get layout.now.reports r)) }
+        ++ terminal_at layout.now r brackets.now pieces.now (slice_get layout.now.reports r)) }
 {
     let report = report_at(layout, r);
     let bytes = layout.report_bytes(r) as u32;
-    print_sized(alloc, text, layout, r, bytes, frames, pieces, report)
+    print_sized(alloc, text, layout, r, bytes, brackets, pieces, report)
 }

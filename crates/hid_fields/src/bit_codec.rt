@@ -27,6 +27,7 @@ fn place_of(at: usize, index: u32) -> Place
     }
 }
 
+/// The bit at a place, 0 or 1.
 fn read_bit(bytes: &[u8], place: Place) -> u32
     requires { place.byte < length bytes.now }
     ensures { result ≡ bit_of bytes.now (8 * place.byte + place.bit) }
@@ -34,6 +35,7 @@ fn read_bit(bytes: &[u8], place: Place) -> u32
     u32::from(bytes[place.byte] >> place.bit & 1)
 }
 
+/// Sets or clears the bit at a place, and keeps all others.
 fn write_bit(bytes: &mut [u8], place: Place, one: bool)
     requires { place.byte < length bytes.old }
     ensures bit { bit_of bytes.new (8 * place.byte + place.bit) ≡ (if one then 1 else 0) }

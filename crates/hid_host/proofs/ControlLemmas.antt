@@ -16,7 +16,7 @@ use Rattle.hid_host.specs.declared.fault.StackFault.{StackFault}
 use Rattle.hid_host.specs.declared.fault.StackFault.TheVariants.{Control}
 use Rattle.hid_host.specs.declared.host.Transfer.{Transfer}
 use Rattle.hid_host.specs.declared.phase.HostPhase.{HostPhase}
-use Rattle.hid_host.specs.Host.{ConcludesAt, ControlSteps, HostEnd, TriesOnce, clearing_after, read_bytes_of, running, running_at}
+use Rattle.hid_host.specs.Host.{ConcludesAt, ControlSteps, HostDeviceState, TriesOnce, clearing_after, read_bytes_of, running, running_at}
 
 -- a transfer that runs is the one that is tried
 runs : (t : Transfer) (stage : HostStage) → is_some (running_at t stage) ≡ true → running_at t stage ≡ Some t
@@ -29,7 +29,8 @@ runs t Done busy = absurd (cc)
 runs t (Failed fault) busy = absurd (cc)
 
 -- a try of the transfer that runs, of a host with these parts
-pub steps_so : {R : Type 0} (prepare_gives : PrepareGives R) (apply_gives : ApplyGives R) (answer_of : AnswerOf R) (fate : Fate) (addr : ℕ) (phase next : HostPhase) (clearing : Bool) (host : HostEnd)
+pub steps_so : {R : Type 0} (prepare_gives : PrepareGives R) (apply_gives : ApplyGives R) (answer_of : AnswerOf R)
+    (fate : Fate) (addr : ℕ) (phase next : HostPhase) (clearing : Bool) (host : HostDeviceState)
     (t : Transfer) (ends : HostTransferState) (old : DevControlState R) (result : Result Progress StackFault) (new : DevControlState R)
     → record { addr = addr; phase = phase; transfer = Some t; clearing = clearing } ≡ host → is_some (running (Some t)) ≡ true
     → Crosses prepare_gives apply_gives answer_of (arrives_under fate) t.ends old ends new → Transacts prepare_gives apply_gives answer_of fate t.ends old ends new
@@ -43,7 +44,7 @@ pub steps_so : {R : Type 0} (prepare_gives : PrepareGives R) (apply_gives : Appl
           clearing_after ends.stage t.request clearing;
     }) new
 steps_so {R} prepare_gives apply_gives answer_of fate addr phase next clearing host t ends old result new is busy packets transacts same concludes =
-    let after : HostEnd =
+    let after : HostDeviceState =
     record {
       addr = addr;
       phase = next;
@@ -51,7 +52,7 @@ steps_so {R} prepare_gives apply_gives answer_of fate addr phase next clearing h
       clearing =
           clearing_after ends.stage t.request clearing;
     } in
-    subst (λ (h : HostEnd). ControlSteps prepare_gives apply_gives answer_of fate h old result after new) is
+    subst (λ (h : HostDeviceState). ControlSteps prepare_gives apply_gives answer_of fate h old result after new) is
     (subst (λ (o : Option Transfer). elim o as (λ _. Type 0) [
       | None ↦ (result ≡ Err (Control NoTransfer)) × (after ≡ record { addr = addr; phase = phase; transfer = Some t; clearing = clearing }) × (new ≡ old)
       | Some transfer ↦ TriesOnce prepare_gives apply_gives answer_of fate (record { addr = addr; phase = phase; transfer = Some t; clearing = clearing }) transfer old result after new

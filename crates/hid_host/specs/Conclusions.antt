@@ -2,15 +2,14 @@
 -- 6.2.2; the phases are our choice).
 use Rattle.std.specs.Prelude.{◌≡◌, ◌≢◌, ℕ, ◌<◌, ◌≤◌, if◌then◌else◌, List, length, Result, Ok, Err}
 use Rattle.hid_layout.specs.Layout.{Contents}
-use Rattle.hid_descriptor.specs.declared.limits.TheConstants.{MAX_DESCRIPTOR}
-use Rattle.hid_descriptor.specs.declared.fault.LayoutFault.{LayoutFault}
-use Rattle.hid_descriptor.specs.Faults.{Refuses}
+use Rattle.hid_report_descriptor.specs.declared.limits.TheConstants.{MAX_DESCRIPTOR}
+use Rattle.hid_report_descriptor.specs.declared.fault.LayoutFault.{LayoutFault}
+use Rattle.hid_report_descriptor.specs.Faults.{is_memory, Refuses}
 use Rattle.usb_control.specs.declared.descriptors.ConfigInfo.{ConfigInfo}
 use Rattle.usb_control.specs.declared.fault.InfoFault.TheVariants.{TooShort, WrongType}
 use Rattle.usb_control.specs.Descriptors.{IsDevice, ReadsConfig}
 use Rattle.hid_requests.specs.declared.request.Request.{Request}
 use Rattle.hid_requests.specs.declared.request.Request.TheVariants as requests
-use Rattle.hid_requests.specs.Fault.{is_memory}
 use Rattle.hid_layout.specs.Parsing.{ParsesTo}
 use Rattle.hid_host.specs.declared.fault.StackFault.{StackFault}
 use Rattle.hid_host.specs.declared.fault.StackFault.TheVariants.{BadDescriptor, Memory}
@@ -18,7 +17,7 @@ use Rattle.hid_host.specs.declared.fault.DescriptorFault.TheVariants.{Info, Repo
 use Rattle.hid_host.specs.declared.phase.HostPhase.{HostPhase}
 use Rattle.hid_host.specs.declared.phase.HostPhase.TheVariants.{Described, Parsed, Ready}
 use Rattle.hid_host.specs.Phase.{cleared_phase}
-use Rattle.hid_host.specs.Ready.{known_at_start}
+use Rattle.hid_host.specs.Ready.{ready_host_at_start}
 
 -- How a host reports a layout's fault: running out of memory is the host's, and each other cause the descriptor's.
 abbrev pub layout_refusal : LayoutFault → StackFault
@@ -51,30 +50,30 @@ ReportRead info bytes (Err fault) = (length bytes ≡ info.report_length) × IsN
 
 -- a host polls the endpoint of its device, from DATA0 and the initial view on
 abbrev pub Configured : ℕ → ConfigInfo → Contents → Result HostPhase StackFault → Type 0
-Configured addr info layout (Ok next) = next ≡ Ready (known_at_start addr info.endpoint layout)
+Configured addr info layout (Ok next) = next ≡ Ready (ready_host_at_start addr info.endpoint layout)
 Configured addr info layout (Err fault) = fault ≡ Memory
 
 -- the phase after a request whose answer was read, or why it is refused
-abbrev pub leads_to : {A : Type 0} → (A → HostPhase) → Result A StackFault → Result HostPhase StackFault
-leads_to next (Ok read) = Ok (next read)
-leads_to next (Err fault) = Err fault
+abbrev pub phase_or_fault : {A : Type 0} → (A → HostPhase) → Result A StackFault → Result HostPhase StackFault
+phase_or_fault next (Ok read) = Ok (next read)
+phase_or_fault next (Err fault) = Err fault
 
--- The phase after a request that is done, or why its answer is refused: nothing is kept of a device descriptor, what a
--- configuration says and the layout are kept, a device that is configured is polled, and one whose endpoint was cleared
--- is expected to begin with DATA0. Example: B4 as report descriptor is L3 at 0
-abbrev pub Makes : ℕ → Request → HostPhase → List ℕ → Result HostPhase StackFault → Type 0
-Makes addr requests.Device phase bytes made =
-    (read : Result (Unit {0}) StackFault) × DeviceRead bytes read × (made ≡ leads_to (λ _. phase) read)
-Makes addr requests.Config phase bytes made =
-    (read : Result ConfigInfo StackFault) × ConfigRead bytes read × (made ≡ leads_to Described read)
-Makes addr requests.Report (Described info) bytes made =
+-- The phase after a request that is done, or why its answer is refused. A device descriptor leaves the phase; a
+-- configuration and a layout are kept; after Configure the device is polled; after Clear DATA0 is expected. Example: B4 as
+-- report descriptor is L3 at 0
+abbrev pub Concludes : ℕ → Request → HostPhase → List ℕ → Result HostPhase StackFault → Type 0
+Concludes addr requests.Device phase bytes made =
+    (read : Result (Unit {0}) StackFault) × DeviceRead bytes read × (made ≡ phase_or_fault (λ _. phase) read)
+Concludes addr requests.Config phase bytes made =
+    (read : Result ConfigInfo StackFault) × ConfigRead bytes read × (made ≡ phase_or_fault Described read)
+Concludes addr requests.Report (Described info) bytes made =
     (read : Result Contents StackFault) × ReportRead info bytes read
-    × (made ≡ leads_to (Parsed info) read)
-Makes addr requests.Configure (Parsed info layout) bytes made = Configured addr info layout made
-Makes addr requests.Clear phase bytes made = made ≡ Ok (cleared_phase phase)
-Makes addr request phase bytes made = made ≡ Ok phase
+    × (made ≡ phase_or_fault (Parsed info) read)
+Concludes addr requests.Configure (Parsed info layout) bytes made = Configured addr info layout made
+Concludes addr requests.Clear phase bytes made = made ≡ Ok (cleared_phase phase)
+Concludes addr request phase bytes made = made ≡ Ok phase
 
 -- the phase after a request that is done: one whose answer is refused leaves it
-abbrev pub phase_made : HostPhase → Result HostPhase StackFault → HostPhase
-phase_made phase (Ok next) = next
-phase_made phase (Err fault) = phase
+abbrev pub phase_after_answer : HostPhase → Result HostPhase StackFault → HostPhase
+phase_after_answer phase (Ok next) = next
+phase_after_answer phase (Err fault) = phase

@@ -1,6 +1,6 @@
 -- What refusals are printed as: the codes from the outermost to the innermost (our choice).
 use Rattle.std.specs.Prelude.{ℕ, List, ◌++◌, codes}
-use Rattle.hid_descriptor.specs.Codes.{layout_fault_text}
+use Rattle.hid_report_descriptor.specs.Codes.{layout_fault_text}
 use Rattle.hid_snapshots.specs.Faults.{change_code, report_code}
 use Rattle.hid_requests.specs.Fault.{device_fault_text}
 use Rattle.usb_control.specs.Fault.{control_code_of, info_code_of}

@@ -14,7 +14,7 @@ use Rattle.usb_control.specs.declared.host.Progress.{Progress}
 use Rattle.usb_control.specs.declared.host.Progress.TheVariants as progresses
 use Rattle.usb_control.specs.Crossing.{Crosses}
 use Rattle.usb_control.specs.Device.{DevControlState}
-use Rattle.usb_control.specs.Host.{HostTransferState, Shows, at_start, progress_of}
+use Rattle.usb_control.specs.Host.{HostTransferState, IsOutcomeOf, at_start, progress_of}
 use Rattle.usb_control.specs.Requests.{PrepareGives, ApplyGives, AnswerOf}
 use Rattle.usb_control.specs.SetupBytes.{reads}
 use Rattle.usb_control.specs.Transaction.{Transacts}
@@ -28,27 +28,33 @@ use Rattle.hid_host.specs.declared.host.Transfer.{Transfer}
 use Rattle.hid_host.specs.declared.phase.HostPhase.{HostPhase}
 use Rattle.hid_host.specs.declared.phase.HostPhase.TheVariants.{Cold, Ready}
 use Rattle.hid_host.specs.declared.phase.HostState.{HostState}
-use Rattle.hid_host.specs.Conclusions.{Makes, phase_made}
+use Rattle.hid_host.specs.Conclusions.{Concludes, phase_after_answer}
 use Rattle.hid_host.specs.Phase.{asking_at, may_begin, state_of}
-use Rattle.hid_host.specs.Ready.{Known, known_after, known_at_start}
+use Rattle.hid_host.specs.Ready.{ReadyHostState, ready_host_after, ready_host_at_start}
 
 -- The host of one device: the device's address, how far the host has come with it, the transfer that it began last, and
 -- whether a Clear is pending: it was begun, and none has been done since.
-pub record HostEnd : Type 0 where
+pub record HostDeviceState : Type 0 where
   pub addr : ℕ
   pub phase : HostPhase
   pub transfer : Option Transfer
   pub clearing : Bool
 
 -- a host that knows nothing of its device
-abbrev pub cold_host : ℕ → HostEnd
+abbrev pub cold_host : ℕ → HostDeviceState
 cold_host addr = record { addr = addr; phase = Cold; transfer = None; clearing = false }
 
 -- a host that is ready from the start, at this address with this layout: it polls endpoint 1 (our choice: a virtual
 -- device has no other)
-abbrev pub ready_host : ℕ → Contents → HostEnd
+abbrev pub ready_host : ℕ → Contents → HostDeviceState
 ready_host addr layout =
-    record { addr = addr; phase = Ready (known_at_start addr 1 layout); transfer = None; clearing = false }
+    record {
+      addr = addr;
+      phase = Ready (ready_host_at_start addr 1 layout);
+      transfer = None;
+      clearing =
+          false;
+    }
 
 -- the token of a poll, by whether a Clear is pending
 abbrev pub polls_at : HostPhase → Bool → Result Packet StackFault
@@ -56,12 +62,12 @@ polls_at (Ready known) false = Ok (token_to known.pipe)
 polls_at _ clearing = Err NotReady
 
 -- A host polls where it is ready and no Clear is pending.
-abbrev pub polls_with : HostEnd → Result Packet StackFault
+abbrev pub polls_with : HostDeviceState → Result Packet StackFault
 polls_with host = polls_at host.phase host.clearing
 
 -- a ready host after it took what came
-abbrev pub host_after_reply : HostEnd → Known → Took → HostEnd
-host_after_reply host known taken = record host { phase = Ready (known_after known taken) }
+abbrev pub host_after_reply : HostDeviceState → ReadyHostState → Took → HostDeviceState
+host_after_reply host known taken = record host { phase = Ready (ready_host_after known taken) }
 
 -- a transfer at this stage, where it runs
 abbrev pub running_at : Transfer → HostStage → Option Transfer
@@ -82,7 +88,7 @@ begin_refusal_in transfer host request =
     else Some NotReady
 
 -- why a host can't begin a request: another transfer runs, or the host isn't in the state that the request needs
-abbrev pub begin_refusal : HostEnd → Request → Option StackFault
+abbrev pub begin_refusal : HostDeviceState → Request → Option StackFault
 begin_refusal host request = begin_refusal_in host.transfer (state_of host.phase) request
 
 -- a transfer of a request that has yet to make its first try
@@ -108,7 +114,7 @@ clearing_after Done request clearing = not (is_clear request) && clearing
 clearing_after stage request clearing = clearing
 
 -- the host with a transfer of a request that begins
-abbrev pub host_after_begin : HostEnd → Request → HostEnd
+abbrev pub host_after_begin : HostDeviceState → Request → HostDeviceState
 host_after_begin host request = record host {
   transfer = Some (transfer_of host.addr (asking_at host.phase) request);
   clearing = clearing_with request host.clearing;
@@ -127,14 +133,16 @@ conclusion_result (Err fault) = Err fault
 abbrev pub ConcludesAt :
     HostStage → ℕ → Request → HostPhase → List ℕ → Result Progress StackFault → HostPhase → Type 0
 ConcludesAt Done addr request phase bytes result next =
-    (made : Result HostPhase StackFault) × Makes addr request phase bytes made
-    × (result ≡ conclusion_result made) × (next ≡ phase_made phase made)
+    (made : Result HostPhase StackFault) × Concludes addr request phase bytes made
+    × (result ≡ conclusion_result made) × (next ≡ phase_after_answer phase made)
 ConcludesAt stage addr request phase bytes result next = (result ≡ Ok (progress_of stage)) × (next ≡ phase)
 
 -- A try of the transfer that runs: what goes over the bus, what each end makes of it, and what the host concludes.
 pub record TriesOnce {R : Type 0} (prepare_gives : PrepareGives R) (apply_gives : ApplyGives R)
-    (answer_of : AnswerOf R) (fate : Fate) (host : HostEnd) (transfer : Transfer) (old : DevControlState R)
-    (result : Result Progress StackFault) (host_then : HostEnd) (new : DevControlState R) : Type 0 where
+    (answer_of : AnswerOf R) (fate : Fate) (host : HostDeviceState) (transfer : Transfer)
+    (old : DevControlState R)
+    (result : Result Progress StackFault) (host_then : HostDeviceState)
+    (new : DevControlState R) : Type 0 where
   pub ends : HostTransferState
   pub next : HostPhase
   pub packets : Crosses prepare_gives apply_gives answer_of (arrives_under fate) transfer.ends old ends new
@@ -151,8 +159,8 @@ pub record TriesOnce {R : Type 0} (prepare_gives : PrepareGives R) (apply_gives 
 -- One control step: one try of the transfer that runs, whose answer is concluded on if it is done. If no transfer runs
 -- nothing is sent, and nothing changes.
 abbrev pub ControlSteps :
-    {R : Type 0} → PrepareGives R → ApplyGives R → AnswerOf R → Fate → HostEnd → DevControlState R
-    → Result Progress StackFault → HostEnd → DevControlState R → Type 0
+    {R : Type 0} → PrepareGives R → ApplyGives R → AnswerOf R → Fate → HostDeviceState → DevControlState R
+    → Result Progress StackFault → HostDeviceState → DevControlState R → Type 0
 ControlSteps prepare_gives apply_gives answer_of fate host old result after new =
     elim (running host.transfer) [
       | None ↦ (result ≡ Err (Control NoTransfer)) × (after ≡ host) × (new ≡ old)
@@ -162,7 +170,7 @@ ControlSteps prepare_gives apply_gives answer_of fate host old result after new 
 -- what is shown of the transfer that was begun last
 abbrev pub ShowsLast : Option Transfer → Result Outcome StackFault → Type 0
 ShowsLast None result = result ≡ Err (Control NoTransfer)
-ShowsLast (Some transfer) (Ok outcome) = Shows outcome transfer.ends.stage (read_bytes_of transfer.ends)
+ShowsLast (Some transfer) (Ok outcome) = IsOutcomeOf outcome transfer.ends.stage (read_bytes_of transfer.ends)
 ShowsLast (Some transfer) (Err fault) = ⊥
 
 -- a request may end a round that is open: a halt, and the end of one

@@ -9,7 +9,7 @@ use Rattle.hid_host.specs.declared.phase.HostPhase.{HostPhase}
 use Rattle.hid_host.specs.declared.phase.HostPhase.TheVariants.{Cold, Described, Parsed, Ready}
 use Rattle.hid_host.specs.declared.phase.HostState.{HostState}
 use Rattle.hid_host.specs.declared.phase.HostState.TheVariants as states
-use Rattle.hid_host.specs.Ready.{Known, known_cleared}
+use Rattle.hid_host.specs.Ready.{ReadyHostState, ready_host_after_clear}
 
 -- the state of a host, by its phase: it knows nothing of its device; what the configuration says; the layout of its
 -- reports; or it has configured the device and polls it
@@ -69,7 +69,7 @@ asking_at (Ready known) = record { report_length = 0; endpoint = known.pipe.endp
 
 -- the phase after a Clear that is done: the pipe starts again
 abbrev pub cleared_phase : HostPhase → HostPhase
-cleared_phase (Ready known) = Ready (known_cleared known)
+cleared_phase (Ready known) = Ready (ready_host_after_clear known)
 cleared_phase phase = phase
 
 -- the host has configured its device and polls it
@@ -78,7 +78,7 @@ IsReady (Ready known) = Unit {0}
 IsReady _ = ⊥
 
 -- where the host is ready, this holds of what it keeps
-abbrev pub IfReady : HostPhase → (Known → Type 0) → Type 0
+abbrev pub IfReady : HostPhase → (ReadyHostState → Type 0) → Type 0
 IfReady (Ready known) holds = holds known
 IfReady _ holds = Unit {0}
 

@@ -12,7 +12,7 @@ use Rattle.hid_snapshots.specs.Views.{changes_between, drops_between}
 use Rattle.hid_snapshots.specs.Pieces.{is_last_piece}
 use Rattle.hid_host.specs.declared.phase.HostPhase.{HostPhase}
 use Rattle.hid_host.specs.declared.phase.HostPhase.TheVariants.{Ready}
-use Rattle.hid_host.specs.Ready.{Known}
+use Rattle.hid_host.specs.Ready.{ReadyHostState}
 
 -- The report of an open round of which the host hasn't got all pieces: the current one goes out under the toggle that
 -- the host expects (USB 2.0, 8.6), or others are after it.
@@ -35,7 +35,8 @@ release_events items view parts (Some r) = drops_between items r view (blank ite
 
 -- The events of a reset by a ready host: what changes until its view is the initial one again, and the motions of a
 -- report that it awaits, which are dropped.
-abbrev pub known_release_events : Known → Option (ℕ × Bool) → Option ℕ → List ControlState → List Event
+abbrev pub known_release_events : ReadyHostState → Option (ℕ × Bool) → Option ℕ → List ControlState
+    → List Event
 known_release_events known round piece parts =
     release_events (items_of known.layout) known.view parts
     (awaited_report (items_of known.layout) known.pipe.expects round piece)
@@ -52,7 +53,7 @@ part_abort_events items view parts None = []
 part_abort_events items view parts (Some r) = drops_between items r view view parts
 
 -- The events of a round that is aborted by a ready host: the motions of a report that it awaits, which are dropped.
-abbrev pub known_abort_events : Known → Option (ℕ × Bool) → Option ℕ → List ControlState → List Event
+abbrev pub known_abort_events : ReadyHostState → Option (ℕ × Bool) → Option ℕ → List ControlState → List Event
 known_abort_events known round piece parts =
     part_abort_events (items_of known.layout) known.view parts
     (awaited_report (items_of known.layout) known.pipe.expects round piece)
@@ -65,10 +66,10 @@ host_abort_events _ round piece parts = []
 
 -- The events of an aborted round whose report a host awaited, with the parts that were fixed last: their motions, which
 -- are dropped. A host that isn't ready reports none.
-abbrev pub drops_told : HostPhase → ℕ → List ControlState → List Event
-drops_told (Ready known) report parts =
+abbrev pub reported_drops : HostPhase → ℕ → List ControlState → List Event
+reported_drops (Ready known) report parts =
     drops_between (items_of known.layout) report known.view known.view parts
-drops_told _ report parts = []
+reported_drops _ report parts = []
 
 -- the round is of an Input report of this layout, and the parts are of its controls
 pub record SuitsRound (layout : Contents) (round : Option (ℕ × Bool))

@@ -1,10 +1,10 @@
 //! What a host makes of the answer to a request that is done.
 ghost use Rattle.std.specs.Prelude.{◌≡◌, ◌≤◌, ℕ, List, [], Ok, Err, IfOk, IfErr, OnOk, OnErr};
-ghost use Rattle.hid_descriptor.specs.Faults.{Explains};
+ghost use Rattle.hid_report_descriptor.specs.Faults.{Explains};
 ghost use Rattle.usb_packet.specs.declared.packet.TheConstants.{MAX_ENDPOINT};
 ghost use Rattle.hid_layout.specs.Parsing.{ParsesTo};
 ghost use Rattle.hid_requests.specs.declared.request.Request.TheVariants.{Config, Configure, Report};
-ghost use Rattle.hid_host.specs.Conclusions.{ConfigRead, DeviceRead, IsNoLayout, Makes, ReportRead, layout_refusal};
+ghost use Rattle.hid_host.specs.Conclusions.{Concludes, ConfigRead, DeviceRead, IsNoLayout, ReportRead, layout_refusal};
 ghost use Rattle.hid_host.specs.Phase.{HasEndpoint};
 
 use crate::fault::{DescriptorFault, StackFault};
@@ -20,7 +20,7 @@ use usb_packet::MAX_ADDRESS;
 
 /// The fault of a host that has no layout.
 fn no_layout(fault: LayoutFault) -> StackFault
-    ensures told { result ≡ layout_refusal fault }
+    ensures outcome { result ≡ layout_refusal fault }
     ensures explained { (bytes : List ℕ) → Explains bytes fault.cause fault.at → IsNoLayout bytes result }
 {
     match fault.cause {
@@ -72,8 +72,10 @@ fn read_report(alloc: Global, info: &ConfigInfo, bytes: &[u8]) -> Result<Layout,
 #[inline(never)]
 fn conclude_config(bytes: &[u8], phase: &mut HostPhase) -> Result<(), StackFault>
     requires endpoint { HasEndpoint phase.old }
-    ensures makes { (addr : ℕ) → OnOk result (Makes addr Config phase.old bytes.now (Ok phase.new)) }
-    ensures refused { (addr : ℕ) → IfErr result (λ fault. Makes addr Config phase.old bytes.now (Err fault)) }
+    ensures makes { (addr : ℕ)
+        → OnOk result (Concludes addr Config phase.old bytes.now (Ok phase.new)) }
+    ensures refused { (addr : ℕ)
+        → IfErr result (λ fault. Concludes addr Config phase.old bytes.now (Err fault)) }
     ensures err { OnErr result (phase.new ≡ phase.old) }
     ensures endpoint { HasEndpoint phase.new }
 {
@@ -85,8 +87,10 @@ fn conclude_config(bytes: &[u8], phase: &mut HostPhase) -> Result<(), StackFault
 #[inline(never)]
 fn conclude_report(alloc: Global, bytes: &[u8], phase: &mut HostPhase) -> Result<(), StackFault>
     requires endpoint { HasEndpoint phase.old }
-    ensures makes { (addr : ℕ) → OnOk result (Makes addr Report phase.old bytes.now (Ok phase.new)) }
-    ensures refused { (addr : ℕ) → IfErr result (λ fault. Makes addr Report phase.old bytes.now (Err fault)) }
+    ensures makes { (addr : ℕ)
+        → OnOk result (Concludes addr Report phase.old bytes.now (Ok phase.new)) }
+    ensures refused { (addr : ℕ)
+        → IfErr result (λ fault. Concludes addr Report phase.old bytes.now (Err fault)) }
     ensures err { OnErr result (phase.new ≡ phase.old) }
     ensures endpoint { HasEndpoint phase.new }
 {
@@ -102,8 +106,8 @@ fn conclude_report(alloc: Global, bytes: &[u8], phase: &mut HostPhase) -> Result
 fn conclude_configure(alloc: Global, addr: u8, phase: &mut HostPhase) -> Result<(), StackFault>
     requires addr { addr ≤ MAX_ADDRESS }
     requires endpoint { HasEndpoint phase.old }
-    ensures makes { OnOk result (Makes addr Configure phase.old [] (Ok phase.new)) }
-    ensures memory { IfErr result (λ fault. Makes addr Configure phase.old [] (Err fault)) }
+    ensures makes { OnOk result (Concludes addr Configure phase.old [] (Ok phase.new)) }
+    ensures memory { IfErr result (λ fault. Concludes addr Configure phase.old [] (Err fault)) }
     ensures err { OnErr result (phase.new ≡ phase.old) }
 {
     let HostPhase::Parsed(info, layout) = &*phase else {
@@ -132,8 +136,9 @@ pub(crate) fn conclude(
 ) -> Result<(), StackFault>
     requires addr { addr ≤ MAX_ADDRESS }
     requires endpoint { HasEndpoint phase.old }
-    ensures makes { OnOk result (Makes addr request.now phase.old bytes.now (Ok phase.new)) }
-    ensures refused { IfErr result (λ fault. Makes addr request.now phase.old bytes.now (Err fault)) }
+    ensures makes { OnOk result (Concludes addr request.now phase.old bytes.now (Ok phase.new)) }
+    ensures refused { IfErr result
+        (λ fault. Concludes addr request.now phase.old bytes.now (Err fault)) }
     ensures err { OnErr result (phase.new ≡ phase.old) }
     ensures endpoint { HasEndpoint phase.new }
 {

@@ -39,7 +39,7 @@ impl fmt::Display for DescriptorFault {
 /// Why a call is refused. It is printed as its codes, from the outermost to the innermost, as in `S3 U5`.
 ///
 /// A host answers S2, S4, S5, S6 and S8. S1, S3, S7 and a device's causes of S5 come from a rig of `hid_stack` alone, which
-/// hands on what its hosts answer: so it is one type, and stands here.
+/// returns what its hosts return: so it is one type, and stands here.
 #[derive(Clone, Copy, Debug, PartialEq, Eq)]
 pub enum StackFault {
     /// S1: no device of this number is attached.

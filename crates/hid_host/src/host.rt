@@ -5,15 +5,15 @@ ghost use Rattle.hid_layout.specs.Controls.{items_of, max_events};
 ghost use Rattle.hid_layout.specs.Layout.{Contents};
 ghost use Rattle.hid_snapshots.specs.ControlStates.{FitsShown};
 ghost use Rattle.hid_snapshots.specs.Parts.{IsInput};
-ghost use Rattle.usb_packet.specs.PacketRef.{to_owned, IsShort};
-ghost use Rattle.usb_packet.specs.Spelling.{Fits};
-ghost use Rattle.usb_transact.specs.Taken.{reply_outcome};
+ghost use Rattle.usb_packet.specs.PacketRef.{to_owned, PayloadFits};
+ghost use Rattle.usb_packet.specs.PacketEncoding.{Fits};
+ghost use Rattle.usb_transact.specs.Replies.{reply_outcome};
 ghost use Rattle.hid_layout.specs.Parsing.{ParsesTo};
 ghost use Rattle.hid_host.specs.Conclusions.{IsNoLayout};
 ghost use Rattle.hid_host.specs.Host.{ConcludesAt, clearing_after, cold_host, host_after_reply, is_clear, may_abort_round, polls_with, read_bytes_of, ready_host};
 ghost use Rattle.hid_host.specs.Phase.{HasEndpoint, IsReady, IfReady, may_poll, state_of};
 ghost use Rattle.hid_host.specs.Ready.{outcome_of, events_after};
-ghost use Rattle.hid_host.specs.ResetEvents.{SuitsRound, awaited_at, drops_told, host_abort_events, host_reset_events};
+ghost use Rattle.hid_host.specs.ResetEvents.{SuitsRound, awaited_at, reported_drops, host_abort_events, host_reset_events};
 
 use crate::conclusions::{conclude, layout_of};
 use crate::fault::StackFault;
@@ -56,10 +56,10 @@ pub struct HostDevice {
 impl Model for HostDevice {
     ghost use Rattle.std.specs.Prelude.{◌≤◌, ◌<◌};
     ghost use Rattle.usb_packet.specs.declared.packet.TheConstants.{MAX_ADDRESS};
-    ghost use Rattle.hid_host.specs.Host.{HostEnd};
+    ghost use Rattle.hid_host.specs.Host.{HostDeviceState};
     ghost use Rattle.hid_host.specs.Phase.{HasEndpoint};
 
-    ghost Value = { HostEnd };
+    ghost Value = { HostDeviceState };
 
     ghost view = { λ h. record { addr = h.addr; phase = h.phase; transfer = h.transfer; clearing = h.clearing } };
 
@@ -156,14 +156,13 @@ impl HostDevice {
         }
     }
 
-    /// Takes what came after the token, if something did (USB 2.0, 8.6). Fresh data are joined to those of the packets before
-    /// them, until an Input report ends: with its last byte, as its first byte tells how long it is, or with a packet that
-    /// isn't full (5.7.3). Then it is read, and what changes and moves in the view is appended; before that nothing is. There
-    /// is reserved room for `max_events` more; no memory is taken.
+    /// Takes what came after the token, if something did (USB 2.0, 8.6). Fresh data are joined until an Input report ends:
+    /// with its last byte (its first byte gives the length) or with a packet that isn't full (5.7.3). Then the report is read
+    /// and its events are appended. There is reserved room for `max_events` more; no memory is taken.
     ///
     /// # Errors
-    /// [`StackFault::Report`] where what ended is no Input report: the toggle has moved on, its bytes are forgotten, and the
-    /// view stays.
+    /// [`StackFault::Report`] if the bytes are no Input report: the toggle has moved on, the bytes are forgotten, and the view
+    /// stays.
     pub fn reply(
         &mut self,
         packet: Option<&Packet>,
@@ -173,7 +172,7 @@ impl HostDevice {
         requires room { IfReady self.old.phase (λ host. vec_len out.old
             + max_events (items_of host.layout) ≤ vec_capacity out.old) }
         // What is reported, what the host keeps, and the events.
-        ensures told { IfReady self.old.phase (λ host. result
+        ensures outcome { IfReady self.old.phase (λ host. result
             ≡ outcome_of host (reply_outcome host.pipe.expects (option_copied packet.entry))) }
         ensures after { IfReady self.old.phase (λ host. self.new
             ≡ host_after_reply self.old host
@@ -203,11 +202,11 @@ impl HostDevice {
         packet: Option<PacketRef>,
         out: &mut Vec<Event>,
     ) -> Result<Took, StackFault>
-        requires short { IfSome packet IsShort }
+        requires short { IfSome packet PayloadFits }
         requires ready { IsReady self.old.phase }
         requires room { IfReady self.old.phase (λ host. vec_len out.old
             + max_events (items_of host.layout) ≤ vec_capacity out.old) }
-        ensures told { IfReady self.old.phase (λ host. result
+        ensures outcome { IfReady self.old.phase (λ host. result
             ≡ outcome_of host
             (reply_outcome host.pipe.expects (option_map to_owned packet.entry))) }
         ensures after { IfReady self.old.phase (λ host. self.new
@@ -307,18 +306,18 @@ impl HostDevice {
     /// Appends the motion of this [awaited](HostDevice::awaited_report) report as dropped: its round was aborted. The host is
     /// given the parts fixed last; one that isn't ready appends nothing. Room for `max_events` more is reserved; no memory is
     /// taken.
-    pub fn tell_drops(&self, report: usize, fixed: &Shown, out: &mut Vec<Event>)
+    pub fn report_drops(&self, report: usize, fixed: &Shown, out: &mut Vec<Event>)
         requires input { IfReady self.now.phase (λ host. IsInput host.layout report) }
         requires fits { IfReady self.now.phase (λ host. FitsShown (items_of host.layout) fixed.now) }
         requires room { IfReady self.now.phase (λ host. vec_len out.old
             + max_events (items_of host.layout) ≤ vec_capacity out.old) }
-        ensures events { out.new.items ≡ out.old.items ++ drops_told self.now.phase report fixed.now }
+        ensures events { out.new.items ≡ out.old.items ++ reported_drops self.now.phase report fixed.now }
         ensures few { IfReady self.now.phase (λ host. length out.new.items
             ≤ length out.old.items + max_events (items_of host.layout)) }
         ensures room { vec_capacity out.new ≡ vec_capacity out.old }
     {
         if let HostPhase::Ready(host) = &self.phase {
-            host.tell_drops(report, fixed, out);
+            host.report_drops(report, fixed, out);
         }
     }
 

@@ -22,9 +22,9 @@
 //!   [`begin`](HostDevice::begin).
 //! - Each try goes packet by packet, and the state moves by the table where the request is done, and never else:
 //!   [`control_step`](HostDevice::control_step).
-//! - Polls: `told`, `after` and `events` on [`reply`](HostDevice::reply). Resets of the bus: `events` on
+//! - Polls: `outcome`, `after` and `events` on [`reply`](HostDevice::reply). Resets of the bus: `events` on
 //!   [`reset`](HostDevice::reset). A round that a halt or its end aborts: `events` on
-//!   [`drop_aborted_motion`](HostDevice::drop_aborted_motion) and [`tell_drops`](HostDevice::tell_drops).
+//!   [`drop_aborted_motion`](HostDevice::drop_aborted_motion) and [`report_drops`](HostDevice::report_drops).
 //! - Only `ready`, `begin`, and a `control_step` that ends `Report` or `Configure` take memory.
 //!
 //! With a virtual device the host is ready only while the device is configured, and has its layout: laws of `hid_stack`.

@@ -5,12 +5,12 @@ ghost use Rattle.hid_layout.specs.Controls.{items_of, max_events};
 ghost use Rattle.hid_snapshots.specs.ControlStates.{FitsShown, blank};
 ghost use Rattle.hid_snapshots.specs.Parts.{IsInput};
 ghost use Rattle.hid_snapshots.specs.Views.{drops_between};
-ghost use Rattle.usb_packet.specs.PacketRef.{to_owned, IsShort};
-ghost use Rattle.usb_packet.specs.Spelling.{Fits};
-ghost use Rattle.usb_transact.specs.Taken.{reply_outcome};
+ghost use Rattle.usb_packet.specs.PacketRef.{to_owned, PayloadFits};
+ghost use Rattle.usb_packet.specs.PacketEncoding.{Fits};
+ghost use Rattle.usb_transact.specs.Replies.{reply_outcome};
 ghost use Rattle.usb_transact.specs.Host.{token_to};
 ghost use Rattle.hid_snapshots.specs.Pieces.{is_last_piece};
-ghost use Rattle.hid_host.specs.Ready.{events_after, known_after, known_at_start, known_cleared, outcome_of};
+ghost use Rattle.hid_host.specs.Ready.{events_after, outcome_of, ready_host_after, ready_host_after_clear, ready_host_at_start};
 ghost use Rattle.hid_host.specs.ResetEvents.{SuitsRound, awaited_report, known_abort_events, known_release_events};
 
 use crate::fault::StackFault;
@@ -29,9 +29,9 @@ pub struct ReadyHost {
 }
 
 impl Model for ReadyHost {
-    ghost use Rattle.hid_host.specs.Ready.{Known};
+    ghost use Rattle.hid_host.specs.Ready.{ReadyHostState};
 
-    ghost Value = { Known };
+    ghost Value = { ReadyHostState };
 
     ghost view = { λ h. record {
       layout = h.receiver.layout;
@@ -48,7 +48,7 @@ impl ReadyHost {
         requires endpoint { endpoint ≤ MAX_ENDPOINT }
         requires view { receiver.view ≡ blank (items_of receiver.layout) }
         requires none { receiver.collected ≡ [] }
-        ensures { result ≡ known_at_start addr endpoint receiver.layout }
+        ensures { result ≡ ready_host_at_start addr endpoint receiver.layout }
     {
         ReadyHost {
             receiver,
@@ -76,7 +76,7 @@ impl ReadyHost {
 
     /// A halt of the endpoint was ended: DATA0 is expected (USB 2.0, 9.4.5), and what came of a report before is forgotten.
     pub(crate) fn restart(&mut self)
-        ensures { self.new ≡ known_cleared self.old }
+        ensures { self.new ≡ ready_host_after_clear self.old }
     {
         self.pipe.restart();
         self.receiver.forget(); // its device sends that report no further
@@ -109,14 +109,14 @@ impl ReadyHost {
         packet: Option<PacketRef>,
         out: &mut Vec<Event>,
     ) -> Result<Took, StackFault>
-        requires short { IfSome packet IsShort }
+        requires short { IfSome packet PayloadFits }
         requires room { vec_len out.old + max_events (items_of self.old.layout)
             ≤ vec_capacity out.old }
-        ensures told { result
+        ensures outcome { result
             ≡ outcome_of self.old
             (reply_outcome self.old.pipe.expects (option_map to_owned packet.entry)) }
         ensures after { self.new
-            ≡ known_after self.old
+            ≡ ready_host_after self.old
             (reply_outcome self.old.pipe.expects (option_map to_owned packet.entry)) }
         ensures events { out.new.items
             ≡ out.old.items
@@ -167,8 +167,8 @@ impl ReadyHost {
         }
     }
 
-    /// Tells what changes until the view is the initial one again, and drops the motion of the round that is open at the
-    /// device, where its data haven't all come. There is reserved room for `max_events` more.
+    /// Appends the events that lead back to the initial view. The motion of the device's open round is appended as dropped if
+    /// its data haven't all come. There is reserved room for `max_events` more.
     pub(crate) fn release_all(
         &self,
         round: Option<(usize, bool)>,
@@ -211,12 +211,12 @@ impl ReadyHost {
         ensures room { vec_capacity out.new ≡ vec_capacity out.old }
     {
         if let Some(report) = self.awaited_report(round, piece) {
-            self.tell_drops(report, fixed, out);
+            self.report_drops(report, fixed, out);
         }
     }
 
     /// Drops the motion of a report's part: the view stays. There is reserved room for `max_events` more.
-    pub(crate) fn tell_drops(&self, report: usize, fixed: &Shown, out: &mut Vec<Event>)
+    pub(crate) fn report_drops(&self, report: usize, fixed: &Shown, out: &mut Vec<Event>)
         requires input { IsInput self.now.layout report }
         requires fits { FitsShown (items_of self.now.layout) fixed.now }
         requires room { vec_len out.old + max_events (items_of self.now.layout)

@@ -1,4 +1,4 @@
--- Bytes are items in one way at most, since no spelling is the beginning of another (HID 1.11, 6.2.2).
+-- Bytes are items in one way at most, since no encoding is the beginning of another (HID 1.11, 6.2.2).
 use Rattle.std.proofs.Common.{◌≡◌, ℕ, suc, Bool, true, false, List, [], ◌∷◌, ◌++◌, length, take, drop, sym, ◌∙◌, ap, subst, arith, nat_eq, refl}
 use Rattle.std.specs.Prelude.{All}
 use Rattle.std.proofs.Math.Seq.{take-append_seam}
@@ -7,7 +7,7 @@ use Rattle.std.proofs.lemmas.List.Concat.{flat_map-cons}
 use Rattle.std.proofs.lemmas.List.Elements.{All-head, All-tail}
 use Rattle.std.specs.Bool.{MatchBool}
 use Rattle.std.specs.List.{flat_map}
-use Rattle.hid_items.specs.Spelling.{IsSpelling, IsLongRest, data_length, AreItems, IsTruncatedAt}
+use Rattle.hid_items.specs.ItemEncoding.{IsItemEncoding, IsLongRest, data_length, AreItems, IsTruncatedAt}
 
 -- the rests of two long items that begin alike are equally long
 long_same : (x y p q : List ℕ) → IsLongRest x → IsLongRest y → x ++ p ≡ y ++ q → length x ≡ length y
@@ -22,8 +22,8 @@ rest_same : (l : Bool) (a : ℕ) (x y p q : List ℕ) → MatchBool l (IsLongRes
 rest_same true a x y p q s t e = long_same x y p q s t e
 rest_same false a x y p q s t e = s ∙ sym t
 
--- a spelling's length is told by its first bytes
-same_length : (x y p q : List ℕ) → IsSpelling x → IsSpelling y → x ++ p ≡ y ++ q → length x ≡ length y
+-- an encoding's length is told by its first bytes
+same_length : (x y p q : List ℕ) → IsItemEncoding x → IsItemEncoding y → x ++ p ≡ y ++ q → length x ≡ length y
 same_length [] y p q s t e = absurd s
 same_length (a ∷ x) [] p q s t e = absurd t
 same_length (a ∷ x) (b ∷ y) p q s t e =
@@ -31,17 +31,17 @@ same_length (a ∷ x) (b ∷ y) p q s t e =
     let r : x ++ p ≡ y ++ q = cc in
     ap (λ n. suc n) (rest_same (nat_eq a 0xFE) a x y p q s (subst (λ f. MatchBool (nat_eq f 0xFE) (IsLongRest y) (length y ≡ data_length f)) (sym h) t) r)
 
--- bytes begin with one spelling at most
-pub same_spelling : (x y p q : List ℕ) → IsSpelling x → IsSpelling y → x ++ p ≡ y ++ q → x ≡ y
+-- bytes begin with one encoding at most
+pub same_spelling : (x y p q : List ℕ) → IsItemEncoding x → IsItemEncoding y → x ++ p ≡ y ++ q → x ≡ y
 same_spelling x y p q s t e = sym (take-append_seam x p) ∙ ap (λ n. take n (x ++ p)) (same_length x y p q s t e) ∙ ap (take (length y)) e ∙ take-append_seam y q
 
 -- no item begins here
 abbrev BeginsNone : List ℕ → Type 0
-BeginsNone rest = (item more : List ℕ) → IsSpelling item → rest ≡ item ++ more → ⊥
+BeginsNone rest = (item more : List ℕ) → IsItemEncoding item → rest ≡ item ++ more → ⊥
 
 nothing_begins : BeginsNone []
-nothing_begins [] more spelled e = absurd spelled
-nothing_begins (first ∷ item) more spelled e = absurd cc
+nothing_begins [] more encoded e = absurd encoded
+nothing_begins (first ∷ item) more encoded e = absurd cc
 
 abbrev all_of : List (List ℕ) → List ℕ
 all_of items = flat_map (λ item. item) items
@@ -50,15 +50,15 @@ all_of-cons : (x : List ℕ) (xs : List (List ℕ)) (p : List ℕ) → all_of (x
 all_of-cons x xs p = ap (λ l. l ++ p) (flat_map-cons (λ item. item) x xs) ∙ append_assoc x (all_of xs) p
 
 -- two readings of equal bytes have equal items, as far as items begin
-same_reading : (xs ys : List (List ℕ)) (p q : List ℕ) → All IsSpelling xs → All IsSpelling ys → BeginsNone p → BeginsNone q → all_of xs ++ p ≡ all_of ys ++ q → (xs ≡ ys) × (p ≡ q)
+same_reading : (xs ys : List (List ℕ)) (p q : List ℕ) → All IsItemEncoding xs → All IsItemEncoding ys → BeginsNone p → BeginsNone q → all_of xs ++ p ≡ all_of ys ++ q → (xs ≡ ys) × (p ≡ q)
 same_reading [] [] p q a b m n e = (refl, e)
-same_reading [] (y ∷ ys) p q a b m n e = absurd (m y (all_of ys ++ q) (All-head IsSpelling y ys b) (e ∙ all_of-cons y ys q))
-same_reading (x ∷ xs) [] p q a b m n e = absurd (n x (all_of xs ++ p) (All-head IsSpelling x xs a) (sym e ∙ all_of-cons x xs p))
+same_reading [] (y ∷ ys) p q a b m n e = absurd (m y (all_of ys ++ q) (All-head IsItemEncoding y ys b) (e ∙ all_of-cons y ys q))
+same_reading (x ∷ xs) [] p q a b m n e = absurd (n x (all_of xs ++ p) (All-head IsItemEncoding x xs a) (sym e ∙ all_of-cons x xs p))
 same_reading (x ∷ xs) (y ∷ ys) p q a b m n e =
     let joined : x ++ (all_of xs ++ p) ≡ y ++ (all_of ys ++ q) = sym (all_of-cons x xs p) ∙ e ∙ all_of-cons y ys q in
-    let first : x ≡ y = same_spelling x y (all_of xs ++ p) (all_of ys ++ q) (All-head IsSpelling x xs a) (All-head IsSpelling y ys b) joined in
+    let first : x ≡ y = same_spelling x y (all_of xs ++ p) (all_of ys ++ q) (All-head IsItemEncoding x xs a) (All-head IsItemEncoding y ys b) joined in
     let behind : all_of xs ++ p ≡ all_of ys ++ q = append_cancel_left y (all_of xs ++ p) (all_of ys ++ q) (subst (λ l. l ++ (all_of xs ++ p) ≡ y ++ (all_of ys ++ q)) first joined) in
-    let rest = same_reading xs ys p q (All-tail IsSpelling x xs a) (All-tail IsSpelling y ys b) m n behind in
+    let rest = same_reading xs ys p q (All-tail IsItemEncoding x xs a) (All-tail IsItemEncoding y ys b) m n behind in
     (ap (λ h. h ∷ xs) first ∙ ap (λ t. y ∷ t) rest.0, rest.1)
 
 -- a list of items, and a truncated one, as items with what is left
@@ -70,17 +70,17 @@ cut_off bytes at items is = ap (λ l. l ++ drop at bytes) is.items_before.joined
 
 pub one_reading : (bytes : List ℕ) (items others : List (List ℕ)) → AreItems bytes items → AreItems bytes others → items ≡ others
 one_reading bytes items others a b =
-    (same_reading items others [] [] a.spelled b.spelled nothing_begins nothing_begins (whole bytes items a ∙ sym (whole bytes others b))).0
+    (same_reading items others [] [] a.encoded b.encoded nothing_begins nothing_begins (whole bytes items a ∙ sym (whole bytes others b))).0
 
 pub truncation_is_no_reading : (bytes : List ℕ) (at : ℕ) (items others : List (List ℕ)) → IsTruncatedAt bytes at items → AreItems bytes others → ⊥
 truncation_is_no_reading bytes at items others t a =
-    let same = same_reading items others (drop at bytes) [] t.items_before.spelled a.spelled t.cut.none nothing_begins (cut_off bytes at items t ∙ sym (whole bytes others a)) in
+    let same = same_reading items others (drop at bytes) [] t.items_before.encoded a.encoded t.cut.none nothing_begins (cut_off bytes at items t ∙ sym (whole bytes others a)) in
     let none : length (drop at bytes) ≡ 0 = ap length same.1 in
     omega (arith, none, t.cut.some)
 
 same_truncation : (bytes : List ℕ) (at there : ℕ) (items others : List (List ℕ)) → IsTruncatedAt bytes at items → IsTruncatedAt bytes there others → (items ≡ others) × (drop at bytes ≡ drop there bytes)
 same_truncation bytes at there items others a b =
-    same_reading items others (drop at bytes) (drop there bytes) a.items_before.spelled b.items_before.spelled a.cut.none b.cut.none (cut_off bytes at items a ∙ sym (cut_off bytes there others b))
+    same_reading items others (drop at bytes) (drop there bytes) a.items_before.encoded b.items_before.encoded a.cut.none b.cut.none (cut_off bytes at items a ∙ sym (cut_off bytes there others b))
 
 pub one_truncation : (bytes : List ℕ) (at there : ℕ) (items others : List (List ℕ)) → IsTruncatedAt bytes at items → IsTruncatedAt bytes there others → at ≡ there
 one_truncation bytes at there items others a b =

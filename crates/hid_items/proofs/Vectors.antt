@@ -1,27 +1,27 @@
 -- Spellings worked out by hand (HID 1.11, 6.2.2.2, 6.2.2.3 and 5.8).
 use Rattle.std.proofs.Common.{◌≡◌, refl, [], ◌∷◌}
 use Rattle.std.specs.Prelude.{pos, neg_ℤ}
-use Rattle.hid_items.specs.Spelling.{IsSpelling, prefix_of, data_of, unsigned_of, signed_of}
+use Rattle.hid_items.specs.ItemEncoding.{IsItemEncoding, prefix_of, data_of, unsigned_of, signed_of}
 
 -- Usage Page (Generic Desktop), End Collection without data, and a Report Count of two bytes
-usage_page : IsSpelling (0x05 ∷ 0x01 ∷ [])
+usage_page : IsItemEncoding (0x05 ∷ 0x01 ∷ [])
 usage_page = refl
 
-end_collection : IsSpelling (0xC0 ∷ [])
+end_collection : IsItemEncoding (0xC0 ∷ [])
 end_collection = refl
 
-report_count : IsSpelling (0x96 ∷ 0x01 ∷ 0x01 ∷ [])
+report_count : IsItemEncoding (0x96 ∷ 0x01 ∷ 0x01 ∷ [])
 report_count = refl
 
 -- size 3 means four bytes
-logical_maximum : IsSpelling (0x27 ∷ 0xFF ∷ 0xFF ∷ 0x00 ∷ 0x00 ∷ [])
+logical_maximum : IsItemEncoding (0x27 ∷ 0xFF ∷ 0xFF ∷ 0x00 ∷ 0x00 ∷ [])
 logical_maximum = refl
 
 -- a long item with tag 10 and the data AA BB, and one without data
-long_item : IsSpelling (0xFE ∷ 0x02 ∷ 0x10 ∷ 0xAA ∷ 0xBB ∷ [])
+long_item : IsItemEncoding (0xFE ∷ 0x02 ∷ 0x10 ∷ 0xAA ∷ 0xBB ∷ [])
 long_item = refl
 
-empty_long_item : IsSpelling (0xFE ∷ 0x00 ∷ 0x10 ∷ [])
+empty_long_item : IsItemEncoding (0xFE ∷ 0x00 ∷ 0x10 ∷ [])
 empty_long_item = refl
 
 -- a Report Count is known by 94, whatever its size

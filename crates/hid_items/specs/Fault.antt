@@ -5,5 +5,5 @@ use Rattle.hid_items.specs.declared.fault.ItemFault.{ItemFault}
 use Rattle.hid_items.specs.declared.fault.ItemFault.TheVariants.{Truncated}
 
 -- the refusal is printed as its code and the place where the item begins
-abbrev pub fault_text : ItemFault → List ℕ
-fault_text (Truncated at) = codes "I1 at " ++ decimal at
+abbrev pub item_fault_text : ItemFault → List ℕ
+item_fault_text (Truncated at) = codes "I1 at " ++ decimal at

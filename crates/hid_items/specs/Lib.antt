@@ -1,3 +1,3 @@
-pub mod Spelling
+pub mod ItemEncoding
 pub mod Reading
 pub mod Fault

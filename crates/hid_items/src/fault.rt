@@ -13,9 +13,9 @@ pub enum ItemFault {
 
 impl fmt::Display for ItemFault {
     ghost use Rattle.std.specs.Prelude.{Some};
-    ghost use Rattle.hid_items.specs.Fault.{fault_text};
+    ghost use Rattle.hid_items.specs.Fault.{item_fault_text};
 
-    ghost output = { λ fault. Some (fault_text fault) };
+    ghost output = { λ fault. Some (item_fault_text fault) };
 
     fn fmt<W: Write>(&self, f: &mut fmt::Formatter<W>) -> fmt::Result {
         let ItemFault::Truncated { at } = self;

@@ -1,11 +1,11 @@
 //! Laws of the definitions: bytes are items in one way at most.
 
 ghost use Rattle.std.specs.Prelude.{◌≡◌, ℕ, List, ◌++◌};
-ghost use Rattle.hid_items.specs.Spelling.{IsSpelling, AreItems, IsTruncatedAt};
+ghost use Rattle.hid_items.specs.ItemEncoding.{IsItemEncoding, AreItems, IsTruncatedAt};
 
-/// No spelling is the beginning of another.
+/// No encoding is the beginning of another.
 pub fn prefix_free()
-    ensures { (item other more rest : List ℕ) → IsSpelling item → IsSpelling other
+    ensures { (item other more rest : List ℕ) → IsItemEncoding item → IsItemEncoding other
         → item ++ more ≡ other ++ rest → item ≡ other }
 {}
 

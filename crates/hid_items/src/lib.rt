@@ -8,7 +8,7 @@
 //!                                                         the first byte of every long item
 //! ```
 //! An item is a slice of the descriptor: nothing is copied, and no call takes memory. What an item means is
-//! defined in `hid_descriptor`, and never here.
+//! defined in `hid_report_descriptor`, and never here.
 //!
 //! The promise: [`Items`] gives exactly the items whose bytes, one after another, are the descriptor, each
 //! with its place: `next_gives` of its `Iterator`, with [`laws::one_reading`]. If the bytes left over are no
@@ -20,11 +20,11 @@
 //! ```
 #![tactic(auto)]
 
+mod encoding;
 mod fault;
 pub mod laws;
 mod reading;
-mod spelling;
 
+pub use encoding::{Item, ItemKind};
 pub use fault::ItemFault;
 pub use reading::Items;
-pub use spelling::{Item, ItemKind};

@@ -1,7 +1,7 @@
 //! The items of a descriptor, one after another.
 
+use crate::encoding::{Item, encoding_length, kind_of};
 use crate::fault::ItemFault;
-use crate::spelling::{Item, kind_of, spelling_length};
 
 /// The items of a descriptor that have yet to come. After a fault no item comes.
 #[derive(Clone, Drop)]
@@ -42,7 +42,7 @@ impl<'a> Iterator for Items<'a> {
             return None;
         }
         let at = self.at;
-        let Some(length) = spelling_length(self.rest) else {
+        let Some(length) = encoding_length(self.rest) else {
             self.rest = &self.rest[..0];
             return Some(Err(ItemFault::Truncated { at }));
         };

@@ -6,12 +6,12 @@ use Rattle.std.specs.List.{slice_get}
 use Rattle.std.proofs.lemmas.Int.{ints, clamps}
 use Rattle.std.proofs.lemmas.Float.{T_from_true}
 use Rattle.std.proofs.Math.Pow.{pow_mono}
-use Rattle.hid_descriptor.specs.declared.usage.Usage.{Usage}
+use Rattle.hid_report_descriptor.specs.declared.usage.Usage.{Usage}
 use Rattle.hid_layout.specs.declared.main_item.MainItem.{MainItem}
 use Rattle.hid_layout.specs.Controls.{is_key, is_encodable, least_of, greatest_of}
-use Rattle.hid_descriptor.specs.Usages.{tells_error}
-use Rattle.hid_descriptor.specs.Faults.{least_value, greatest_value}
-use Rattle.hid_layout.specs.Sent.{is_in, at_zero, place_named, names_nothing}
+use Rattle.hid_report_descriptor.specs.Usages.{is_keyboard_error}
+use Rattle.hid_report_descriptor.specs.Faults.{least_value, greatest_value}
+use Rattle.hid_layout.specs.Codes.{is_in, at_zero, place_named, names_nothing}
 use Rattle.hid_layout.specs.EmptyCodes.{is_nothing, IsFirst}
 
 test_true : (b : Bool) → T b → b ≡ true
@@ -43,7 +43,13 @@ above least greatest v h = rw (over v greatest h) (by_least (int_le least v))
 
 -- out of the range nothing is named
 pub out_of_range : (item : MainItem) (us : List Usage) (v : ℤ) → is_in item.min item.max v ≡ false → names_nothing item us v ≡ true
-out_of_range item us v e = ap (λ b. elim (cond b (Some (at_zero (v -ℤ item.min))) None) [ None ↦ true | Some i ↦ elim (slice_get us i) [ None ↦ true | Some u ↦ not (is_key item i u || tells_error u) ] ]) e
+out_of_range item us v e =
+    ap (λ b. elim
+    (cond b (Some (at_zero (v -ℤ item.min))) None) [
+      | None ↦ true
+      | Some i ↦
+          elim (slice_get us i) [ None ↦ true | Some u ↦ not (is_key item i u || is_keyboard_error u) ]
+    ]) e
 
 same_name : (encodable below some error : Bool) → encodable ≡ true → not ((encodable && (below && (some && not error))) || error) ≡ not ((below && some) || error)
 same_name true true true true e = refl
@@ -54,9 +60,11 @@ same_name true false some true e = refl
 same_name true false some false e = refl
 same_name false below some error e = absurd cc
 
-name_of : (item : MainItem) (k : ℕ) (o : Option Usage) → is_encodable item (item.min +ℤ pos k) ≡ true → elim o [ None ↦ true | Some u ↦ not (is_key item k u || tells_error u) ] ≡ is_nothing k o
+name_of : (item : MainItem) (k : ℕ) (o : Option Usage) → is_encodable item (item.min +ℤ pos k) ≡ true
+    → elim o [ None ↦ true | Some u ↦ not (is_key item k u || is_keyboard_error u) ] ≡ is_nothing k o
 name_of item k None e = refl
-name_of item k (Some u) e = same_name (is_encodable item (item.min +ℤ pos k)) (nat_lt k 65536) (not (nat_eq u.id 0)) (tells_error u) e
+name_of item k (Some u) e =
+    same_name (is_encodable item (item.min +ℤ pos k)) (nat_lt k 65536) (not (nat_eq u.id 0)) (is_keyboard_error u) e
 
 -- in the range an element names what stands at its place
 pub named_at : (item : MainItem) (us : List Usage) (v : ℤ) (k : ℕ) → (item.min +ℤ pos k) ≡ v → v ≤ℤ item.max → least_value item.min item.size ≤ℤ v → v ≤ℤ greatest_value item.min item.size
@@ -67,7 +75,12 @@ named_at item us v k e high low fits =
     let encodable : is_encodable item (item.min +ℤ pos k) ≡ true =
     inside (least_of item) (greatest_of item) (item.min +ℤ pos k) (low_of (least_value item.min item.size) (omega (arith, ints, e, low))) (high_of (greatest_value item.min item.size) (omega (arith, ints, e, high)) (omega (arith, ints, e, fits))) in
     let there : place_named item v ≡ Some k = ap (λ b. cond b (Some (at_zero (v -ℤ item.min))) None) within ∙ ap (λ n. Some n) place in
-    ap (λ o. elim o [ None ↦ true | Some i ↦ elim (slice_get us i) [ None ↦ true | Some u ↦ not (is_key item i u || tells_error u) ] ]) there ∙ name_of item k (slice_get us k) encodable
+    ap (λ o. elim o [
+      | None ↦ true
+      | Some i ↦
+          elim (slice_get us i) [ None ↦ true | Some u ↦ not (is_key item i u || is_keyboard_error u) ]
+    ]) there
+    ∙ name_of item k (slice_get us k) encodable
   where
     low_of : (l : ℤ) → l ≤ℤ (item.min +ℤ pos k) → int_max item.min l ≤ℤ (item.min +ℤ pos k)
     low_of l h = omega (arith, ints, clamps, h)

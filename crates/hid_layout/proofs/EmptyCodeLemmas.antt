@@ -3,12 +3,12 @@ use Rattle.std.proofs.Common.{◌≡◌, ℕ, zero, suc, ◌+◌, ◌-◌, ◌<�
 use Rattle.std.specs.Prelude.{◌⊎◌, pos, ◌+ℤ◌, ◌≢◌, is_some}
 use Rattle.std.specs.List.{slice_get}
 use Rattle.std.proofs.lemmas.Bool.{cases_lt}
-use Rattle.hid_descriptor.specs.declared.usage.Usage.{Usage}
+use Rattle.hid_report_descriptor.specs.declared.usage.Usage.{Usage}
 use Rattle.hid_layout.specs.declared.main_item.MainItem.{MainItem}
-use Rattle.hid_descriptor.specs.Usages.{is_rollover, Entry, entry_count, usage_list, usages_from}
+use Rattle.hid_report_descriptor.specs.Usages.{is_rollover, Entry, entry_count, usage_list, usages_from}
 use Rattle.hid_layout.specs.Controls.{is_encodable, rollover_from}
 use Rattle.hid_layout.specs.EmptyCodes.{RollsOverAt, RollsOverIn, is_nothing, usage_at_place, IsFirstNothing, IsFirst}
-use Rattle.hid_descriptor.proofs.Places.{found, skipped, list_from}
+use Rattle.hid_report_descriptor.proofs.Places.{found, skipped, list_from}
 
 -- the places from a start on are those of the entries that are left
 abbrev pub Continues : List Entry → ℕ → ℕ → Type 0

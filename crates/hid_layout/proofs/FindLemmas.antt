@@ -5,14 +5,14 @@ use Rattle.std.specs.Prelude.{map, nat_eq}
 use Rattle.std.specs.Option.{option_map}
 use Rattle.std.proofs.lemmas.Bool.Decides.{nat_tests}
 use Rattle.std.proofs.lemmas.Option.{slice_get-map}
-use Rattle.hid_descriptor.specs.declared.usage.Usage.{Usage}
+use Rattle.hid_report_descriptor.specs.declared.usage.Usage.{Usage}
 use Rattle.hid_layout.specs.declared.main_item.MainItem.{MainItem}
-use Rattle.hid_descriptor.specs.declared.shape.Shape.{Shape}
-use Rattle.hid_descriptor.specs.declared.shape.Shape.TheVariants.{Padding, Variable, Array}
+use Rattle.hid_report_descriptor.specs.declared.shape.Shape.{Shape}
+use Rattle.hid_report_descriptor.specs.declared.shape.Shape.TheVariants.{Padding, Variable, Array}
 use Rattle.hid_layout.specs.declared.control.Control.{Control}
 use Rattle.hid_layout.specs.declared.control.ControlKind.{ControlKind}
-use Rattle.hid_descriptor.specs.Usages.{Entry, entry_count, usage_list, starts_of}
-use Rattle.hid_descriptor.specs.Fields.{is_padding}
+use Rattle.hid_report_descriptor.specs.Usages.{Entry, entry_count, usage_list, starts_of}
+use Rattle.hid_report_descriptor.specs.Fields.{is_padding}
 use Rattle.hid_layout.specs.Layout.{Contents}
 use Rattle.hid_layout.specs.Reports.{IsLayout}
 use Rattle.hid_layout.specs.Controls.{Form, Elements, Keys, spread_usages, keys_from, is_key, is_input, Item, items_of, form_at, form_of, control_of, control_of_item, control_of_key}
@@ -20,8 +20,8 @@ use Rattle.hid_layout.specs.declared.control.ControlId.{ControlId}
 use Rattle.hid_layout.specs.Finding.{usage_in_form, control_usage, holds}
 use Rattle.std.proofs.lemmas.Grind.{common_steps}
 use Rattle.std.proofs.lemmas.List.{take_all}
-use Rattle.hid_descriptor.proofs.Places.{found}
-use Rattle.hid_descriptor.proofs.StartLemmas.{at_start, next_start, from_start}
+use Rattle.hid_report_descriptor.proofs.Places.{found}
+use Rattle.hid_report_descriptor.proofs.StartLemmas.{at_start, next_start, from_start}
 use Rattle.hid_layout.proofs.FormLemmas.{spread_usages-get, spread_usages-past, key-get, key-past, some_at, form-input, form-other, control-form, items_from-past}
 
 -- a control's usage stands in the usage list, at its place or before it

@@ -4,12 +4,12 @@ use Rattle.std.specs.List.{slice_get}
 use Rattle.std.specs.Option.{option_map}
 use Rattle.std.proofs.lemmas.Option.{slice_get_past}
 use Rattle.std.proofs.lemmas.List.{length-take, take_all}
-use Rattle.hid_descriptor.specs.declared.usage.Usage.{Usage}
+use Rattle.hid_report_descriptor.specs.declared.usage.Usage.{Usage}
 use Rattle.hid_layout.specs.declared.main_item.MainItem.{MainItem}
 use Rattle.std.specs.Prelude.{is_some, pos, ◌+ℤ◌}
-use Rattle.hid_layout.specs.Sent.{rollover_number}
+use Rattle.hid_layout.specs.Codes.{rollover_number}
 use Rattle.hid_layout.specs.declared.control.ControlId.{ControlId}
-use Rattle.hid_descriptor.specs.Usages.{Entry, usage_list}
+use Rattle.hid_report_descriptor.specs.Usages.{Entry, usage_list}
 use Rattle.hid_layout.specs.Layout.{Contents, report_bytes}
 use Rattle.hid_layout.specs.Controls.{Item, NoControls, input_item, no_item, spread_usages, keys_from, is_key, has_place, rollover_from, is_input, item_of, form_of, items_from, items_of, form_of_item, form_at, control_in, control_of_item, control_of, events_in, max_events}
 use Rattle.std.proofs.lemmas.List.Sums.{sum_by-append}

@@ -5,13 +5,13 @@ use Rattle.std.proofs.lemmas.List.{length-map}
 use Rattle.std.proofs.lemmas.Option.{slice_get-map}
 use Rattle.std.specs.Option.{option_map}
 use Rattle.hid_layout.specs.declared.main_item.MainItem.{MainItem}
-use Rattle.hid_layout.specs.declared.sent.Codes.{Codes}
-use Rattle.hid_descriptor.specs.Usages.{Entry, usage_list}
-use Rattle.hid_descriptor.specs.declared.shape.Shape.TheVariants.{Array}
-use Rattle.hid_descriptor.specs.Faults.{upward}
-use Rattle.hid_layout.specs.Sent.{AreCodes}
-use Rattle.hid_descriptor.proofs.ListsLemmas.{Placed, earlier, last, placed}
-use Rattle.hid_layout.specs.Index.{FitArrays}
+use Rattle.hid_layout.specs.declared.codes.Codes.{Codes}
+use Rattle.hid_report_descriptor.specs.Usages.{Entry, usage_list}
+use Rattle.hid_report_descriptor.specs.declared.shape.Shape.TheVariants.{Array}
+use Rattle.hid_report_descriptor.specs.Faults.{numbers_from}
+use Rattle.hid_layout.specs.Codes.{AreCodes}
+use Rattle.hid_report_descriptor.proofs.ListsLemmas.{Placed, earlier, last, placed}
+use Rattle.hid_layout.specs.ArrayCodes.{FitArrays}
 
 take_suc : {A : Type 0} (xs : List A) (i : ℕ) (x : A) → slice_get xs i ≡ Some x → take (suc i) xs ≡ take i xs ++ x ∷ []
 take_suc [] i x e = absurd (cc)
@@ -41,22 +41,25 @@ codes_more items item entries es codes c old here at new j it us k a b d p = by_
         subst (λ x. AreCodes it (usage_list us) x) f
         (only_item (λ x. x.shape ≡ Array) it item us es c (sym a ∙ ap (slice_get items) m ∙ here) (sym b ∙ ap (slice_get entries) m ∙ at) new p)
 
-pub upward-length : (from n : ℕ) → length (upward from n) ≡ n
-unfolding upward
-upward-length from zero = refl
-upward-length from (suc n) = ap suc (upward-length (from + 1) n)
+pub numbers_from-length : (from n : ℕ) → length (numbers_from from n) ≡ n
+unfolding numbers_from
+numbers_from-length from zero = refl
+numbers_from-length from (suc n) = ap suc (numbers_from-length (from + 1) n)
 
-pub upward-get : (from n i : ℕ) → i < n → slice_get (upward from n) i ≡ Some (from + i)
-unfolding upward
-upward-get from zero i h = absurd (omega arith)
-upward-get from (suc n) zero h = ap Some (omega arith)
-upward-get from (suc n) (suc i) h = upward-get (from + 1) n i (omega arith) ∙ ap Some (omega arith)
+pub numbers_from-get : (from n i : ℕ) → i < n → slice_get (numbers_from from n) i ≡ Some (from + i)
+unfolding numbers_from
+numbers_from-get from zero i h = absurd (omega arith)
+numbers_from-get from (suc n) zero h = ap Some (omega arith)
+numbers_from-get from (suc n) (suc i) h = numbers_from-get (from + 1) n i (omega arith) ∙ ap Some (omega arith)
 
 -- what stands at a place of a list made number by number
-pub made_at : {A : Type 0} (f : ℕ → A) (n i : ℕ) (xs : List A) (x : A) → i < n → xs ≡ map f (upward 0 n) → slice_get xs i ≡ Some x → x ≡ f i
+pub made_at : {A : Type 0} (f : ℕ → A) (n i : ℕ) (xs : List A) (x : A) → i < n → xs ≡ map f (numbers_from 0 n)
+    → slice_get xs i ≡ Some x → x ≡ f i
 made_at f n i xs x h e at =
-    let there : slice_get (map f (upward 0 n)) i ≡ Some (f i) = slice_get-map f (upward 0 n) i ∙ ap (option_map f) (upward-get 0 n i h) ∙ ap (λ k. Some (f k)) (omega arith) in
+    let there : slice_get (map f (numbers_from 0 n)) i ≡ Some (f i) =
+    slice_get-map f (numbers_from 0 n) i ∙ ap (option_map f) (numbers_from-get 0 n i h)
+    ∙ ap (λ k. Some (f k)) (omega arith) in
     ap (λ o. unwrap_or o x) (sym at ∙ ap (λ l. slice_get l i) e ∙ there)
 
-pub made_length : {A : Type 0} (f : ℕ → A) (n : ℕ) (xs : List A) → xs ≡ map f (upward 0 n) → length xs ≡ n
-made_length f n xs e = ap length e ∙ length-map (upward 0 n) f ∙ upward-length 0 n
+pub made_length : {A : Type 0} (f : ℕ → A) (n : ℕ) (xs : List A) → xs ≡ map f (numbers_from 0 n) → length xs ≡ n
+made_length f n xs e = ap length e ∙ length-map (numbers_from 0 n) f ∙ numbers_from-length 0 n

@@ -7,5 +7,5 @@ pub mod NullLemmas
 pub mod IndexLemmas
 pub mod FormLemmas
 pub mod FindLemmas
-pub mod LaidLemmas
+pub mod LayoutLemmas
 pub mod PlanLemmas

@@ -8,9 +8,9 @@ use Rattle.std.proofs.lemmas.Nat.{pow_pos}
 use Rattle.hid_fields.specs.Value.{value_of, is_negative}
 use Rattle.hid_fields.proofs.ValueLemmas.{value_of-low, value_of-high, twice_half}
 use Rattle.hid_layout.specs.declared.main_item.MainItem.{MainItem}
-use Rattle.hid_descriptor.specs.declared.usage.Usage.{Usage}
-use Rattle.hid_descriptor.specs.Faults.{least_value, greatest_value}
-use Rattle.hid_layout.specs.Sent.{first_passing, names_nothing, number_of, empty_number}
+use Rattle.hid_report_descriptor.specs.declared.usage.Usage.{Usage}
+use Rattle.hid_report_descriptor.specs.Faults.{least_value, greatest_value}
+use Rattle.hid_layout.specs.Codes.{first_passing, names_nothing, number_of_pattern, empty_number}
 use Rattle.hid_layout.specs.EmptyCodes.{IsLeastNothing, NamesAll}
 
 -- the least number that passes, found
@@ -30,13 +30,22 @@ none_passes test from zero fails = refl
 none_passes test from (suc count) fails = rw (fails from (omega arith) (omega arith)) (none_passes test (from + 1) count (λ n a b. fails n (omega arith) (omega arith)))
 
 -- the code of this pattern, which stands for this number
-code_is : (item : MainItem) (us : List Usage) (p : ℕ) (v : ℤ) → p < 2 ^ item.size → number_of item p ≡ v → names_nothing item us v ≡ true → ((k : ℕ) → k < p → names_nothing item us (number_of item k) ≡ false) → empty_number item us ≡ Some v
+code_is : (item : MainItem) (us : List Usage) (p : ℕ) (v : ℤ) → p < 2 ^ item.size → number_of_pattern item p ≡ v
+    → names_nothing item us v ≡ true → ((k : ℕ) → k < p → names_nothing item us (number_of_pattern item k) ≡ false)
+    → empty_number item us ≡ Some v
 code_is item us p v fits is nothing lower =
-    ap (option_map (number_of item)) (first_is (λ k. names_nothing item us (number_of item k)) p 0 (2 ^ item.size) (omega arith) (omega (arith, fits)) (ap (names_nothing item us) is ∙ nothing) (λ k a b. lower k b))
+    ap (option_map (number_of_pattern item))
+    (first_is (λ k. names_nothing item us (number_of_pattern item k)) p 0 (2 ^ item.size) (omega arith)
+    (omega (arith, fits)) (ap (names_nothing item us) is ∙ nothing) (λ k a b. lower k b))
     ∙ ap (λ z. Some z) is
 
-no_code : (item : MainItem) (us : List Usage) → ((k : ℕ) → k < 2 ^ item.size → names_nothing item us (number_of item k) ≡ false) → empty_number item us ≡ None
-no_code item us all = ap (option_map (number_of item)) (none_passes (λ k. names_nothing item us (number_of item k)) 0 (2 ^ item.size) (λ k a b. all k (omega (arith, b))))
+no_code : (item : MainItem) (us : List Usage)
+    → ((k : ℕ) → k < 2 ^ item.size → names_nothing item us (number_of_pattern item k) ≡ false)
+    → empty_number item us ≡ None
+no_code item us all =
+    ap (option_map (number_of_pattern item))
+    (none_passes (λ k. names_nothing item us (number_of_pattern item k)) 0 (2 ^ item.size)
+    (λ k a b. all k (omega (arith, b))))
 
 sign_of : (min : ℤ) → int_lt min (pos 0) ≡ is_negative min
 sign_of (pos n) = grind (arith, ints)
@@ -48,13 +57,14 @@ greatest_at min w s e = ap (λ b. cond b (pos (2 ^ (w - 1) - 1)) (pos (2 ^ w - 1
 pub least_at : (min : ℤ) (w : ℕ) (s : Bool) → is_negative min ≡ s → least_value min w ≡ cond s (neg_ℤ (pos (2 ^ (w - 1)))) (pos 0)
 least_at min w s e = ap (λ b. cond b (neg_ℤ (pos (2 ^ (w - 1)))) (pos 0)) (sign_of min ∙ e)
 
-pub plain : (item : MainItem) (k : ℕ) → is_negative item.min ≡ false → number_of item k ≡ pos k
+pub plain : (item : MainItem) (k : ℕ) → is_negative item.min ≡ false → number_of_pattern item k ≡ pos k
 plain item k e = ap (value_of k item.size) e
 
-pub high : (item : MainItem) (k : ℕ) → is_negative item.min ≡ true → 0 < item.size → 2 ^ (item.size - 1) ≤ k → k < 2 ^ item.size → number_of item k ≡ pos k -ℤ pos (2 ^ item.size)
+pub high : (item : MainItem) (k : ℕ) → is_negative item.min ≡ true → 0 < item.size → 2 ^ (item.size - 1) ≤ k
+    → k < 2 ^ item.size → number_of_pattern item k ≡ pos k -ℤ pos (2 ^ item.size)
 high item k e some a b = ap (value_of k item.size) e ∙ value_of-high k item.size some a b
 
-pub low : (item : MainItem) (k : ℕ) → k < 2 ^ (item.size - 1) → number_of item k ≡ pos k
+pub low : (item : MainItem) (k : ℕ) → k < 2 ^ (item.size - 1) → number_of_pattern item k ≡ pos k
 low item k h = value_of-low k item.size (is_negative item.min) h
 
 -- a number from 0 on is found
@@ -79,10 +89,12 @@ found_below_zero item us (negsuc m) some e all is =
     let half : 2 ^ item.size ≡ 2 ^ (item.size - 1) + 2 ^ (item.size - 1) = twice_half item.size some in
     let few : m < 2 ^ (item.size - 1) = omega (arith, ints, least_at item.min item.size true e, is.low) in
     let p : ℕ = 2 ^ item.size - 1 - m in
-    let number : number_of item p ≡ negsuc m = high item p e some (omega (arith, half, few)) (omega (arith, half, few)) ∙ omega (arith, ints, half, few) in
+    let number : number_of_pattern item p ≡ negsuc m =
+    high item p e some (omega (arith, half, few)) (omega (arith, half, few)) ∙ omega (arith, ints, half, few) in
     code_is item us p (negsuc m) (omega (arith, half, few)) number is.nothing (λ k h. lower p (omega (arith, half, few)) (omega (arith, ints, half, few)) k h)
   where
-    lower : (p : ℕ) → p < 2 ^ item.size → (pos p -ℤ pos (2 ^ item.size)) ≡ negsuc m → (k : ℕ) → k < p → names_nothing item us (number_of item k) ≡ false
+    lower : (p : ℕ) → p < 2 ^ item.size → (pos p -ℤ pos (2 ^ item.size)) ≡ negsuc m → (k : ℕ) → k < p
+        → names_nothing item us (number_of_pattern item k) ≡ false
     lower p fits number k h = elim (cases_lt k (2 ^ (item.size - 1))) [
       | inl small ↦ ap (names_nothing item us) (low item k small) ∙ all (pos k) (omega (arith, ints)) (omega (arith, ints, small, greatest_at item.min item.size true e))
       | inr large ↦ ap (names_nothing item us) (high item k e some large (omega (arith, h, fits)))
@@ -97,7 +109,7 @@ pub none_below_zero : (item : MainItem) (us : List Usage) → 0 < item.size → 
     → NamesAll item us (least_value item.min item.size) (pos 0) → empty_number item us ≡ None
 none_below_zero item us some e all below = no_code item us lower
   where
-    lower : (k : ℕ) → k < 2 ^ item.size → names_nothing item us (number_of item k) ≡ false
+    lower : (k : ℕ) → k < 2 ^ item.size → names_nothing item us (number_of_pattern item k) ≡ false
     lower k h = elim (cases_lt k (2 ^ (item.size - 1))) [
       | inl small ↦ ap (names_nothing item us) (low item k small) ∙ all (pos k) (omega (arith, ints)) (omega (arith, ints, small, greatest_at item.min item.size true e))
       | inr large ↦ ap (names_nothing item us) (high item k e some large h)

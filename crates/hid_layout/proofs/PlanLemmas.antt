@@ -6,56 +6,63 @@ use Rattle.std.specs.Option.{option_map}
 use Rattle.std.specs.Prelude.{replicate}
 use Rattle.std.proofs.lemmas.List.{length-set, length-drop, length-append, length-take-le, take-replicate, drop-replicate, drop-set-add, drop-set-lt, take-set-le, take_more_set, get_or_append_left, get_or-take, drop_at, with_items_is}
 use Rattle.std.proofs.lemmas.Option.{slice_get-map, slice_get-get_or}
-use Rattle.hid_descriptor.specs.declared.shape.Shape.TheVariants.{Padding}
+use Rattle.hid_report_descriptor.specs.declared.shape.Shape.TheVariants.{Padding}
 use Rattle.std.proofs.lemmas.Bool.Decides.{nat_tests}
 use Rattle.hid_layout.specs.declared.main_item.MainItem.{MainItem}
-use Rattle.hid_descriptor.specs.Faults.{upward}
-use Rattle.hid_layout.specs.Index.{places_from}
-use Rattle.hid_layout.proofs.IndexLemmas.{made_length, upward-get, take_next}
+use Rattle.hid_report_descriptor.specs.Faults.{numbers_from}
+use Rattle.hid_layout.specs.ArrayCodes.{places_from}
+use Rattle.hid_layout.proofs.IndexLemmas.{made_length, numbers_from-get, take_next}
 use Rattle.hid_layout.specs.Plans.{AreIn, count_of, begin_of, end_of, ArePut, plans_in, ArePlans}
 
 -- a list made number by number, with other numbers
-made-same : {A : Type 0} (f g : ℕ → A) (from n : ℕ) → ((r : ℕ) → from ≤ r → r < from + n → f r ≡ g r) → map f (upward from n) ≡ map g (upward from n)
-unfolding upward
+made-same : {A : Type 0} (f g : ℕ → A) (from n : ℕ) → ((r : ℕ) → from ≤ r → r < from + n → f r ≡ g r)
+    → map f (numbers_from from n) ≡ map g (numbers_from from n)
+unfolding numbers_from
 made-same f g from zero h = refl
 made-same f g from (suc n) h =
-    ap (λ x. x ∷ map f (upward (from + 1) n)) (h from (omega arith) (omega arith)) ∙ ap (λ l. g from ∷ l) (made-same f g (from + 1) n (λ r a b. h r (omega (arith, a)) (omega (arith, b))))
+    ap (λ x. x ∷ map f (numbers_from (from + 1) n)) (h from (omega arith) (omega arith))
+    ∙ ap (λ l. g from ∷ l) (made-same f g (from + 1) n (λ r a b. h r (omega (arith, a)) (omega (arith, b))))
 
-pub made_same : {A : Type 0} (f g : ℕ → A) (n : ℕ) → ((r : ℕ) → r < n → f r ≡ g r) → map f (upward 0 n) ≡ map g (upward 0 n)
+pub made_same : {A : Type 0} (f g : ℕ → A) (n : ℕ) → ((r : ℕ) → r < n → f r ≡ g r)
+    → map f (numbers_from 0 n) ≡ map g (numbers_from 0 n)
 made_same f g n h = made-same f g 0 n (λ r a b. h r (omega (arith, b)))
 
-pub made_zero : (f : ℕ → ℕ) (n : ℕ) → ((r : ℕ) → f r ≡ 0) → replicate n 0 ≡ map f (upward 0 n)
-unfolding upward
+pub made_zero : (f : ℕ → ℕ) (n : ℕ) → ((r : ℕ) → f r ≡ 0) → replicate n 0 ≡ map f (numbers_from 0 n)
+unfolding numbers_from
 made_zero f n h = zeros 0 n
   where
-    zeros : (from n : ℕ) → replicate n 0 ≡ map f (upward from n)
+    zeros : (from n : ℕ) → replicate n 0 ≡ map f (numbers_from from n)
     zeros from zero = refl
-    zeros from (suc n) = ap (λ l. 0 ∷ l) (zeros (from + 1) n) ∙ ap (λ x. x ∷ map f (upward (from + 1) n)) (sym (h from))
+    zeros from (suc n) =
+        ap (λ l. 0 ∷ l) (zeros (from + 1) n) ∙ ap (λ x. x ∷ map f (numbers_from (from + 1) n)) (sym (h from))
 
 -- one of them is set
-made-set : {A : Type 0} (f g : ℕ → A) (from n q : ℕ) (v : A) → v ≡ g (from + q) → ((r : ℕ) → r ≢ from + q → f r ≡ g r) → set (map f (upward from n)) q v ≡ map g (upward from n)
-unfolding upward
+made-set : {A : Type 0} (f g : ℕ → A) (from n q : ℕ) (v : A) → v ≡ g (from + q) → ((r : ℕ) → r ≢ from + q → f r ≡ g r)
+    → set (map f (numbers_from from n)) q v ≡ map g (numbers_from from n)
+unfolding numbers_from
 made-set f g from zero q v e h = refl
 made-set f g from (suc n) zero v e h =
-    ap (λ x. x ∷ map f (upward (from + 1) n)) (e ∙ ap g (omega arith)) ∙ ap (λ l. g from ∷ l) (made-same f g (from + 1) n (λ r a b. h r (λ s. omega (arith, a, s))))
+    ap (λ x. x ∷ map f (numbers_from (from + 1) n)) (e ∙ ap g (omega arith))
+    ∙ ap (λ l. g from ∷ l) (made-same f g (from + 1) n (λ r a b. h r (λ s. omega (arith, a, s))))
 made-set f g from (suc n) (suc q) v e h =
     let same : (from + 1) + q ≡ from + suc q = omega arith in
-    ap (λ x. x ∷ set (map f (upward (from + 1) n)) q v) (h from (λ s. omega (arith, s)))
+    ap (λ x. x ∷ set (map f (numbers_from (from + 1) n)) q v) (h from (λ s. omega (arith, s)))
     ∙ ap (λ l. g from ∷ l) (made-set f g (from + 1) n q v (e ∙ ap g (sym same)) (λ r d. h r (λ s. d (s ∙ sym same))))
 
-pub made_set : {A : Type 0} (f g : ℕ → A) (n q : ℕ) (v : A) → v ≡ g q → ((r : ℕ) → r ≢ q → f r ≡ g r) → set (map f (upward 0 n)) q v ≡ map g (upward 0 n)
+pub made_set : {A : Type 0} (f g : ℕ → A) (n q : ℕ) (v : A) → v ≡ g q → ((r : ℕ) → r ≢ q → f r ≡ g r)
+    → set (map f (numbers_from 0 n)) q v ≡ map g (numbers_from 0 n)
 made_set f g n q v e h =
     let same : 0 + q ≡ q = omega arith in
     made-set f g 0 n q v (e ∙ ap g (sym same)) (λ r d. h r (λ s. d (s ∙ sym same)))
 
 -- one of them
-made-get : (f : ℕ → ℕ) (from n r d : ℕ) → r < n → get_or (map f (upward from n)) r d ≡ f (from + r)
-unfolding upward
+made-get : (f : ℕ → ℕ) (from n r d : ℕ) → r < n → get_or (map f (numbers_from from n)) r d ≡ f (from + r)
+unfolding numbers_from
 made-get f from zero r d h = absurd (omega arith)
 made-get f from (suc n) zero d h = ap f (omega arith)
 made-get f from (suc n) (suc r) d h = made-get f (from + 1) n r d (omega arith) ∙ ap f (omega arith)
 
-pub made_get : (f : ℕ → ℕ) (n r d : ℕ) → r < n → get_or (map f (upward 0 n)) r d ≡ f r
+pub made_get : (f : ℕ → ℕ) (n r d : ℕ) → r < n → get_or (map f (numbers_from 0 n)) r d ≡ f r
 made_get f n r d h = made-get f 0 n r d h ∙ ap f (omega arith)
 
 -- a part of a list stays where what is set lies before or after it, and grows by what is set at its end
@@ -176,14 +183,19 @@ pub item_there : (items : List MainItem) (n i : ℕ) → AreIn n items → i < l
 item_there items n i all h = all i (item_at items i) (slice_get-get_or items i no_item h)
 
 -- counting: the counts of the first items, with one item more
-count_at : (items : List MainItem) (n i r : ℕ) (counts : List ℕ) → counts ≡ map (count_of (take i items)) (upward 0 n) → r < n → get_or counts r 0 ≡ count_of (take i items) r
+count_at : (items : List MainItem) (n i r : ℕ) (counts : List ℕ)
+    → counts ≡ map (count_of (take i items)) (numbers_from 0 n) → r < n
+    → get_or counts r 0 ≡ count_of (take i items) r
 count_at items n i r counts e h = ap (λ l. get_or l r 0) e ∙ made_get (count_of (take i items)) n r 0 h
 
-pub count_small : (items : List MainItem) (n i r : ℕ) (counts : List ℕ) → counts ≡ map (count_of (take i items)) (upward 0 n) → r < n → get_or counts r 0 ≤ length items
+pub count_small : (items : List MainItem) (n i r : ℕ) (counts : List ℕ)
+    → counts ≡ map (count_of (take i items)) (numbers_from 0 n) → r < n → get_or counts r 0 ≤ length items
 count_small items n i r counts e h = omega (arith, count_at items n i r counts e h, count_take items i r, count_few items r)
 
-pub count_more : (items : List MainItem) (n i : ℕ) (counts : List ℕ) → AreIn n items → i < length items → counts ≡ map (count_of (take i items)) (upward 0 n)
-    → set counts (item_at items i).report (get_or counts (item_at items i).report 0 + 1) ≡ map (count_of (take (i + 1) items)) (upward 0 n)
+pub count_more : (items : List MainItem) (n i : ℕ) (counts : List ℕ) → AreIn n items → i < length items
+    → counts ≡ map (count_of (take i items)) (numbers_from 0 n)
+    → set counts (item_at items i).report (get_or counts (item_at items i).report 0 + 1)
+    ≡ map (count_of (take (i + 1) items)) (numbers_from 0 n)
 count_more items n i counts all h e =
     let item : MainItem = item_at items i in
     let q : ℕ = item.report in
@@ -197,13 +209,17 @@ count_more items n i counts all h e =
 abbrev pub begun : List MainItem → ℕ → ℕ → ℕ
 begun items i r = cond (nat_lt r i) (begin_of items r) (count_of items r)
 
-pub begun_none : (items : List MainItem) (n : ℕ) (counts : List ℕ) → counts ≡ map (count_of items) (upward 0 n) → counts ≡ map (begun items 0) (upward 0 n)
+pub begun_none : (items : List MainItem) (n : ℕ) (counts : List ℕ) → counts ≡ map (count_of items) (numbers_from 0 n)
+    → counts ≡ map (begun items 0) (numbers_from 0 n)
 begun_none items n counts e = e ∙ made_same (count_of items) (begun items 0) n (λ r h. grind (arith, nat_tests))
 
-pub begun_at : (items : List MainItem) (n i d : ℕ) (counts : List ℕ) → counts ≡ map (begun items i) (upward 0 n) → i < n → get_or counts i d ≡ count_of items i
+pub begun_at : (items : List MainItem) (n i d : ℕ) (counts : List ℕ) → counts ≡ map (begun items i) (numbers_from 0 n)
+    → i < n → get_or counts i d ≡ count_of items i
 begun_at items n i d counts e h = ap (λ l. get_or l i d) e ∙ made_get (begun items i) n i d h ∙ grind (arith, nat_tests)
 
-pub begun_more : (items : List MainItem) (n i : ℕ) (counts : List ℕ) (v : ℕ) → counts ≡ map (begun items i) (upward 0 n) → v ≡ begin_of items i → set counts i v ≡ map (begun items (i + 1)) (upward 0 n)
+pub begun_more : (items : List MainItem) (n i : ℕ) (counts : List ℕ) (v : ℕ)
+    → counts ≡ map (begun items i) (numbers_from 0 n) → v ≡ begin_of items i
+    → set counts i v ≡ map (begun items (i + 1)) (numbers_from 0 n)
 begun_more items n i counts v e start =
     ap (λ l. set l i v) e ∙ made_set (begun items i) (begun items (i + 1)) n i v (start ∙ ap (λ b. cond b (begin_of items i) (count_of items i)) now) (λ r d. ap (λ b. cond b (begin_of items r) (count_of items r)) (before r d))
   where
@@ -219,25 +235,31 @@ begun_more items n i counts v e start =
         by_case true false s t = absurd (grind (arith, nat_tests))
         by_case false true s t = absurd (d (grind (arith, nat_tests)))
 
-pub begun_all : (items : List MainItem) (n i : ℕ) (counts : List ℕ) → counts ≡ map (begun items i) (upward 0 n) → n ≤ i → counts ≡ map (begin_of items) (upward 0 n)
+pub begun_all : (items : List MainItem) (n i : ℕ) (counts : List ℕ) → counts ≡ map (begun items i) (numbers_from 0 n)
+    → n ≤ i → counts ≡ map (begin_of items) (numbers_from 0 n)
 begun_all items n i counts e le = e ∙ made_same (begun items i) (begin_of items) n (λ r h. grind (arith, nat_tests))
 
 -- putting: where the places of each report end, and these themselves, with one item more
-end_at : (items first : List MainItem) (n r : ℕ) (ends : List ℕ) → ends ≡ map (end_of items first) (upward 0 n) → r < n → get_or ends r 0 ≡ end_of items first r
+end_at : (items first : List MainItem) (n r : ℕ) (ends : List ℕ) → ends ≡ map (end_of items first) (numbers_from 0 n)
+    → r < n → get_or ends r 0 ≡ end_of items first r
 end_at items first n r ends e h = ap (λ l. get_or l r 0) e ∙ made_get (end_of items first) n r 0 h
 
 -- there is room for one more place of the report of the item at a place
-pub end_room : (items : List MainItem) (n i : ℕ) (ends : List ℕ) → AreIn n items → i < length items → ends ≡ map (end_of items (take i items)) (upward 0 n)
+pub end_room : (items : List MainItem) (n i : ℕ) (ends : List ℕ) → AreIn n items → i < length items
+    → ends ≡ map (end_of items (take i items)) (numbers_from 0 n)
     → get_or ends (item_at items i).report 0 < length items
 end_room items n i ends all h e =
     let q : ℕ = (item_at items i).report in
     omega (arith, end_at items (take i items) n q ends e (item_there items n i all h), count_room items i (item_at items i) (slice_get-get_or items i no_item h), begin_within items (suc q))
 
-pub ends_none : (items : List MainItem) (n : ℕ) (ends : List ℕ) → ends ≡ map (begin_of items) (upward 0 n) → ends ≡ map (end_of items (take 0 items)) (upward 0 n)
+pub ends_none : (items : List MainItem) (n : ℕ) (ends : List ℕ) → ends ≡ map (begin_of items) (numbers_from 0 n)
+    → ends ≡ map (end_of items (take 0 items)) (numbers_from 0 n)
 ends_none items n ends e = e ∙ made_same (begin_of items) (end_of items (take 0 items)) n (λ r h. omega arith)
 
-pub ends_more : (items : List MainItem) (n i : ℕ) (ends : List ℕ) → AreIn n items → i < length items → ends ≡ map (end_of items (take i items)) (upward 0 n)
-    → set ends (item_at items i).report (get_or ends (item_at items i).report 0 + 1) ≡ map (end_of items (take (i + 1) items)) (upward 0 n)
+pub ends_more : (items : List MainItem) (n i : ℕ) (ends : List ℕ) → AreIn n items → i < length items
+    → ends ≡ map (end_of items (take i items)) (numbers_from 0 n)
+    → set ends (item_at items i).report (get_or ends (item_at items i).report 0 + 1)
+    ≡ map (end_of items (take (i + 1) items)) (numbers_from 0 n)
 ends_more items n i ends all h e =
     let item : MainItem = item_at items i in
     let q : ℕ = item.report in
@@ -258,7 +280,8 @@ put_none n items places e = record {
   put = λ r h. range-none places (begin_of items r) (end_of items (take 0 items) r) (omega arith);
 }
 
-pub put_more : (items : List MainItem) (n i : ℕ) (ends places : List ℕ) → AreIn n items → i < length items → ends ≡ map (end_of items (take i items)) (upward 0 n) → ArePut n items (take i items) places
+pub put_more : (items : List MainItem) (n i : ℕ) (ends places : List ℕ) → AreIn n items → i < length items
+    → ends ≡ map (end_of items (take i items)) (numbers_from 0 n) → ArePut n items (take i items) places
     → ArePut n items (take (i + 1) items) (set places (get_or ends (item_at items i).report 0) i)
 put_more items n i ends places all h e p = record {
   room = length-set places (get_or ends (item_at items i).report 0) i ∙ p.room;
@@ -302,12 +325,13 @@ put_more items n i ends places all h e p = record {
 
 -- what is kept: where each report begins, the first at 0 and each other where the one before it ends, and the places
 abbrev pub kept_of : ℕ → List MainItem → List ℕ → List ℕ
-kept_of n items places = (0 ∷ []) ++ (map (end_of items items) (upward 0 n) ++ places)
+kept_of n items places = (0 ∷ []) ++ (map (end_of items items) (numbers_from 0 n) ++ places)
 
 bound_at : (n : ℕ) (items : List MainItem) (places : List ℕ) (r : ℕ) → r ≤ n → get_or (kept_of n items places) r 0 ≡ begin_of items r
 bound_at n items places zero h = refl
 bound_at n items places (suc r) h =
-    get_or_append_left (map (end_of items items) (upward 0 n)) places 0 r (omega (arith, made_length (end_of items items) n _ refl)) ∙ made_get (end_of items items) n r 0 (omega arith)
+    get_or_append_left (map (end_of items items) (numbers_from 0 n)) places 0 r
+    (omega (arith, made_length (end_of items items) n _ refl)) ∙ made_get (end_of items items) n r 0 (omega arith)
 
 end_bound : (n : ℕ) (items : List MainItem) (places : List ℕ) (r : ℕ) → r < n → get_or (kept_of n items places) (r + 1) 0 ≡ end_of items items r
 end_bound n items places r h =
@@ -317,10 +341,12 @@ end_bound n items places r h =
 places_behind : (n : ℕ) (items : List MainItem) (places : List ℕ) → drop (n + 1) (kept_of n items places) ≡ places
 places_behind n items places =
     let next : n + 1 ≡ suc n = omega arith in
-    ap (λ k. drop k (kept_of n items places)) next ∙ drop_at (map (end_of items items) (upward 0 n)) places n (made_length (end_of items items) n _ refl)
+    ap (λ k. drop k (kept_of n items places)) next
+    ∙ drop_at (map (end_of items items) (numbers_from 0 n)) places n (made_length (end_of items items) n _ refl)
 
 -- the plans that are kept
-pub plans_kept : (n : ℕ) (items : List MainItem) (places : List ℕ) → ArePut n items items places → plans_in n (kept_of n items places) ≡ map (λ r. places_from 0 r items) (upward 0 n)
+pub plans_kept : (n : ℕ) (items : List MainItem) (places : List ℕ) → ArePut n items items places
+    → plans_in n (kept_of n items places) ≡ map (λ r. places_from 0 r items) (numbers_from 0 n)
 plans_kept n items places p =
     made_same (λ r. slice_range (drop (n + 1) (kept_of n items places)) (get_or (kept_of n items places) r 0) (get_or (kept_of n items places) (r + 1) 0)) (λ r. places_from 0 r items) n
     (λ r h. ap (λ l. slice_range l (get_or (kept_of n items places) r 0) (get_or (kept_of n items places) (r + 1) 0)) (places_behind n items places)
@@ -335,7 +361,11 @@ are_plans n items places p = record {
 }
   where
     long : length (kept_of n items places) ≡ suc n + length places
-    long = omega (arith, length-append (map (end_of items items) (upward 0 n)) places, made_length (end_of items items) n _ refl)
+    long = omega (
+      arith,
+      length-append (map (end_of items items) (numbers_from 0 n)) places,
+      made_length (end_of items items) n _ refl,
+    )
 
 -- the places of a report
 plans-length : (n : ℕ) (kept : List ℕ) → length (plans_in n kept) ≡ n
@@ -347,24 +377,39 @@ report_there n kept plans r e h = omega (arith, h, ap length e, plans-length n k
 pub plan_there : (n : ℕ) (kept : List ℕ) (r : ℕ) → r < n → slice_get (plans_in n kept) r ≡ Some (slice_range (drop (n + 1) kept) (get_or kept r 0) (get_or kept (r + 1) 0))
 plan_there n kept r h =
     let f : ℕ → List ℕ = λ k. slice_range (drop (n + 1) kept) (get_or kept k 0) (get_or kept (k + 1) 0) in
-    slice_get-map f (upward 0 n) r ∙ ap (option_map f) (upward-get 0 n r h) ∙ ap (λ k. Some (f k)) (omega arith)
+    slice_get-map f (numbers_from 0 n) r ∙ ap (option_map f) (numbers_from-get 0 n r h)
+    ∙ ap (λ k. Some (f k)) (omega arith)
 
 -- what is kept is made of zeros: one for where the first report begins, and one for each end
 pub first_zero : (kept : List ℕ) (size : ℕ) → kept ≡ replicate size 0 → 1 ≤ size → take 1 kept ≡ 0 ∷ []
 first_zero kept size e h = ap (take 1) e ∙ take-replicate 1 size 0 h
 
-pub ends_zero : (kept : List ℕ) (size n : ℕ) → kept ≡ replicate size 0 → 1 + n ≤ size → take n (drop 1 kept) ≡ map (count_of []) (upward 0 n)
+pub ends_zero : (kept : List ℕ) (size n : ℕ) → kept ≡ replicate size 0 → 1 + n ≤ size
+    → take n (drop 1 kept) ≡ map (count_of []) (numbers_from 0 n)
 ends_zero kept size n e h =
     ap (λ l. take n (drop 1 l)) e ∙ ap (take n) (drop-replicate 1 size 0) ∙ take-replicate n (size - 1) 0 (omega (arith, h)) ∙ made_zero (count_of []) n (λ r. refl)
 
 -- when all places are put, what is kept are the plans
-pub all_put : {Z : Type 0} (v : Vec ℕ Z) (n m : ℕ) (items : List MainItem) (first ends places : List ℕ) → v.len ≡ 1 + n + length items → first ≡ 0 ∷ [] → m ≡ n → ends ≡ map (end_of items items) (upward 0 m) → ArePut m items items places
-    → ArePlans n (with_items v (first ++ (ends ++ places))).items × (plans_in n (with_items v (first ++ (ends ++ places))).items ≡ map (λ r. places_from 0 r items) (upward 0 n))
+pub all_put : {Z : Type 0} (v : Vec ℕ Z) (n m : ℕ) (items : List MainItem) (first ends places : List ℕ)
+    → v.len ≡ 1 + n + length items → first ≡ 0 ∷ [] → m ≡ n → ends ≡ map (end_of items items) (numbers_from 0 m)
+    → ArePut m items items places
+    → ArePlans n (with_items v (first ++ (ends ++ places))).items
+    × (plans_in n (with_items v (first ++ (ends ++ places))).items
+    ≡ map (λ r. places_from 0 r items) (numbers_from 0 n))
 all_put v n m items first ends places size f same e p =
     let put : ArePut n items items places = subst (λ k. ArePut k items items places) same p in
-    let whole : first ++ (ends ++ places) ≡ kept_of n items places = ap (λ l. l ++ (ends ++ places)) f ∙ ap (λ l. (0 ∷ []) ++ (l ++ places)) (e ∙ ap (λ k. map (end_of items items) (upward 0 k)) same) in
+    let whole : first ++ (ends ++ places) ≡ kept_of n items places =
+    ap (λ l. l ++ (ends ++ places)) f
+    ∙ ap (λ l. (0 ∷ []) ++ (l ++ places)) (e ∙ ap (λ k. map (end_of items items) (numbers_from 0 k)) same) in
     let long : length (first ++ (ends ++ places)) ≡ v.len =
-    omega (arith, size, ap length whole, length-append (map (end_of items items) (upward 0 n)) places, made_length (end_of items items) n _ refl, put.room) in
+    omega (
+      arith,
+      size,
+      ap length whole,
+      length-append (map (end_of items items) (numbers_from 0 n)) places,
+      made_length (end_of items items) n _ refl,
+      put.room,
+    ) in
     let kept : (with_items v (first ++ (ends ++ places))).items ≡ kept_of n items places = with_items_is v (first ++ (ends ++ places)) long ∙ whole in
     (subst (ArePlans n) (sym kept) (are_plans n items places put), ap (plans_in n) kept ∙ plans_kept n items places put)
 

@@ -7,29 +7,29 @@ use Rattle.std.proofs.lemmas.Float.{T_from_true}
 use Rattle.std.proofs.Math.Nat.{one-le-pow, le-mul_of_pos_right, mul_comm}
 use Rattle.std.proofs.Math.Pow.{pow_mono}
 use Rattle.std.specs.Int.{int_max, int_min}
-use Rattle.hid_descriptor.specs.Usages.{Entry, entry_count, usages_from, usage_list, are_ranges}
+use Rattle.hid_report_descriptor.specs.Usages.{Entry, entry_count, usages_from, usage_list, are_ranges}
 use Rattle.hid_layout.specs.Reports.{HasElements, IsLayout, first_bit, report_bytes, bits_of as bits_of_report}
-use Rattle.hid_descriptor.proofs.Taking.{reverse_more}
-use Rattle.hid_descriptor.proofs.Places.{usages_from-length}
+use Rattle.hid_report_descriptor.proofs.Taking.{reverse_more}
+use Rattle.hid_report_descriptor.proofs.Places.{usages_from-length}
 use Rattle.std.proofs.lemmas.Grind.{common_steps}
 use Rattle.std.proofs.lemmas.List.Concat.{flat_map-cons}
 use Rattle.std.proofs.lemmas.Bool.Decides.{nat_tests}
-use Rattle.hid_descriptor.specs.declared.report.Report.{Report}
-use Rattle.hid_descriptor.specs.declared.report.ReportKind.{ReportKind}
-use Rattle.hid_descriptor.specs.declared.report.ReportKind.TheVariants.{Input, Output, Feature}
+use Rattle.hid_report_descriptor.specs.declared.report.Report.{Report}
+use Rattle.hid_report_descriptor.specs.declared.report.ReportKind.{ReportKind}
+use Rattle.hid_report_descriptor.specs.declared.report.ReportKind.TheVariants.{Input, Output, Feature}
 use Rattle.hid_layout.specs.declared.main_item.MainItem.{MainItem}
-use Rattle.hid_descriptor.specs.Kinds.{same_kind}
-use Rattle.hid_descriptor.specs.Fields.{Field, bits_of, report_bits, is_padding, fields}
-use Rattle.hid_descriptor.specs.Faults.{upward, report_limit, least_value, greatest_value, has_value, Accepts}
-use Rattle.hid_descriptor.specs.Reporting.{report_if_any, reports_of_kind, reports_of}
-use Rattle.hid_layout.specs.Layout.{place_of, main_item, contents_of, layout_of}
-use Rattle.hid_descriptor.proofs.Shares.{same_kind_itself, kinds_equal, some_field, up_to, before_later}
-use Rattle.hid_descriptor.proofs.FieldFacts.{AreListed, AreSpelled}
-use Rattle.hid_descriptor.proofs.ListedLemmas.{id_of, listed}
-use Rattle.hid_descriptor.proofs.ReportIdLemmas.{one_place, byte_id, fields_unnumbered}
-use Rattle.hid_descriptor.specs.Items.{Spelled, is, REPORT_ID}
+use Rattle.hid_report_descriptor.specs.Kinds.{same_kind}
+use Rattle.hid_report_descriptor.specs.Fields.{Field, bits_of, report_bits, is_padding, fields}
+use Rattle.hid_report_descriptor.specs.Faults.{numbers_from, report_limit, least_value, greatest_value, has_value, Accepts}
+use Rattle.hid_report_descriptor.specs.Reporting.{report_if_any, reports_of_kind, reports_of}
+use Rattle.hid_layout.specs.Layout.{report_place, main_item, contents_of, layout_of}
+use Rattle.hid_report_descriptor.proofs.Shares.{same_kind_itself, kinds_equal, some_field, up_to, before_later}
+use Rattle.hid_report_descriptor.proofs.FieldFacts.{AreListed, AreSpelled}
+use Rattle.hid_report_descriptor.proofs.ListedLemmas.{id_of, listed}
+use Rattle.hid_report_descriptor.proofs.ReportIdLemmas.{one_place, byte_id, fields_unnumbered}
+use Rattle.hid_report_descriptor.specs.Items.{EncodedItem, is, REPORT_ID}
 use Rattle.std.proofs.lemmas.List.Elements.{All-nil, All-cons, All-head, All-tail}
-use Rattle.hid_items.specs.Spelling.{IsSpelling}
+use Rattle.hid_items.specs.ItemEncoding.{IsItemEncoding}
 
 -- each report of a list has the bits of its fields, and some
 abbrev IsReport : List Field → Report → Type 0
@@ -55,7 +55,8 @@ reports_in fs kind (id ∷ ids) = rw (flat_map-cons (report_if_any fs kind) id i
 all_reports : (fs : List Field) → AreReports fs (reports_of fs)
 unfolding reports_of reports_of_kind
 all_reports fs = both_reports fs (reports_of_kind fs Input ++ reports_of_kind fs Output) (reports_of_kind fs Feature)
-    (both_reports fs (reports_of_kind fs Input) (reports_of_kind fs Output) (reports_in fs Input (upward 0 256)) (reports_in fs Output (upward 0 256))) (reports_in fs Feature (upward 0 256))
+    (both_reports fs (reports_of_kind fs Input) (reports_of_kind fs Output) (reports_in fs Input (numbers_from 0 256))
+    (reports_in fs Output (numbers_from 0 256))) (reports_in fs Feature (numbers_from 0 256))
 
 report_at : (fs : List Field) (rs : List Report) (p : ℕ) (r : Report) → AreReports fs rs → slice_get rs p ≡ Some r → IsReport fs r
 report_at fs [] p r a e = absurd cc
@@ -93,13 +94,19 @@ any_there fs kind id h =
     let some : nat_eq (report_bits kind id fs) 0 ≡ false = grind (arith, nat_tests) in
     rw some (ap (λ b. b || false) (itself kind id (report_bits kind id fs)))
 
-any_in : (fs : List Field) (kind : ReportKind) (id : ℕ) → 0 < report_bits kind id fs → (from n : ℕ) → from ≤ id → id < from + n → list_any (is_report kind id) (flat_map (report_if_any fs kind) (upward from n)) ≡ true
-unfolding upward
+any_in : (fs : List Field) (kind : ReportKind) (id : ℕ) → 0 < report_bits kind id fs → (from n : ℕ) → from ≤ id
+    → id < from + n → list_any (is_report kind id) (flat_map (report_if_any fs kind) (numbers_from from n)) ≡ true
+unfolding numbers_from
 any_in fs kind id h from zero l u = absurd (omega (arith, l, u))
-any_in fs kind id h from (suc n) l u = rw (flat_map-cons (report_if_any fs kind) from (upward (from + 1) n)) (by_case (nat_eq from id) refl (λ later. any_in fs kind id h (from + 1) n later (omega (arith, u))))
+any_in fs kind id h from (suc n) l u =
+    rw (flat_map-cons (report_if_any fs kind) from (numbers_from (from + 1) n))
+    (by_case (nat_eq from id) refl (λ later. any_in fs kind id h (from + 1) n later (omega (arith, u))))
   where
-    by_case : (b : Bool) → nat_eq from id ≡ b → (from + 1 ≤ id → list_any (is_report kind id) (flat_map (report_if_any fs kind) (upward (from + 1) n)) ≡ true)
-        → list_any (is_report kind id) (report_if_any fs kind from ++ flat_map (report_if_any fs kind) (upward (from + 1) n)) ≡ true
+    by_case : (b : Bool) → nat_eq from id ≡ b
+        → (from + 1 ≤ id
+        → list_any (is_report kind id) (flat_map (report_if_any fs kind) (numbers_from (from + 1) n)) ≡ true)
+        → list_any (is_report kind id)
+        (report_if_any fs kind from ++ flat_map (report_if_any fs kind) (numbers_from (from + 1) n)) ≡ true
     by_case true e rest = let same : id ≡ from = grind (arith, nat_tests) in any_left kind id (report_if_any fs kind from) _ (subst (λ k. list_any (is_report kind id) (report_if_any fs kind k) ≡ true) same (any_there fs kind id h))
     by_case false e rest = any_right kind id (report_if_any fs kind from) _ (rest (grind (arith, nat_tests)))
 
@@ -122,18 +129,22 @@ pub record StandsAt (rs : List Report) (kind : ReportKind) (id p : ℕ) : Type 0
 one_later : (r : Report) (rs : List Report) (kind : ReportKind) (id p : ℕ) → StandsAt rs kind id p → StandsAt (r ∷ rs) kind id (p + 1)
 one_later r rs kind id p s = rw add-one (record { report = s.report; there = s.there; kind_is = s.kind_is; id_is = s.id_is })
 
-placed : (kind : ReportKind) (id : ℕ) (rs : List Report) → list_any (is_report kind id) rs ≡ true → StandsAt rs kind id (place_of kind id rs)
+placed : (kind : ReportKind) (id : ℕ) (rs : List Report) → list_any (is_report kind id) rs ≡ true
+    → StandsAt rs kind id (report_place kind id rs)
 placed kind id [] e = absurd cc
 placed kind id (r ∷ rs) e = by_case (same_kind r.kind kind) (nat_eq r.id id) refl refl e (placed kind id rs)
   where
-    by_case : (k n : Bool) → same_kind r.kind kind ≡ k → nat_eq r.id id ≡ n → ((k && n) || list_any (is_report kind id) rs) ≡ true → (list_any (is_report kind id) rs ≡ true → StandsAt rs kind id (place_of kind id rs))
-        → StandsAt (r ∷ rs) kind id (cond (k && n) 0 (place_of kind id rs + 1))
+    by_case : (k n : Bool) → same_kind r.kind kind ≡ k → nat_eq r.id id ≡ n
+        → ((k && n) || list_any (is_report kind id) rs) ≡ true
+        → (list_any (is_report kind id) rs ≡ true → StandsAt rs kind id (report_place kind id rs))
+        → StandsAt (r ∷ rs) kind id (cond (k && n) 0 (report_place kind id rs + 1))
     by_case true true k n e rest = record { report = r; there = refl; kind_is = kinds_equal r.kind kind k; id_is = grind (arith, nat_tests) }
-    by_case true false k n e rest = one_later r rs kind id (place_of kind id rs) (rest e)
-    by_case false m k n e rest = one_later r rs kind id (place_of kind id rs) (rest e)
+    by_case true false k n e rest = one_later r rs kind id (report_place kind id rs) (rest e)
+    by_case false m k n e rest = one_later r rs kind id (report_place kind id rs) (rest e)
 
 -- the report of a sound field
-field_report : (fs : List Field) (i : ℕ) (f : Field) → AreListed fs → slice_get fs i ≡ Some f → StandsAt (reports_of fs) f.kind f.id (place_of f.kind f.id (reports_of fs))
+field_report : (fs : List Field) (i : ℕ) (f : Field) → AreListed fs → slice_get fs i ≡ Some f
+    → StandsAt (reports_of fs) f.kind f.id (report_place f.kind f.id (reports_of fs))
 field_report fs i f a e =
     let sound = a.sound i f e in
     let some : 0 < report_bits f.kind f.id fs = omega (arith, up_to fs i f e, sound.some_bits) in
@@ -253,7 +264,8 @@ some_usage (e ∷ es) h r =
 
 -- items of one report lie apart
 lie_apart : (fs : List Field) (i k : ℕ) (f g : Field) → AreListed fs → i < k → slice_get fs i ≡ Some f → slice_get fs k ≡ Some g
-    → place_of f.kind f.id (reports_of fs) ≡ place_of g.kind g.id (reports_of fs) → f.offset + bits_of f ≤ g.offset
+    → report_place f.kind f.id (reports_of fs) ≡ report_place g.kind g.id (reports_of fs)
+    → f.offset + bits_of f ≤ g.offset
 lie_apart fs i k f g a h e d p =
     let here = field_report fs i f a e in
     let there = field_report fs k g a d in
@@ -271,13 +283,16 @@ bits_there rs p r e = rw (e, bits_of_report) refl
 
 -- a field lies inside its report
 lies_inside : (fs : List Field) (numbered : Bool) (i : ℕ) (f : Field) → AreListed fs → slice_get fs i ≡ Some f
-    → cond numbered 8 0 + (f.offset + bits_of f) ≤ 8 * ((bits_of_report (reports_of fs) (place_of f.kind f.id (reports_of fs)) + 7) / 8 + cond numbered 1 0)
+    → cond numbered 8 0 + (f.offset + bits_of f) ≤ 8 *
+    ((bits_of_report (reports_of fs) (report_place f.kind f.id (reports_of fs)) + 7) / 8 + cond numbered 1 0)
 lies_inside fs numbered i f a e =
     let here = field_report fs i f a e in
     let whole : here.report.bits ≡ report_bits f.kind f.id fs =
     (report_at fs (reports_of fs) _ here.report (all_reports fs) here.there).0 ∙ ap (λ n. report_bits here.report.kind n fs) here.id_is ∙ ap (λ k. report_bits k f.id fs) here.kind_is in
-    let bits : bits_of_report (reports_of fs) (place_of f.kind f.id (reports_of fs)) ≡ report_bits f.kind f.id fs = bits_there (reports_of fs) _ here.report here.there ∙ whole in
-    by_numbers numbered (bits_of_report (reports_of fs) (place_of f.kind f.id (reports_of fs))) (omega (arith, bits, a.offsets i f e, up_to fs i f e))
+    let bits : bits_of_report (reports_of fs) (report_place f.kind f.id (reports_of fs))
+    ≡ report_bits f.kind f.id fs = bits_there (reports_of fs) _ here.report here.there ∙ whole in
+    by_numbers numbered (bits_of_report (reports_of fs) (report_place f.kind f.id (reports_of fs)))
+    (omega (arith, bits, a.offsets i f e, up_to fs i f e))
   where
     by_numbers : (numbered : Bool) (bits : ℕ) → f.offset + bits_of f ≤ bits → cond numbered 8 0 + (f.offset + bits_of f) ≤ 8 * ((bits + 7) / 8 + cond numbered 1 0)
     by_numbers true bits h = omega (arith, h)
@@ -350,7 +365,7 @@ has_item fs r report a e =
     let found = some_field report.kind report.id fs (omega (arith, is.0, is.1)) in
     let named = id_of report.kind report.id found.0 found.3 in
     let here = field_report fs found.1 found.0 a found.2 in
-    let at : place_of found.0.kind found.0.id (reports_of fs) ≡ r =
+    let at : report_place found.0.kind found.0.id (reports_of fs) ≡ r =
     one_place fs _ r here.report report here.there e (here.kind_is ∙ named.0) (here.id_is ∙ named.1) in
     any_at (λ (item : MainItem). nat_eq item.report r) (map (main_item (reports_of fs)) fs) found.1 (main_item (reports_of fs) found.0) (map_get (main_item (reports_of fs)) fs found.1 found.0 found.2) (grind (arith, nat_tests, at))
 
@@ -381,7 +396,8 @@ well_formed fs numbered a unmixed zeros = record {
   apart = λ i k x y h e d p.
       let f = get_map (main_item (reports_of fs)) fs i x e in
       let g = get_map (main_item (reports_of fs)) fs k y d in
-      let same : place_of f.source.kind f.source.id (reports_of fs) ≡ place_of g.source.kind g.source.id (reports_of fs) =
+      let same : report_place f.source.kind f.source.id (reports_of fs)
+      ≡ report_place g.source.kind g.source.id (reports_of fs) =
       sym (ap (λ (m : MainItem). m.report) f.made) ∙ p ∙ ap (λ (m : MainItem). m.report) g.made in
       subst (λ (m : MainItem). m.offset + m.size * m.count ≤ y.offset) (sym f.made) (subst (λ (m : MainItem). f.source.offset + bits_of f.source ≤ m.offset) (sym g.made) (lie_apart fs i k f.source g.source a h f.there g.there same));
   inside = λ i item e.
@@ -397,21 +413,21 @@ well_formed fs numbered a unmixed zeros = record {
     one_value e = cc
 
 -- accepted items give a layout
-all_and_last : (items : List Spelled) (item : Spelled) → All IsSpelling (items ++ item ∷ []) → All IsSpelling items × IsSpelling item
-all_and_last [] item all = (All-nil IsSpelling, All-head IsSpelling item [] all)
+all_and_last : (items : List EncodedItem) (item : EncodedItem) → All IsItemEncoding (items ++ item ∷ []) → All IsItemEncoding items × IsItemEncoding item
+all_and_last [] item all = (All-nil IsItemEncoding, All-head IsItemEncoding item [] all)
 all_and_last (first ∷ items) item all =
-    let rest = all_and_last items item (All-tail IsSpelling first (items ++ item ∷ []) all) in
-    (All-cons IsSpelling first items (All-head IsSpelling first (items ++ item ∷ []) all) rest.0, rest.1)
+    let rest = all_and_last items item (All-tail IsItemEncoding first (items ++ item ∷ []) all) in
+    (All-cons IsItemEncoding first items (All-head IsItemEncoding first (items ++ item ∷ []) all) rest.0, rest.1)
 
-spelled_before : (before : List Spelled) → All IsSpelling (reverse before) → AreSpelled before
-spelled_before [] all = tt
-spelled_before (item ∷ before) all =
-    let split = all_and_last (reverse before) item (subst (All IsSpelling) (reverse_more before item) all) in
-    (split.1, spelled_before before split.0)
+encoded_before : (before : List EncodedItem) → All IsItemEncoding (reverse before) → AreSpelled before
+encoded_before [] all = tt
+encoded_before (item ∷ before) all =
+    let split = all_and_last (reverse before) item (subst (All IsItemEncoding) (reverse_more before item) all) in
+    (split.1, encoded_before before split.0)
 
-pub layout_of_accepted : (bytes : List ℕ) (before : List Spelled) → Accepts bytes before → IsLayout (layout_of before)
+pub layout_of_accepted : (bytes : List ℕ) (before : List EncodedItem) → Accepts bytes before → IsLayout (layout_of before)
 layout_of_accepted bytes before a =
-    well_formed (fields before) (list_any (is REPORT_ID) before) (listed before a.reaches.accepted (spelled_before before a.reaches.items.spelled)) (λ n. mixed_not (list_any (is REPORT_ID) before) (list_any (λ f. nat_eq f.id 0) (fields before)) n a.unmixed)
+    well_formed (fields before) (list_any (is REPORT_ID) before) (listed before a.reaches.accepted (encoded_before before a.reaches.items.encoded)) (λ n. mixed_not (list_any (is REPORT_ID) before) (list_any (λ f. nat_eq f.id 0) (fields before)) n a.unmixed)
     (λ n. fields_unnumbered before n)
   where
     mixed_not : (n b : Bool) → n ≡ true → (n && b) ≡ false → b ≡ false

@@ -1,27 +1,27 @@
 -- The controls that a layout gives (HID 1.11, 6.2.2.5, 6.2.2.7, 6.2.2.8 and 8). The elements of an item have the part of
 -- the logical range that some pattern of their width stands for, and the last usage is for all elements that have none
 -- of their own.
-use Rattle.std.specs.Prelude.{ℕ, zero, suc, ◌+◌, ◌*◌, Bool, true, false, not, ◌==◌, ◌&&◌, ◌||◌, nat_lt, if◌then◌else◌, List, [], ◌∷◌, length, take, sum_by, slice_get, Option, Some, None, ℤ, pos, ◌+ℤ◌, int_le, int_lt}
+use Rattle.std.specs.Prelude.{ℕ, zero, suc, ◌+◌, ◌-◌, ◌*◌, Bool, true, false, not, ◌==◌, ◌&&◌, ◌||◌, nat_lt, if◌then◌else◌, List, [], ◌∷◌, length, min, take, sum_by, slice_get, Option, Some, None, ℤ, pos, ◌+ℤ◌, int_le, int_lt}
 use Rattle.std.specs.Int.{int_min, int_max}
 use Rattle.std.specs.Ordering.{int_eq}
 use Rattle.std.specs.Option.{option_map}
-use Rattle.hid_descriptor.specs.declared.limits.TheConstants.{MAX_KEYS}
-use Rattle.hid_descriptor.specs.declared.usage.Usage.{Usage}
-use Rattle.hid_descriptor.specs.declared.report.Report.{Report}
+use Rattle.hid_report_descriptor.specs.declared.limits.TheConstants.{MAX_KEYS}
+use Rattle.hid_report_descriptor.specs.declared.usage.Usage.{Usage}
+use Rattle.hid_report_descriptor.specs.declared.report.Report.{Report}
 use Rattle.hid_layout.specs.declared.main_item.MainItem.{MainItem}
-use Rattle.hid_descriptor.specs.declared.report.ReportKind.TheVariants.{Input}
-use Rattle.hid_descriptor.specs.declared.shape.Shape.{Shape}
-use Rattle.hid_descriptor.specs.declared.shape.Shape.TheVariants.{Padding, Variable, Array}
+use Rattle.hid_report_descriptor.specs.declared.report.ReportKind.TheVariants.{Input}
+use Rattle.hid_report_descriptor.specs.declared.shape.Shape.{Shape}
+use Rattle.hid_report_descriptor.specs.declared.shape.Shape.TheVariants.{Padding, Variable, Array}
 use Rattle.hid_layout.specs.declared.control.Control.{Control}
 use Rattle.hid_layout.specs.declared.control.Controls.{Controls}
 use Rattle.hid_layout.specs.declared.control.Controls.TheVariants as head
 use Rattle.hid_layout.specs.declared.control.ControlId.{ControlId}
 use Rattle.hid_layout.specs.declared.control.ControlKind.{ControlKind}
 use Rattle.hid_layout.specs.declared.control.ControlKind.TheVariants.{Switch, Value, NullValue, Relative}
-use Rattle.hid_descriptor.specs.Kinds.{same_kind}
-use Rattle.hid_descriptor.specs.Usages.{Entry, usage_list, is_rollover, tells_error}
-use Rattle.hid_descriptor.specs.Flags.{has_flag, RELATIVE, NULL_STATE}
-use Rattle.hid_descriptor.specs.Faults.{least_value, greatest_value}
+use Rattle.hid_report_descriptor.specs.Kinds.{same_kind}
+use Rattle.hid_report_descriptor.specs.Usages.{Entry, usage_list, is_rollover, is_keyboard_error}
+use Rattle.hid_report_descriptor.specs.Flags.{has_flag, RELATIVE, NULL_STATE}
+use Rattle.hid_report_descriptor.specs.Faults.{least_value, greatest_value}
 use Rattle.hid_layout.specs.Layout.{Contents, report_bytes}
 
 -- A place of an array's usage list: its usage, and whether an element can press it.
@@ -68,6 +68,10 @@ element_kind item =
     else (if int_eq item.min (pos 0) && int_eq item.max (pos 1) && not (has_flag NULL_STATE item.flags.0) then Switch
     else (if has_flag NULL_STATE item.flags.0 && has_outside item then NullValue else Value))
 
+-- a variable item has a usage for each element, and where it has fewer the last one is for the rest (6.2.2.8)
+unfoldable pub usage_of_element : List Usage → ℕ → Option Usage
+usage_of_element usages j = slice_get usages (min j (length usages - 1))
+
 -- the usages of an item's elements, one for each: where there are fewer usages, the last one is for the rest (6.2.2.8).
 -- Example: two usages and three fields: the third has the second usage
 unfoldable pub spread_usages : ℕ → List Usage → List Usage
@@ -81,7 +85,8 @@ spread_usages (suc n) (u ∷ v ∷ us) = u ∷ spread_usages n (v ∷ us)
 -- keyboard's array
 abbrev pub is_key : MainItem → ℕ → Usage → Bool
 is_key item i u =
-    is_encodable item (item.min +ℤ pos i) && (nat_lt i MAX_KEYS && (not (u.id == 0) && not (tells_error u)))
+    is_encodable item (item.min +ℤ pos i)
+    && (nat_lt i MAX_KEYS && (not (u.id == 0) && not (is_keyboard_error u)))
 
 -- the keys from the place i of the usage list on
 unfoldable pub keys_from : MainItem → ℕ → List Usage → List Key
@@ -183,10 +188,10 @@ abbrev pub max_events : List Item → ℕ
 max_events items = sum_by (λ item. events_in item.form) items
 
 -- what the controls of an item are, without their usages
-abbrev pub head_of : Form → Controls
-head_of NoControls = head.None
-head_of (Elements kind least greatest usages) = head.Elements kind least greatest (length usages)
-head_of (Keys elements rolls keys) = head.Keys elements rolls (length keys)
+abbrev pub controls_of_form : Form → Controls
+controls_of_form NoControls = head.None
+controls_of_form (Elements kind least greatest usages) = head.Elements kind least greatest (length usages)
+controls_of_form (Keys elements rolls keys) = head.Keys elements rolls (length keys)
 
 -- the controls of an item that may be there
 abbrev pub form_of_item : Option Item → Form

@@ -1,15 +1,15 @@
--- Places of an array's usage list that name neither a key nor an error (our choice: see Sent.antt).
+-- Places of an array's usage list that name neither a key nor an error (our choice: see Codes.antt).
 use Rattle.std.specs.Prelude.{◌≡◌, ◌≢◌, ℕ, ◌+◌, ◌-◌, ◌<◌, ◌≤◌, Bool, true, false, not, ◌==◌, ◌&&◌, ◌||◌, nat_lt, List, ◌++◌, slice_get, Option, Some, None, ℤ, ◌≤ℤ◌, ◌<ℤ◌}
-use Rattle.hid_descriptor.specs.declared.limits.TheConstants.{MAX_KEYS}
-use Rattle.hid_descriptor.specs.declared.usage.Usage.{Usage}
-use Rattle.hid_descriptor.specs.Usages.{tells_error, is_rollover, Entry, entry_count, usages_from}
+use Rattle.hid_report_descriptor.specs.declared.limits.TheConstants.{MAX_KEYS}
+use Rattle.hid_report_descriptor.specs.declared.usage.Usage.{Usage}
+use Rattle.hid_report_descriptor.specs.Usages.{is_keyboard_error, is_rollover, Entry, entry_count, usages_from}
 use Rattle.hid_layout.specs.Controls.{rollover_from}
 use Rattle.hid_layout.specs.declared.main_item.MainItem.{MainItem}
-use Rattle.hid_layout.specs.Sent.{names_nothing}
+use Rattle.hid_layout.specs.Codes.{names_nothing}
 
 -- a usage at a place that an element can carry is a key or reports an error
 abbrev pub is_named : ℕ → Usage → Bool
-is_named place u = (nat_lt place MAX_KEYS && not (u.id == 0)) || tells_error u
+is_named place u = (nat_lt place MAX_KEYS && not (u.id == 0)) || is_keyboard_error u
 
 -- the usage at a place names neither a key nor an error, or no usage is there
 abbrev pub is_nothing : ℕ → Option Usage → Bool

@@ -1,9 +1,9 @@
 -- The usages of controls, by which they are found (HID 1.11, 6.2.2.8).
 use Rattle.std.specs.Prelude.{ℕ, Bool, ◌==◌, ◌&&◌, nat_le, List, Option}
 use Rattle.std.specs.Option.{option_map}
-use Rattle.hid_descriptor.specs.declared.usage.Usage.{Usage}
+use Rattle.hid_report_descriptor.specs.declared.usage.Usage.{Usage}
 use Rattle.hid_layout.specs.declared.control.ControlId.{ControlId}
-use Rattle.hid_descriptor.specs.Usages.{Entry}
+use Rattle.hid_report_descriptor.specs.Usages.{Entry}
 use Rattle.hid_layout.specs.Controls.{Item, Form, control_in, control_of}
 
 -- the usage of an item's control at a place

@@ -1,15 +1,15 @@
 -- The layout that a list of items gives (HID 1.11, 5.6 and 8).
 use Rattle.std.specs.Prelude.{ℕ, ◌+◌, ◌/◌, Bool, if◌then◌else◌, List, map, slice_get, Some, None}
 use Rattle.std.specs.List.{list_any}
-use Rattle.hid_descriptor.specs.declared.collection.Collection.{Collection}
-use Rattle.hid_descriptor.specs.declared.report.Report.{Report}
+use Rattle.hid_report_descriptor.specs.declared.collection.Collection.{Collection}
+use Rattle.hid_report_descriptor.specs.declared.report.Report.{Report}
 use Rattle.hid_layout.specs.declared.main_item.MainItem.{MainItem}
-use Rattle.hid_descriptor.specs.Items.{Spelled, is, REPORT_ID}
-use Rattle.hid_descriptor.specs.Usages.{Entry}
-use Rattle.hid_descriptor.specs.declared.field.KeptField.{KeptField}
-use Rattle.hid_descriptor.specs.Fields.{Field, fields}
-use Rattle.hid_descriptor.specs.Reporting.{reports_of}
-pub use Rattle.hid_descriptor.specs.Totals.{place_of}
+use Rattle.hid_report_descriptor.specs.Items.{EncodedItem, is, REPORT_ID}
+use Rattle.hid_report_descriptor.specs.Usages.{Entry}
+use Rattle.hid_report_descriptor.specs.declared.field.KeptField.{KeptField}
+use Rattle.hid_report_descriptor.specs.Fields.{Field, fields}
+use Rattle.hid_report_descriptor.specs.Reporting.{reports_of}
+pub use Rattle.hid_report_descriptor.specs.Totals.{report_place}
 
 -- What callers see of a layout: the reports that have bits, by kind and then by ID, and the listed items with their
 -- usages and paths.
@@ -32,7 +32,7 @@ report_bytes layout r = (bits_of layout.reports r + 7) / 8 + (if layout.numbered
 -- an item of a layout with these reports
 abbrev pub main_item : List Report → Field → MainItem
 main_item reports field = record {
-  report = place_of field.kind field.id reports;
+  report = report_place field.kind field.id reports;
   offset = field.offset;
   size = field.size;
   count = field.count;
@@ -45,7 +45,7 @@ main_item reports field = record {
 -- an item of a layout with these reports, by what is kept
 abbrev pub item_of : List Report → KeptField → MainItem
 item_of reports head = record {
-  report = place_of head.kind head.id reports;
+  report = report_place head.kind head.id reports;
   offset = head.offset;
   size = head.size;
   count = head.count;
@@ -66,5 +66,5 @@ contents_of fs numbered = record {
 }
 
 -- the layout of these items, the last one first
-abbrev pub layout_of : List Spelled → Contents
+abbrev pub layout_of : List EncodedItem → Contents
 layout_of before = contents_of (fields before) (list_any (is REPORT_ID) before)

@@ -1,9 +1,9 @@
 pub mod Layout
 pub mod Controls
 pub mod Reports
-pub mod Sent
+pub mod Codes
 pub mod EmptyCodes
-pub mod Index
+pub mod ArrayCodes
 pub mod Finding
 pub mod ControlKinds
 pub mod Plans

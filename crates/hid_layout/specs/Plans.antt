@@ -2,8 +2,8 @@
 -- those of the last one end, and then the places, one report after the other.
 use Rattle.std.specs.Prelude.{◌≡◌, ℕ, zero, suc, ◌+◌, ◌<◌, ◌≤◌, ◌==◌, if◌then◌else◌, List, [], ◌∷◌, map, length, drop, get_or, slice_get, slice_range, Some}
 use Rattle.hid_layout.specs.declared.main_item.MainItem.{MainItem}
-use Rattle.hid_descriptor.specs.Faults.{upward}
-use Rattle.hid_layout.specs.Index.{places_from}
+use Rattle.hid_report_descriptor.specs.Faults.{numbers_from}
+use Rattle.hid_layout.specs.ArrayCodes.{places_from}
 
 -- each item is one of n reports
 abbrev pub AreIn : ℕ → List MainItem → Type 0
@@ -32,7 +32,8 @@ pub record ArePut (reports : ℕ) (items first : List MainItem) (places : List �
 -- the places of each report
 abbrev pub plans_in : ℕ → List ℕ → List (List ℕ)
 plans_in reports kept =
-    map (λ r. slice_range (drop (reports + 1) kept) (get_or kept r 0) (get_or kept (r + 1) 0)) (upward 0 reports)
+    map (λ r. slice_range (drop (reports + 1) kept) (get_or kept r 0) (get_or kept (r + 1) 0))
+    (numbers_from 0 reports)
 
 -- the bounds are there, and the places of each report
 pub record ArePlans (reports : ℕ) (kept : List ℕ) : Type 0 where

@@ -1,15 +1,15 @@
 -- The reports of a layout, and what holds of every layout (HID 1.11, 5.6, 6.2.2.5, 6.2.2.7 and 8).
 use Rattle.std.specs.Prelude.{◌≡◌, ℕ, ◌+◌, ◌*◌, ◌<◌, ◌≤◌, true, false, if◌then◌else◌, Option, not, ◌&&◌, ◌==◌, nat_lt, int_lt, List, length, slice_get, Some, None, pos, neg_ℤ, ◌^◌, ◌≤ℤ◌}
 use Rattle.std.specs.List.{list_any}
-use Rattle.hid_descriptor.specs.declared.limits.TheConstants.{MAX_ENTRIES, MAX_REPORT_BYTES, MAX_WIDTH}
+use Rattle.hid_report_descriptor.specs.declared.limits.TheConstants.{MAX_ENTRIES, MAX_REPORT_BYTES, MAX_WIDTH}
 use Rattle.hid_layout.specs.declared.main_item.MainItem.{MainItem}
-use Rattle.hid_descriptor.specs.declared.report.Report.{Report}
-use Rattle.hid_descriptor.specs.Fields.{is_padding}
+use Rattle.hid_report_descriptor.specs.declared.report.Report.{Report}
+use Rattle.hid_report_descriptor.specs.Fields.{is_padding}
 use Rattle.hid_layout.specs.Layout.{Contents}
 pub use Rattle.hid_layout.specs.Layout.{bits_of, report_bytes}
 use Rattle.hid_layout.specs.Controls.{least_of, greatest_of}
-use Rattle.hid_descriptor.specs.Usages.{Entry, usage_list}
-use Rattle.hid_descriptor.specs.declared.usage.Usage.{Usage}
+use Rattle.hid_report_descriptor.specs.Usages.{Entry, usage_list}
+use Rattle.hid_report_descriptor.specs.declared.usage.Usage.{Usage}
 use Rattle.hid_layout.specs.declared.main_item.Element.{Element}
 use Rattle.std.specs.Option.{option_and_then}
 

@@ -1,6 +1,7 @@
-//! The report descriptors of the boot keyboard and the boot mouse (HID 1.11, B.1 and B.2).
+//! The report descriptors of the boot keyboard and the boot mouse: the bytes of HID 1.11, E.6 and E.10, whose reports are those
+//! of B.1 and B.2.
 
-/// The report descriptor of the boot keyboard (HID 1.11, B.1).
+/// The report descriptor of the boot keyboard (HID 1.11, E.6).
 #[rattlefmt::skip]
 pub const KEYBOARD: [u8; 63] = [
     0x05, 0x01, 0x09, 0x06, 0xA1, 0x01, 0x05, 0x07, 0x19, 0xE0, 0x29, 0xE7, 0x15, 0x00, 0x25, 0x01,
@@ -9,7 +10,7 @@ pub const KEYBOARD: [u8; 63] = [
     0x75, 0x08, 0x15, 0x00, 0x25, 0x65, 0x05, 0x07, 0x19, 0x00, 0x29, 0x65, 0x81, 0x00, 0xC0,
 ];
 
-/// The report descriptor of the boot mouse (HID 1.11, B.2).
+/// The report descriptor of the boot mouse (HID 1.11, E.10).
 #[rattlefmt::skip]
 pub const MOUSE: [u8; 50] = [
     0x05, 0x01, 0x09, 0x02, 0xA1, 0x01, 0x09, 0x01, 0xA1, 0x00, 0x05, 0x09, 0x19, 0x01, 0x29, 0x03,

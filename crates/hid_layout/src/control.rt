@@ -3,7 +3,7 @@
 ghost use Rattle.std.specs.Prelude.{◌≡◌};
 ghost use Rattle.hid_layout.specs.ControlKinds.{has_null, is_switch};
 
-use hid_descriptor::Usage;
+use hid_report_descriptor::Usage;
 
 /// Names a control.
 #[derive(Clone, Copy, Debug, PartialEq, Eq)]
@@ -14,7 +14,7 @@ pub struct ControlId {
     pub index: usize,
 }
 
-/// What a control tells.
+/// What a control reports.
 #[derive(Clone, Copy, Debug, PartialEq, Eq)]
 pub enum ControlKind {
     /// Pressed or not: a variable element with range 0 to 1 that is absolute and has no null state, or a key of an array.
@@ -52,7 +52,7 @@ impl ControlKind {
 /// What a control is and means.
 #[derive(Clone, Copy, Debug, PartialEq, Eq)]
 pub struct Control {
-    /// What it tells.
+    /// What the control reports.
     pub kind: ControlKind,
     /// What it is for.
     pub usage: Usage,
@@ -65,7 +65,7 @@ pub enum Controls {
     None,
     /// One for each element of a variable item.
     Elements {
-        /// What each of them tells.
+        /// What each control reports.
         kind: ControlKind,
         /// The least number that an element can carry.
         least: i64,
@@ -78,7 +78,7 @@ pub enum Controls {
     Keys {
         /// The number of elements.
         elements: usize,
-        /// Whether it can tell that more keys are pressed than it has elements.
+        /// Whether the array can report that more keys are pressed than it has elements.
         rolls_over: bool,
         /// The places of its usage list at which a key can stand.
         count: usize,

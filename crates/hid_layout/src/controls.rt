@@ -1,14 +1,14 @@
 //! The controls that a layout gives.
 
 ghost use Rattle.std.specs.Prelude.{◌≡◌, false, ◌<◌, ◌≤◌, ◌*◌, ◌^◌, length, slice_get, Some};
-ghost use Rattle.hid_descriptor.specs.Usages.{usage_list};
-ghost use Rattle.hid_layout.specs.Controls.{least_of, greatest_of, has_outside, element_kind, is_key};
+ghost use Rattle.hid_report_descriptor.specs.Usages.{usage_list};
+ghost use Rattle.hid_layout.specs.Controls.{least_of, greatest_of, has_outside, element_kind, is_key, usage_of_element};
 
+use crate::codes::{Codes, is_encodable};
 use crate::control::{Control, ControlKind, Controls};
 use crate::main_item::MainItem;
 use crate::search::{count_by_starts, usage_by_starts};
-use crate::sent::{Codes, is_encodable};
-use hid_descriptor::{
+use hid_report_descriptor::{
     MAX_ENTRIES, MAX_KEYS, MAX_WIDTH, Shape, Usage, entry_count, greatest_value, least_value,
 };
 
@@ -43,6 +43,17 @@ pub fn usage_at(entries: &[(Usage, Usage)], index: usize) -> Option<Usage>
     None
 }
 
+/// The usage of an element of a variable item: the last of the list that the ranges write out is for all elements that have
+/// none of their own (HID 1.11, 6.2.2.8). None where the list is empty.
+#[tactic(auto, unfolding(crate::specs::Controls::usage_of_element))]
+pub fn usage_of_element(entries: &[(Usage, Usage)], index: usize) -> Option<Usage>
+    requires { length entries.now ≤ MAX_ENTRIES }
+    ensures { result ≡ usage_of_element (usage_list entries.now) index }
+{
+    let last = usage_count(entries).saturating_sub(1);
+    usage_at(entries, index.min(last))
+}
+
 impl MainItem {
     /// The least value that an element can carry.
     pub(crate) fn least(&self) -> i64
@@ -62,6 +73,7 @@ impl MainItem {
         self.max.min(greatest_value(self.min, self.size))
     }
 
+    /// Whether some number that fits the item's fields is out of its logical range.
     fn has_outside(&self) -> bool
         requires some { 0 < self.now.size }
         requires narrow { self.now.size ≤ MAX_WIDTH }
@@ -91,11 +103,11 @@ impl MainItem {
 }
 
 impl MainItem {
-    ghost use Rattle.hid_layout.specs.Controls.{form_of, head_of, control_in};
-    ghost use Rattle.hid_descriptor.specs.Fields.{is_padding};
+    ghost use Rattle.hid_layout.specs.Controls.{form_of, controls_of_form, control_in};
+    ghost use Rattle.hid_report_descriptor.specs.Fields.{is_padding};
     ghost use Rattle.hid_layout.specs.Reports.{HasElements};
-    ghost use Rattle.hid_layout.specs.Sent.{AreCodes};
-    ghost use Rattle.hid_descriptor.specs.Usages.{starts_of};
+    ghost use Rattle.hid_layout.specs.Codes.{AreCodes};
+    ghost use Rattle.hid_report_descriptor.specs.Usages.{starts_of};
 
     /// The controls of an item of an Input report, without their usages. An array's codes are those at a place.
     pub(crate) fn controls(
@@ -110,7 +122,8 @@ impl MainItem {
         requires kept { self.now.shape ≡ Shape.Array → place < length codes.now }
         requires codes { (kept : Codes) → slice_get codes.now place ≡ Some kept
             → self.now.shape ≡ Shape.Array → AreCodes self.now (usage_list entries.now) kept }
-        ensures { result ≡ head_of (form_of self.now (usage_list entries.now) self.now.shape) }
+        ensures { result
+            ≡ controls_of_form (form_of self.now (usage_list entries.now) self.now.shape) }
     {
         match self.shape {
             Shape::Padding => Controls::None,
@@ -134,7 +147,8 @@ impl MainItem {
         requires small { place ≤ 2 ^ 35 }
         ensures { result ≡ is_key self.now place usage }
     {
-        is_encodable(self, place) && (place < MAX_KEYS && (usage.id != 0 && !usage.tells_error()))
+        is_encodable(self, place)
+            && (place < MAX_KEYS && (usage.id != 0 && !usage.is_keyboard_error()))
     }
 
     /// The control at an element of a variable item: the last usage is that of all further elements.

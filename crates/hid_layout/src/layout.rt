@@ -1,26 +1,26 @@
 //! Layouts, and how they are read.
 
 ghost use Rattle.std.specs.Prelude.{◌≡◌, ◌^◌, true, false, ◌<◌, ◌≤◌, ℕ, List, length, map, slice_get, IfOk, IfErr, Some};
-ghost use Rattle.hid_descriptor.specs.Items.{Spelled};
-ghost use Rattle.hid_descriptor.specs.Listing.{ListsFields};
+ghost use Rattle.hid_report_descriptor.specs.Items.{EncodedItem};
+ghost use Rattle.hid_report_descriptor.specs.Listing.{ListsFields};
 ghost use Rattle.hid_layout.specs.Reports.{report_bytes, usage_of, element_of, IsLayout};
-ghost use Rattle.hid_descriptor.specs.Usages.{Entry, usage_list, starts_of};
-ghost use Rattle.hid_descriptor.specs.Fields.{is_padding};
-ghost use Rattle.hid_layout.specs.Sent.{AreCodes};
-ghost use Rattle.hid_layout.specs.Index.{plan_of};
-ghost use Rattle.hid_descriptor.specs.Faults.{Accepts, Explains};
-ghost use Rattle.hid_descriptor.specs.Totals.{place_of, are_in_order};
+ghost use Rattle.hid_report_descriptor.specs.Usages.{Entry, usage_list, starts_of};
+ghost use Rattle.hid_report_descriptor.specs.Fields.{is_padding};
+ghost use Rattle.hid_layout.specs.Codes.{AreCodes};
+ghost use Rattle.hid_layout.specs.ArrayCodes.{plan_of};
+ghost use Rattle.hid_report_descriptor.specs.Faults.{Accepts, Explains};
+ghost use Rattle.hid_report_descriptor.specs.Totals.{report_place, are_in_order};
 ghost use Rattle.hid_layout.specs.Layout.{item_of, layout_of};
 
+use crate::array_codes::all_codes;
+use crate::codes::{Codes, NO_CODES, codes_of};
 use crate::control::{Control, ControlId, Controls};
-use crate::index::all_codes;
 use crate::main_item::{Element, MainItem};
 use crate::plans::Plans;
 use crate::search::{holds, usage_by_starts};
-use crate::sent::{Codes, NO_CODES, codes_of};
-use hid_descriptor::{
-    Cause, Collection, ItemLists, KeptField, LayoutFault, ListedFields, Report, ReportKind, Shape,
-    Usage, find_report, list_fields,
+use hid_report_descriptor::{
+    Collection, ItemLists, KeptField, LayoutFault, ListedFields, Report, ReportKind, Shape, Usage,
+    find_report, list_fields,
 };
 use std::alloc::{AllocError, Global};
 use std::marker::Model;
@@ -41,8 +41,8 @@ impl Model for Layout {
     ghost use Rattle.std.specs.Prelude.{◌≡◌, ◌≤◌, length};
     ghost use Rattle.hid_layout.specs.Layout.{Contents};
     ghost use Rattle.hid_layout.specs.Reports.{IsLayout};
-    ghost use Rattle.hid_layout.specs.Index.{IsIndexed};
-    ghost use Rattle.hid_descriptor.specs.declared.limits.TheConstants.{MAX_ITEMS};
+    ghost use Rattle.hid_layout.specs.ArrayCodes.{IsIndexed};
+    ghost use Rattle.hid_report_descriptor.specs.declared.limits.TheConstants.{MAX_ITEMS};
 
     ghost Value = { Contents };
 
@@ -146,7 +146,7 @@ impl Layout {
         self.plans.get(r)
     }
 
-    /// The numbers by which the elements of a listed item tell null, no key, and more keys than there are elements.
+    /// The numbers that stand for null, for no key, and for rollover in the elements of a listed item.
     pub fn codes(&self, item: usize) -> Codes
         requires { item < length self.now.items }
         ensures { (main : MainItem) (es : List Entry) → slice_get self.now.items item ≡ Some main
@@ -163,7 +163,7 @@ impl Layout {
 }
 
 impl Layout {
-    ghost use Rattle.hid_layout.specs.Controls.{is_input, items_of, form_at, head_of, control_of, events_in, max_events};
+    ghost use Rattle.hid_layout.specs.Controls.{is_input, items_of, form_at, controls_of_form, control_of, events_in, max_events};
 
     /// Whether an item stands in an Input report.
     fn is_input(&self, item: &MainItem) -> bool
@@ -178,7 +178,7 @@ impl Layout {
     /// The controls of a listed item, without their usages.
     pub fn controls(&self, item: usize) -> Controls
         requires { item < length self.now.items }
-        ensures { result ≡ head_of (form_at (items_of self.now) item) }
+        ensures { result ≡ controls_of_form (form_at (items_of self.now) item) }
     {
         let main = &self.items[item];
         if self.is_input(main) {
@@ -287,7 +287,7 @@ impl Layout {
 /// The place of the report of a kind with an ID.
 fn place_of(reports: &[Report], kind: ReportKind, id: u8) -> usize
     requires { are_in_order reports.now ≡ true }
-    ensures { result ≡ place_of kind id reports.now }
+    ensures { result ≡ report_place kind id reports.now }
 {
     match find_report(reports, kind, id) {
         Ok(i) => i,
@@ -322,8 +322,8 @@ fn items_of(
 
 /// Puts the fields together.
 fn lay_out(alloc: Global, listed: ListedFields) -> Result<Layout, AllocError>
-    requires { (before : List Spelled) × ListsFields before listed × IsLayout (layout_of before) }
-    ensures { IfOk result (λ layout. (before : List Spelled) → ListsFields before listed
+    requires { (before : List EncodedItem) × ListsFields before listed × IsLayout (layout_of before) }
+    ensures { IfOk result (λ layout. (before : List EncodedItem) → ListsFields before listed
         → layout ≡ layout_of before) }
 {
     let items = items_of(alloc, &listed.reports, &listed.fields)?;
@@ -350,11 +350,11 @@ impl Layout {
     ///
     /// # Errors
     /// A descriptor that is too long is refused before its items are looked at. Otherwise the first item with a cause
-    /// decides, by the first of its causes in the order in which an item is looked at ([`Cause`]); after the last item
-    /// Unclosed comes before MixedReportId. Where memory runs out the cause is Memory, at 0.
+    /// decides, by the first of its causes in the order in which an item is looked at ([`Cause`](crate::Cause)); after the
+    /// last item Unclosed comes before MixedReportId. Where memory runs out the cause is Memory, at 0.
     pub fn parse(alloc: Global, descriptor: &[u8]) -> Result<Layout, LayoutFault>
         // The descriptor's items are accepted, and the layout is theirs.
-        ensures ok { IfOk result (λ layout. (before : List Spelled) × Accepts descriptor.now before
+        ensures ok { IfOk result (λ layout. (before : List EncodedItem) × Accepts descriptor.now before
             × (layout ≡ layout_of before)) }
         // Memory ran out, or this is the one refusal.
         ensures err { IfErr result (λ f. Explains descriptor.now f.cause f.at) }
@@ -365,10 +365,7 @@ impl Layout {
         };
         match lay_out(alloc, listed) {
             Ok(layout) => Ok(layout),
-            Err(_) => Err(LayoutFault {
-                cause: Cause::Memory,
-                at: 0,
-            }),
+            Err(_) => Err(LayoutFault::memory()),
         }
     }
 }

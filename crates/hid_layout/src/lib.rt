@@ -1,9 +1,9 @@
 //! The layout of a device's reports, by its report descriptor (HID 1.11, 5 and 6.2.2).
 //! ```text
-//!               hid_descriptor: list_fields            lay_out
-//!   descriptor -----------------------------> fields ------------> Layout
-//!                                                      the items of each report
-//!                                                      the codes of each item
+//!               hid_report_descriptor: list_fields            lay_out
+//!   descriptor ------------------------------------> fields ------------> Layout
+//!                                                             the items of each report
+//!                                                             the codes of each item
 //!
 //!   reports   by kind, then by ID       Input 0: 24 bits
 //!   items     in descriptor order       buttons         padding      motion
@@ -29,23 +29,23 @@
 //! ```
 #![tactic(auto)]
 
+mod array_codes;
 pub mod boot;
+mod codes;
 mod control;
 mod controls;
-mod index;
 mod layout;
 mod main_item;
 mod plans;
 mod search;
-mod sent;
 
+pub use codes::{Codes, null_number};
 pub use control::{Control, ControlId, ControlKind, Controls};
-pub use controls::{usage_at, usage_count};
-pub use hid_descriptor::{
+pub use controls::{usage_at, usage_count, usage_of_element};
+pub use hid_report_descriptor::{
     Cause, Collection, LayoutFault, MAX_DESCRIPTOR, MAX_ELEMENTS, MAX_ENTRIES, MAX_ITEMS, MAX_KEYS,
     MAX_OPEN_COLLECTIONS, MAX_OPEN_PUSHES, MAX_REPORT_BYTES, MAX_REPORT_IDS, MAX_WIDTH, MainFlags,
     Report, ReportKind, Shape, Usage, laws,
 };
 pub use layout::Layout;
 pub use main_item::{Element, MainItem};
-pub use sent::{Codes, null_number};

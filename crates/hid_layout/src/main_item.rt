@@ -3,7 +3,7 @@
 ghost use Rattle.std.specs.Prelude.{◌≡◌, ◌+◌, ◌*◌, ◌≤◌};
 ghost use Rattle.hid_layout.specs.Reports.{field_at, element_in};
 
-use hid_descriptor::{MAX_REPORT_BYTES, MainFlags, Shape};
+use hid_report_descriptor::{MAX_REPORT_BYTES, MainFlags, Shape};
 
 /// An Input, Output or Feature item that has at least one bit.
 #[derive(Clone, Copy, Debug, PartialEq, Eq)]

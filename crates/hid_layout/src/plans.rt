@@ -1,9 +1,9 @@
 //! For each report the places of its items.
 
 ghost use Rattle.std.specs.Prelude.{◌≡◌, ◌<◌, ◌≤◌, ◌^◌, ℕ, List, [], length, map, slice_get, slice_range, IfOk, Some};
-ghost use Rattle.hid_descriptor.specs.Faults.{upward};
+ghost use Rattle.hid_report_descriptor.specs.Faults.{numbers_from};
 ghost use Rattle.hid_layout.specs.declared.main_item.MainItem.{MainItem};
-ghost use Rattle.hid_layout.specs.Index.{places_from};
+ghost use Rattle.hid_layout.specs.ArrayCodes.{places_from};
 ghost use Rattle.hid_layout.specs.Plans.{AreIn, count_of, begin_of, end_of, ArePut};
 
 use crate::main_item::MainItem;
@@ -36,7 +36,7 @@ impl Plans {
         requires few { reports < 2 ^ 63 }
         requires there { AreIn reports items.now }
         ensures { IfOk result (λ plans. plans
-            ≡ map (λ r. places_from 0 r items.now) (upward 0 reports)) }
+            ≡ map (λ r. places_from 0 r items.now) (numbers_from 0 reports)) }
     {
         let mut kept = vec![in alloc; 0; 1 + reports + items.len()]?;
         let (_, ends_and_places) = kept.split_at_mut(1);
@@ -72,8 +72,8 @@ fn part(places: &[usize], start: usize, end: usize) -> &[usize]
 /// Counts the items of each report.
 fn count_items(items: &[MainItem], counts: &mut [usize])
     requires there { AreIn (length counts.old) items.now }
-    requires none { counts.old ≡ map (count_of []) (upward 0 (length counts.old)) }
-    ensures { counts.new ≡ map (count_of items.now) (upward 0 (length counts.old)) }
+    requires none { counts.old ≡ map (count_of []) (numbers_from 0 (length counts.old)) }
+    ensures { counts.new ≡ map (count_of items.now) (numbers_from 0 (length counts.old)) }
 {
     for item in items {
         counts[item.report] += 1;
@@ -83,9 +83,10 @@ fn count_items(items: &[MainItem], counts: &mut [usize])
 /// Puts in place of each count where the places of that report begin: after those of the reports before it.
 fn begin_places(counts: &mut [usize])
     requires { (items : List MainItem) × (length items < 2 ^ 64)
-        × (counts.old ≡ map (count_of items) (upward 0 (length counts.old))) }
-    ensures { (items : List MainItem) → counts.old ≡ map (count_of items) (upward 0 (length counts.old))
-        → counts.new ≡ map (begin_of items) (upward 0 (length counts.old)) }
+        × (counts.old ≡ map (count_of items) (numbers_from 0 (length counts.old))) }
+    ensures { (items : List MainItem)
+        → counts.old ≡ map (count_of items) (numbers_from 0 (length counts.old))
+        → counts.new ≡ map (begin_of items) (numbers_from 0 (length counts.old)) }
 {
     let mut start = 0;
     for count in counts.iter_mut() {
@@ -98,9 +99,9 @@ fn begin_places(counts: &mut [usize])
 /// Puts each place after those that its report has so far.
 fn put_places(items: &[MainItem], ends: &mut [usize], places: &mut [usize])
     requires there { AreIn (length ends.old) items.now }
-    requires begun { ends.old ≡ map (begin_of items.now) (upward 0 (length ends.old)) }
+    requires begun { ends.old ≡ map (begin_of items.now) (numbers_from 0 (length ends.old)) }
     requires room { length places.old ≡ length items.now }
-    ensures ends { ends.new ≡ map (end_of items.now items.now) (upward 0 (length ends.old)) }
+    ensures ends { ends.new ≡ map (end_of items.now items.now) (numbers_from 0 (length ends.old)) }
     ensures places { ArePut (length ends.old) items.now items.now places.new }
 {
     for (i, item) in items.iter().enumerate() {

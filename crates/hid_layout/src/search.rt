@@ -1,10 +1,10 @@
 //! The usage at a place of a usage list, found by halving.
 
 ghost use Rattle.std.specs.Prelude.{◌≡◌, ◌<◌, ◌≤◌, ◌-◌, length, slice_get, slice_index};
-ghost use Rattle.hid_descriptor.specs.Usages.{usage_list, starts_of};
+ghost use Rattle.hid_report_descriptor.specs.Usages.{usage_list, starts_of};
 ghost use Rattle.hid_layout.specs.Finding.{holds};
 
-use hid_descriptor::{Usage, entry_count};
+use hid_report_descriptor::{Usage, entry_count};
 
 /// How many ranges begin at a place or before it.
 fn entries_up_to(starts: &[u32], place: usize) -> usize

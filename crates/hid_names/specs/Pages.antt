@@ -1,11 +1,11 @@
 -- The names of each page (HID Usage Tables; of pages 80 to F0 their own standards).
 use Rattle.std.specs.Prelude.{ℕ, ◌==◌, nat_lt, Bool, true, false, ◌&&◌, List, [], ◌∷◌, map, if◌then◌else◌, Option, None, Some}
 use Rattle.std.specs.Borrow.{Bor}
-use Rattle.hid_names.specs.declared.table.TheConstants.{DESKTOP, SIMULATION, REALITY, SPORT, GAMES, KEYBOARD, LIGHTS, TELEPHONY, CONSUMER, DIGITIZERS, FORCES, DISPLAYS, MONITORS, MONITOR_CONTROLS, POWER, BATTERIES, CASH}
+use Rattle.hid_names.specs.declared.table.TheConstants.{DESKTOP, SIMULATION, VR, SPORT, GAME, KEYBOARD, LEDS, TELEPHONY, CONSUMER, DIGITIZERS, PHYSICAL_INTERFACE, AUXILIARY_DISPLAY, MONITOR, VESA_CONTROLS, POWER, BATTERY_SYSTEM, CASH_DEVICE}
 
 -- IDs and names
-abbrev pub rows_of : List (ℕ × Bor (List ℕ)) → List (ℕ × List ℕ)
-rows_of rows = map (λ row. (row.0, row.1.now)) rows
+abbrev pub table_rows : List (ℕ × Bor (List ℕ)) → List (ℕ × List ℕ)
+table_rows rows = map (λ row. (row.0, row.1.now)) rows
 
 -- what rows have under an ID
 abbrev pub name_under : List (ℕ × List ℕ) → ℕ → Option (List ℕ)
@@ -21,24 +21,24 @@ unfoldable pub simulation : List (ℕ × List ℕ)
 simulation = map (λ row. (row.0, row.1.now)) SIMULATION
 
 -- page 03
-unfoldable pub reality : List (ℕ × List ℕ)
-reality = map (λ row. (row.0, row.1.now)) REALITY
+unfoldable pub vr : List (ℕ × List ℕ)
+vr = map (λ row. (row.0, row.1.now)) VR
 
 -- page 04
 unfoldable pub sport : List (ℕ × List ℕ)
 sport = map (λ row. (row.0, row.1.now)) SPORT
 
 -- page 05
-unfoldable pub games : List (ℕ × List ℕ)
-games = map (λ row. (row.0, row.1.now)) GAMES
+unfoldable pub game : List (ℕ × List ℕ)
+game = map (λ row. (row.0, row.1.now)) GAME
 
 -- page 07
 unfoldable pub keyboard : List (ℕ × List ℕ)
 keyboard = map (λ row. (row.0, row.1.now)) KEYBOARD
 
 -- page 08
-unfoldable pub lights : List (ℕ × List ℕ)
-lights = map (λ row. (row.0, row.1.now)) LIGHTS
+unfoldable pub leds : List (ℕ × List ℕ)
+leds = map (λ row. (row.0, row.1.now)) LEDS
 
 -- page 0B
 unfoldable pub telephony : List (ℕ × List ℕ)
@@ -53,53 +53,53 @@ unfoldable pub digitizers : List (ℕ × List ℕ)
 digitizers = map (λ row. (row.0, row.1.now)) DIGITIZERS
 
 -- page 0F
-unfoldable pub forces : List (ℕ × List ℕ)
-forces = map (λ row. (row.0, row.1.now)) FORCES
+unfoldable pub physical_interface : List (ℕ × List ℕ)
+physical_interface = map (λ row. (row.0, row.1.now)) PHYSICAL_INTERFACE
 
 -- page 14
-unfoldable pub displays : List (ℕ × List ℕ)
-displays = map (λ row. (row.0, row.1.now)) DISPLAYS
+unfoldable pub auxiliary_display : List (ℕ × List ℕ)
+auxiliary_display = map (λ row. (row.0, row.1.now)) AUXILIARY_DISPLAY
 
 -- page 80
-unfoldable pub monitors : List (ℕ × List ℕ)
-monitors = map (λ row. (row.0, row.1.now)) MONITORS
+unfoldable pub monitor : List (ℕ × List ℕ)
+monitor = map (λ row. (row.0, row.1.now)) MONITOR
 
 -- page 82
-unfoldable pub monitor_controls : List (ℕ × List ℕ)
-monitor_controls = map (λ row. (row.0, row.1.now)) MONITOR_CONTROLS
+unfoldable pub vesa_controls : List (ℕ × List ℕ)
+vesa_controls = map (λ row. (row.0, row.1.now)) VESA_CONTROLS
 
 -- page 84
 unfoldable pub power : List (ℕ × List ℕ)
 power = map (λ row. (row.0, row.1.now)) POWER
 
 -- page 85
-unfoldable pub batteries : List (ℕ × List ℕ)
-batteries = map (λ row. (row.0, row.1.now)) BATTERIES
+unfoldable pub battery_system : List (ℕ × List ℕ)
+battery_system = map (λ row. (row.0, row.1.now)) BATTERY_SYSTEM
 
 -- page F0
-unfoldable pub cash : List (ℕ × List ℕ)
-cash = map (λ row. (row.0, row.1.now)) CASH
+unfoldable pub cash_device : List (ℕ × List ℕ)
+cash_device = map (λ row. (row.0, row.1.now)) CASH_DEVICE
 
 -- what the table of a page has under an ID
 unfoldable pub in_page : ℕ → ℕ → Option (List ℕ)
 in_page page id =
     if page == 0x01 then name_under desktop id
     else if page == 0x02 then name_under simulation id
-    else if page == 0x03 then name_under reality id
+    else if page == 0x03 then name_under vr id
     else if page == 0x04 then name_under sport id
-    else if page == 0x05 then name_under games id
+    else if page == 0x05 then name_under game id
     else if page == 0x07 then name_under keyboard id
-    else if page == 0x08 then name_under lights id
+    else if page == 0x08 then name_under leds id
     else if page == 0x0B then name_under telephony id
     else if page == 0x0C then name_under consumer id
     else if page == 0x0D then name_under digitizers id
-    else if page == 0x0F then name_under forces id
-    else if page == 0x14 then name_under displays id
-    else if page == 0x80 then name_under monitors id
-    else if page == 0x82 then name_under monitor_controls id
+    else if page == 0x0F then name_under physical_interface id
+    else if page == 0x14 then name_under auxiliary_display id
+    else if page == 0x80 then name_under monitor id
+    else if page == 0x82 then name_under vesa_controls id
     else if page == 0x84 then name_under power id
-    else if page == 0x85 then name_under batteries id
-    else if page == 0xF0 then name_under cash id
+    else if page == 0x85 then name_under battery_system id
+    else if page == 0xF0 then name_under cash_device id
     else None
 
 -- each number is below the one after it
@@ -113,18 +113,18 @@ abbrev pub all_rise : Bool
 all_rise =
     are_rising (map (λ row. row.0) DESKTOP)
     && are_rising (map (λ row. row.0) SIMULATION)
-    && are_rising (map (λ row. row.0) REALITY)
+    && are_rising (map (λ row. row.0) VR)
     && are_rising (map (λ row. row.0) SPORT)
-    && are_rising (map (λ row. row.0) GAMES)
+    && are_rising (map (λ row. row.0) GAME)
     && are_rising (map (λ row. row.0) KEYBOARD)
-    && are_rising (map (λ row. row.0) LIGHTS)
+    && are_rising (map (λ row. row.0) LEDS)
     && are_rising (map (λ row. row.0) TELEPHONY)
     && are_rising (map (λ row. row.0) CONSUMER)
     && are_rising (map (λ row. row.0) DIGITIZERS)
-    && are_rising (map (λ row. row.0) FORCES)
-    && are_rising (map (λ row. row.0) DISPLAYS)
-    && are_rising (map (λ row. row.0) MONITORS)
-    && are_rising (map (λ row. row.0) MONITOR_CONTROLS)
+    && are_rising (map (λ row. row.0) PHYSICAL_INTERFACE)
+    && are_rising (map (λ row. row.0) AUXILIARY_DISPLAY)
+    && are_rising (map (λ row. row.0) MONITOR)
+    && are_rising (map (λ row. row.0) VESA_CONTROLS)
     && are_rising (map (λ row. row.0) POWER)
-    && are_rising (map (λ row. row.0) BATTERIES)
-    && are_rising (map (λ row. row.0) CASH)
+    && are_rising (map (λ row. row.0) BATTERY_SYSTEM)
+    && are_rising (map (λ row. row.0) CASH_DEVICE)

@@ -8,10 +8,10 @@ use crate::pages::in_page;
 use std::fmt;
 
 /// Buttons are numbered by their ID (HID Usage Tables, 12).
-const BUTTONS: u16 = 0x09;
+const BUTTON: u16 = 0x09;
 
 /// Instances are numbered by their ID (HID Usage Tables, 13).
-const ORDINALS: u16 = 0x0A;
+const ORDINAL: u16 = 0x0A;
 
 /// What a usage is called.
 #[derive(Clone, Copy, Debug, PartialEq, Eq)]
@@ -41,10 +41,10 @@ impl fmt::Display for UsageName {
 pub fn usage_name(page: u16, id: u16) -> Option<UsageName>
     ensures name { option_map (λ name. name_of_value name) result ≡ name_of page id }
 {
-    if page == BUTTONS && id != 0 {
+    if page == BUTTON && id != 0 {
         return Some(UsageName::Button(id));
     }
-    if page == ORDINALS && id != 0 {
+    if page == ORDINAL && id != 0 {
         return Some(UsageName::Instance(id));
     }
     match in_page(page, id) {

@@ -2,16 +2,16 @@
 
 ghost use Rattle.std.specs.Prelude.{◌≡◌};
 ghost use Rattle.std.specs.Option.{option_map};
-ghost use Rattle.hid_names.specs.Pages.{name_under, rows_of, in_page, desktop, simulation, reality, sport, games, keyboard, lights, telephony, consumer, digitizers, forces, displays, monitors, monitor_controls, power, batteries, cash};
+ghost use Rattle.hid_names.specs.Pages.{name_under, table_rows, in_page, desktop, simulation, vr, sport, game, keyboard, leds, telephony, consumer, digitizers, physical_interface, auxiliary_display, monitor, vesa_controls, power, battery_system, cash_device};
 
 use crate::table::{
-    BATTERIES, CASH, CONSUMER, DESKTOP, DIGITIZERS, DISPLAYS, FORCES, GAMES, KEYBOARD, LIGHTS,
-    MONITOR_CONTROLS, MONITORS, POWER, REALITY, SIMULATION, SPORT, TELEPHONY,
+    AUXILIARY_DISPLAY, BATTERY_SYSTEM, CASH_DEVICE, CONSUMER, DESKTOP, DIGITIZERS, GAME, KEYBOARD,
+    LEDS, MONITOR, PHYSICAL_INTERFACE, POWER, SIMULATION, SPORT, TELEPHONY, VESA_CONTROLS, VR,
 };
 
 /// What rows have under an ID.
 fn look_up(rows: &[(u16, &'static str)], id: u16) -> Option<&'static str>
-    ensures { option_map (λ name. name.now) result ≡ name_under (rows_of rows.now) id }
+    ensures { option_map (λ name. name.now) result ≡ name_under (table_rows rows.now) id }
 {
     for row in rows {
         let (of, name) = *row;
@@ -24,6 +24,7 @@ fn look_up(rows: &[(u16, &'static str)], id: u16) -> Option<&'static str>
 
 // One function for each page: each unfolds one table alone.
 
+/// The name of the usage with this ID on page 01 (in hex).
 #[tactic(auto, unfolding(crate::specs::Pages::desktop))]
 fn in_desktop(id: u16) -> Option<&'static str>
     ensures { option_map (λ name. name.now) result ≡ name_under desktop id }
@@ -31,6 +32,7 @@ fn in_desktop(id: u16) -> Option<&'static str>
     look_up(&DESKTOP, id)
 }
 
+/// The name of the usage with this ID on page 02 (in hex).
 #[tactic(auto, unfolding(crate::specs::Pages::simulation))]
 fn in_simulation(id: u16) -> Option<&'static str>
     ensures { option_map (λ name. name.now) result ≡ name_under simulation id }
@@ -38,13 +40,15 @@ fn in_simulation(id: u16) -> Option<&'static str>
     look_up(&SIMULATION, id)
 }
 
-#[tactic(auto, unfolding(crate::specs::Pages::reality))]
-fn in_reality(id: u16) -> Option<&'static str>
-    ensures { option_map (λ name. name.now) result ≡ name_under reality id }
+/// The name of the usage with this ID on page 03 (in hex).
+#[tactic(auto, unfolding(crate::specs::Pages::vr))]
+fn in_vr(id: u16) -> Option<&'static str>
+    ensures { option_map (λ name. name.now) result ≡ name_under vr id }
 {
-    look_up(&REALITY, id)
+    look_up(&VR, id)
 }
 
+/// The name of the usage with this ID on page 04 (in hex).
 #[tactic(auto, unfolding(crate::specs::Pages::sport))]
 fn in_sport(id: u16) -> Option<&'static str>
     ensures { option_map (λ name. name.now) result ≡ name_under sport id }
@@ -52,13 +56,15 @@ fn in_sport(id: u16) -> Option<&'static str>
     look_up(&SPORT, id)
 }
 
-#[tactic(auto, unfolding(crate::specs::Pages::games))]
-fn in_games(id: u16) -> Option<&'static str>
-    ensures { option_map (λ name. name.now) result ≡ name_under games id }
+/// The name of the usage with this ID on page 05 (in hex).
+#[tactic(auto, unfolding(crate::specs::Pages::game))]
+fn in_game(id: u16) -> Option<&'static str>
+    ensures { option_map (λ name. name.now) result ≡ name_under game id }
 {
-    look_up(&GAMES, id)
+    look_up(&GAME, id)
 }
 
+/// The name of the usage with this ID on page 07 (in hex).
 #[tactic(auto, unfolding(crate::specs::Pages::keyboard))]
 fn in_keyboard(id: u16) -> Option<&'static str>
     ensures { option_map (λ name. name.now) result ≡ name_under keyboard id }
@@ -66,13 +72,15 @@ fn in_keyboard(id: u16) -> Option<&'static str>
     look_up(&KEYBOARD, id)
 }
 
-#[tactic(auto, unfolding(crate::specs::Pages::lights))]
-fn in_lights(id: u16) -> Option<&'static str>
-    ensures { option_map (λ name. name.now) result ≡ name_under lights id }
+/// The name of the usage with this ID on page 08 (in hex).
+#[tactic(auto, unfolding(crate::specs::Pages::leds))]
+fn in_leds(id: u16) -> Option<&'static str>
+    ensures { option_map (λ name. name.now) result ≡ name_under leds id }
 {
-    look_up(&LIGHTS, id)
+    look_up(&LEDS, id)
 }
 
+/// The name of the usage with this ID on page 0B (in hex).
 #[tactic(auto, unfolding(crate::specs::Pages::telephony))]
 fn in_telephony(id: u16) -> Option<&'static str>
     ensures { option_map (λ name. name.now) result ≡ name_under telephony id }
@@ -80,6 +88,7 @@ fn in_telephony(id: u16) -> Option<&'static str>
     look_up(&TELEPHONY, id)
 }
 
+/// The name of the usage with this ID on page 0C (in hex).
 #[tactic(auto, unfolding(crate::specs::Pages::consumer))]
 fn in_consumer(id: u16) -> Option<&'static str>
     ensures { option_map (λ name. name.now) result ≡ name_under consumer id }
@@ -87,6 +96,7 @@ fn in_consumer(id: u16) -> Option<&'static str>
     look_up(&CONSUMER, id)
 }
 
+/// The name of the usage with this ID on page 0D (in hex).
 #[tactic(auto, unfolding(crate::specs::Pages::digitizers))]
 fn in_digitizers(id: u16) -> Option<&'static str>
     ensures { option_map (λ name. name.now) result ≡ name_under digitizers id }
@@ -94,34 +104,39 @@ fn in_digitizers(id: u16) -> Option<&'static str>
     look_up(&DIGITIZERS, id)
 }
 
-#[tactic(auto, unfolding(crate::specs::Pages::forces))]
-fn in_forces(id: u16) -> Option<&'static str>
-    ensures { option_map (λ name. name.now) result ≡ name_under forces id }
+/// The name of the usage with this ID on page 0F (in hex).
+#[tactic(auto, unfolding(crate::specs::Pages::physical_interface))]
+fn in_physical_interface(id: u16) -> Option<&'static str>
+    ensures { option_map (λ name. name.now) result ≡ name_under physical_interface id }
 {
-    look_up(&FORCES, id)
+    look_up(&PHYSICAL_INTERFACE, id)
 }
 
-#[tactic(auto, unfolding(crate::specs::Pages::displays))]
-fn in_displays(id: u16) -> Option<&'static str>
-    ensures { option_map (λ name. name.now) result ≡ name_under displays id }
+/// The name of the usage with this ID on page 14 (in hex).
+#[tactic(auto, unfolding(crate::specs::Pages::auxiliary_display))]
+fn in_auxiliary_display(id: u16) -> Option<&'static str>
+    ensures { option_map (λ name. name.now) result ≡ name_under auxiliary_display id }
 {
-    look_up(&DISPLAYS, id)
+    look_up(&AUXILIARY_DISPLAY, id)
 }
 
-#[tactic(auto, unfolding(crate::specs::Pages::monitors))]
-fn in_monitors(id: u16) -> Option<&'static str>
-    ensures { option_map (λ name. name.now) result ≡ name_under monitors id }
+/// The name of the usage with this ID on page 80 (in hex).
+#[tactic(auto, unfolding(crate::specs::Pages::monitor))]
+fn in_monitor(id: u16) -> Option<&'static str>
+    ensures { option_map (λ name. name.now) result ≡ name_under monitor id }
 {
-    look_up(&MONITORS, id)
+    look_up(&MONITOR, id)
 }
 
-#[tactic(auto, unfolding(crate::specs::Pages::monitor_controls))]
-fn in_monitor_controls(id: u16) -> Option<&'static str>
-    ensures { option_map (λ name. name.now) result ≡ name_under monitor_controls id }
+/// The name of the usage with this ID on page 82 (in hex).
+#[tactic(auto, unfolding(crate::specs::Pages::vesa_controls))]
+fn in_vesa_controls(id: u16) -> Option<&'static str>
+    ensures { option_map (λ name. name.now) result ≡ name_under vesa_controls id }
 {
-    look_up(&MONITOR_CONTROLS, id)
+    look_up(&VESA_CONTROLS, id)
 }
 
+/// The name of the usage with this ID on page 84 (in hex).
 #[tactic(auto, unfolding(crate::specs::Pages::power))]
 fn in_power(id: u16) -> Option<&'static str>
     ensures { option_map (λ name. name.now) result ≡ name_under power id }
@@ -129,18 +144,20 @@ fn in_power(id: u16) -> Option<&'static str>
     look_up(&POWER, id)
 }
 
-#[tactic(auto, unfolding(crate::specs::Pages::batteries))]
-fn in_batteries(id: u16) -> Option<&'static str>
-    ensures { option_map (λ name. name.now) result ≡ name_under batteries id }
+/// The name of the usage with this ID on page 85 (in hex).
+#[tactic(auto, unfolding(crate::specs::Pages::battery_system))]
+fn in_battery_system(id: u16) -> Option<&'static str>
+    ensures { option_map (λ name. name.now) result ≡ name_under battery_system id }
 {
-    look_up(&BATTERIES, id)
+    look_up(&BATTERY_SYSTEM, id)
 }
 
-#[tactic(auto, unfolding(crate::specs::Pages::cash))]
-fn in_cash(id: u16) -> Option<&'static str>
-    ensures { option_map (λ name. name.now) result ≡ name_under cash id }
+/// The name of the usage with this ID on page F0 (in hex).
+#[tactic(auto, unfolding(crate::specs::Pages::cash_device))]
+fn in_cash_device(id: u16) -> Option<&'static str>
+    ensures { option_map (λ name. name.now) result ≡ name_under cash_device id }
 {
-    look_up(&CASH, id)
+    look_up(&CASH_DEVICE, id)
 }
 
 /// What the table of a page has under an ID.
@@ -151,21 +168,21 @@ pub fn in_page(page: u16, id: u16) -> Option<&'static str>
     match page {
         0x01 => in_desktop(id),
         0x02 => in_simulation(id),
-        0x03 => in_reality(id),
+        0x03 => in_vr(id),
         0x04 => in_sport(id),
-        0x05 => in_games(id),
+        0x05 => in_game(id),
         0x07 => in_keyboard(id),
-        0x08 => in_lights(id),
+        0x08 => in_leds(id),
         0x0B => in_telephony(id),
         0x0C => in_consumer(id),
         0x0D => in_digitizers(id),
-        0x0F => in_forces(id),
-        0x14 => in_displays(id),
-        0x80 => in_monitors(id),
-        0x82 => in_monitor_controls(id),
+        0x0F => in_physical_interface(id),
+        0x14 => in_auxiliary_display(id),
+        0x80 => in_monitor(id),
+        0x82 => in_vesa_controls(id),
         0x84 => in_power(id),
-        0x85 => in_batteries(id),
-        0xF0 => in_cash(id),
+        0x85 => in_battery_system(id),
+        0xF0 => in_cash_device(id),
         _ => None,
     }
 }

@@ -44,7 +44,7 @@ pub static SIMULATION: [(u16, &str); 51] = [
 
 /// 03: VR Controls.
 #[rattlefmt::skip]
-pub static REALITY: [(u16, &str); 12] = [
+pub static VR: [(u16, &str); 12] = [
     (0x01, "Belt"), (0x02, "Body Suit"), (0x03, "Flexor"), (0x04, "Glove"), (0x05, "Head Tracker"),
     (0x06, "Head Mounted Display"), (0x07, "Hand Tracker"), (0x08, "Oculometer"), (0x09, "Vest"),
     (0x0A, "Animatronic Device"), (0x20, "Stereo Enable"), (0x21, "Display Enable"),
@@ -64,7 +64,7 @@ pub static SPORT: [(u16, &str); 34] = [
 
 /// 05: Game Controls.
 #[rattlefmt::skip]
-pub static GAMES: [(u16, &str); 28] = [
+pub static GAME: [(u16, &str); 28] = [
     (0x01, "3D Game Controller"), (0x02, "Pinball Device"), (0x03, "Gun Device"), (0x20, "Point Of View"),
     (0x21, "Turn Right/Left"), (0x22, "Pitch Forward/Backward"), (0x23, "Roll Right/Left"),
     (0x24, "Move Right/Left"), (0x25, "Move Forward/Backward"), (0x26, "Move Up/Down"), (0x27, "Lean Right/Left"),
@@ -131,7 +131,7 @@ pub static KEYBOARD: [(u16, &str); 172] = [
 
 /// 08: LED.
 #[rattlefmt::skip]
-pub static LIGHTS: [(u16, &str); 77] = [
+pub static LEDS: [(u16, &str); 77] = [
     (0x01, "Num Lock"), (0x02, "Caps Lock"), (0x03, "Scroll Lock"), (0x04, "Compose"), (0x05, "Kana"),
     (0x06, "Power"), (0x07, "Shift"), (0x08, "Do Not Disturb"), (0x09, "Mute"), (0x0A, "Tone Enable"),
     (0x0B, "High Cut Filter"), (0x0C, "Low Cut Filter"), (0x0D, "Equalizer Enable"), (0x0E, "Sound Field On"),
@@ -256,7 +256,7 @@ pub static DIGITIZERS: [(u16, &str); 51] = [
 
 /// 0F: Physical Interface Device.
 #[rattlefmt::skip]
-pub static FORCES: [(u16, &str); 68] = [
+pub static PHYSICAL_INTERFACE: [(u16, &str); 68] = [
     (0x01, "Physical Interface Device"), (0x20, "Normal"), (0x21, "Set Effect Report"),
     (0x22, "Effect Block Index"), (0x23, "Parameter Block Offset"), (0x24, "ROM Flag"), (0x25, "Effect Type"),
     (0x26, "ET Constant Force"), (0x27, "ET Ramp"), (0x28, "ET Custom Force Data"), (0x30, "ET Square"),
@@ -280,7 +280,7 @@ pub static FORCES: [(u16, &str); 68] = [
 
 /// 14: Auxiliary Display.
 #[rattlefmt::skip]
-pub static DISPLAYS: [(u16, &str); 35] = [
+pub static AUXILIARY_DISPLAY: [(u16, &str); 35] = [
     (0x01, "Alphanumeric Display"), (0x20, "Display Attributes Report"), (0x21, "ASCII Character Set"),
     (0x22, "Data Read Back"), (0x23, "Font Read Back"), (0x24, "Display Control Report"), (0x25, "Clear Display"),
     (0x26, "Display Enable"), (0x27, "Screen Saver Delay"), (0x28, "Screen Saver Enable"),
@@ -295,13 +295,13 @@ pub static DISPLAYS: [(u16, &str); 35] = [
 
 /// 80: USB Monitor.
 #[rattlefmt::skip]
-pub static MONITORS: [(u16, &str); 4] = [
+pub static MONITOR: [(u16, &str); 4] = [
     (0x01, "Monitor Control"), (0x02, "EDID Information"), (0x03, "VDIF Information"), (0x04, "VESA Version"),
 ];
 
 /// 82: VESA Virtual Controls.
 #[rattlefmt::skip]
-pub static MONITOR_CONTROLS: [(u16, &str); 44] = [
+pub static VESA_CONTROLS: [(u16, &str); 44] = [
     (0x01, "Degauss"), (0x10, "Brightness"), (0x12, "Contrast"), (0x16, "Red Video Gain"),
     (0x18, "Green Video Gain"), (0x1A, "Blue Video Gain"), (0x1C, "Focus"), (0x20, "Horizontal Position"),
     (0x22, "Horizontal Size"), (0x24, "Horizontal Pincushion"), (0x26, "Horizontal Pincushion Balance"),
@@ -345,7 +345,7 @@ pub static POWER: [(u16, &str); 77] = [
 
 /// 85: Battery System.
 #[rattlefmt::skip]
-pub static BATTERIES: [(u16, &str); 91] = [
+pub static BATTERY_SYSTEM: [(u16, &str); 91] = [
     (0x01, "SMB Battery Mode"), (0x02, "SMB Battery Status"), (0x03, "SMB Alarm Warning"),
     (0x04, "SMB Charger Mode"), (0x05, "SMB Charger Status"), (0x06, "SMB Charger Spec Info"),
     (0x07, "SMB Selector State"), (0x08, "SMB Selector Presets"), (0x09, "SMB Selector Info"),
@@ -378,6 +378,6 @@ pub static BATTERIES: [(u16, &str); 91] = [
 
 /// F0: Cash Device.
 #[rattlefmt::skip]
-pub static CASH: [(u16, &str); 4] = [
+pub static CASH_DEVICE: [(u16, &str); 4] = [
     (0xF1, "Cash Drawer"), (0xF2, "Cash Drawer Number"), (0xF3, "Cash Drawer Set"), (0xF4, "Cash Drawer Status"),
 ];

@@ -1,7 +1,7 @@
 -- Why a descriptor is refused, in words (our choice: docs/RECORDINGS.md).
 use Rattle.std.specs.Prelude.{ℕ, List, codes}
-use Rattle.hid_descriptor.specs.declared.fault.Cause as layouts
-use Rattle.hid_descriptor.specs.declared.fault.Cause.TheVariants.{Truncated, TooLong, PopEmpty, PushDepth, CollectionDepth, EndWithout, Unclosed, BadReportId, MixedReportId, BadRange, BadSize, BadUsageRange, UnpairedUsage, Delimiter, ReportTooLong, TooMany, Memory}
+use Rattle.hid_report_descriptor.specs.declared.fault.Cause as layouts
+use Rattle.hid_report_descriptor.specs.declared.fault.Cause.TheVariants.{Truncated, TooLong, PopEmpty, PushDepth, CollectionDepth, EndWithout, Unclosed, BadReportId, MixedReportId, BadRange, BadSize, BadUsageRange, UnpairedUsage, Delimiter, ReportTooLong, TooMany, Memory}
 
 -- the words for each cause of which a descriptor is refused. Example: L3 is a Pop without a Push
 abbrev pub layout_words : layouts.Cause → List ℕ

@@ -2,8 +2,8 @@
 use Rattle.std.specs.Prelude.{ℕ, zero, suc, List, [], ◌∷◌, ◌++◌, ◌==◌, ◌&&◌, nat_lt, if◌then◌else◌, true, Option, None, Some, codes}
 use Rattle.std.specs.List.{flat_map}
 use Rattle.std.specs.Fmt.{digits}
-use Rattle.hid_descriptor.specs.declared.usage.Usage.{Usage}
-use Rattle.hid_descriptor.specs.Usages.{Entry}
+use Rattle.hid_report_descriptor.specs.declared.usage.Usage.{Usage}
+use Rattle.hid_report_descriptor.specs.Usages.{Entry}
 
 -- upper-case hex, of two digits at least
 unfoldable pub hex_text : ℕ → List ℕ

@@ -1,14 +1,14 @@
 -- What is drawn of a descriptor (our choice: docs/PICTURES.md).
 use Rattle.std.specs.Prelude.{◌≡◌, ℕ, zero, suc, ◌+◌, nat_lt, nat_le, List, [], ◌∷◌, ◌++◌, length, slice_get, if◌then◌else◌, Option, None, Some, codes}
-use Rattle.hid_descriptor.specs.Codes.{layout_fault_text}
-use Rattle.hid_descriptor.specs.declared.fault.LayoutFault.{LayoutFault}
-use Rattle.hid_items.specs.declared.spelling.Item.{Item}
+use Rattle.hid_report_descriptor.specs.Codes.{layout_fault_text}
+use Rattle.hid_report_descriptor.specs.declared.fault.LayoutFault.{LayoutFault}
+use Rattle.hid_items.specs.declared.encoding.Item.{Item}
 use Rattle.hid_layout.specs.Layout.{Contents}
 use Rattle.hid_notation.specs.Causes.{layout_words}
 use Rattle.hid_notation.specs.Text.{concat_below}
 use Rattle.hid_page.specs.declared.drawing.Form.{Form}
 use Rattle.hid_page.specs.declared.drawing.Form.TheVariants.{Page, Svg, Characters}
-use Rattle.hid_drawing.specs.Items.{AreItemsOf, place_of}
+use Rattle.hid_drawing.specs.Items.{AreItemsOf, item_place}
 use Rattle.hid_page.specs.Page.{page_of, refused_page, svg_of, characters_of, mains_of}
 
 -- the pictures of all reports in characters, an empty line after each
@@ -33,14 +33,14 @@ pub record IsDrawn (descriptor : List ℕ) (form : Form) (layout : Contents) (te
 abbrev pub begin_count : List Item → ℕ → ℕ → ℕ
 begin_count items at zero = 0
 begin_count items at (suc k) =
-    if nat_le (place_of (slice_get items k)) at then k + 1 else begin_count items at k
+    if nat_le (item_place (slice_get items k)) at then k + 1 else begin_count items at k
 
 -- a refusal: its code and place, and words
 abbrev pub refusal_words : LayoutFault → List ℕ
 refusal_words fault = layout_fault_text fault ++ codes ": " ++ layout_words fault.cause
 
 -- a page shows the items up to the place of a refusal, and why
-pub record IsRefusal (descriptor : List ℕ) (fault : LayoutFault) (text : List ℕ) : Type 0 where
+pub record IsDrawingRefusal (descriptor : List ℕ) (fault : LayoutFault) (text : List ℕ) : Type 0 where
   pub items : List Item
   pub read : AreItemsOf descriptor items
   pub shown : text ≡ refused_page items (begin_count items fault.at (length items)) (refusal_words fault)

@@ -2,17 +2,17 @@
 use Rattle.std.specs.Prelude.{ℕ, ◌+◌, ◌/◌, ◌%◌, ◌^◌, nat_le, drop, ℤ, pos, ◌-ℤ◌, Bool, ◌==◌, ◌&&◌, ◌||◌, List, [], ◌∷◌, ◌++◌, length, slice_get, unwrap_or, map, if◌then◌else◌, Option, None, Some, codes}
 use Rattle.std.specs.Borrow.{Bor}
 use Rattle.std.specs.Fmt.{decimal, signed_decimal}
-use Rattle.hid_descriptor.specs.Items.{Spelled, is_main, is_field, INPUT, USAGE_PAGE, COLLECTION}
-use Rattle.hid_descriptor.specs.declared.usage.Usage.{Usage}
-use Rattle.hid_items.specs.Spelling.{data_of, prefix_of, unsigned_of, signed_of}
-use Rattle.hid_items.specs.declared.spelling.Item.{Item}
+use Rattle.hid_report_descriptor.specs.Items.{EncodedItem, is_main, is_field, INPUT, USAGE_PAGE, COLLECTION}
+use Rattle.hid_report_descriptor.specs.declared.usage.Usage.{Usage}
+use Rattle.hid_items.specs.ItemEncoding.{data_of, prefix_of, unsigned_of, signed_of}
+use Rattle.hid_items.specs.declared.encoding.Item.{Item}
 use Rattle.hid_notation.specs.Text.{hex_text, bytes_text, concat_below}
 use Rattle.hid_page.specs.declared.item_table.TheConstants.{ITEM_NAMES, ITEMS_HEAD, TABLE_END}
 use Rattle.hid_drawing.specs.Escape.{escaped_words}
-use Rattle.hid_drawing.specs.Frames.{round_at}
-use Rattle.hid_drawing.specs.Items.{item_spelling_at}
+use Rattle.hid_drawing.specs.Brackets.{round_at}
+use Rattle.hid_drawing.specs.Items.{item_encoding_at}
 use Rattle.hid_drawing.specs.Label.{usage_label}
-use Rattle.hid_drawing.specs.Makers.{global_place}
+use Rattle.hid_drawing.specs.Origins.{global_place}
 use Rattle.hid_drawing.specs.Words.{flags_text, collection_name}
 
 -- what a table of names has under a prefix
@@ -29,13 +29,13 @@ unfoldable pub item_name : ℕ → List ℕ
 item_name prefix = name_in_table (map (λ row. (row.0, row.1.now)) ITEM_NAMES) prefix
 
 -- the first byte of an item
-abbrev pub first_of : Spelled → ℕ
+abbrev pub first_of : EncodedItem → ℕ
 first_of [] = 0
 first_of (first ∷ rest) = first
 
 -- what an item is called: FE is the first byte of a long item (6.2.2.3)
-abbrev pub words_of : Spelled → List ℕ
-words_of item = if first_of item == 0xFE then codes "Long item" else item_name (prefix_of item)
+abbrev pub item_data_words : EncodedItem → List ℕ
+item_data_words item = if first_of item == 0xFE then codes "Long item" else item_name (prefix_of item)
 
 -- the next main item, where the first of these items stands at a place
 abbrev pub next_main : ℕ → List Item → Option ℕ
@@ -47,11 +47,11 @@ abbrev pub LONG : ℕ
 LONG = 0xFC
 
 -- the number of a short item; 0 of a long one
-abbrev pub number_of : Spelled → ℕ
-number_of item = if prefix_of item == LONG then 0 else unsigned_of (data_of item)
+abbrev pub item_number : EncodedItem → ℕ
+item_number item = if prefix_of item == LONG then 0 else unsigned_of (data_of item)
 
 -- the number of a short item in two's complement; 0 of a long one
-abbrev pub signed_number : Spelled → ℤ
+abbrev pub signed_number : EncodedItem → ℤ
 signed_number item = if prefix_of item == LONG then pos 0 else signed_of (data_of item)
 
 -- A unit's exponent: codes of four bits from 8 on are -8 to -1 (HID 1.11, 6.2.2.7), other numbers are as they are.
@@ -59,10 +59,10 @@ signed_number item = if prefix_of item == LONG then pos 0 else signed_of (data_o
 abbrev pub exponent_of : ℕ → ℤ → ℤ
 exponent_of code number = if nat_le 8 code && nat_le code 15 then pos code -ℤ pos 16 else number
 
--- the number of an item that there may be
-abbrev pub number_at : List Item → Option ℕ → ℕ
-number_at items None = 0
-number_at items (Some k) = number_of (item_spelling_at items k)
+-- the number of the item at an optional place; 0 where there is none
+abbrev pub item_number_at : List Item → Option ℕ → ℕ
+item_number_at items None = 0
+item_number_at items (Some k) = item_number (item_encoding_at items k)
 
 -- where the page of a usage is looked up: at the next main item of the table, or at the usage where none follows
 abbrev pub page_place : List Item → ℕ → ℕ
@@ -70,17 +70,17 @@ page_place items k = unwrap_or (next_main k (drop k items)) k
 
 -- the page in force where the page of a usage is looked up
 abbrev pub page_at : List Item → ℕ → ℕ
-page_at items k = number_at items (global_place items (page_place items k) USAGE_PAGE) % 2 ^ 16
+page_at items k = item_number_at items (global_place items (page_place items k) USAGE_PAGE) % 2 ^ 16
 
 -- the usage that a local item names: one of four bytes has its page in the high word
-abbrev pub usage_on : ℕ → Spelled → Usage
+abbrev pub usage_on : ℕ → EncodedItem → Usage
 usage_on page item =
-    if length item == 5 then record { page = number_of item / 2 ^ 16; id = number_of item % 2 ^ 16 }
-    else record { page = page; id = number_of item % 2 ^ 16 }
+    if length item == 5 then record { page = item_number item / 2 ^ 16; id = item_number item % 2 ^ 16 }
+    else record { page = page; id = item_number item % 2 ^ 16 }
 
 -- a number with a sign: a minimum or a maximum
-abbrev pub is_signed : ℕ → Bool
-is_signed prefix = prefix == 0x14 || (prefix == 0x24 || (prefix == 0x34 || prefix == 0x44))
+abbrev pub is_item_signed : ℕ → Bool
+is_item_signed prefix = prefix == 0x14 || (prefix == 0x24 || (prefix == 0x34 || prefix == 0x44))
 
 -- the prefix of a Unit Exponent
 abbrev pub UNIT_EXPONENT : ℕ
@@ -91,41 +91,42 @@ abbrev pub is_usage : ℕ → Bool
 is_usage prefix = prefix == 0x08 || (prefix == 0x18 || prefix == 0x28)
 
 -- the number of an item: a page in hex, and others in decimal
-abbrev pub number_text : ℕ → Spelled → List ℕ
+abbrev pub number_text : ℕ → EncodedItem → List ℕ
 number_text prefix item =
-    if is_signed prefix then signed_decimal (signed_number item)
-    else if prefix == UNIT_EXPONENT then signed_decimal (exponent_of (number_of item) (signed_number item))
-    else if prefix == USAGE_PAGE then hex_text (number_of item % 2 ^ 16)
-    else decimal (number_of item)
+    if is_item_signed prefix then signed_decimal (signed_number item)
+    else if prefix == UNIT_EXPONENT then signed_decimal (exponent_of (item_number item) (signed_number item))
+    else if prefix == USAGE_PAGE then hex_text (item_number item % 2 ^ 16)
+    else decimal (item_number item)
 
 -- what the data of an item say: flags, a kind of collections, a usage or a number
-unfoldable pub data_text : ℕ → Spelled → List ℕ
+unfoldable pub data_text : ℕ → EncodedItem → List ℕ
 data_text page item =
     if nat_le (length item) 1 then []
-    else if is_field item then 32 ∷ flags_text (prefix_of item == INPUT) (number_of item % 2 ^ 9)
-    else if prefix_of item == COLLECTION then 32 ∷ collection_name (number_of item % 2 ^ 8)
+    else if is_field item then 32 ∷ flags_text (prefix_of item == INPUT) (item_number item % 2 ^ 9)
+    else if prefix_of item == COLLECTION then 32 ∷ collection_name (item_number item % 2 ^ 8)
     else if is_usage (prefix_of item) then 32 ∷ escaped_words (usage_label (usage_on page item))
     else if prefix_of item == LONG then []
     else 32 ∷ number_text (prefix_of item) item
 
 -- a row begins with the place of the item, to which links lead
-unfoldable pub item_head : ℕ → List ℕ
-item_head at =
+unfoldable pub item_row_head : ℕ → List ℕ
+item_row_head at =
     codes "<tr id='at" ++ decimal at ++ codes "'><th scope='row'>" ++ decimal at ++ codes "</th><td><code>"
 
 -- an item is indented by the collections round it
-unfoldable pub item_words : List Item → ℕ → Spelled → List ℕ
+unfoldable pub item_words : List Item → ℕ → EncodedItem → List ℕ
 item_words items k item =
-    concat_below (round_at items k) (λ i. codes "&emsp;") ++ words_of item
+    concat_below (round_at items k) (λ i. codes "&emsp;") ++ item_data_words item
     ++ data_text (page_at items k) item
 
 -- the row of an item: its place, its bytes, and what it is
 unfoldable pub item_row : List Item → ℕ → Item → List ℕ
 item_row items k item =
-    item_head item.at ++ bytes_text item.bytes.now ++ codes "</code></td><td>" ++ item_words items k item.bytes.now
+    item_row_head item.at ++ bytes_text item.bytes.now ++ codes "</code></td><td>"
+    ++ item_words items k item.bytes.now
     ++ codes "</td></tr>" ++ 10 ∷ []
 
--- the row of an item that there may be
+-- the row of an item; no text where there is none
 abbrev pub row_at : List Item → ℕ → Option Item → List ℕ
 row_at items k None = []
 row_at items k (Some item) = item_row items k item

@@ -3,12 +3,12 @@
 use Rattle.std.specs.Prelude.{ℕ, ◌+◌, Bool, ◌==◌, List, [], ◌∷◌, ◌++◌, length, slice_get, take, if◌then◌else◌, Option, None, Some, codes, pos, int_lt}
 use Rattle.std.specs.List.{flat_map}
 use Rattle.std.specs.Fmt.{decimal, signed_decimal}
-use Rattle.hid_descriptor.specs.Usages.{Entry}
-use Rattle.hid_descriptor.specs.declared.collection.Collection.{Collection}
-use Rattle.hid_descriptor.specs.declared.report.Report.{Report}
-use Rattle.hid_descriptor.specs.declared.shape.Shape.{Shape}
-use Rattle.hid_descriptor.specs.declared.shape.Shape.TheVariants.{Padding, Variable, Array}
-use Rattle.hid_items.specs.declared.spelling.Item.{Item}
+use Rattle.hid_report_descriptor.specs.Usages.{Entry}
+use Rattle.hid_report_descriptor.specs.declared.collection.Collection.{Collection}
+use Rattle.hid_report_descriptor.specs.declared.report.Report.{Report}
+use Rattle.hid_report_descriptor.specs.declared.shape.Shape.{Shape}
+use Rattle.hid_report_descriptor.specs.declared.shape.Shape.TheVariants.{Padding, Variable, Array}
+use Rattle.hid_items.specs.declared.encoding.Item.{Item}
 use Rattle.hid_layout.specs.Layout.{Contents}
 use Rattle.hid_layout.specs.Reports.{first_bit, report_bytes}
 use Rattle.hid_layout.specs.declared.main_item.MainItem.{MainItem}
@@ -17,15 +17,15 @@ use Rattle.hid_page.specs.declared.item_table.TheConstants.{TABLE_END}
 use Rattle.hid_page.specs.declared.page.TheConstants.{HEAD, ACCEPTED, REFUSED, END}
 use Rattle.hid_page.specs.declared.field_table.TheConstants.{FIELDS_HEAD, NEXT, MARK}
 use Rattle.hid_drawing.specs.Escape.{escaped_words}
-use Rattle.hid_drawing.specs.Frames.{frames_of, main_at}
-use Rattle.hid_drawing.specs.Items.{place_of}
+use Rattle.hid_drawing.specs.Brackets.{brackets_of, main_at}
+use Rattle.hid_drawing.specs.Items.{item_place}
 use Rattle.hid_page.specs.ItemTable.{item_table}
 use Rattle.hid_page.specs.Windows.{windows}
-use Rattle.hid_drawing.specs.Makers.{makes, listed_places}
+use Rattle.hid_drawing.specs.Origins.{is_origin, listed_places}
 use Rattle.hid_drawing.specs.Pieces.{pieces_of}
 use Rattle.hid_drawing.specs.Svg.{picture_at}
 use Rattle.hid_drawing.specs.Terminal.{terminal_at}
-use Rattle.hid_drawing.specs.Words.{count_text, bit_text, flags_text, is_input_item, collection_text, entry_text, report_name}
+use Rattle.hid_drawing.specs.Words.{count_text, bit_text, flags_text, is_input_item, collection_words, entry_text, report_title}
 
 -- which rows a field points at: its own, when it is pointed at or chosen
 unfoldable pub mark_head : ℕ → List ℕ
@@ -35,7 +35,8 @@ mark_head i =
 
 -- the row of an item that made fields of a main item
 abbrev pub mark_at : List Item → ℕ → ℕ → List ℕ
-mark_at items m k = if makes items m k then codes ",#at" ++ decimal (place_of (slice_get items k)) else []
+mark_at items m k =
+    if is_origin items m k then codes ",#at" ++ decimal (item_place (slice_get items k)) else []
 
 -- the rows of the items that made fields of a main item
 unfoldable pub marks_of : List Item → ℕ → List ℕ
@@ -83,7 +84,7 @@ range_cell Array item = limits_text item
 
 -- the collections round a field
 unfoldable pub path_cell : List Collection → List ℕ
-path_cell path = flat_map (λ collection. escaped_words (collection_text collection) ++ codes "<br>") path
+path_cell path = flat_map (λ collection. escaped_words (collection_words collection) ++ codes "<br>") path
 
 -- a link to an item
 unfoldable pub item_link : ℕ → List ℕ
@@ -91,7 +92,7 @@ item_link at = codes "<a href='#at" ++ decimal at ++ codes "'>" ++ decimal at ++
 
 -- a link to an item that made fields of a main item
 abbrev pub link_at : List Item → ℕ → ℕ → List ℕ
-link_at items m k = if makes items m k then item_link (place_of (slice_get items k)) else []
+link_at items m k = if is_origin items m k then item_link (item_place (slice_get items k)) else []
 
 -- links to the items that made fields of a main item
 unfoldable pub links_cell : List Item → ℕ → List ℕ
@@ -118,7 +119,7 @@ field_row layout items mains i item entries path =
     place_cells layout i item ++ meaning_cells (is_input_item layout item) item entries
     ++ origin_cells items (main_at mains i) path
 
--- the row of a listed item that there may be, where it stands in the report
+-- the row of a listed item that stands in the report; no text for another item or none
 abbrev pub field_row_at : Contents → List Item → List ℕ → ℕ → ℕ
     → Option MainItem → Option (List Entry) → Option (List Collection) → List ℕ
 field_row_at layout items mains r i (Some item) (Some entries) (Some path) =
@@ -142,10 +143,11 @@ field_table layout items mains r = FIELDS_HEAD.now ++ field_rows layout items ma
 -- the heading of a report
 unfoldable pub heading : Bool → ℕ → Report → List ℕ
 heading numbered bytes report =
-    codes "<h2>" ++ report_name numbered report ++ codes ": " ++ count_text bytes (codes "byte") ++ codes "</h2>"
+    codes "<h2>" ++ report_title numbered report ++ codes ": " ++ count_text bytes (codes "byte")
+    ++ codes "</h2>"
     ++ 10 ∷ []
 
--- the heading of a report that there may be
+-- the heading of a report; no text where there is none
 abbrev pub heading_at : Contents → ℕ → Option Report → List ℕ
 heading_at layout r None = []
 heading_at layout r (Some report) = heading layout.numbered (report_bytes layout r) report
@@ -153,16 +155,16 @@ heading_at layout r (Some report) = heading layout.numbered (report_bytes layout
 -- the picture of a report alone
 unfoldable pub svg_of : Contents → List Item → List ℕ → ℕ → List ℕ
 svg_of layout items mains r =
-    picture_at layout r (frames_of layout items mains r) (pieces_of layout r) (slice_get layout.reports r)
+    picture_at layout r (brackets_of layout items mains r) (pieces_of layout r) (slice_get layout.reports r)
 
 -- the picture of a report in characters
 unfoldable pub characters_of : Contents → List Item → List ℕ → ℕ → List ℕ
 characters_of layout items mains r =
-    terminal_at layout r (frames_of layout items mains r) (pieces_of layout r) (slice_get layout.reports r)
+    terminal_at layout r (brackets_of layout items mains r) (pieces_of layout r) (slice_get layout.reports r)
 
 -- the windows of a report's picture
 unfoldable pub windows_of : Contents → List Item → List ℕ → ℕ → List ℕ
-windows_of layout items mains r = windows layout r (frames_of layout items mains r) (pieces_of layout r)
+windows_of layout items mains r = windows layout r (brackets_of layout items mains r) (pieces_of layout r)
 
 -- what a page has of a report
 unfoldable pub section : Contents → List Item → List ℕ → ℕ → List ℕ
@@ -185,10 +187,10 @@ page_of layout items mains =
     ++ item_table items ++ END.now
 
 -- why a descriptor is refused
-unfoldable pub refusal : List ℕ → List ℕ
-refusal words = escaped_words words ++ codes "</p>" ++ 10 ∷ []
+unfoldable pub refusal_page : List ℕ → List ℕ
+refusal_page words = escaped_words words ++ codes "</p>" ++ 10 ∷ []
 
 -- the page of a descriptor that is refused: the words of the refusal, and the items up to its place
 unfoldable pub refused_page : List Item → ℕ → List ℕ → List ℕ
 refused_page items count words =
-    HEAD.now ++ REFUSED.now ++ refusal words ++ item_table (take count items) ++ END.now
+    HEAD.now ++ REFUSED.now ++ refusal_page words ++ item_table (take count items) ++ END.now

@@ -9,8 +9,8 @@ use Rattle.hid_page.specs.declared.windows.TheConstants.{WINDOW, WINDOW_HEAD}
 use Rattle.hid_drawing.specs.Areas.{gap_of, row_top, name_left}
 use Rattle.hid_drawing.specs.declared.areas.TheConstants.{RIGHT}
 use Rattle.hid_drawing.specs.Lines.{rows_of}
-use Rattle.hid_drawing.specs.Frames.{frame_depth}
-use Rattle.hid_drawing.specs.declared.frames.Frame.{Frame}
+use Rattle.hid_drawing.specs.Brackets.{bracket_depth}
+use Rattle.hid_drawing.specs.declared.brackets.Bracket.{Bracket}
 use Rattle.hid_drawing.specs.declared.pieces.ByteSlice.{ByteSlice}
 
 -- how many windows a report of n bytes has: none where one would hold all of it
@@ -43,8 +43,8 @@ window r depth rows bytes k =
 unfoldable pub windows_by : ℕ → ℕ → List ℕ → ℕ → List ℕ
 windows_by r depth rows bytes = concat_below (window_count bytes) (window r depth rows bytes)
 
--- the windows of a report's picture, by its frames and its pieces
-unfoldable pub windows : Contents → ℕ → List Frame → List ByteSlice → List ℕ
-windows layout r frames pieces =
-    windows_by r (frame_depth frames) (rows_of layout r (report_bytes layout r) frames pieces)
+-- the windows of a report's picture, by its brackets and its pieces
+unfoldable pub windows : Contents → ℕ → List Bracket → List ByteSlice → List ℕ
+windows layout r brackets pieces =
+    windows_by r (bracket_depth brackets) (rows_of layout r (report_bytes layout r) brackets pieces)
     (report_bytes layout r)

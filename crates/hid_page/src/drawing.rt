@@ -2,8 +2,8 @@
 
 ghost use Rattle.std.specs.Prelude.{◌≡◌, ◌++◌, ◌<◌, ◌≤◌, ◌^◌, All, length, IfOk, OnOk, string_bytes};
 ghost use Rattle.std.specs.Option.{option_map};
-ghost use Rattle.hid_drawing.specs.Items.{IsWhole};
-ghost use Rattle.hid_page.specs.Drawing.{all_characters, form_text, IsDrawn, begin_count, refusal_words, IsRefusal};
+ghost use Rattle.hid_drawing.specs.Items.{IsWholeItem};
+ghost use Rattle.hid_page.specs.Drawing.{all_characters, form_text, IsDrawn, begin_count, refusal_words, IsDrawingRefusal};
 
 use crate::page::{print_characters, print_page, print_refused, print_svg};
 use hid_drawing::{listed_places, place_of, read_items};
@@ -50,7 +50,7 @@ fn draw_form(
     items: &[Item],
     mains: &[usize],
 ) -> Result<Option<String>, AllocError>
-    requires { All IsWhole items.now }
+    requires { All IsWholeItem items.now }
     ensures { IfOk result (λ text. option_map (λ t. string_bytes t) text
         ≡ form_text form layout.now items.now mains.now) }
 {
@@ -121,7 +121,7 @@ pub fn draw_refused(
     fault: LayoutFault,
 ) -> Result<String, AllocError>
     requires { length descriptor.now < 2 ^ 64 }
-    ensures { IfOk result (λ text. IsRefusal descriptor.now fault (string_bytes text)) }
+    ensures { IfOk result (λ text. IsDrawingRefusal descriptor.now fault (string_bytes text)) }
 {
     let items = read_items(alloc, descriptor)?;
     let words = words_of(alloc, fault)?;

@@ -1,16 +1,16 @@
 //! The fields of a report as a table, and the rules by which a field marks the items that made it.
 
 ghost use Rattle.std.specs.Prelude.{◌≡◌, ◌++◌, ◌<◌, length, OnOk, string_bytes};
-ghost use Rattle.hid_drawing.specs.Makers.{in_force};
-ghost use Rattle.hid_drawing.specs.Pieces.{LiesIn};
+ghost use Rattle.hid_drawing.specs.Origins.{origins_in_force};
+ghost use Rattle.hid_drawing.specs.Pieces.{SliceLiesIn};
 ghost use Rattle.hid_drawing.specs.Escape.{escaped_words};
-ghost use Rattle.hid_drawing.specs.Words.{entry_text, collection_text};
+ghost use Rattle.hid_drawing.specs.Words.{entry_text, collection_words};
 ghost use Rattle.hid_page.specs.Page.{mark_head, mark_at, marks_of, mark_rule, mark_rules, number_cell, size_cell, usages_cell, meaning_cell, limits_text, range_cell, path_cell, item_link, link_at, links_cell, place_cells, meaning_cells, origin_cells, field_row, field_row_of, field_rows, field_table};
 
 use crate::item_table::TABLE_END;
 use hid_drawing::{
-    InForce, first_bit_of, in_force, is_input_item, item_at, main_at, makes, place_of, print_bit,
-    print_collection, print_count, print_entry, print_flags, push_escaped,
+    InForce, first_bit_of, is_input_item, is_origin, item_at, main_at, origins_in_force, place_of,
+    print_bit, print_collection, print_count, print_entry, print_flags, push_escaped,
 };
 use hid_items::Item;
 use hid_layout::{Collection, Layout, MainItem, Shape, Usage};
@@ -45,10 +45,10 @@ fn print_mark(
     m: usize,
     k: usize,
 ) -> Result<(), AllocError>
-    requires { found.now ≡ in_force items.now m }
+    requires { found.now ≡ origins_in_force items.now m }
     ensures { OnOk result (string_bytes text.new ≡ string_bytes text.old ++ mark_at items.now m k) }
 {
-    if !makes(items, found, m, k) {
+    if !is_origin(items, found, m, k) {
         return Ok(());
     }
     let at = place_of(items, k);
@@ -60,7 +60,7 @@ fn print_mark(
 fn print_marks(text: &mut String, items: &[Item], m: usize) -> Result<(), AllocError>
     ensures { OnOk result (string_bytes text.new ≡ string_bytes text.old ++ marks_of items.now m) }
 {
-    let found = in_force(items, m);
+    let found = origins_in_force(items, m);
     for k in 0..items.len() {
         print_mark(text, items, &found, m, k)?;
     }
@@ -202,7 +202,7 @@ fn print_escaped_collection(
     collection: &Collection,
 ) -> Result<(), AllocError>
     ensures { OnOk result (string_bytes text.new
-        ≡ string_bytes text.old ++ escaped_words (collection_text collection.now)) }
+        ≡ string_bytes text.old ++ escaped_words (collection_words collection.now)) }
 {
     let mut name = String::new(alloc);
     print_collection(&mut name, collection)?;
@@ -237,10 +237,10 @@ fn print_link(
     m: usize,
     k: usize,
 ) -> Result<(), AllocError>
-    requires { found.now ≡ in_force items.now m }
+    requires { found.now ≡ origins_in_force items.now m }
     ensures { OnOk result (string_bytes text.new ≡ string_bytes text.old ++ link_at items.now m k) }
 {
-    if !makes(items, found, m, k) {
+    if !is_origin(items, found, m, k) {
         return Ok(());
     }
     print_item_link(text, place_of(items, k))
@@ -252,7 +252,7 @@ fn print_links_cell(text: &mut String, items: &[Item], m: usize) -> Result<(), A
     ensures { OnOk result (string_bytes text.new
         ≡ string_bytes text.old ++ links_cell items.now m) }
 {
-    let found = in_force(items, m);
+    let found = origins_in_force(items, m);
     for k in 0..items.len() {
         print_link(text, items, &found, m, k)?;
     }
@@ -267,7 +267,7 @@ fn print_place_cells(
     i: usize,
     item: &MainItem,
 ) -> Result<(), AllocError>
-    requires { LiesIn layout.now item.now }
+    requires { SliceLiesIn layout.now item.now }
     ensures { OnOk result (string_bytes text.new
         ≡ string_bytes text.old ++ place_cells layout.now i item.now) }
 {
@@ -335,7 +335,7 @@ fn print_field_row(
     i: usize,
     row: Row<'_>,
 ) -> Result<(), AllocError>
-    requires { LiesIn layout.now row.item.now }
+    requires { SliceLiesIn layout.now row.item.now }
     ensures { OnOk result (string_bytes text.new ≡ string_bytes text.old
         ++ field_row layout.now items.now mains.now i row.entry.item.now row.entry.entries.now row.entry.path.now) }
 {

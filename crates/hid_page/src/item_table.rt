@@ -3,17 +3,18 @@
 ghost use Rattle.std.specs.Prelude.{◌≡◌, ◌++◌, ◌+◌, ◌<◌, ◌^◌, All, codes, length, slice_get, Some, OnOk, string_bytes};
 ghost use Rattle.hid_notation.specs.Text.{concat_below};
 ghost use Rattle.hid_drawing.specs.Escape.{escaped_words};
-ghost use Rattle.hid_drawing.specs.Items.{IsWhole};
+ghost use Rattle.hid_drawing.specs.Items.{IsWholeItem};
 ghost use Rattle.hid_drawing.specs.Label.{usage_label};
-ghost use Rattle.hid_page.specs.ItemTable.{name_in_table, names_of, item_name, first_of, words_of, next_main, page_place, number_of, signed_number, exponent_of, number_at, page_at, usage_on, is_signed, is_usage, number_text, data_text, item_head, item_words, item_row, item_rows, item_table};
+ghost use Rattle.hid_page.specs.ItemTable.{name_in_table, names_of, item_name, first_of, item_data_words, next_main, page_place, item_number, signed_number, exponent_of, item_number_at, page_at, usage_on, is_item_signed, is_usage, number_text, data_text, item_row_head, item_words, item_row, item_rows, item_table};
 
 use hid_drawing::{
-    COLLECTION, UsageLabel, collection_name, global_place, is_field, is_main, prefix_of,
-    print_flags, push_escaped, round_at,
+    UsageLabel, collection_name, global_place, is_field, is_main, prefix_of, print_flags,
+    push_escaped, round_at,
 };
 use hid_items::Item;
 use hid_layout::{MainFlags, Usage};
 use hid_notation::{HexText, print_bytes};
+use hid_report_descriptor::prefix;
 use std::alloc::{AllocError, Global};
 
 /// The names of short items by their prefix (HID 1.11, 6.2.2).
@@ -34,12 +35,6 @@ pub const ITEMS_HEAD: &str =
 /// What a table ends with.
 pub const TABLE_END: &str = "</tbody></table></div>\n";
 
-const USAGE_PAGE: u8 = 0x04;
-
-const INPUT: u8 = 0x80;
-
-const UNIT_EXPONENT: u8 = 0x54;
-
 /// The prefix of long items, and of a reserved short one.
 const LONG: u8 = 0xFC;
 
@@ -56,6 +51,7 @@ fn name_in_table(rows: &[(u8, &'static str)], prefix: u8) -> &'static str
     "Reserved"
 }
 
+/// The name of the item with this prefix.
 #[tactic(auto, unfolding(crate::specs::ItemTable::item_name))]
 fn item_name(prefix: u8) -> &'static str
     ensures { result.now ≡ item_name prefix }
@@ -75,7 +71,7 @@ fn first_of(bytes: &[u8]) -> u8
 
 /// What an item is called.
 fn words_of(bytes: &[u8]) -> &'static str
-    ensures { result.now ≡ words_of bytes.now }
+    ensures { result.now ≡ item_data_words bytes.now }
 {
     if first_of(bytes) == 0xFE {
         return "Long item";
@@ -109,20 +105,20 @@ fn page_place(items: &[Item], k: usize) -> usize
     }
 }
 
-/// An item that is spelled whole.
+/// An item that is encoded whole.
 fn whole_at<'a, 'b>(items: &'a [Item<'b>], k: usize) -> &'a Item<'b>
     requires there { k < length items.now }
-    requires whole { All IsWhole items.now }
+    requires whole { All IsWholeItem items.now }
     ensures at { slice_get items.now k ≡ Some result.now }
-    ensures whole { IsWhole result.now }
+    ensures whole { IsWholeItem result.now }
 {
     &items[k]
 }
 
 /// The number of a short item; 0 of a long one.
 fn number_of(item: &Item) -> u64
-    requires { IsWhole item.now }
-    ensures value { result ≡ number_of item.now.bytes.now }
+    requires { IsWholeItem item.now }
+    ensures value { result ≡ item_number item.now.bytes.now }
     ensures small { result < 2 ^ 32 }
 {
     if prefix_of(item.bytes) == LONG {
@@ -133,7 +129,7 @@ fn number_of(item: &Item) -> u64
 
 /// The number of a short item in two's complement; 0 of a long one.
 fn signed_number(item: &Item) -> i64
-    requires { IsWhole item.now }
+    requires { IsWholeItem item.now }
     ensures { result ≡ signed_number item.now.bytes.now }
 {
     if prefix_of(item.bytes) == LONG {
@@ -153,10 +149,10 @@ fn exponent_of(code: u64, number: i64) -> i64
     }
 }
 
-/// The number of an item that there may be.
+/// The number of the item at an optional place; 0 where there is none.
 fn number_at(items: &[Item], place: Option<usize>) -> u64
-    requires { All IsWhole items.now }
-    ensures { result ≡ number_at items.now place }
+    requires { All IsWholeItem items.now }
+    ensures { result ≡ item_number_at items.now place }
 {
     match place {
         None => 0,
@@ -172,16 +168,16 @@ fn number_at(items: &[Item], place: Option<usize>) -> u64
 /// The page in force there.
 fn page_at(items: &[Item], k: usize) -> u16
     requires there { k < length items.now }
-    requires whole { All IsWhole items.now }
+    requires whole { All IsWholeItem items.now }
     ensures { result ≡ page_at items.now k }
 {
-    let place = global_place(items, page_place(items, k), USAGE_PAGE);
+    let place = global_place(items, page_place(items, k), prefix::USAGE_PAGE);
     (number_at(items, place) % 0x1_0000) as u16
 }
 
 /// The usage that a local item names.
 fn usage_on(page: u16, item: &Item) -> Usage
-    requires { IsWhole item.now }
+    requires { IsWholeItem item.now }
     ensures { result ≡ usage_on page item.now.bytes.now }
 {
     let number = number_of(item);
@@ -198,21 +194,30 @@ fn usage_on(page: u16, item: &Item) -> Usage
 
 /// A minimum or a maximum.
 fn is_signed(prefix: u8) -> bool
-    ensures { result ≡ is_signed prefix }
+    ensures { result ≡ is_item_signed prefix }
 {
-    matches!(prefix, 0x14 | 0x24 | 0x34 | 0x44)
+    matches!(
+        prefix,
+        prefix::LOGICAL_MINIMUM
+            | prefix::LOGICAL_MAXIMUM
+            | prefix::PHYSICAL_MINIMUM
+            | prefix::PHYSICAL_MAXIMUM
+    )
 }
 
 /// A usage, or an end of a range of usages.
 fn is_usage(prefix: u8) -> bool
     ensures { result ≡ is_usage prefix }
 {
-    matches!(prefix, 0x08 | 0x18 | 0x28)
+    matches!(
+        prefix,
+        prefix::USAGE | prefix::USAGE_MINIMUM | prefix::USAGE_MAXIMUM
+    )
 }
 
 /// Adds the number of an item.
 fn print_number(text: &mut String, prefix: u8, item: &Item) -> Result<(), AllocError>
-    requires { IsWhole item.now }
+    requires { IsWholeItem item.now }
     ensures { OnOk result (string_bytes text.new
         ≡ string_bytes text.old ++ number_text prefix item.now.bytes.now) }
 {
@@ -220,11 +225,11 @@ fn print_number(text: &mut String, prefix: u8, item: &Item) -> Result<(), AllocE
         let number = signed_number(item);
         return write!(text, "{number}");
     }
-    if prefix == UNIT_EXPONENT {
+    if prefix == prefix::UNIT_EXPONENT {
         let exponent = exponent_of(number_of(item), signed_number(item));
         return write!(text, "{exponent}");
     }
-    if prefix == USAGE_PAGE {
+    if prefix == prefix::USAGE_PAGE {
         let page = HexText((number_of(item) % 0x1_0000) as u16);
         return write!(text, "{page}");
     }
@@ -246,7 +251,7 @@ fn print_usage(alloc: Global, text: &mut String, usage: Usage) -> Result<(), All
 /// Adds what the data of an item say.
 #[tactic(auto, unfolding(crate::specs::ItemTable::data_text))]
 fn print_data(alloc: Global, text: &mut String, page: u16, item: &Item) -> Result<(), AllocError>
-    requires { IsWhole item.now }
+    requires { IsWholeItem item.now }
     ensures { OnOk result (string_bytes text.new
         ≡ string_bytes text.old ++ data_text page item.now.bytes.now) }
 {
@@ -258,11 +263,11 @@ fn print_data(alloc: Global, text: &mut String, page: u16, item: &Item) -> Resul
         text.push_str(" ")?;
         return print_flags(
             text,
-            prefix == INPUT,
+            prefix == prefix::INPUT,
             MainFlags((number_of(item) % 0x200) as u16),
         );
     }
-    if prefix == COLLECTION {
+    if prefix == prefix::COLLECTION {
         text.push_str(" ")?;
         return text.push_str(collection_name((number_of(item) % 0x100) as u8));
     }
@@ -278,9 +283,9 @@ fn print_data(alloc: Global, text: &mut String, page: u16, item: &Item) -> Resul
 }
 
 /// Adds what the row of an item begins with.
-#[tactic(auto, unfolding(crate::specs::ItemTable::item_head))]
+#[tactic(auto, unfolding(crate::specs::ItemTable::item_row_head))]
 fn print_item_head(text: &mut String, at: usize) -> Result<(), AllocError>
-    ensures { OnOk result (string_bytes text.new ≡ string_bytes text.old ++ item_head at) }
+    ensures { OnOk result (string_bytes text.new ≡ string_bytes text.old ++ item_row_head at) }
 {
     write!(text, "<tr id='at{at}'><th scope='row'>{at}</th><td><code>")
 }
@@ -306,8 +311,8 @@ fn print_item_words(
     item: &Item,
 ) -> Result<(), AllocError>
     requires there { k < length items.now }
-    requires items { All IsWhole items.now }
-    requires whole { IsWhole item.now }
+    requires items { All IsWholeItem items.now }
+    requires whole { IsWholeItem item.now }
     ensures { OnOk result (string_bytes text.new
         ≡ string_bytes text.old ++ item_words items.now k item.now.bytes.now) }
 {
@@ -326,8 +331,8 @@ fn print_item_row(
     item: &Item,
 ) -> Result<(), AllocError>
     requires there { k < length items.now }
-    requires items { All IsWhole items.now }
-    requires whole { IsWhole item.now }
+    requires items { All IsWholeItem items.now }
+    requires whole { IsWholeItem item.now }
     ensures { OnOk result (string_bytes text.new
         ≡ string_bytes text.old ++ item_row items.now k item.now) }
 {
@@ -341,7 +346,7 @@ fn print_item_row(
 /// Adds the rows of items.
 #[tactic(auto, unfolding(crate::specs::ItemTable::item_rows))]
 fn print_item_rows(alloc: Global, text: &mut String, items: &[Item]) -> Result<(), AllocError>
-    requires { All IsWhole items.now }
+    requires { All IsWholeItem items.now }
     ensures { OnOk result (string_bytes text.new ≡ string_bytes text.old ++ item_rows items.now) }
 {
     for k in 0..items.len() {
@@ -356,7 +361,7 @@ fn print_item_rows(alloc: Global, text: &mut String, items: &[Item]) -> Result<(
 /// Out of memory; part of the text may be added then.
 #[tactic(auto, unfolding(crate::specs::ItemTable::item_table))]
 pub fn print_item_table(alloc: Global, text: &mut String, items: &[Item]) -> Result<(), AllocError>
-    requires { All IsWhole items.now }
+    requires { All IsWholeItem items.now }
     ensures { OnOk result (string_bytes text.new ≡ string_bytes text.old ++ item_table items.now) }
 {
     text.push_str(ITEMS_HEAD)?;

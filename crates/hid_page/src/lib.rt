@@ -10,12 +10,12 @@
 //! The rule to know: all that is drawn is defined part by part in `specs/Page.antt` and `specs/ItemTable.antt`, and each
 //! `print_` call adds one part.
 //!
-//! The promise: [`draw`] gives exactly the stated text (`IsDrawn`), and [`draw_refused`] the page of a refusal (`IsRefusal`).
+//! The promise: [`draw`] gives exactly the stated text (`IsDrawn`), and [`draw_refused`] the page of a refusal (`IsDrawingRefusal`).
 #![tactic(auto)]
 
+mod brackets;
 mod drawing;
 mod field_table;
-mod frames;
 mod item_table;
 mod page;
 mod windows;

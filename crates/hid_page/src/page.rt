@@ -1,11 +1,11 @@
 //! The page of a descriptor: pictures, the fields as tables, and the items with their places.
 
 ghost use Rattle.std.specs.Prelude.{◌≡◌, ◌++◌, ◌<◌, ◌≤◌, All, length, slice_get, OnOk, string_bytes};
-ghost use Rattle.hid_drawing.specs.Items.{IsWhole};
-ghost use Rattle.hid_page.specs.Page.{heading, heading_at, svg_of, characters_of, section, sections, page_of, refusal, refused_page};
+ghost use Rattle.hid_drawing.specs.Items.{IsWholeItem};
+ghost use Rattle.hid_page.specs.Page.{heading, heading_at, svg_of, characters_of, section, sections, page_of, refusal_page, refused_page};
 
+use crate::brackets::brackets_in;
 use crate::field_table::{print_field_table, print_mark_rules};
-use crate::frames::frames_in;
 use crate::item_table::print_item_table;
 use crate::windows::print_windows;
 use hid_drawing::{
@@ -76,9 +76,9 @@ pub fn print_svg(
     ensures { OnOk result (string_bytes text.new
         ≡ string_bytes text.old ++ svg_of layout.now items.now mains.now r) }
 {
-    let frames = frames_in(alloc, layout, items, mains, r)?;
+    let brackets = brackets_in(alloc, layout, items, mains, r)?;
     let pieces = pieces_of(alloc, layout, r)?;
-    print_picture(alloc, text, layout, r, &frames, &pieces)
+    print_picture(alloc, text, layout, r, &brackets, &pieces)
 }
 
 /// Adds the same picture in characters.
@@ -98,9 +98,9 @@ pub fn print_characters(
     ensures { OnOk result (string_bytes text.new
         ≡ string_bytes text.old ++ characters_of layout.now items.now mains.now r) }
 {
-    let frames = frames_in(alloc, layout, items, mains, r)?;
+    let brackets = brackets_in(alloc, layout, items, mains, r)?;
     let pieces = pieces_of(alloc, layout, r)?;
-    print_terminal(alloc, text, layout, r, &frames, &pieces)
+    print_terminal(alloc, text, layout, r, &brackets, &pieces)
 }
 
 /// Adds what a page has of the report r.
@@ -153,7 +153,7 @@ pub fn print_page(
     items: &[Item],
     mains: &[usize],
 ) -> Result<(), AllocError>
-    requires { All IsWhole items.now }
+    requires { All IsWholeItem items.now }
     ensures { OnOk result (string_bytes text.new
         ≡ string_bytes text.old ++ page_of layout.now items.now mains.now) }
 {
@@ -166,9 +166,10 @@ pub fn print_page(
 }
 
 /// Adds why a descriptor is refused.
-#[tactic(auto, unfolding(crate::specs::Page::refusal))]
+#[tactic(auto, unfolding(crate::specs::Page::refusal_page))]
 fn print_refusal(text: &mut String, words: &str) -> Result<(), AllocError>
-    ensures { OnOk result (string_bytes text.new ≡ string_bytes text.old ++ refusal words.now) }
+    ensures { OnOk result
+        (string_bytes text.new ≡ string_bytes text.old ++ refusal_page words.now) }
 {
     push_escaped(text, words.as_bytes())?;
     text.push_str("</p>\n")
@@ -187,7 +188,7 @@ pub fn print_refused(
     words: &str,
 ) -> Result<(), AllocError>
     requires within { count ≤ length items.now }
-    requires whole { All IsWhole items.now }
+    requires whole { All IsWholeItem items.now }
     ensures { OnOk result (string_bytes text.new
         ≡ string_bytes text.old ++ refused_page items.now count words.now) }
 {

@@ -6,8 +6,10 @@ ghost use Rattle.hid_layout.specs.Reports.{report_bytes};
 ghost use Rattle.hid_page.specs.Page.{windows_of};
 ghost use Rattle.hid_page.specs.Windows.{window_count, cut_above, window_box, window_use, window, windows_by, windows};
 
-use crate::frames::frames_in;
-use hid_drawing::{RIGHT, frame_depth, gap_of, name_left, pieces_of, report_at, row_top, rows_of};
+use crate::brackets::brackets_in;
+use hid_drawing::{
+    RIGHT, bracket_depth, gap_of, name_left, pieces_of, report_at, row_top, rows_of,
+};
 use hid_items::Item;
 use hid_layout::Layout;
 use std::alloc::{AllocError, Global};
@@ -126,8 +128,8 @@ pub fn print_windows(
         ≡ string_bytes text.old ++ windows_of layout.now items.now mains.now r) }
 {
     let bytes = bytes_of(layout, r);
-    let frames = frames_in(alloc, layout, items, mains, r)?;
+    let brackets = brackets_in(alloc, layout, items, mains, r)?;
     let pieces = pieces_of(alloc, layout, r)?;
-    let rows = rows_of(alloc, layout, r, bytes, &frames, &pieces)?;
-    print_windows_by(text, r, frame_depth(&frames), &rows, bytes)
+    let rows = rows_of(alloc, layout, r, bytes, &brackets, &pieces)?;
+    print_windows_by(text, r, bracket_depth(&brackets), &rows, bytes)
 }

@@ -6,23 +6,23 @@ use Rattle.std.proofs.KnownBytes.{Appends-nil}
 use Rattle.std.specs.Io.KnownBytes.{Appends, Consumes, Keeps}
 use Rattle.hid_snapshots.specs.declared.fault.ReportFault.{ReportFault}
 use Rattle.hid_usages.specs.Reading.{report_named}
+use Rattle.hid_text.specs.Output.{IsPrefix}
 use Rattle.hid_recording.specs.declared.fault.Cause.{Cause}
 use Rattle.hid_recording.specs.declared.fault.Cause.TheVariants as causes
 use Rattle.hid_recording.specs.declared.fault.Refusal.{Refusal as Why}
-use Rattle.hid_recording.specs.declared.fault.Options.{Options}
+use Rattle.hid_recording.specs.declared.options.Options.{Options}
 use Rattle.hid_recording.specs.declared.fault.RecordingFault.{RecordingFault}
-use Rattle.hid_recording.specs.declared.fault.Summary.{Summary}
-use Rattle.hid_recording.specs.Output.{IsFront}
-use Rattle.hid_recording.specs.Session.{Session, Member, Outcome, success, failure, at_first}
-use Rattle.hid_recording.specs.Records.{Said, Nothing, Blank, Device, Descriptor, Unread, Report, Begins, Bytes, record_of}
+use Rattle.hid_recording.specs.declared.summary.Summary.{Summary}
+use Rattle.hid_recording.specs.Session.{Session, PlayedDevice, Outcome, success, failure, at_first}
+use Rattle.hid_recording.specs.Records.{LineMeaning, Nothing, Blank, Device, Descriptor, Unread, Report, Begins, Bytes, record_of}
 use Rattle.hid_recording.specs.Words.{time_of}
 use Rattle.hid_recording.specs.Dumps.{number_of_address}
 use Rattle.hid_recording.specs.Joining.{bytes_with, ends_with, with_collected}
 use Rattle.hid_recording.specs.declared.dump.Address.{Address}
 use Rattle.hid_recording.specs.declared.dump.Content.{Content}
 use Rattle.hid_recording.specs.declared.dump.Content.TheVariants as contents
-use Rattle.hid_recording.specs.LineOutput.{goes_on, refuses, reads_named, reads_of, member_in_slot, begins_after, begins_of, gathers, after_dump, with_device, chunk_in, chunk_of, stream_outcome, EndTells, SaidTells, Means, TellsUnless, with_line_counted, LineTells, LineBegins}
-use Rattle.hid_recording.specs.Runs.{Ending, Refusal, Want, Cut, Silence, Never, ending_of, EndsAs, FirstTells, FirstBegins, PlayedTo, RunsTo, Stops, line_of, summary_until, AppendsRecording}
+use Rattle.hid_recording.specs.LineOutput.{outcome_after_refusal, outcome_of_refusal, outcome_of_named_report, outcome_of_report_of, member_in_slot, outcome_of_dump_after, outcome_of_dump_of, outcome_of_dump_bytes, after_dump, with_device, chunk_in, chunk_of, stream_outcome, DumpEndGives, RecordGives, MeaningGives, GivesByLength, with_line_counted, LineGives, LineBegins}
+use Rattle.hid_recording.specs.Runs.{Ending, RefusedLine, OutOfMemory, PartlyWritten, NotRun, Never, ending_of, EndsAs, FirstGives, FirstBegins, PlayedTo, RunsTo, Stops, line_of, summary_until, AppendsRecording}
 use Rattle.hid_recording.specs.Player.{summary_of}
 use Rattle.hid_recording.specs.Place.{Place, Advances, RunsFrom, lines_at, AppendsFrom}
 use Rattle.hid_recording.proofs.PlaceLemmas.{first_begins, broken_run}
@@ -42,46 +42,55 @@ no_text : (text : List ℕ) (cause why : Cause) → ended_with text cause ≡ fa
 no_text text cause why e = ap (λ (o : Outcome). o.text) e
 
 refusal_text : (strict : Bool) (session : Session) (why : Why) (text : List ℕ) (cause : Cause)
-    → ended_with text cause ≡ cond strict (failure (causes.Refused why)) (goes_on session why) → text ≡ []
+    → ended_with text cause ≡ cond strict (failure (causes.Refused why)) (outcome_after_refusal session why)
+    → text ≡ []
 refusal_text true session why text cause e = no_text text cause (causes.Refused why) e
 refusal_text false session why text cause e = not_accepted text _ cause _ e
 
-no_refusal_text : (session : Session) (why : Why) (text : List ℕ) (cause : Cause) → ended_with text cause ≡ refuses session why → text ≡ []
+no_refusal_text : (session : Session) (why : Why) (text : List ℕ) (cause : Cause)
+    → ended_with text cause ≡ outcome_of_refusal session why → text ≡ []
 no_refusal_text session why text cause e = refusal_text session.options.strict session why text cause e
 
-no_report_text : (session : Session) (time bytes text : List ℕ) (cause : Cause) (member : Member) (r : Result ℕ ReportFault) → ended_with text cause ≡ reads_named session time bytes member r → text ≡ []
+no_report_text : (session : Session) (time bytes text : List ℕ) (cause : Cause) (member : PlayedDevice)
+    (r : Result ℕ ReportFault) → ended_with text cause ≡ outcome_of_named_report session time bytes member r
+    → text ≡ []
 no_report_text session time bytes text cause member (Ok report) e = not_accepted text _ cause _ e
 no_report_text session time bytes text cause member (Err fault) e = no_refusal_text session _ text cause e
 
-no_slot_text : (session : Session) (time bytes text : List ℕ) (cause : Cause) (slot : Option Member) → ended_with text cause ≡ reads_of session time bytes slot → text ≡ []
+no_slot_text : (session : Session) (time bytes text : List ℕ) (cause : Cause) (slot : Option PlayedDevice)
+    → ended_with text cause ≡ outcome_of_report_of session time bytes slot → text ≡ []
 no_slot_text session time bytes text cause None e = no_refusal_text session _ text cause e
 no_slot_text session time bytes text cause (Some member) e = no_report_text session time bytes text cause member (report_named member.layout bytes) e
 
 no_begun_text : (content : Option Content) (session next : Session) (text : List ℕ) (cause : Cause)
-    → ended_with text cause ≡ begins_after content session next → text ≡ []
+    → ended_with text cause ≡ outcome_of_dump_after content session next → text ≡ []
 no_begun_text None session next text cause e = not_accepted text _ cause _ e
 no_begun_text (Some content) session next text cause e = no_refusal_text _ _ text cause e
 
-no_begin_text : (session : Session) (address : Address) (content : Content) (time : List ℕ) (device : Option ℕ) (text : List ℕ) (cause : Cause) → ended_with text cause ≡ begins_of session address content time device → text ≡ []
+no_begin_text : (session : Session) (address : Address) (content : Content) (time : List ℕ) (device : Option ℕ)
+    (text : List ℕ) (cause : Cause) → ended_with text cause ≡ outcome_of_dump_of session address content time device
+    → text ≡ []
 no_begin_text session address content time None text cause e = no_refusal_text _ _ text cause e
 no_begin_text session address content time (Some device) text cause e = no_begun_text session.gathered.content session _ text cause e
 
 room_text : (long : Bool) (session next : Session) (why : Why) (text : List ℕ) (cause : Cause)
-    → ended_with text cause ≡ cond long (refuses session why) (success [] next) → text ≡ []
+    → ended_with text cause ≡ cond long (outcome_of_refusal session why) (success [] next) → text ≡ []
 room_text true session next why text cause e = no_refusal_text session why text cause e
 room_text false session next why text cause e = not_accepted text _ cause _ e
 
 passed_text : (passed : Bool) (session next : Session) (why : Why) (text : List ℕ) (cause : Cause)
-    → ended_with text cause ≡ cond passed (success [] session) (refuses next why) → text ≡ []
+    → ended_with text cause ≡ cond passed (success [] session) (outcome_of_refusal next why) → text ≡ []
 passed_text true session next why text cause e = not_accepted text _ cause _ e
 passed_text false session next why text cause e = no_refusal_text next why text cause e
 
-no_gathered_text : (session : Session) (bytes : Option (List ℕ)) (content : Option Content) (text : List ℕ) (cause : Cause) → ended_with text cause ≡ gathers session bytes content → text ≡ []
+no_gathered_text : (session : Session) (bytes : Option (List ℕ)) (content : Option Content) (text : List ℕ)
+    (cause : Cause) → ended_with text cause ≡ outcome_of_dump_bytes session bytes content → text ≡ []
 no_gathered_text session bytes None text cause e = passed_text session.gathered.is_dropped _ _ _ text cause e
 no_gathered_text session None (Some content) text cause e = no_refusal_text _ _ text cause e
 no_gathered_text session (Some bytes) (Some content) text cause e = room_text (nat_lt 4096 (length session.gathered.bytes + length bytes)) _ _ _ text cause e
 
-no_chunk_text : (session : Session) (time chunk text : List ℕ) (cause : Cause) (member : Member) (doubt ends : Bool) → ended_with text cause ≡ chunk_in session time chunk member doubt ends → text ≡ []
+no_chunk_text : (session : Session) (time chunk text : List ℕ) (cause : Cause) (member : PlayedDevice)
+    (doubt ends : Bool) → ended_with text cause ≡ chunk_in session time chunk member doubt ends → text ≡ []
 no_chunk_text session time chunk text cause member true ends e = no_refusal_text _ _ text cause e
 no_chunk_text session time chunk text cause member false true e =
     let now =
@@ -90,7 +99,8 @@ no_chunk_text session time chunk text cause member false true e =
     (member_in_slot (slice_get now.devices now.current)) e
 no_chunk_text session time chunk text cause member false false e = not_accepted text _ cause _ e
 
-no_chunk_slot_text : (session : Session) (time chunk text : List ℕ) (cause : Cause) (slot : Option Member) → ended_with text cause ≡ chunk_of session time chunk slot → text ≡ []
+no_chunk_slot_text : (session : Session) (time chunk text : List ℕ) (cause : Cause) (slot : Option PlayedDevice)
+    → ended_with text cause ≡ chunk_of session time chunk slot → text ≡ []
 no_chunk_slot_text session time chunk text cause None e = no_refusal_text session _ text cause e
 no_chunk_slot_text session time chunk text cause (Some member) e = no_chunk_text session time chunk text cause member member.in_doubt (ends_with member chunk) e
 
@@ -100,14 +110,16 @@ no_told_text session None bytes text cause e = no_refusal_text session _ text ca
 no_told_text session (Some time) bytes text cause e =
     no_chunk_slot_text session time bytes text cause (member_in_slot (slice_get session.devices session.current)) e
 
-no_end_text : (session : Session) (content : Option Content) (text : List ℕ) (cause : Cause) → EndTells session content (ended_with text cause) → text ≡ []
+no_end_text : (session : Session) (content : Option Content) (text : List ℕ) (cause : Cause)
+    → DumpEndGives session content (ended_with text cause) → text ≡ []
 no_end_text session None text cause e = not_accepted text _ cause _ e
 no_end_text session (Some contents.Descriptor) text cause (inl h) = not_accepted text _ cause _ h.2
 no_end_text session (Some contents.Descriptor) text cause (inr h) = no_refusal_text _ _ text cause h.2
 no_end_text session (Some contents.Stream) text cause e =
     no_told_text (after_dump session) (time_of session.gathered.time) session.gathered.bytes text cause e
 
-no_said_text : (session : Session) (said : Said) (text : List ℕ) (cause : Cause) → SaidTells session said (ended_with text cause) → text ≡ []
+no_said_text : (session : Session) (said : LineMeaning) (text : List ℕ) (cause : Cause)
+    → RecordGives session said (ended_with text cause) → text ≡ []
 no_said_text session Nothing text cause e = not_accepted text _ cause _ e
 no_said_text session Blank text cause h = no_end_text session session.gathered.content text cause h
 no_said_text session (Begins address content time) text cause e =
@@ -120,27 +132,32 @@ no_said_text session (Unread interface why) text cause e = no_refusal_text _ why
 no_said_text session (Report time bytes) text cause e =
     no_slot_text session time bytes text cause (member_in_slot (slice_get session.devices session.current)) e
 
-no_meant_text : (session : Session) (meant : Result Said Why) (text : List ℕ) (cause : Cause) → Means session meant (ended_with text cause) → text ≡ []
+no_meant_text : (session : Session) (meant : Result LineMeaning Why) (text : List ℕ) (cause : Cause)
+    → MeaningGives session meant (ended_with text cause) → text ≡ []
 no_meant_text session (Ok said) text cause h = no_said_text session said text cause h
 no_meant_text session (Err why) text cause e = no_refusal_text _ why text cause e
 
-unless_text : (long : Bool) (session : Session) (line text : List ℕ) (cause : Cause) → TellsUnless long session line (ended_with text cause) → text ≡ []
+unless_text : (long : Bool) (session : Session) (line text : List ℕ) (cause : Cause)
+    → GivesByLength long session line (ended_with text cause) → text ≡ []
 unless_text true session line text cause e = no_text text cause _ e
 unless_text false session line text cause h = no_meant_text (with_line_counted session) (record_of line) text cause h
 
-line_begins : (session : Session) (bytes text : List ℕ) (cause : Cause) → LineTells session bytes (ended_with text cause) → LineBegins session bytes text
-unfolding LineTells LineBegins
+line_begins : (session : Session) (bytes text : List ℕ) (cause : Cause)
+    → LineGives session bytes (ended_with text cause) → LineBegins session bytes text
+unfolding LineGives LineBegins
 line_begins session bytes text cause h = inl (unless_text (nat_lt 16384 (length bytes)) session bytes text cause h)
 
 -- ---- a run that stopped may as well have been cut off there
 
-cut_there : (ending : Ending) (session : Session) (recording : List (List ℕ)) (part : List ℕ) (cause : Cause) → EndsAs ending (FirstTells session recording) (FirstBegins session recording) part cause
-    → (text : List ℕ) × FirstBegins session recording text × IsFront part text
-cut_there Refusal session [] part cause h = absurd h
-cut_there Refusal session (bytes ∷ more) part cause h = (part, line_begins session bytes part cause h, ([], sym (append-nil part)))
-cut_there Want session recording part cause h = (part, h, ([], sym (append-nil part)))
-cut_there Cut session recording part cause h = h
-cut_there Silence session recording part cause h = ([], first_begins session recording, rw h ([], refl))
+cut_there : (ending : Ending) (session : Session) (recording : List (List ℕ)) (part : List ℕ) (cause : Cause)
+    → EndsAs ending (FirstGives session recording) (FirstBegins session recording) part cause
+    → (text : List ℕ) × FirstBegins session recording text × IsPrefix part text
+cut_there RefusedLine session [] part cause h = absurd h
+cut_there RefusedLine session (bytes ∷ more) part cause h =
+    (part, line_begins session bytes part cause h, ([], sym (append-nil part)))
+cut_there OutOfMemory session recording part cause h = (part, h, ([], sym (append-nil part)))
+cut_there PartlyWritten session recording part cause h = h
+cut_there NotRun session recording part cause h = ([], first_begins session recording, rw h ([], refl))
 cut_there Never session recording part cause h = absurd h
 
 cut_stops : (session : Session) (recording : List (List ℕ)) (before : ℕ) (written : List ℕ) (first fault : RecordingFault) → fault.line ≡ first.line → fault.cause ≡ causes.Write → fault.played ≡ first.played
@@ -156,7 +173,8 @@ cut_stops session recording before written first fault at is same h = record {
   all = h.all;
   played = same ∙ h.played ∙ ap (λ (n : ℕ). summary_of h.now (n - 1)) (sym at);
   part = h.part;
-  ends = subst (λ c. EndsAs (ending_of c) (FirstTells h.now h.others) (FirstBegins h.now h.others) h.part c) (sym is) (cut_there (ending_of first.cause) h.now h.others h.part first.cause h.ends);
+  ends = subst (λ c. EndsAs (ending_of c) (FirstGives h.now h.others) (FirstBegins h.now h.others) h.part c) (sym is)
+      (cut_there (ending_of first.cause) h.now h.others h.part first.cause h.ends);
   whole = h.whole;
 }
 
@@ -177,7 +195,8 @@ cut_at_end session recording written (Err first) fault at is same (inr h) = reco
   all = h.all;
   played = same ∙ h.played ∙ ap (λ (n : ℕ). summary_of h.last (n - 1)) (sym at);
   part = [];
-  ends = subst (λ c. EndsAs (ending_of c) (FirstTells h.last []) (FirstBegins h.last []) [] c) (sym is) ([], refl, ([], refl));
+  ends = subst (λ c. EndsAs (ending_of c) (FirstGives h.last []) (FirstBegins h.last []) [] c) (sym is)
+      ([], refl, ([], refl));
   whole = sym (append-nil written);
 }
 cut_at_end session recording written (Ok summary) fault at is same h = record {
@@ -190,7 +209,8 @@ cut_at_end session recording written (Ok summary) fault at is same h = record {
   all = h.all;
   played = same ∙ h.counts ∙ ap (summary_of h.last) (omega (arith, at));
   part = [];
-  ends = subst (λ c. EndsAs (ending_of c) (FirstTells h.last []) (FirstBegins h.last []) [] c) (sym is) ([], refl, ([], refl));
+  ends = subst (λ c. EndsAs (ending_of c) (FirstGives h.last []) (FirstBegins h.last []) [] c) (sym is)
+      ([], refl, ([], refl));
   whole = sym (append-nil written);
 }
 
@@ -227,7 +247,10 @@ cut_here place more fault is at played = inl (record {
   all = (refl, refl);
   played = played;
   part = [];
-  ends = subst (λ c. EndsAs (ending_of c) (FirstTells place.session (lines_at place more)) (FirstBegins place.session (lines_at place more)) [] c) (sym is) ([], first_begins place.session (lines_at place more), ([], refl));
+  ends = subst
+      (λ c. EndsAs (ending_of c) (FirstGives place.session (lines_at place more))
+      (FirstBegins place.session (lines_at place more)) [] c) (sym is)
+      ([], first_begins place.session (lines_at place more), ([], refl));
   whole = refl;
 })
 

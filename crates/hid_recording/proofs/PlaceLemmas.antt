@@ -9,12 +9,12 @@ use Rattle.hid_text.proofs.PieceLemmas.{gives_nothing, gives_more, gives_none, g
 use Rattle.hid_recording.specs.declared.fault.Cause.{Cause}
 use Rattle.hid_recording.specs.declared.fault.Cause.TheVariants as causes
 use Rattle.hid_recording.specs.declared.fault.RecordingFault.{RecordingFault}
-use Rattle.hid_recording.specs.declared.fault.Summary.{Summary}
-use Rattle.hid_recording.specs.declared.fault.Options.{Options}
+use Rattle.hid_recording.specs.declared.summary.Summary.{Summary}
+use Rattle.hid_recording.specs.declared.options.Options.{Options}
 use Rattle.hid_recording.specs.Session.{Session, success, failure, at_first}
-use Rattle.hid_recording.specs.LineOutput.{LineTells, LineBegins, TellsUnless}
+use Rattle.hid_recording.specs.LineOutput.{LineGives, LineBegins, GivesByLength}
 use Rattle.hid_recording.specs.Player.{summary_of}
-use Rattle.hid_recording.specs.Runs.{Silence, ending_of, EndsAs, Ends, FirstTells, FirstBegins, AllTell, PlayedTo, RunsTo, AppendsRecording}
+use Rattle.hid_recording.specs.Runs.{NotRun, ending_of, EndsAs, Ends, FirstGives, FirstBegins, AllGive, PlayedTo, RunsTo, AppendsRecording}
 use Rattle.hid_recording.specs.Place.{Place, lines_at, Writes, Advances, RunsFrom, Takes, EndsAt, AppendsFrom}
 
 -- ---- what lines tell, one after the other
@@ -24,15 +24,18 @@ after_both : (a b c t u : List ℕ) → t ≡ a ++ b → t ++ u ≡ a ++ (b ++ u
 after_both a b c t u e = ap (λ l. l ++ u) e ∙ append_assoc a b u
 
 -- lines after lines
-all_more : (session middle last : Session) (first more : List (List ℕ)) (text rest : List ℕ) → AllTell session first text middle → AllTell middle more rest last → AllTell session (first ++ more) (text ++ rest) last
+all_more : (session middle last : Session) (first more : List (List ℕ)) (text rest : List ℕ)
+    → AllGive session first text middle → AllGive middle more rest last
+    → AllGive session (first ++ more) (text ++ rest) last
 all_more session middle last [] more text rest h k =
-    subst (λ (s : Session). AllTell s more (text ++ rest) last) h.1 (subst (λ t. AllTell middle more (t ++ rest) last) (sym h.0) k)
+    subst (λ (s : Session). AllGive s more (text ++ rest) last) h.1
+    (subst (λ t. AllGive middle more (t ++ rest) last) (sym h.0) k)
 all_more session middle last (line ∷ first) more text rest h k =
     (h.0, h.1, h.2 ++ rest, h.3, all_more h.1 middle last first more h.2 rest h.4 k, after_both h.0 h.2 [] text rest h.5)
 
 -- one line
-one_tells : (session next : Session) (line text : List ℕ) → LineTells session line (success text next)
-    → AllTell session (line ∷ []) text next
+one_tells : (session next : Session) (line text : List ℕ) → LineGives session line (success text next)
+    → AllGive session (line ∷ []) text next
 one_tells session next line text h = (text, next, [], h, (refl, refl), sym (append-nil text))
 
 -- ---- pieces
@@ -55,7 +58,7 @@ advances_kept session begun bytes left n same = rw same (record { ended = []; al
 
 -- the last bytes of a line and its line feed, where the line was told whole
 pub advances_line : (session next : Session) (begun last line : List ℕ) (n : ℕ) (written : List ℕ) → IsUnbroken begun → IsUnbroken last
-    → line ≡ strip_carriage_return (begun ++ last) → LineTells session line (success written next)
+    → line ≡ strip_carriage_return (begun ++ last) → LineGives session line (success written next)
     → Advances (record { session = session; begun = begun; lines = n }) (last ++ 10 ∷ []) written (record { session = next; begun = []; lines = n + 1 })
 advances_line session next begun last line n written whole apart same told = record {
   ended = line ∷ [];
@@ -75,7 +78,8 @@ stopped_at session n played fault count counts at is = (omega (arith, count, at)
 
 -- a run that ended in its first line
 line_stops : (session : Session) (recording others : List (List ℕ)) (before : ℕ) (line part : List ℕ) (cause : Cause) (fault : RecordingFault) → recording ≡ line ∷ others → fault.line ≡ before + 1 → fault.cause ≡ cause → PlayedTo session fault
-    → Ends (LineTells session line) (LineBegins session line) part cause → RunsTo session recording before part (Err fault)
+    → Ends (LineGives session line) (LineBegins session line) part cause
+    → RunsTo session recording before part (Err fault)
 line_stops session recording others before line part cause fault e at is played h = inl (record {
   first = [];
   others = line ∷ others;
@@ -86,12 +90,14 @@ line_stops session recording others before line part cause fault e at is played 
   all = (refl, refl);
   played = played;
   part = part;
-  ends = subst (λ c. Ends (FirstTells session (line ∷ others)) (FirstBegins session (line ∷ others)) part c) (sym is) h;
+  ends = subst (λ c. Ends (FirstGives session (line ∷ others)) (FirstBegins session (line ∷ others)) part c)
+      (sym is) h;
   whole = refl;
 })
 
 -- what runs on after lines that were reported
-runs_more : (session middle : Session) (first others : List (List ℕ)) (before after : ℕ) (text rest : List ℕ) (result : Result Summary RecordingFault) → AllTell session first text middle → after ≡ before + length first
+runs_more : (session middle : Session) (first others : List (List ℕ)) (before after : ℕ) (text rest : List ℕ)
+    (result : Result Summary RecordingFault) → AllGive session first text middle → after ≡ before + length first
     → RunsTo middle others after rest result → RunsTo session (first ++ others) before (text ++ rest) result
 runs_more session middle first others before after text rest (Ok summary) h at k = record {
   last = k.last;
@@ -131,11 +137,11 @@ runs_after p q bytes more written text result h k =
 -- a line that is too long ends the run
 pub long_stops : (place : Place) (bytes more : List ℕ) (fault : RecordingFault) → IsUnbroken place.begun → IsUnbroken bytes → 16385 < length place.begun + length bytes → fault.line ≡ place.lines + 1 → fault.cause ≡ causes.LineTooLong → PlayedTo place.session fault
     → RunsFrom place (bytes ++ more) [] (Err fault)
-unfolding LineTells ending_of
+unfolding LineGives ending_of
 long_stops place bytes more fault whole apart long at is played =
     let first = long_line 16384 place.begun bytes more whole apart long in
     line_stops place.session (lines_at place (bytes ++ more)) first.1 place.lines first.0 [] causes.LineTooLong fault first.2 at is played
-    (subst (λ long. TellsUnless long place.session first.0 (failure causes.LineTooLong))
+    (subst (λ long. GivesByLength long place.session first.0 (failure causes.LineTooLong))
     (sym (lt-ltb 16384 (length first.0) first.3)) refl)
 
 -- one whose line feed came too
@@ -146,7 +152,9 @@ long_line_stops place last more fault whole apart long at is played =
 
 -- a line that ended the run at its line feed
 pub line_feed_stops : (place : Place) (next : Session) (last line more written : List ℕ) (cause : Cause) (fault : RecordingFault) → IsUnbroken place.begun → IsUnbroken last → line ≡ strip_carriage_return (place.begun ++ last)
-    → Writes (LineTells place.session line) (LineBegins place.session line) written (Err cause) next → fault.line ≡ place.lines + 1 → fault.cause ≡ cause → PlayedTo place.session fault → RunsFrom place ((last ++ 10 ∷ []) ++ more) written (Err fault)
+    → Writes (LineGives place.session line) (LineBegins place.session line) written (Err cause) next
+    → fault.line ≡ place.lines + 1 → fault.cause ≡ cause → PlayedTo place.session fault
+    → RunsFrom place ((last ++ 10 ∷ []) ++ more) written (Err fault)
 line_feed_stops place next last line more written cause fault whole apart same told at is played =
     line_stops place.session (lines_at place ((last ++ 10 ∷ []) ++ more)) (lines more) place.lines line written cause fault (gives_line place.begun last line whole apart same more) at is played told
 
@@ -173,7 +181,8 @@ stops_early p r bytes front rest written fault (Err e) parts stops is = λ more.
 -- ---- whole runs
 
 -- a fault that comes before any text of a line may come at any time
-pub outside_stops : (place : Place) (more : List ℕ) (fault : RecordingFault) → ending_of fault.cause ≡ Silence → fault.line ≡ place.lines + 1 → PlayedTo place.session fault → RunsFrom place more [] (Err fault)
+pub outside_stops : (place : Place) (more : List ℕ) (fault : RecordingFault) → ending_of fault.cause ≡ NotRun
+    → fault.line ≡ place.lines + 1 → PlayedTo place.session fault → RunsFrom place more [] (Err fault)
 outside_stops place more fault is at played = inl (record {
   first = [];
   others = lines_at place more;
@@ -184,7 +193,9 @@ outside_stops place more fault is at played = inl (record {
   all = (refl, refl);
   played = played;
   part = [];
-  ends = subst (λ e. EndsAs e (FirstTells place.session (lines_at place more)) (FirstBegins place.session (lines_at place more)) [] fault.cause) (sym is) refl;
+  ends = subst
+      (λ e. EndsAs e (FirstGives place.session (lines_at place more))
+      (FirstBegins place.session (lines_at place more)) [] fault.cause) (sym is) refl;
   whole = refl;
 })
 
@@ -200,13 +211,15 @@ ends_at session before (Ok summary) h = record { last = session; all = (refl, re
 ends_at session before (Err fault) h = inr (record { last = session; all = (refl, refl); unended = h.0; line = omega (arith, h.2); played = h.3; cause = h.1 })
 
 pub last_line_told : (place : Place) (next : Session) (written : List ℕ) (result : Result Summary RecordingFault)
-    → IsUnbroken place.begun → 0 < length place.begun → LineTells place.session place.begun (success written next)
+    → IsUnbroken place.begun → 0 < length place.begun → LineGives place.session place.begun (success written next)
     → EndsAt next (place.lines + 1) result → RunsFrom place [] written result
 last_line_told place next written result whole some told ends =
     let runs = runs_more place.session next (place.begun ∷ []) [] place.lines (place.lines + 1) written [] result (one_tells place.session next place.begun written told) (omega arith) (ends_at next (place.lines + 1) result ends) in
     subst (λ recording. RunsTo place.session recording place.lines written result) (sym (last_line place.begun whole some)) (subst (λ text. RunsTo place.session (place.begun ∷ []) place.lines text result) (append-nil written) runs)
 
-pub last_line_stops : (place : Place) (next : Session) (written : List ℕ) (cause : Cause) (fault : RecordingFault) → IsUnbroken place.begun → 0 < length place.begun → Writes (LineTells place.session place.begun) (LineBegins place.session place.begun) written (Err cause) next
+pub last_line_stops : (place : Place) (next : Session) (written : List ℕ) (cause : Cause) (fault : RecordingFault)
+    → IsUnbroken place.begun → 0 < length place.begun
+    → Writes (LineGives place.session place.begun) (LineBegins place.session place.begun) written (Err cause) next
     → fault.line ≡ place.lines + 1 → fault.cause ≡ cause → PlayedTo place.session fault → RunsFrom place [] written (Err fault)
 last_line_stops place next written cause fault whole some told at is played =
     line_stops place.session (lines_at place []) [] place.lines place.begun written cause fault (last_line place.begun whole some) at is played told
@@ -237,7 +250,8 @@ broken_run place a b c d f read written text now result from grew taken last sto
 
 -- nothing more is written at a fault from outside
 pub outside_run : (place : Place) (a b c d : Option (List ℕ)) (read written : List ℕ) (now : Place) (fault : RecordingFault) → Consumes a b read → Appends c d written → Advances place read written now
-    → ending_of fault.cause ≡ Silence → fault.line ≡ now.lines + 1 → PlayedTo now.session fault → AppendsFrom place a c d (Err fault)
+    → ending_of fault.cause ≡ NotRun → fault.line ≡ now.lines + 1 → PlayedTo now.session fault
+    → AppendsFrom place a c d (Err fault)
 outside_run place a b c d read written now fault from grew taken is at played =
     broken_run place a b c d d read written [] now (Err fault) from grew taken (Appends-nil d) (λ more. outside_stops now more fault is at played)
 
@@ -276,7 +290,10 @@ no_line_run options recording fault at is played = inl (record {
   all = (refl, refl);
   played = played;
   part = [];
-  ends = subst (λ c. Ends (FirstTells (at_first options) (lines recording)) (FirstBegins (at_first options) (lines recording)) [] c) (sym is) (first_begins (at_first options) (lines recording));
+  ends = subst
+      (λ c. Ends (FirstGives (at_first options) (lines recording))
+      (FirstBegins (at_first options) (lines recording)) [] c) (sym is)
+      (first_begins (at_first options) (lines recording));
   whole = refl;
 })
 

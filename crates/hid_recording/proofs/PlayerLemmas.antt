@@ -4,36 +4,35 @@ use Rattle.std.specs.Prelude.{slice_get, set}
 use Rattle.std.specs.Io.KnownBytes.{Appends}
 use Rattle.std.proofs.KnownBytes.{Appends-nil}
 use Rattle.std.proofs.lemmas.Bool.{lt-ltb, le-ltb}
-use Rattle.hid_descriptor.specs.declared.fault.Cause as layouts
-use Rattle.hid_descriptor.specs.declared.fault.Cause.TheVariants as whys
-use Rattle.hid_descriptor.specs.declared.fault.LayoutFault.{LayoutFault}
-use Rattle.hid_descriptor.specs.Faults.{Explains, Refuses}
+use Rattle.hid_report_descriptor.specs.declared.fault.Cause as layouts
+use Rattle.hid_report_descriptor.specs.declared.fault.Cause.TheVariants as whys
+use Rattle.hid_report_descriptor.specs.declared.fault.LayoutFault.{LayoutFault}
+use Rattle.hid_report_descriptor.specs.Faults.{is_memory, Explains, Refuses}
 use Rattle.hid_layout.specs.Layout.{Contents}
 use Rattle.hid_snapshots.specs.declared.control_state.ControlState.{ControlState}
 use Rattle.hid_snapshots.specs.declared.event.Event.{Event}
 use Rattle.hid_snapshots.specs.declared.fault.ReportFault.{ReportFault}
 use Rattle.hid_usages.specs.Reading.{report_named}
 use Rattle.hid_usages.specs.Taking.{read_view, read_events}
+use Rattle.hid_text.specs.Output.{AppendsPrefix}
 use Rattle.hid_recording.specs.declared.fault.Cause.{Cause}
 use Rattle.hid_recording.specs.declared.fault.Cause.TheVariants as causes
-use Rattle.hid_recording.specs.declared.fault.Options.{Options}
+use Rattle.hid_recording.specs.declared.options.Options.{Options}
 use Rattle.hid_recording.specs.declared.fault.Refusal.{Refusal as Why}
 use Rattle.hid_recording.specs.declared.fault.Refusal.TheVariants as refusals
 use Rattle.hid_recording.specs.declared.dump.Content.{Content}
 use Rattle.hid_recording.specs.declared.dump.Content.TheVariants as contents
-use Rattle.hid_recording.specs.Output.{AppendsFront}
-use Rattle.hid_recording.specs.Refusals.{is_memory}
-use Rattle.hid_recording.specs.Session.{Session, Member, Outcome, success, failure, saturating_sum}
-use Rattle.hid_recording.specs.Records.{Said, record_of}
+use Rattle.hid_recording.specs.Session.{Session, PlayedDevice, Outcome, success, failure, saturating_sum}
+use Rattle.hid_recording.specs.Records.{LineMeaning, record_of}
 use Rattle.hid_recording.specs.EventLines.{event_lines}
-use Rattle.hid_recording.specs.declared.recorded.Joined.{Joined}
-use Rattle.hid_recording.specs.declared.recorded.Joined.TheVariants.{Unknown, Doubtful, Begun, Whole}
+use Rattle.hid_recording.specs.declared.device.Joined.{Joined}
+use Rattle.hid_recording.specs.declared.device.Joined.TheVariants.{Unknown, Doubtful, Begun, Whole}
 use Rattle.hid_recording.specs.Joining.{IsRefusedAs, Joins, past_chunk, bytes_with, ends_with, with_collected}
-use Rattle.hid_recording.specs.LineOutput.{refuses, with_device, TellsDescriptor, SaidTells, values_asked, report_text, reads_named, reads_of, member_in_slot, report_outcome, chunk_in, chunk_of, chunk_outcome, after_dump, EndTells, Means, TellsUnless, LineTells, LineBegins}
+use Rattle.hid_recording.specs.LineOutput.{outcome_of_refusal, with_device, DescriptorGives, RecordGives, values_asked, report_text, outcome_of_named_report, outcome_of_report_of, member_in_slot, report_outcome, chunk_in, chunk_of, chunk_outcome, after_dump, DumpEndGives, MeaningGives, GivesByLength, LineGives, LineBegins}
 use Rattle.hid_recording.specs.Gathering.{EndsIn, Gathers, IsCauseOfLine}
 use Rattle.hid_recording.specs.Playing.{TakesOne, SlotTakesNone, PlaysAt}
 use Rattle.hid_recording.specs.Runs.{ending_of, Ends}
-use Rattle.hid_recording.specs.Place.{AppendsTold}
+use Rattle.hid_recording.specs.Place.{AppendsOutput}
 use Rattle.hid_recording.proofs.PlaceLemmas.{begins_nothing}
 
 -- ---- what is gathered
@@ -59,37 +58,50 @@ explained why bytes at other h = h
 
 -- a descriptor that is refused for another cause than out of memory
 pub descriptor_refused : (session : Session) (bytes : List ℕ) (fault : LayoutFault) (r : Result (Unit {0}) Cause) (text : List ℕ) (next : Session) → is_memory fault.cause ≡ false → Explains bytes fault.cause fault.at
-    → Gathers (λ o. o ≡ refuses (with_device session None) (refusals.Layout fault)) r text next → Gathers (TellsDescriptor bytes session) r text next
+    → Gathers (λ o. o ≡ outcome_of_refusal (with_device session None) (refusals.Layout fault)) r text next
+    → Gathers (DescriptorGives bytes session) r text next
 descriptor_refused session bytes fault r text next other told h =
-    gathers_so (λ o. o ≡ refuses (with_device session None) (refusals.Layout fault)) (TellsDescriptor bytes session) r text next (λ o e. inr (fault, explained fault.cause bytes fault.at other told, e)) h
+    gathers_so (λ o. o ≡ outcome_of_refusal (with_device session None) (refusals.Layout fault))
+    (DescriptorGives bytes session) r text next
+    (λ o e. inr (fault, explained fault.cause bytes fault.at other told, e)) h
 
 -- a dump of a descriptor, told in the session that its end leaves
-pub dump_described : (session : Session) (content : Option Content) (bytes : List ℕ) (now : Session) (r : Result (Unit {0}) Cause) (text : List ℕ) (next : Session) → Gathers (TellsDescriptor bytes now) r text next
+pub dump_described : (session : Session) (content : Option Content) (bytes : List ℕ) (now : Session)
+    (r : Result (Unit {0}) Cause) (text : List ℕ) (next : Session) → Gathers (DescriptorGives bytes now) r text next
     → content ≡ Some contents.Descriptor → bytes ≡ session.gathered.bytes → now ≡ after_dump session
-    → Gathers (EndTells session content) r text next
+    → Gathers (DumpEndGives session content) r text next
 dump_described session content bytes now r text next h is same after =
-    subst (λ c. Gathers (EndTells session c) r text next) (sym is)
-    (subst (λ (s : Session). Gathers (TellsDescriptor session.gathered.bytes s) r text next) after (subst (λ b. Gathers (TellsDescriptor b now) r text next) same h))
+    subst (λ c. Gathers (DumpEndGives session c) r text next) (sym is)
+    (subst (λ (s : Session). Gathers (DescriptorGives session.gathered.bytes s) r text next) after
+    (subst (λ b. Gathers (DescriptorGives b now) r text next) same h))
 
 -- a line that is a record
-pub said_meant : (session : Session) (meant : Result Said Why) (said : Said) (r : Result (Unit {0}) Cause) (text : List ℕ) (next : Session) → meant ≡ Ok said
-    → Gathers (SaidTells session said) r text next → Gathers (Means session meant) r text next
-said_meant session meant said r text next e h = subst (λ m. Gathers (Means session m) r text next) (sym e) h
+pub said_meant : (session : Session) (meant : Result LineMeaning Why) (said : LineMeaning)
+    (r : Result (Unit {0}) Cause) (text : List ℕ) (next : Session) → meant ≡ Ok said
+    → Gathers (RecordGives session said) r text next → Gathers (MeaningGives session meant) r text next
+said_meant session meant said r text next e h = subst (λ m. Gathers (MeaningGives session m) r text next) (sym e) h
 
 -- ---- reports
 
 -- a device by its fields
-is_member : (after : Member) (layout : Contents) (states : List ControlState) (collected : List ℕ) (doubt : Bool)
+is_member : (after : PlayedDevice) (layout : Contents) (states : List ControlState) (collected : List ℕ)
+    (doubt : Bool)
     → after.layout ≡ layout → after.states ≡ states → after.collected ≡ collected → after.in_doubt ≡ doubt
     → after ≡ record { layout = layout; states = states; collected = collected; in_doubt = doubt }
 is_member after layout states collected doubt l c k d =
-    ap (λ x. (let m : Member = record { layout = x; states = after.states; collected = after.collected; in_doubt = after.in_doubt } in m)) l
-    ∙ ap (λ x. (let m : Member = record { layout = layout; states = x; collected = after.collected; in_doubt = after.in_doubt } in m)) c
-    ∙ ap (λ x. (let m : Member = record { layout = layout; states = states; collected = x; in_doubt = after.in_doubt } in m)) k
-    ∙ ap (λ x. (let m : Member = record { layout = layout; states = states; collected = collected; in_doubt = x } in m)) d
+    ap (λ x. (let m : PlayedDevice =
+    record { layout = x; states = after.states; collected = after.collected; in_doubt = after.in_doubt } in m)) l
+    ∙ ap (λ x.
+    (let m : PlayedDevice =
+    record { layout = layout; states = x; collected = after.collected; in_doubt = after.in_doubt } in m)) c
+    ∙ ap (λ x.
+    (let m : PlayedDevice =
+    record { layout = layout; states = states; collected = x; in_doubt = after.in_doubt } in m)) k
+    ∙ ap (λ x.
+    (let m : PlayedDevice = record { layout = layout; states = states; collected = collected; in_doubt = x } in m)) d
 
 -- a report that was read, with what it tells
-pub report_taken : (options : Options) (time : List ℕ) (device : ℕ) (bytes : List ℕ) (member after : Member)
+pub report_taken : (options : Options) (time : List ℕ) (device : ℕ) (bytes : List ℕ) (member after : PlayedDevice)
     (old asked more : List ℕ) (none told : List Event) (events report : ℕ) → report_named member.layout bytes ≡ Ok report
     → after.layout ≡ member.layout → after.states ≡ read_view member.layout report bytes member.states
     → after.collected ≡ member.collected → after.in_doubt ≡ member.in_doubt → none ≡ []
@@ -112,32 +124,42 @@ report_taken options time device bytes member after old asked more none told eve
     }
 
 -- what stands at a place, put there, changes nothing
-kept_at : (devices : List (Option Member)) (i : ℕ) → set devices i (member_in_slot (slice_get devices i)) ≡ devices
+kept_at : (devices : List (Option PlayedDevice)) (i : ℕ)
+    → set devices i (member_in_slot (slice_get devices i)) ≡ devices
 kept_at [] i = refl
 kept_at (x ∷ devices) zero = refl
 kept_at (x ∷ devices) (suc i) = ap (λ l. x ∷ l) (kept_at devices i)
 
-unread : (session : Session) (time bytes : List ℕ) (slot : Option Member) (why : Why) (next : Option Member) → SlotTakesNone slot bytes (causes.Refused why) next → (next ≡ slot) × (refuses session why ≡ reads_of session time bytes slot)
-unread session time bytes None why next h = (h.0, ap (refuses session) h.1)
-unread session time bytes (Some member) why next h = (h.0, ap (refuses session) h.3 ∙ sym (ap (reads_named session time bytes member) h.2))
+unread : (session : Session) (time bytes : List ℕ) (slot : Option PlayedDevice) (why : Why)
+    (next : Option PlayedDevice)
+    → SlotTakesNone slot bytes (causes.Refused why) next
+    → (next ≡ slot) × (outcome_of_refusal session why ≡ outcome_of_report_of session time bytes slot)
+unread session time bytes None why next h = (h.0, ap (outcome_of_refusal session) h.1)
+unread session time bytes (Some member) why next h =
+    (h.0, ap (outcome_of_refusal session) h.3 ∙ sym (ap (outcome_of_named_report session time bytes member) h.2))
 
 -- a report that is refused
-pub report_refused : (session : Session) (options : Options) (time bytes : List ℕ) (current : ℕ) (devices : List (Option Member)) (why : Why) (before more : List ℕ) (r : Result (Unit {0}) Cause) (text : List ℕ) (next : Session) → current ≡ session.current
+pub report_refused : (session : Session) (options : Options) (time bytes : List ℕ) (current : ℕ)
+    (devices : List (Option PlayedDevice)) (why : Why) (before more : List ℕ) (r : Result (Unit {0}) Cause)
+    (text : List ℕ) (next : Session) → current ≡ session.current
     → PlaysAt options time session.current bytes session.devices before (Err (causes.Refused why)) devices more
-    → Gathers (λ o. o ≡ refuses (record session { current = current; devices = devices }) why) r text next
+    → Gathers (λ o. o ≡ outcome_of_refusal (record session { current = current; devices = devices }) why) r text next
     → Gathers (λ o. o ≡ report_outcome time bytes session) r text next
 report_refused session options time bytes current devices why before more r text next here played h =
     let slot = member_in_slot (slice_get session.devices session.current) in
     let left = unread session time bytes slot why played.0 played.1 in
     let kept : devices ≡ session.devices = played.2 ∙ ap (λ m. set session.devices session.current m) left.0 ∙ kept_at session.devices session.current in
     let same : (let s : Session = record session { current = current; devices = devices } in s) ≡ session = rw (here, kept) refl in
-    gathers_so (λ o. o ≡ refuses (record session { current = current; devices = devices }) why)
-    (λ o. o ≡ report_outcome time bytes session) r text next (λ o e. e ∙ ap (λ s. refuses s why) same ∙ left.1) h
+    gathers_so (λ o. o ≡ outcome_of_refusal (record session { current = current; devices = devices }) why)
+    (λ o. o ≡ report_outcome time bytes session) r text next
+    (λ o e. e ∙ ap (λ s. outcome_of_refusal s why) same ∙ left.1) h
 
 -- ---- chunks
 
 -- what is told of a chunk is told of the device after it
-pub chunk_joined : (session : Session) (time chunk : List ℕ) (current : ℕ) (devices : List (Option Member)) (after : Option Member) (tells : Session → Outcome) (r : Result (Unit {0}) Cause) (text : List ℕ) (next : Session)
+pub chunk_joined : (session : Session) (time chunk : List ℕ) (current : ℕ) (devices : List (Option PlayedDevice))
+    (after : Option PlayedDevice) (tells : Session → Outcome) (r : Result (Unit {0}) Cause) (text : List ℕ)
+    (next : Session)
     → current ≡ session.current → devices ≡ set session.devices session.current after
     → tells (with_device session after) ≡ chunk_outcome time chunk session
     → Gathers (λ o. o ≡ tells (record session { current = current; devices = devices })) r text next
@@ -148,15 +170,16 @@ chunk_joined session time chunk current devices after tells r text next here kep
     (λ o. o ≡ chunk_outcome time chunk session) r text next (λ o e. e ∙ ap tells same ∙ is) h
 
 -- a device without a descriptor
-pub unknown_told : (session : Session) (time chunk : List ℕ) (after : Option Member)
+pub unknown_told : (session : Session) (time chunk : List ℕ) (after : Option PlayedDevice)
     → member_in_slot (slice_get session.devices session.current) ≡ None → after ≡ None
-    → refuses (with_device session after) refusals.NoLayout ≡ chunk_outcome time chunk session
+    → outcome_of_refusal (with_device session after) refusals.NoLayout ≡ chunk_outcome time chunk session
 unknown_told session time chunk after none still =
     let kept : set session.devices session.current after ≡ session.devices = ap (λ m. set session.devices session.current m) (still ∙ sym none) ∙ kept_at session.devices session.current in
-    ap (λ d. refuses (record session { devices = d }) refusals.NoLayout) kept ∙ sym (ap (chunk_of session time chunk) none)
+    ap (λ d. outcome_of_refusal (record session { devices = d }) refusals.NoLayout) kept
+    ∙ sym (ap (chunk_of session time chunk) none)
 
 -- a device that a chunk finds so
-found_told : (session : Session) (time chunk : List ℕ) (member : Member) (doubt ends : Bool)
+found_told : (session : Session) (time chunk : List ℕ) (member : PlayedDevice) (doubt ends : Bool)
     → member_in_slot (slice_get session.devices session.current) ≡ Some member → member.in_doubt ≡ doubt
     → ends_with member chunk ≡ ends
     → chunk_outcome time chunk session ≡ chunk_in session time chunk member doubt ends
@@ -164,29 +187,31 @@ found_told session time chunk member doubt ends slot doubts does =
     ap (chunk_of session time chunk) slot ∙ ap (λ b. chunk_in session time chunk member b (ends_with member chunk)) doubts ∙ ap (chunk_in session time chunk member doubt) does
 
 -- a part of its report may be missing
-pub doubtful_told : (session : Session) (time chunk : List ℕ) (member : Member) (after : Option Member)
+pub doubtful_told : (session : Session) (time chunk : List ℕ) (member : PlayedDevice) (after : Option PlayedDevice)
     → member_in_slot (slice_get session.devices session.current) ≡ Some member → member.in_doubt ≡ true
     → after ≡ Some (past_chunk member chunk)
-    → refuses (with_device session after) refusals.PartMissing ≡ chunk_outcome time chunk session
+    → outcome_of_refusal (with_device session after) refusals.PartMissing ≡ chunk_outcome time chunk session
 doubtful_told session time chunk member after slot doubts behind =
-    ap (λ m. refuses (with_device session m) refusals.PartMissing) behind ∙ sym (found_told session time chunk member true (ends_with member chunk) slot doubts refl)
+    ap (λ m. outcome_of_refusal (with_device session m) refusals.PartMissing) behind
+    ∙ sym (found_told session time chunk member true (ends_with member chunk) slot doubts refl)
 
 -- a chunk that is refused
-pub refused_told : (session : Session) (time chunk : List ℕ) (joined : Joined) (refusal : Why) (after : Option Member)
+pub refused_told : (session : Session) (time chunk : List ℕ) (joined : Joined) (refusal : Why)
+    (after : Option PlayedDevice)
     → Joins (member_in_slot (slice_get session.devices session.current)) chunk joined after
     → IsRefusedAs joined refusal
-    → refuses (with_device session after) refusal ≡ chunk_outcome time chunk session
+    → outcome_of_refusal (with_device session after) refusal ≡ chunk_outcome time chunk session
 refused_told session time chunk Unknown refusal after joins is =
-    subst (λ r. refuses (with_device session after) r ≡ chunk_outcome time chunk session) (sym is)
+    subst (λ r. outcome_of_refusal (with_device session after) r ≡ chunk_outcome time chunk session) (sym is)
     (unknown_told session time chunk after joins.0 joins.1)
 refused_told session time chunk Doubtful refusal after joins is =
-    subst (λ r. refuses (with_device session after) r ≡ chunk_outcome time chunk session) (sym is)
+    subst (λ r. outcome_of_refusal (with_device session after) r ≡ chunk_outcome time chunk session) (sym is)
     (doubtful_told session time chunk joins.0 after joins.1 joins.2 joins.3)
 refused_told session time chunk Begun refusal after joins is = absurd is
 refused_told session time chunk (Whole bytes) refusal after joins is = absurd is
 
 -- more of its report comes
-pub begun_told : (session : Session) (time chunk : List ℕ) (member : Member) (after : Option Member)
+pub begun_told : (session : Session) (time chunk : List ℕ) (member : PlayedDevice) (after : Option PlayedDevice)
     → member_in_slot (slice_get session.devices session.current) ≡ Some member → member.in_doubt ≡ false
     → ends_with member chunk ≡ false
     → after ≡ Some (with_collected member (bytes_with member chunk))
@@ -196,7 +221,7 @@ begun_told session time chunk member after slot certain goes behind =
     ∙ sym (found_told session time chunk member false false slot certain goes)
 
 -- its report ends
-pub whole_told : (session : Session) (time chunk bytes : List ℕ) (member : Member) (after : Option Member)
+pub whole_told : (session : Session) (time chunk bytes : List ℕ) (member : PlayedDevice) (after : Option PlayedDevice)
     → member_in_slot (slice_get session.devices session.current) ≡ Some member → member.in_doubt ≡ false
     → ends_with member chunk ≡ true
     → bytes ≡ bytes_with member chunk → after ≡ Some (with_collected member [])
@@ -209,25 +234,28 @@ whole_told session time chunk bytes member after slot certain ends all behind =
 -- ---- lines
 
 short_line : (session : Session) (line : List ℕ) (lines' : ℕ) (o : Outcome) → length line ≤ 16384
-    → lines' ≡ saturating_sum session.lines 1 → Means (record session { lines = lines' }) (record_of line) o
-    → LineTells session line o
-unfolding LineTells
+    → lines' ≡ saturating_sum session.lines 1 → MeaningGives (record session { lines = lines' }) (record_of line) o
+    → LineGives session line o
+unfolding LineGives
 short_line session line lines' o short count h =
-    subst (λ long. TellsUnless long session line o) (sym (le-ltb 16384 (length line) short)) (subst (λ n. Means (record session { lines = n }) (record_of line) o) count h)
+    subst (λ long. GivesByLength long session line o) (sym (le-ltb 16384 (length line) short))
+    (subst (λ n. MeaningGives (record session { lines = n }) (record_of line) o) count h)
 
 -- a line that is too long
-pub long_line_ends : (old : Option (List ℕ)) (session : Session) (line : List ℕ) → 16384 < length line → (x : List ℕ) × Appends old old x × Ends (LineTells session line) (LineBegins session line) x causes.LineTooLong
-unfolding LineTells ending_of
+pub long_line_ends : (old : Option (List ℕ)) (session : Session) (line : List ℕ) → 16384 < length line
+    → (x : List ℕ) × Appends old old x
+    × Ends (LineGives session line) (LineBegins session line) x causes.LineTooLong
+unfolding LineGives ending_of
 long_line_ends old session line long = (
   [],
   Appends-nil old,
-  subst (λ b. TellsUnless b session line (failure causes.LineTooLong)) (sym (lt-ltb 16384 (length line) long)) refl,
+  subst (λ b. GivesByLength b session line (failure causes.LineTooLong)) (sym (lt-ltb 16384 (length line) long)) refl,
 )
 
 gathered_ends : (session : Session) (line : List ℕ) (lines' : ℕ) (cause : Cause) → length line ≤ 16384
     → lines' ≡ saturating_sum session.lines 1
-    → EndsIn (Means (record session { lines = lines' }) (record_of line)) cause
-    → Ends (LineTells session line) (LineBegins session line) [] cause
+    → EndsIn (MeaningGives (record session { lines = lines' }) (record_of line)) cause
+    → Ends (LineGives session line) (LineBegins session line) [] cause
 unfolding ending_of
 gathered_ends session line lines' causes.Memory short count h = begins_nothing session line
 gathered_ends session line lines' (causes.Refused why) short count h =
@@ -241,36 +269,43 @@ gathered_ends session line lines' causes.Unended short count h = absurd h
 -- nothing was gathered
 pub line_ends : (old : Option (List ℕ)) (session : Session) (line : List ℕ) (lines' : ℕ) (cause : Cause)
     (r : Result (Unit {0}) Cause) (next : Session) → length line ≤ 16384 → lines' ≡ saturating_sum session.lines 1
-    → EndsIn (Means (record session { lines = lines' }) (record_of line)) cause → IsErrAnd r (λ e. e ≡ cause) → AppendsTold old old (LineTells session line) (LineBegins session line) r next
+    → EndsIn (MeaningGives (record session { lines = lines' }) (record_of line)) cause → IsErrAnd r (λ e. e ≡ cause)
+    → AppendsOutput old old (LineGives session line) (LineBegins session line) r next
 line_ends old session line lines' cause (Ok u) next short count h is = absurd is
-line_ends old session line lines' cause (Err e) next short count h is =
-    ([], Appends-nil old, subst (λ c. Ends (LineTells session line) (LineBegins session line) [] c) (sym is) (gathered_ends session line lines' cause short count h))
+line_ends old session line lines' cause (Err e) next short count h is = (
+  [],
+  Appends-nil old,
+  subst (λ c. Ends (LineGives session line) (LineBegins session line) [] c) (sym is)
+      (gathered_ends session line lines' cause short count h),
+)
 
--- what was gathered is written, or a front of it
+-- what was gathered is written, or a prefix of it
 pub line_written : (old new : Option (List ℕ)) (session : Session) (line : List ℕ) (lines' : ℕ)
     (gathered text : List ℕ) (r : Result (Unit {0}) Cause) (next : Session) → length line ≤ 16384
     → lines' ≡ saturating_sum session.lines 1
-    → Means (record session { lines = lines' }) (record_of line) (success gathered next) → text ≡ gathered
-    → OnOk r (Appends old new text) → IfErr r (λ cause. cause ≡ causes.Write) → AppendsFront old new text
-    → AppendsTold old new (LineTells session line) (LineBegins session line) r next
+    → MeaningGives (record session { lines = lines' }) (record_of line) (success gathered next) → text ≡ gathered
+    → OnOk r (Appends old new text) → IfErr r (λ cause. cause ≡ causes.Write) → AppendsPrefix old new text
+    → AppendsOutput old new (LineGives session line) (LineBegins session line) r next
 unfolding LineBegins ending_of
-line_written old new session line lines' gathered text (Ok u) next short count told same ok cause front = (
+line_written old new session line lines' gathered text (Ok u) next short count told same ok cause prefix = (
   text,
   ok,
   short_line session line lines' (success text next) short count
-      (subst (λ t. Means (record session { lines = lines' }) (record_of line) (success t next)) (sym same) told),
+      (subst (λ t. MeaningGives (record session { lines = lines' }) (record_of line) (success t next))
+      (sym same) told),
 )
-line_written old new session line lines' gathered text (Err e) next short count told same ok cause front = (
-  front.0,
-  front.2,
-  subst (λ c. Ends (LineTells session line) (LineBegins session line) front.0 c) (sym cause) (
+line_written old new session line lines' gathered text (Err e) next short count told same ok cause prefix = (
+  prefix.0,
+  prefix.2,
+  subst (λ c. Ends (LineGives session line) (LineBegins session line) prefix.0 c) (sym cause) (
     text,
     inr (
       next,
       short_line session line lines' (success text next) short count
-          (subst (λ t. Means (record session { lines = lines' }) (record_of line) (success t next)) (sym same) told),
+          (subst (λ t. MeaningGives (record session { lines = lines' }) (record_of line) (success t next))
+          (sym same) told),
     ),
-    front.1,
+    prefix.1,
   ),
 )
 
@@ -287,16 +322,17 @@ gathered_cause Tells session line causes.Unended h = absurd h
 
 -- a line of which nothing was gathered
 pub line_cause : (session : Session) (line : List ℕ) (lines' : ℕ) (cause : Cause) (r : Result (Unit {0}) Cause) → lines' ≡ saturating_sum session.lines 1
-    → EndsIn (Means (record session { lines = lines' }) (record_of line)) cause
+    → EndsIn (MeaningGives (record session { lines = lines' }) (record_of line)) cause
     → IsErrAnd r (λ e. e ≡ cause) → IfErr r (λ e. IsCauseOfLine session line e)
 line_cause session line lines' cause (Ok u) count h is = absurd is
 line_cause session line lines' cause (Err e) count h is =
-    subst (λ c. IsCauseOfLine session line c) (sym is) (gathered_cause (Means (record session { lines = lines' }) (record_of line)) session line cause h)
+    subst (λ c. IsCauseOfLine session line c) (sym is)
+    (gathered_cause (MeaningGives (record session { lines = lines' }) (record_of line)) session line cause h)
 
 -- a line whose text the writer refuses
 pub written_cause : (session : Session) (line : List ℕ) (lines' : ℕ) (gathered text : List ℕ) (r : Result (Unit {0}) Cause) (next : Session)
     → length line ≤ 16384 → lines' ≡ saturating_sum session.lines 1
-    → Means (record session { lines = lines' }) (record_of line) (success gathered next) → text ≡ gathered
+    → MeaningGives (record session { lines = lines' }) (record_of line) (success gathered next) → text ≡ gathered
     → IfErr r (λ cause. cause ≡ causes.Write) → (text ≡ [] → r ≡ Ok tt) → IfErr r (λ e. IsCauseOfLine session line e)
 written_cause session line lines' gathered text (Ok u) next short count told same cause nothing = tt
 written_cause session line lines' gathered text (Err e) next short count told same cause nothing =
@@ -304,6 +340,7 @@ written_cause session line lines' gathered text (Err e) next short count told sa
       text,
       next,
       short_line session line lines' (success text next) short count
-          (subst (λ t. Means (record session { lines = lines' }) (record_of line) (success t next)) (sym same) told),
+          (subst (λ t. MeaningGives (record session { lines = lines' }) (record_of line) (success t next))
+          (sym same) told),
       λ empty. cc (nothing empty),
     )

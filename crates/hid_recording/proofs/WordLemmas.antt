@@ -1,4 +1,4 @@
--- Times are ASCII, and one word that is no byte spells nothing.
+-- Times are ASCII, and one word that is no byte encodes nothing.
 use Rattle.std.proofs.Common.{◌≡◌, ℕ, ◌<◌, Bool, true, false, List, [], length, get_or, refl, sym, ap, ◌∙◌, arith, Option, None, Some, Result, Ok, Err, Bor, inl, inr}
 use Rattle.std.specs.Prelude.{MatchResult, is_some}
 use Rattle.std.specs.Option.{option_map}
@@ -8,7 +8,7 @@ use Rattle.std.proofs.lemmas.Str.Ascii.{IsAscii-from_reads}
 use Rattle.std.specs.Result.{result_ok}
 use Rattle.std.proofs.lemmas.List.Folds.{list_all_at}
 use Rattle.std.proofs.lemmas.Bool.{or_cases, and_parts, leb-true, eqb-true, cond-true, cond-false}
-use Rattle.hid_recording.specs.Words.{is_time_byte, is_time, time_of, byte_of, bytes_of}
+use Rattle.hid_recording.specs.Words.{is_time_byte, is_time, time_of, byte_of_word, bytes_of}
 
 small : (b : ℕ) → is_time_byte b ≡ true → b < 128
 small b e = elim (or_cases _ _ e) [
@@ -27,9 +27,10 @@ pub time_is_text : (word : List ℕ) → is_time word ≡ true → IsUtf8 word
 time_is_text word all = IsUtf8-from_ascii word (time_is_ascii word all)
 
 -- one word that is no byte
-pub no_bytes : (words : List (List ℕ)) (i : ℕ) → i < length words → is_some (byte_of (get_or words i [])) ≡ false → bytes_of words ≡ None
+pub no_bytes : (words : List (List ℕ)) (i : ℕ) → i < length words → is_some (byte_of_word (get_or words i [])) ≡ false
+    → bytes_of words ≡ None
 unfolding bytes_of
-no_bytes words i below bad = cond-false _ _ _ (list_all_at (λ word. is_some (byte_of word)) words i [] below bad)
+no_bytes words i below bad = cond-false _ _ _ (list_all_at (λ word. is_some (byte_of_word word)) words i [] below bad)
 
 -- a time, once its bytes are read as text
 pub time_read : {E : Type 0} (word : List ℕ) (r : Result (Bor (List ℕ)) E) (o : Option (Bor (List ℕ))) (P : E → Type 0) → is_time word ≡ true

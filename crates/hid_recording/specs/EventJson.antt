@@ -3,7 +3,7 @@ use Rattle.std.specs.Prelude.{ℕ, ℤ, Bool, List, [], ◌∷◌, ◌++◌, if�
 use Rattle.std.specs.Fmt.{decimal, signed_decimal}
 use Rattle.json.specs.Token.{Token, begin_object, end_object, key, string, number}
 use Rattle.json.specs.Print.{print}
-use Rattle.hid_descriptor.specs.declared.usage.Usage.{Usage}
+use Rattle.hid_report_descriptor.specs.declared.usage.Usage.{Usage}
 use Rattle.hid_snapshots.specs.declared.event.Event.{Event}
 use Rattle.hid_snapshots.specs.declared.event.Event.TheVariants.{Down, Up, Value, Null, Motion, Dropped}
 use Rattle.hid_names.specs.Names.{Name, name_of, name_text}
@@ -49,7 +49,7 @@ value_tokens (Null control usage) = []
 value_tokens (Motion control usage by) = number_tokens by
 value_tokens (Dropped control usage by) = number_tokens by
 
--- the member of a name that there may be: "name":"NAME"
+-- the member of a name: "name":"NAME"; no token where there is no name
 abbrev pub named_tokens : Option Name → List Token
 named_tokens None = []
 named_tokens (Some name) = key (codes "name") ∷ string (name_text name) ∷ []

@@ -1,11 +1,11 @@
 -- Events of a recording as they are printed (our choice: docs/RECORDINGS.md).
 use Rattle.std.specs.Prelude.{ℕ, Bool, List, [], ◌∷◌, ◌++◌, if◌then◌else◌, Option, None, Some}
 use Rattle.std.specs.List.{flat_map}
-use Rattle.hid_descriptor.specs.declared.usage.Usage.{Usage}
+use Rattle.hid_report_descriptor.specs.declared.usage.Usage.{Usage}
 use Rattle.hid_snapshots.specs.declared.event.Event.{Event}
 use Rattle.hid_names.specs.Names.{Name, name_of, name_text}
 use Rattle.hid_text.specs.EventText.{event_text}
-use Rattle.hid_recording.specs.declared.fault.Options.{Options}
+use Rattle.hid_recording.specs.declared.options.Options.{Options}
 use Rattle.hid_recording.specs.EventJson.{usage_in, event_tokens, json_text}
 
 -- a name after a space, where there is one

@@ -3,7 +3,7 @@ use Rattle.std.specs.Prelude.{⊤, ◌≢◌, ℕ, List, [], Result, Ok, Err}
 use Rattle.hid_recording.specs.declared.fault.Cause.{Cause}
 use Rattle.hid_recording.specs.declared.fault.Cause.TheVariants.{Refused, LineTooLong, Read, Write, Memory, TooManyReads, Unended}
 use Rattle.hid_recording.specs.Session.{Session, Outcome, success, failure}
-use Rattle.hid_recording.specs.LineOutput.{LineTells}
+use Rattle.hid_recording.specs.LineOutput.{LineGives}
 
 -- why nothing was gathered: out of memory, or the refusal that ends a strict run
 abbrev pub EndsIn : (Outcome → Type 0) → Cause → Type 0
@@ -15,17 +15,17 @@ EndsIn Tells Write = ⊥
 EndsIn Tells TooManyReads = ⊥
 EndsIn Tells Unended = ⊥
 
--- what a player gathered of a line is what the line tells, or why it ends the run
+-- a player gathered the output of a line, or the cause for which the line ends the run
 abbrev pub Gathers : (Outcome → Type 0) → Result (Unit {0}) Cause → List ℕ → Session → Type 0
 Gathers Tells (Ok _) text next = Tells (success text next)
 Gathers Tells (Err cause) text next = EndsIn Tells cause
 
--- a line tells some text, which the writer may refuse
+-- a line has some output, which the writer may refuse
 abbrev pub LineWrites : Session → List ℕ → Type 0
 LineWrites session line =
-    (text : List ℕ) × (next : Session) × LineTells session line (success text next) × (text ≢ [])
+    (text : List ℕ) × (next : Session) × LineGives session line (success text next) × (text ≢ [])
 
--- A cause with which a line can end a run: none of the reader's, and the writer's only if the line tells some text.
+-- A cause with which a line can end a run: none of the reader's, and the writer's only if the line has some output.
 abbrev pub IsCauseOfLine : Session → List ℕ → Cause → Type 0
 IsCauseOfLine session line (Refused refusal) = ⊤
 IsCauseOfLine session line LineTooLong = ⊤

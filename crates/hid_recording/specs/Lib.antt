@@ -12,7 +12,6 @@ pub mod Gathering
 pub mod Playing
 pub mod MemoryUse
 pub mod Player
-pub mod Output
 pub mod Binary
 pub mod Runs
 pub mod Place

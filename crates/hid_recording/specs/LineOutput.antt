@@ -1,9 +1,9 @@
 -- The outcome of a line of a recording (our choice: docs/RECORDINGS.md).
 use Rattle.std.specs.Prelude.{◌≡◌, ◌⊎◌, ℕ, ◌+◌, nat_lt, Bool, true, false, List, [], ◌∷◌, ◌++◌, length, if◌then◌else◌, Option, None, Some, Result, Ok, Err, slice_get, set, map, codes}
 use Rattle.std.specs.Fmt.{decimal}
-use Rattle.hid_descriptor.specs.Items.{Spelled}
-use Rattle.hid_descriptor.specs.Faults.{Accepts, Refuses}
-use Rattle.hid_descriptor.specs.declared.fault.LayoutFault.{LayoutFault}
+use Rattle.hid_report_descriptor.specs.Items.{EncodedItem}
+use Rattle.hid_report_descriptor.specs.Faults.{Accepts, Refuses}
+use Rattle.hid_report_descriptor.specs.declared.fault.LayoutFault.{LayoutFault}
 use Rattle.hid_layout.specs.Layout.{Contents, layout_of}
 use Rattle.hid_snapshots.specs.declared.fault.ReportFault.{ReportFault}
 use Rattle.hid_usages.specs.Reading.{report_named}
@@ -13,39 +13,39 @@ use Rattle.hid_recording.specs.declared.dump.Address.{Address}
 use Rattle.hid_recording.specs.declared.dump.Content.{Content}
 use Rattle.hid_recording.specs.declared.dump.Content.TheVariants as contents
 use Rattle.hid_recording.specs.declared.fault.Cause.TheVariants.{Refused, LineTooLong}
-use Rattle.hid_recording.specs.declared.fault.Options.{Options}
+use Rattle.hid_recording.specs.declared.options.Options.{Options}
 use Rattle.hid_recording.specs.declared.fault.Refusal.{Refusal}
 use Rattle.hid_recording.specs.declared.fault.Refusal.TheVariants as refusals
-use Rattle.hid_recording.specs.Session.{Session, Member, Outcome, success, failure, saturating_sum, fresh_member}
+use Rattle.hid_recording.specs.Session.{Session, PlayedDevice, Outcome, success, failure, saturating_sum, fresh_device}
 use Rattle.hid_recording.specs.Taking.{read_member, member_events}
 use Rattle.hid_recording.specs.Joining.{slot_after_doubt, past_chunk, bytes_with, ends_with, with_collected}
 use Rattle.hid_recording.specs.EventLines.{event_lines}
 use Rattle.hid_recording.specs.Refusals.{refusal_line}
-use Rattle.hid_recording.specs.Records.{Said, Nothing, Blank, Device, Descriptor, Unread, Report, Begins, Bytes, record_of}
+use Rattle.hid_recording.specs.Records.{LineMeaning, Nothing, Blank, Device, Descriptor, Unread, Report, Begins, Bytes, record_of}
 use Rattle.hid_recording.specs.Words.{time_of}
-use Rattle.hid_recording.specs.Dumps.{nothing, left_out, empty_dump, described_device, number_of_address, with_address}
+use Rattle.hid_recording.specs.Dumps.{no_dump, dropped_dump, empty_dump, described_device, number_of_address, with_address}
 
 -- ---- refusals
 
 -- the outcome of a line that is refused: its place and why are printed, and it is counted
-abbrev pub goes_on : Session → Refusal → Outcome
-goes_on session refusal =
+abbrev pub outcome_after_refusal : Session → Refusal → Outcome
+outcome_after_refusal session refusal =
     success (refusal_line session.options.json session.lines refusal)
     (record session { refused = saturating_sum session.refused 1 })
 
 -- a line that is refused: of a strict run it is the end, else the run goes on
-abbrev pub refuses : Session → Refusal → Outcome
-refuses session refusal =
-    if session.options.strict then failure (Refused refusal) else goes_on session refusal
+abbrev pub outcome_of_refusal : Session → Refusal → Outcome
+outcome_of_refusal session refusal =
+    if session.options.strict then failure (Refused refusal) else outcome_after_refusal session refusal
 
 -- ---- descriptors
 
 -- the session whose current device is this one
-abbrev pub with_device : Session → Option Member → Session
+abbrev pub with_device : Session → Option PlayedDevice → Session
 with_device session member = record session { devices = set session.devices session.current member }
 
 -- the devices, of which a device that may be named has no descriptor
-abbrev pub devices_without : List (Option Member) → Option ℕ → List (Option Member)
+abbrev pub devices_without : List (Option PlayedDevice) → Option ℕ → List (Option PlayedDevice)
 devices_without devices None = devices
 devices_without devices (Some device) = set devices device None
 
@@ -55,8 +55,8 @@ described_text options device layout =
     if options.layout then codes "device " ++ decimal device ++ 10 ∷ layout_text layout else []
 
 -- a device whose descriptor is accepted
-abbrev pub installs : Session → Member → Outcome
-installs session member =
+abbrev pub outcome_of_device : Session → PlayedDevice → Outcome
+outcome_of_device session member =
     success (described_text session.options session.current member.layout)
     (record session {
       devices = set session.devices session.current (Some member);
@@ -64,33 +64,35 @@ installs session member =
     })
 
 -- the descriptor is accepted, with these items; or it is refused, and the device has none
-abbrev pub TellsDescriptor : List ℕ → Session → Outcome → Type 0
-TellsDescriptor bytes session o =
-    ((items : List Spelled) × Accepts bytes items × (o ≡ installs session (fresh_member (layout_of items))))
+abbrev pub DescriptorGives : List ℕ → Session → Outcome → Type 0
+DescriptorGives bytes session o =
+    ((items : List EncodedItem) × Accepts bytes items
+    × (o ≡ outcome_of_device session (fresh_device (layout_of items))))
     ⊎ ((fault : LayoutFault) × Refuses bytes fault.cause fault.at
-    × (o ≡ refuses (with_device session None) (refusals.Layout fault)))
+    × (o ≡ outcome_of_refusal (with_device session None) (refusals.Layout fault)))
 
 -- ---- reports
 
 -- a line for a report, and one for each of its values
-abbrev pub values_in : List ℕ → ℕ → Contents → Result ℕ ReportFault → List ℕ → List ℕ
-values_in time device layout (Ok report) bytes =
+abbrev pub values_output : List ℕ → ℕ → Contents → Result ℕ ReportFault → List ℕ → List ℕ
+values_output time device layout (Ok report) bytes =
     time ++ 32 ∷ decimal device ++ codes " report" ++ 10 ∷ values_text layout report bytes
-values_in time device layout (Err fault) bytes = []
+values_output time device layout (Err fault) bytes = []
 
 -- the values of a report, if they are asked for
 abbrev pub values_asked : Bool → List ℕ → ℕ → Contents → Result ℕ ReportFault → List ℕ → List ℕ
-values_asked asked time device layout named bytes = if asked then values_in time device layout named bytes else []
+values_asked asked time device layout named bytes =
+    if asked then values_output time device layout named bytes else []
 
 -- the text of a report: with --values its values, and then its events
-unfoldable pub report_text : Options → List ℕ → ℕ → Member → ℕ → List ℕ → List ℕ
+unfoldable pub report_text : Options → List ℕ → ℕ → PlayedDevice → ℕ → List ℕ → List ℕ
 report_text options time device member report bytes =
     values_asked options.values time device member.layout (Ok report) bytes
     ++ event_lines time device options (member_events member report bytes)
 
 -- a report that is read: its text, and the session after it
-abbrev pub reads : Session → List ℕ → List ℕ → Member → ℕ → Outcome
-reads session time bytes member report =
+abbrev pub outcome_of_report : Session → List ℕ → List ℕ → PlayedDevice → ℕ → Outcome
+outcome_of_report session time bytes member report =
     success (report_text session.options time session.current member report bytes)
     (record session {
       devices = set session.devices session.current (Some (read_member member report bytes));
@@ -99,41 +101,44 @@ reads session time bytes member report =
     })
 
 -- a report that the bytes name, or why they are none
-abbrev pub reads_named : Session → List ℕ → List ℕ → Member → Result ℕ ReportFault → Outcome
-reads_named session time bytes member (Ok report) = reads session time bytes member report
-reads_named session time bytes member (Err fault) = refuses session (refusals.Report fault)
+abbrev pub outcome_of_named_report : Session → List ℕ → List ℕ → PlayedDevice → Result ℕ ReportFault → Outcome
+outcome_of_named_report session time bytes member (Ok report) =
+    outcome_of_report session time bytes member report
+outcome_of_named_report session time bytes member (Err fault) =
+    outcome_of_refusal session (refusals.Report fault)
 
 -- a report of a device whose descriptor is known
-abbrev pub reads_of : Session → List ℕ → List ℕ → Option Member → Outcome
-reads_of session time bytes None = refuses session refusals.NoLayout
-reads_of session time bytes (Some member) = reads_named session time bytes member (report_named member.layout bytes)
+abbrev pub outcome_of_report_of : Session → List ℕ → List ℕ → Option PlayedDevice → Outcome
+outcome_of_report_of session time bytes None = outcome_of_refusal session refusals.NoLayout
+outcome_of_report_of session time bytes (Some member) =
+    outcome_of_named_report session time bytes member (report_named member.layout bytes)
 
 -- what stands at a place that there is
-abbrev pub member_in_slot : Option (Option Member) → Option Member
+abbrev pub member_in_slot : Option (Option PlayedDevice) → Option PlayedDevice
 member_in_slot None = None
 member_in_slot (Some member) = member
 
 -- a report of the device of these lines
 abbrev pub report_outcome : List ℕ → List ℕ → Session → Outcome
 report_outcome time bytes session =
-    reads_of session time bytes (member_in_slot (slice_get session.devices session.current))
+    outcome_of_report_of session time bytes (member_in_slot (slice_get session.devices session.current))
 
 -- ---- dumps
 
 -- no dump is open
 abbrev pub without_dump : Session → Session
-without_dump session = record session { gathered = nothing }
+without_dump session = record session { gathered = no_dump }
 
 -- The devices after a dump that may be open, and is dropped. The one whose descriptor it was to be has none. A part of
 -- a report may be missing: of any device, since it isn't known of which the line was.
-abbrev pub devices_after : Session → List (Option Member)
+abbrev pub devices_after : Session → List (Option PlayedDevice)
 devices_after session =
     map slot_after_doubt
     (devices_without session.devices (described_device session.gathered.content session.gathered.device))
 
 -- a dump that is open is dropped, and its further bytes are passed over
 abbrev pub with_dropped_dump : Session → Session
-with_dropped_dump session = record session { devices = devices_after session; gathered = left_out }
+with_dropped_dump session = record session { devices = devices_after session; gathered = dropped_dump }
 
 -- the device of an R: line, or that of an interface, has no descriptor any more
 abbrev pub without_descriptor : Session → Option Address → Session
@@ -144,8 +149,9 @@ without_descriptor session (Some address) = record session {
 }
 
 -- A descriptor can't be read: the device that it was for has none. Example: R: 2 05, then E: 1 1 00, is R4, then R7
-abbrev pub unread : Session → Option Address → Refusal → Outcome
-unread session interface refusal = refuses (with_dropped_dump (without_descriptor session interface)) refusal
+abbrev pub outcome_of_unread_descriptor : Session → Option Address → Refusal → Outcome
+outcome_of_unread_descriptor session interface refusal =
+    outcome_of_refusal (with_dropped_dump (without_descriptor session interface)) refusal
 
 -- a dump is open, of which no byte came yet
 abbrev pub with_dump : Session → Address → Content → List ℕ → ℕ → Session
@@ -153,25 +159,26 @@ with_dump session address content time device =
     record session { addresses = with_address session.addresses address; gathered = empty_dump content device time }
 
 -- a dump that begins: if another one is open, the line is refused, since that one should have been ended
-abbrev pub begins_after : Option Content → Session → Session → Outcome
-begins_after None session next = success [] next
-begins_after (Some content) session next =
-    refuses (record next { devices = devices_after session }) refusals.Unended
+abbrev pub outcome_of_dump_after : Option Content → Session → Session → Outcome
+outcome_of_dump_after None session next = success [] next
+outcome_of_dump_after (Some content) session next =
+    outcome_of_refusal (record next { devices = devices_after session }) refusals.Unended
 
 -- a dump that begins, of a device that may have a number
-abbrev pub begins_of : Session → Address → Content → List ℕ → Option ℕ → Outcome
-begins_of session address content time None = refuses (with_dropped_dump session) refusals.TooManyDevices
-begins_of session address content time (Some device) =
-    begins_after session.gathered.content session (with_dump session address content time device)
+abbrev pub outcome_of_dump_of : Session → Address → Content → List ℕ → Option ℕ → Outcome
+outcome_of_dump_of session address content time None =
+    outcome_of_refusal (with_dropped_dump session) refusals.TooManyDevices
+outcome_of_dump_of session address content time (Some device) =
+    outcome_of_dump_after session.gathered.content session (with_dump session address content time device)
 
--- what the head of a dump tells
-abbrev pub begins : Session → Address → Content → List ℕ → Outcome
-begins session address content time =
-    begins_of session address content time (number_of_address session.addresses address)
+-- the outcome of the head of a dump
+abbrev pub outcome_of_dump_head : Session → Address → Content → List ℕ → Outcome
+outcome_of_dump_head session address content time =
+    outcome_of_dump_of session address content time (number_of_address session.addresses address)
 
 -- a dump that is open, with more bytes
-abbrev pub with_bytes : Session → List ℕ → Session
-with_bytes session bytes = record session {
+abbrev pub with_dump_bytes : Session → List ℕ → Session
+with_dump_bytes session bytes = record session {
   gathered = record {
     content = session.gathered.content;
     is_dropped = session.gathered.is_dropped;
@@ -182,35 +189,37 @@ with_bytes session bytes = record session {
 }
 
 -- bytes that no dump has: of one that was dropped, or of none
-abbrev pub gathers_none : Session → Outcome
-gathers_none session =
-    if session.gathered.is_dropped then success [] session else refuses
+abbrev pub outcome_of_stray_bytes : Session → Outcome
+outcome_of_stray_bytes session =
+    if session.gathered.is_dropped then success [] session else outcome_of_refusal
     (with_dropped_dump session) refusals.Syntax
 
 -- bytes of a dump that is open, which has 4,096 at most
-abbrev pub gathers : Session → Option (List ℕ) → Option Content → Outcome
-gathers session bytes None = gathers_none session
-gathers session None (Some content) = refuses (with_dropped_dump session) refusals.BadHex
-gathers session (Some bytes) (Some content) =
+abbrev pub outcome_of_dump_bytes : Session → Option (List ℕ) → Option Content → Outcome
+outcome_of_dump_bytes session bytes None = outcome_of_stray_bytes session
+outcome_of_dump_bytes session None (Some content) =
+    outcome_of_refusal (with_dropped_dump session) refusals.BadHex
+outcome_of_dump_bytes session (Some bytes) (Some content) =
     if nat_lt 4096 (length session.gathered.bytes + length bytes)
-    then refuses (with_dropped_dump session) refusals.DumpTooLong else success [] (with_bytes session bytes)
+    then outcome_of_refusal (with_dropped_dump session) refusals.DumpTooLong else success []
+    (with_dump_bytes session bytes)
 
 -- a dump is ended, and the next lines are of its device
 abbrev pub after_dump : Session → Session
-after_dump session = record session { current = session.gathered.device; gathered = nothing }
+after_dump session = record session { current = session.gathered.device; gathered = no_dump }
 
 -- the outcome of a chunk of a device: passed over where a part may be missing, else the report that it ends is printed
-abbrev pub chunk_in : Session → List ℕ → List ℕ → Member → Bool → Bool → Outcome
+abbrev pub chunk_in : Session → List ℕ → List ℕ → PlayedDevice → Bool → Bool → Outcome
 chunk_in session time chunk member true ends =
-    refuses (with_device session (Some (past_chunk member chunk))) refusals.PartMissing
+    outcome_of_refusal (with_device session (Some (past_chunk member chunk))) refusals.PartMissing
 chunk_in session time chunk member false true =
     report_outcome time (bytes_with member chunk) (with_device session (Some (with_collected member [])))
 chunk_in session time chunk member false false =
     success [] (with_device session (Some (with_collected member (bytes_with member chunk))))
 
 -- a chunk of a device whose descriptor is known
-abbrev pub chunk_of : Session → List ℕ → List ℕ → Option Member → Outcome
-chunk_of session time chunk None = refuses session refusals.NoLayout
+abbrev pub chunk_of : Session → List ℕ → List ℕ → Option PlayedDevice → Outcome
+chunk_of session time chunk None = outcome_of_refusal session refusals.NoLayout
 chunk_of session time chunk (Some member) =
     chunk_in session time chunk member member.in_doubt (ends_with member chunk)
 
@@ -221,48 +230,49 @@ chunk_outcome time chunk session =
 
 -- the outcome of a dump that is a chunk
 abbrev pub stream_outcome : Option (List ℕ) → List ℕ → Session → Outcome
-stream_outcome None chunk session = refuses session refusals.BadTime
+stream_outcome None chunk session = outcome_of_refusal session refusals.BadTime
 stream_outcome (Some time) chunk session = chunk_outcome time chunk session
 
 -- the outcome of an empty line: that of the dump that is open, if one is
-abbrev pub EndTells : Session → Option Content → Outcome → Type 0
-EndTells session None o = o ≡ success [] (without_dump session)
-EndTells session (Some contents.Descriptor) o = TellsDescriptor session.gathered.bytes (after_dump session) o
-EndTells session (Some contents.Stream) o =
+abbrev pub DumpEndGives : Session → Option Content → Outcome → Type 0
+DumpEndGives session None o = o ≡ success [] (without_dump session)
+DumpEndGives session (Some contents.Descriptor) o =
+    DescriptorGives session.gathered.bytes (after_dump session) o
+DumpEndGives session (Some contents.Stream) o =
     o ≡ stream_outcome (time_of session.gathered.time) session.gathered.bytes (after_dump session)
 
 -- ---- lines
 
 -- the outcome of a record
-abbrev pub SaidTells : Session → Said → Outcome → Type 0
-SaidTells session Nothing o = o ≡ success [] session
-SaidTells session Blank o = EndTells session session.gathered.content o
-SaidTells session (Begins address content time) o = o ≡ begins session address content time
-SaidTells session (Bytes bytes) o = o ≡ gathers session bytes session.gathered.content
-SaidTells session (Device device) o = o ≡ success [] (record session { current = device })
-SaidTells session (Descriptor bytes) o = TellsDescriptor bytes session o
-SaidTells session (Unread interface refusal) o = o ≡ unread session interface refusal
-SaidTells session (Report time bytes) o = o ≡ report_outcome time bytes session
+abbrev pub RecordGives : Session → LineMeaning → Outcome → Type 0
+RecordGives session Nothing o = o ≡ success [] session
+RecordGives session Blank o = DumpEndGives session session.gathered.content o
+RecordGives session (Begins address content time) o = o ≡ outcome_of_dump_head session address content time
+RecordGives session (Bytes bytes) o = o ≡ outcome_of_dump_bytes session bytes session.gathered.content
+RecordGives session (Device device) o = o ≡ success [] (record session { current = device })
+RecordGives session (Descriptor bytes) o = DescriptorGives bytes session o
+RecordGives session (Unread interface refusal) o = o ≡ outcome_of_unread_descriptor session interface refusal
+RecordGives session (Report time bytes) o = o ≡ report_outcome time bytes session
 
 -- The outcome of a line that was read: that of what it says. One that can't be read drops the dump in which it stands.
-abbrev pub Means : Session → Result Said Refusal → Outcome → Type 0
-Means session (Ok said) o = SaidTells session said o
-Means session (Err refusal) o = o ≡ refuses (with_dropped_dump session) refusal
+abbrev pub MeaningGives : Session → Result LineMeaning Refusal → Outcome → Type 0
+MeaningGives session (Ok said) o = RecordGives session said o
+MeaningGives session (Err refusal) o = o ≡ outcome_of_refusal (with_dropped_dump session) refusal
 
 -- the line that is being played is counted
 abbrev pub with_line_counted : Session → Session
 with_line_counted session = record session { lines = saturating_sum session.lines 1 }
 
 -- the outcome of a line by its length: one of over 16,384 bytes ends the run
-abbrev pub TellsUnless : Bool → Session → List ℕ → Outcome → Type 0
-TellsUnless true session line o = o ≡ failure LineTooLong
-TellsUnless false session line o = Means (with_line_counted session) (record_of line) o
+abbrev pub GivesByLength : Bool → Session → List ℕ → Outcome → Type 0
+GivesByLength true session line o = o ≡ failure LineTooLong
+GivesByLength false session line o = MeaningGives (with_line_counted session) (record_of line) o
 
 -- The outcome of a line of these bytes: its text and the session that it leaves. Example: E: 1 1 00 as the first line
 -- is R7
-unfoldable pub LineTells : Session → List ℕ → Outcome → Type 0
-LineTells session line o = TellsUnless (nat_lt 16384 (length line)) session line o
+unfoldable pub LineGives : Session → List ℕ → Outcome → Type 0
+LineGives session line o = GivesByLength (nat_lt 16384 (length line)) session line o
 
 -- what may be printed of a line that running out of memory or the writer ends: nothing, or all
 unfoldable pub LineBegins : Session → List ℕ → List ℕ → Type 0
-LineBegins session line text = (text ≡ []) ⊎ ((next : Session) × LineTells session line (success text next))
+LineBegins session line text = (text ≡ []) ⊎ ((next : Session) × LineGives session line (success text next))

@@ -2,12 +2,12 @@
 use Rattle.std.specs.Prelude.{ℕ}
 use Rattle.hid_recording.specs.declared.player.Player.{Player}
 use Rattle.hid_recording.specs.declared.dump.Dump.{Dump}
-use Rattle.hid_recording.specs.Dumps.{Gathered}
-use Rattle.hid_recording.specs.declared.fault.Summary.{Summary}
+use Rattle.hid_recording.specs.Dumps.{DumpState}
+use Rattle.hid_recording.specs.declared.summary.Summary.{Summary}
 use Rattle.hid_recording.specs.Session.{Session}
 
 -- what came of a dump
-abbrev pub gathering_of : Dump → Gathered
+abbrev pub gathering_of : Dump → DumpState
 gathering_of dump =
     record {
       content = dump.content;

@@ -12,78 +12,78 @@ use Rattle.hid_recording.specs.declared.fault.Refusal.{Refusal}
 use Rattle.hid_recording.specs.declared.fault.Refusal.TheVariants.{Syntax, BadHex, BadCount, BadDevice, BadTime}
 use Rattle.hid_recording.specs.declared.record.Record.{Record}
 use Rattle.hid_recording.specs.declared.record.Record.TheVariants as records
-use Rattle.hid_recording.specs.Words.{bytes_of, is_count, device_of, time_of, is_colon, address_of, content_of}
+use Rattle.hid_recording.specs.Words.{bytes_of, is_count, device_of_word, time_of, is_colon, address_of, content_of}
 
 -- what a line says: nothing, or nothing but the end of a dump; which device the next lines are of; its report
 -- descriptor, or why the bytes of one can't be read, with the interface that it is of, if it is a dump; a report and
 -- when it came; that a dump begins; or bytes of one, if each word is a byte
-pub data Said : Type 0 where
-  Nothing : Said
-  Blank : Said
-  Device : ℕ → Said
-  Descriptor : List ℕ → Said
-  Unread : Option Address → Refusal → Said
-  Report : List ℕ → List ℕ → Said
-  Begins : Address → Content → List ℕ → Said
-  Bytes : Option (List ℕ) → Said
+pub data LineMeaning : Type 0 where
+  Nothing : LineMeaning
+  Blank : LineMeaning
+  Device : ℕ → LineMeaning
+  Descriptor : List ℕ → LineMeaning
+  Unread : Option Address → Refusal → LineMeaning
+  Report : List ℕ → List ℕ → LineMeaning
+  Begins : Address → Content → List ℕ → LineMeaning
+  Bytes : Option (List ℕ) → LineMeaning
 
 -- what a record says
-abbrev pub said_of : Record → Said
-said_of records.Nothing = Nothing
-said_of records.Blank = Blank
-said_of (records.Device device) = Device device.number
-said_of (records.Descriptor bytes) = Descriptor bytes.items
-said_of (records.Unread interface refusal) = Unread interface refusal
-said_of (records.Report time bytes) = Report time.now bytes.items
-said_of (records.Begins address content time) = Begins address content time.now
-said_of (records.Bytes bytes) = Bytes (option_map (λ b. b.items) bytes)
+abbrev pub meaning_of_record : Record → LineMeaning
+meaning_of_record records.Nothing = Nothing
+meaning_of_record records.Blank = Blank
+meaning_of_record (records.Device device) = Device device.number
+meaning_of_record (records.Descriptor bytes) = Descriptor bytes.items
+meaning_of_record (records.Unread interface refusal) = Unread interface refusal
+meaning_of_record (records.Report time bytes) = Report time.now bytes.items
+meaning_of_record (records.Begins address content time) = Begins address content time.now
+meaning_of_record (records.Bytes bytes) = Bytes (option_map (λ b. b.items) bytes)
 
 -- bytes where they are as many as the count says, or why they aren't
-abbrev pub if_so_many : Word → Option (List ℕ) → Result (List ℕ) Refusal
-if_so_many count None = Err BadHex
-if_so_many count (Some bytes) = if is_count count (length bytes) then Ok bytes else Err BadCount
+abbrev pub bytes_if_counted : Word → Option (List ℕ) → Result (List ℕ) Refusal
+bytes_if_counted count None = Err BadHex
+bytes_if_counted count (Some bytes) = if is_count count (length bytes) then Ok bytes else Err BadCount
 
--- the bytes that words spell, if they are as many as a word counts
+-- the bytes that words encode, if they are as many as a word counts
 abbrev pub counted_bytes : Word → List Word → Result (List ℕ) Refusal
-counted_bytes count hex = if_so_many count (bytes_of hex)
+counted_bytes count hex = bytes_if_counted count (bytes_of hex)
 
 -- what is said of the bytes that were read, or why there are none
-abbrev pub of_bytes : (List ℕ → Said) → Result (List ℕ) Refusal → Result Said Refusal
-of_bytes make (Ok bytes) = Ok (make bytes)
-of_bytes make (Err refusal) = Err refusal
+abbrev pub map_bytes : (List ℕ → LineMeaning) → Result (List ℕ) Refusal → Result LineMeaning Refusal
+map_bytes make (Ok bytes) = Ok (make bytes)
+map_bytes make (Err refusal) = Err refusal
 
--- a device that there may be
-abbrev pub or_no_device : Option ℕ → Result Said Refusal
-or_no_device None = Err BadDevice
-or_no_device (Some device) = Ok (Device device)
+-- a device; BadDevice where there is none
+abbrev pub device_or_refusal : Option ℕ → Result LineMeaning Refusal
+device_or_refusal None = Err BadDevice
+device_or_refusal (Some device) = Ok (Device device)
 
 -- what the words after `D:` say: DEVICE
-abbrev pub device_record : List Word → Result Said Refusal
-device_record (word ∷ []) = or_no_device (device_of word)
+abbrev pub device_record : List Word → Result LineMeaning Refusal
+device_record (word ∷ []) = device_or_refusal (device_of_word word)
 device_record _ = Err BadDevice
 
 -- the bytes of a descriptor, or why there are none
-abbrev pub or_unread : Result (List ℕ) Refusal → Said
-or_unread (Ok bytes) = Descriptor bytes
-or_unread (Err refusal) = Unread None refusal
+abbrev pub descriptor_or_unread : Result (List ℕ) Refusal → LineMeaning
+descriptor_or_unread (Ok bytes) = Descriptor bytes
+descriptor_or_unread (Err refusal) = Unread None refusal
 
 -- what the words after `R:` say: COUNT HEX
-abbrev pub descriptor_record : List Word → Said
-descriptor_record (count ∷ hex) = or_unread (counted_bytes count hex)
+abbrev pub descriptor_record : List Word → LineMeaning
+descriptor_record (count ∷ hex) = descriptor_or_unread (counted_bytes count hex)
 descriptor_record [] = Unread None BadCount
 
--- what came at a time that there may be
-abbrev pub came_at : Option (List ℕ) → Word → List Word → Result Said Refusal
-came_at None count hex = Err BadTime
-came_at (Some time) count hex = of_bytes (Report time) (counted_bytes count hex)
+-- what came at a time; BadTime where there is no time
+abbrev pub report_at_time : Option (List ℕ) → Word → List Word → Result LineMeaning Refusal
+report_at_time None count hex = Err BadTime
+report_at_time (Some time) count hex = map_bytes (Report time) (counted_bytes count hex)
 
 -- what the words after `E:` say: TIME COUNT HEX
-abbrev pub report_record : List Word → Result Said Refusal
-report_record (time ∷ count ∷ hex) = came_at (time_of time) count hex
+abbrev pub report_record : List Word → Result LineMeaning Refusal
+report_record (time ∷ count ∷ hex) = report_at_time (time_of time) count hex
 report_record _ = Err BadCount
 
 -- what the words after a letter say: N, P and I name a device, D numbers it, R has its descriptor, E a report
-unfoldable pub words_record : ℕ → List Word → Result Said Refusal
+unfoldable pub words_record : ℕ → List Word → Result LineMeaning Refusal
 words_record letter words =
     if letter == 78 || letter == 80 || letter == 73 then Ok Nothing
     else if letter == 68 then device_record words
@@ -92,44 +92,45 @@ words_record letter words =
     else Err Syntax
 
 -- a letter with a colon after it, and words
-abbrev pub letter_record : ℕ → List ℕ → Result Said Refusal
+abbrev pub letter_record : ℕ → List ℕ → Result LineMeaning Refusal
 letter_record letter [] = Err Syntax
 letter_record letter (colon ∷ rest) = if colon == 58 then words_record letter (words_of rest) else Err Syntax
 
 -- what the words after a space say: HEX, of a dump
-abbrev pub dump_record : List Word → Result Said Refusal
+abbrev pub dump_record : List Word → Result LineMeaning Refusal
 dump_record hex = Ok (Bytes (bytes_of hex))
 
--- a time that there may be
-abbrev pub or_no_time : Option (List ℕ) → Result (List ℕ) Refusal
-or_no_time None = Err BadTime
-or_no_time (Some time) = Ok time
+-- a time; BadTime where there is none
+abbrev pub time_or_refusal : Option (List ℕ) → Result (List ℕ) Refusal
+time_or_refusal None = Err BadTime
+time_or_refusal (Some time) = Ok time
 
 -- the words after the address in the head of a dump: TIME, and nothing more
 abbrev pub time_record : List Word → Result (List ℕ) Refusal
-time_record (time ∷ []) = or_no_time (time_of time)
+time_record (time ∷ []) = time_or_refusal (time_of time)
 time_record _ = Err Syntax
 
 -- a dump of an interface, or why it doesn't begin: then a descriptor can't be read
-abbrev pub dump_begin : Address → Content → Result (List ℕ) Refusal → Result Said Refusal
+abbrev pub dump_begin : Address → Content → Result (List ℕ) Refusal → Result LineMeaning Refusal
 dump_begin address content (Ok time) = Ok (Begins address content time)
 dump_begin address contents.Descriptor (Err refusal) = Ok (Unread (Some address) refusal)
 dump_begin address contents.Stream (Err refusal) = Err refusal
 
--- a dump of an interface and a content that there may be
-abbrev pub dump_begin_of : Option Address → Option Content → Result (List ℕ) Refusal → Result Said Refusal
+-- a dump of an interface and a content; Syntax where one of them is missing
+abbrev pub dump_begin_of : Option Address → Option Content → Result (List ℕ) Refusal
+    → Result LineMeaning Refusal
 dump_begin_of None content time = Err Syntax
 dump_begin_of (Some address) None time = Err Syntax
 dump_begin_of (Some address) (Some content) time = dump_begin address content time
 
 -- the parts of an address, and what stands after them
-abbrev pub begins_at : List Word → Result (List ℕ) Refusal → Result Said Refusal
+abbrev pub begins_at : List Word → Result (List ℕ) Refusal → Result LineMeaning Refusal
 begins_at (bus ∷ device ∷ interface ∷ content ∷ []) time =
     dump_begin_of (address_of bus device interface) (content_of content) time
 begins_at _ time = Err Syntax
 
 -- what the head of a dump says: BUS:DEVICE:INTERFACE:CONTENT TIME
-abbrev pub header_record : List Word → Result Said Refusal
+abbrev pub header_record : List Word → Result LineMeaning Refusal
 header_record (address ∷ time) = begins_at (slice_split is_colon address) (time_record time)
 header_record [] = Err Syntax
 
@@ -140,7 +141,7 @@ is_digit b = nat_le 48 b && nat_le b 57
 -- what a line of a recording says: nothing; which device comes; its descriptor, or why that can't be read; a report and
 -- its time; the head, bytes or end of a dump; or the first refusal. An empty line ends a dump, and one that begins with
 -- `#` says nothing; a space stands before the bytes of a dump, and a digit begins its head. Example: R: 2 05 is R4
-unfoldable pub record_of : List ℕ → Result Said Refusal
+unfoldable pub record_of : List ℕ → Result LineMeaning Refusal
 record_of [] = Ok Blank
 record_of (first ∷ rest) =
     if first == 35 then Ok Nothing
@@ -159,6 +160,6 @@ IsNone TooManyReads meant = ⊥
 IsNone Unended meant = ⊥
 
 -- what was read is what was meant
-abbrev pub ReadsRecord : Result Record Cause → Result Said Refusal → Type 0
+abbrev pub ReadsRecord : Result Record Cause → Result LineMeaning Refusal → Type 0
 ReadsRecord result meant =
-    MatchResult result (λ record'. meant ≡ Ok (said_of record')) (λ cause. IsNone cause meant)
+    MatchResult result (λ record'. meant ≡ Ok (meaning_of_record record')) (λ cause. IsNone cause meant)

@@ -1,9 +1,7 @@
 -- Refusals as they are printed (our choice: docs/RECORDINGS.md).
-use Rattle.std.specs.Prelude.{ℕ, Bool, true, false, List, [], ◌∷◌, ◌++◌, if◌then◌else◌, codes}
+use Rattle.std.specs.Prelude.{ℕ, Bool, List, [], ◌∷◌, ◌++◌, if◌then◌else◌, codes}
 use Rattle.std.specs.Fmt.{decimal}
-use Rattle.hid_descriptor.specs.declared.fault.Cause as layouts
-use Rattle.hid_descriptor.specs.declared.fault.Cause.TheVariants.{Memory}
-use Rattle.hid_descriptor.specs.Codes.{layout_fault_text}
+use Rattle.hid_report_descriptor.specs.Codes.{layout_fault_text}
 use Rattle.hid_snapshots.specs.declared.fault.ReportFault.{ReportFault}
 use Rattle.hid_snapshots.specs.declared.fault.ReportFault.TheVariants.{Short, UnknownReport}
 use Rattle.hid_notation.specs.Causes.{layout_words}
@@ -13,11 +11,6 @@ use Rattle.hid_recording.specs.declared.fault.Refusal.{Refusal}
 use Rattle.hid_recording.specs.declared.fault.Refusal.TheVariants.{Syntax, BadHex, BadCount, BadDevice, BadTime, NoLayout, Unended, DumpTooLong, TooManyDevices, PartMissing, Layout, Report}
 use Rattle.hid_recording.specs.declared.fault.Cause.{Cause}
 use Rattle.hid_recording.specs.declared.fault.Cause.TheVariants as causes
-
--- running out of memory is no refusal
-abbrev pub is_memory : layouts.Cause → Bool
-is_memory Memory = true
-is_memory _ = false
 
 -- why a report is refused
 abbrev pub report_words : ReportFault → List ℕ

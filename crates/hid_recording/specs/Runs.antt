@@ -2,42 +2,42 @@
 use Rattle.std.specs.Prelude.{◌≡◌, ◌⊎◌, ℕ, ◌+◌, ◌-◌, true, List, [], ◌∷◌, ◌++◌, length, Result, Ok, Err, Option, None, is_some, IfSome}
 use Rattle.std.specs.Str.Lines.{lines}
 use Rattle.std.specs.Io.KnownBytes.{Appends}
+use Rattle.hid_text.specs.Output.{IsPrefix}
 use Rattle.hid_recording.specs.declared.fault.Cause.{Cause}
 use Rattle.hid_recording.specs.declared.fault.Cause.TheVariants.{Refused, LineTooLong, Read, Write, Memory, TooManyReads, Unended}
-use Rattle.hid_recording.specs.declared.fault.Options.{Options}
+use Rattle.hid_recording.specs.declared.options.Options.{Options}
 use Rattle.hid_recording.specs.declared.fault.RecordingFault.{RecordingFault}
-use Rattle.hid_recording.specs.declared.fault.Summary.{Summary}
-use Rattle.hid_recording.specs.Output.{IsFront}
+use Rattle.hid_recording.specs.declared.summary.Summary.{Summary}
 use Rattle.hid_recording.specs.Player.{summary_of}
 use Rattle.hid_recording.specs.Session.{Session, Outcome, success, at_first}
-use Rattle.hid_recording.specs.LineOutput.{LineTells, LineBegins}
+use Rattle.hid_recording.specs.LineOutput.{LineGives, LineBegins}
 
 -- How a run ends early at a line: it is refused; memory ran out in it; the writer cut its text off; it wasn't run
 -- at all; or no line ends so.
 pub data Ending : Type 0 where
-  Refusal : Ending
-  Want : Ending
-  Cut : Ending
-  Silence : Ending
+  RefusedLine : Ending
+  OutOfMemory : Ending
+  PartlyWritten : Ending
+  NotRun : Ending
   Never : Ending
 
 -- the way in which a cause ends a run
 unfoldable pub ending_of : Cause → Ending
-ending_of (Refused refusal) = Refusal
-ending_of LineTooLong = Refusal
-ending_of Memory = Want
-ending_of Write = Cut
-ending_of Read = Silence
-ending_of TooManyReads = Silence
+ending_of (Refused refusal) = RefusedLine
+ending_of LineTooLong = RefusedLine
+ending_of Memory = OutOfMemory
+ending_of Write = PartlyWritten
+ending_of Read = NotRun
+ending_of TooManyReads = NotRun
 ending_of Unended = Never
 
--- What was written of the line at which the run ended: its text up to its refusal; nothing or all; a front of that; or
+-- What was written of the line at which the run ended: its text up to its refusal; nothing or all; a prefix of that; or
 -- nothing.
 abbrev pub EndsAs : Ending → (Outcome → Type 0) → (List ℕ → Type 0) → List ℕ → Cause → Type 0
-EndsAs Refusal Tells Begun written cause = Tells (record { text = written; end = Err cause })
-EndsAs Want Tells Begun written cause = Begun written
-EndsAs Cut Tells Begun written cause = (text : List ℕ) × Begun text × IsFront written text
-EndsAs Silence Tells Begun written cause = written ≡ []
+EndsAs RefusedLine Tells Begun written cause = Tells (record { text = written; end = Err cause })
+EndsAs OutOfMemory Tells Begun written cause = Begun written
+EndsAs PartlyWritten Tells Begun written cause = (text : List ℕ) × Begun text × IsPrefix written text
+EndsAs NotRun Tells Begun written cause = written ≡ []
 EndsAs Never Tells Begun written cause = ⊥
 
 -- what is written of the line at which a run ended, by the cause
@@ -45,9 +45,9 @@ abbrev pub Ends : (Outcome → Type 0) → (List ℕ → Type 0) → List ℕ �
 Ends Tells Begun written cause = EndsAs (ending_of cause) Tells Begun written cause
 
 -- the outcome of the first of these lines
-abbrev pub FirstTells : Session → List (List ℕ) → Outcome → Type 0
-FirstTells session [] o = ⊥
-FirstTells session (line ∷ more) o = LineTells session line o
+abbrev pub FirstGives : Session → List (List ℕ) → Outcome → Type 0
+FirstGives session [] o = ⊥
+FirstGives session (line ∷ more) o = LineGives session line o
 
 -- what may be printed of the first of these lines when a run ends in it; nothing where there is none
 abbrev pub FirstBegins : Session → List (List ℕ) → List ℕ → Type 0
@@ -55,20 +55,20 @@ FirstBegins session [] text = text ≡ []
 FirstBegins session (line ∷ more) text = LineBegins session line text
 
 -- all lines of a list are accepted, one after the other, and their texts, joined, are this text
-abbrev pub AllTell : Session → List (List ℕ) → List ℕ → Session → Type 0
-AllTell session [] text last = (text ≡ []) × (last ≡ session)
-AllTell session (line ∷ more) text last =
+abbrev pub AllGive : Session → List (List ℕ) → List ℕ → Session → Type 0
+AllGive session [] text last = (text ≡ []) × (last ≡ session)
+AllGive session (line ∷ more) text last =
     (first : List ℕ) × (next : Session) × (rest : List ℕ)
-    × LineTells session line (success first next)
-    × AllTell next more rest last
+    × LineGives session line (success first next)
+    × AllGive next more rest last
     × (text ≡ first ++ rest)
 
--- All these lines were run, and no dump is open after them. So many lines came before them. The counts are those of
+-- All these lines were run, and no dump is open after them. `before` lines came before them. The counts are those of
 -- the session after them.
 pub record Finishes (session : Session) (recording : List (List ℕ)) (before : ℕ) (written : List ℕ)
     (summary : Summary) : Type 0 where
   pub last : Session
-  pub all : AllTell session recording written last
+  pub all : AllGive session recording written last
   pub closed : last.gathered.content ≡ None
   pub lines : summary.lines ≡ before + length recording
   pub counts : summary ≡ summary_of last summary.lines
@@ -87,17 +87,17 @@ pub record Stops (session : Session) (recording : List (List ℕ)) (before : ℕ
   pub line : fault.line ≡ before + length first + 1
   pub text : List ℕ
   pub now : Session
-  pub all : AllTell session first text now
+  pub all : AllGive session first text now
   pub played : PlayedTo now fault
   pub part : List ℕ
-  pub ends : Ends (FirstTells now others) (FirstBegins now others) part fault.cause
+  pub ends : Ends (FirstGives now others) (FirstBegins now others) part fault.cause
   pub whole : written ≡ text ++ part
 
 -- All these lines were run, and a dump is open after them: the recording broke off in it.
 pub record BreaksOff (session : Session) (recording : List (List ℕ)) (before : ℕ) (written : List ℕ)
     (fault : RecordingFault) : Type 0 where
   pub last : Session
-  pub all : AllTell session recording written last
+  pub all : AllGive session recording written last
   pub unended : is_some last.gathered.content ≡ true
   pub line : fault.line ≡ before + length recording + 1
   pub played : PlayedTo last fault

@@ -6,21 +6,21 @@ use Rattle.hid_layout.specs.Controls.{items_of}
 use Rattle.hid_snapshots.specs.declared.control_state.ControlState.{ControlState}
 use Rattle.hid_usages.specs.ControlStates.{blank}
 use Rattle.hid_recording.specs.declared.dump.Address.{Address}
-use Rattle.hid_recording.specs.Dumps.{Gathered, nothing}
-use Rattle.hid_recording.specs.declared.fault.Options.{Options}
+use Rattle.hid_recording.specs.Dumps.{DumpState, no_dump}
+use Rattle.hid_recording.specs.declared.options.Options.{Options}
 use Rattle.hid_recording.specs.declared.fault.Cause.{Cause}
 
 -- a device: its layout, the view that its reports made, what came of a report that the next chunk of a dump goes on
 -- with, and whether a part of a report may be missing before that
-pub record Member : Type 0 where
+pub record PlayedDevice : Type 0 where
   pub layout : Contents
   pub states : List ControlState
   pub collected : List ℕ
   pub in_doubt : Bool
 
 -- a device of which no report came yet
-abbrev pub fresh_member : Contents → Member
-fresh_member layout =
+abbrev pub fresh_device : Contents → PlayedDevice
+fresh_device layout =
     record { layout = layout; states = blank (items_of layout); collected = []; in_doubt = false }
 
 -- The options, the device of the next lines, the descriptors that were accepted last with what their reports made, the
@@ -29,9 +29,9 @@ fresh_member layout =
 pub record Session : Type 0 where
   pub options : Options
   pub current : ℕ
-  pub devices : List (Option Member)
+  pub devices : List (Option PlayedDevice)
   pub addresses : List Address
-  pub gathered : Gathered
+  pub gathered : DumpState
   pub lines : ℕ
   pub descriptors : ℕ
   pub reports : ℕ
@@ -39,7 +39,7 @@ pub record Session : Type 0 where
   pub refused : ℕ
 
 -- sixteen devices, of which nothing is known
-abbrev pub no_devices : List (Option Member)
+abbrev pub no_devices : List (Option PlayedDevice)
 no_devices =
     None ∷ None ∷ None ∷ None ∷ None ∷ None ∷ None ∷ None
     ∷ None ∷ None ∷ None ∷ None ∷ None ∷ None ∷ None ∷ None ∷ []
@@ -51,7 +51,7 @@ at_first options = record {
   current = 0;
   devices = no_devices;
   addresses = [];
-  gathered = nothing;
+  gathered = no_dump;
   lines = 0;
   descriptors = 0;
   reports = 0;

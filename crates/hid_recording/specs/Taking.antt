@@ -2,12 +2,12 @@
 use Rattle.std.specs.Prelude.{ℕ, List}
 use Rattle.hid_snapshots.specs.declared.event.Event.{Event}
 use Rattle.hid_usages.specs.Taking.{read_view, read_events}
-use Rattle.hid_recording.specs.Session.{Member}
+use Rattle.hid_recording.specs.Session.{PlayedDevice}
 
 -- a device after a report
-abbrev pub read_member : Member → ℕ → List ℕ → Member
+abbrev pub read_member : PlayedDevice → ℕ → List ℕ → PlayedDevice
 read_member member report bytes = record member { states = read_view member.layout report bytes member.states }
 
 -- the events of a report of a device, after the earlier ones
-abbrev pub member_events : Member → ℕ → List ℕ → List Event
+abbrev pub member_events : PlayedDevice → ℕ → List ℕ → List Event
 member_events member report bytes = read_events member.layout report bytes member.states

@@ -13,30 +13,30 @@ use Rattle.hid_recording.specs.declared.fault.Cause.{Cause}
 use Rattle.hid_recording.specs.declared.fault.Cause.TheVariants.{Refused, Memory}
 use Rattle.hid_recording.specs.declared.fault.Refusal.TheVariants.{BadHex}
 
--- the byte that two hex digits of either case spell
-abbrev pub byte_of : Word → Option ℕ
-byte_of (high ∷ low ∷ []) =
+-- the byte that two hex digits of either case encode
+abbrev pub byte_of_word : Word → Option ℕ
+byte_of_word (high ∷ low ∷ []) =
     if nat_lt (digit_value high) 16 && nat_lt (digit_value low) 16
     then Some (digit_value high * 16 + digit_value low) else None
-byte_of _ = None
+byte_of_word _ = None
 
 -- the byte of a word that has one
 abbrev pub byte_in : Option ℕ → ℕ
 byte_in None = 0
 byte_in (Some byte) = byte
 
--- the bytes that words spell, one each
+-- the bytes that words encode, one each
 unfoldable pub bytes_of : List Word → Option (List ℕ)
 bytes_of words =
-    if list_all (λ word. is_some (byte_of word)) words
-    then Some (map (λ word. byte_in (byte_of word)) words) else None
+    if list_all (λ word. is_some (byte_of_word word)) words
+    then Some (map (λ word. byte_in (byte_of_word word)) words) else None
 
 -- why no bytes were read: out of memory, or a word that is no byte
 abbrev pub IsNoBytes : Cause → Option (List ℕ) → Type 0
-IsNoBytes Memory spelled = ⊤
-IsNoBytes cause spelled = (cause ≡ Refused BadHex) × (spelled ≡ None)
+IsNoBytes Memory encoded = ⊤
+IsNoBytes cause encoded = (cause ≡ Refused BadHex) × (encoded ≡ None)
 
--- the number that decimal digits spell, 2 to the 64 less 1 at most
+-- the number that decimal digits encode, 2 to the 64 less 1 at most
 abbrev pub decimal_of : Word → Option ℕ
 decimal_of word = option_map (λ n. min n (2 ^ 64 - 1)) (number_of 10 word)
 
@@ -49,14 +49,14 @@ is_so_many (Some n) count = n == count
 abbrev pub is_count : Word → ℕ → Bool
 is_count word count = is_so_many (decimal_of word) count
 
--- a number that there may be, if it is a device's
+-- a number, if it is a device's; none where there is no number or a greater one
 abbrev pub in_devices : Option ℕ → Option ℕ
 in_devices None = None
 in_devices (Some n) = if nat_le n 15 then Some n else None
 
 -- the device that a word names: 0 to 15
-abbrev pub device_of : Word → Option ℕ
-device_of word = in_devices (decimal_of word)
+abbrev pub device_of_word : Word → Option ℕ
+device_of_word word = in_devices (decimal_of word)
 
 -- a digit or a point
 abbrev pub is_time_byte : ℕ → Bool
@@ -66,7 +66,7 @@ is_time_byte b = (nat_le 48 b && nat_le b 57) || b == 46
 abbrev pub is_time : Word → Bool
 is_time word = list_all is_time_byte word
 
--- the time that a word spells, as it stands
+-- the time that a word encodes, as it stands
 abbrev pub time_of : Word → Option (List ℕ)
 time_of word = if is_time word then Some word else None
 

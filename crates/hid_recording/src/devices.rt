@@ -2,17 +2,18 @@
 
 ghost use Rattle.std.specs.Prelude.{◌≡◌, ◌<◌, Option, length, map, set, slice_get, string_bytes, true, IfOk, IfErr};
 ghost use Rattle.std.specs.Option.{option_map};
-ghost use Rattle.hid_recording.specs.Session.{Member, no_devices};
+ghost use Rattle.hid_recording.specs.Session.{PlayedDevice, no_devices};
 ghost use Rattle.hid_recording.specs.Joining.{slot_after_doubt, Joins};
 ghost use Rattle.hid_recording.specs.LineOutput.{member_in_slot, devices_without};
 ghost use Rattle.hid_recording.specs.Playing.{PlaysAt, PlaysReport};
 ghost use Rattle.hid_recording.specs.MemoryUse.{RunsOutIf, ends_report, names_report};
-ghost use Rattle.hid_recording.specs.declared.words.TheConstants.{MAX_DEVICES};
+ghost use Rattle.hid_recording.specs.declared.line_fields.TheConstants.{MAX_DEVICES};
 
+use super::device::{Joined, RecordedDevice};
 use super::event_line::Source;
-use super::fault::{Cause, Options, Refusal};
-use super::recorded::{Joined, RecordedDevice};
-use super::words::{DeviceNumber, MAX_DEVICES};
+use super::fault::{Cause, Refusal};
+use super::line_fields::{DeviceNumber, MAX_DEVICES};
+use super::options::Options;
 use std::alloc::{AllocError, Global};
 use std::mem;
 
@@ -91,7 +92,7 @@ impl Devices {
     /// [`AllocError`] if memory runs out for a report that the chunk ends: there is a device, and no part of its report may be
     /// missing.
     pub fn join(&mut self, alloc: Global, chunk: &[u8]) -> Result<Joined, AllocError>
-        ensures joined { IfOk result (λ joined. (after : Option Member)
+        ensures joined { IfOk result (λ joined. (after : Option PlayedDevice)
             × Joins (member_in_slot
             (slice_get self.old.slots.items self.old.current)) chunk.now joined after
             × (self.new.slots.items ≡ set self.old.slots.items self.old.current after)) }
@@ -103,11 +104,11 @@ impl Devices {
         join_chunk(&mut self.slots[i], alloc, chunk)
     }
 
-    /// Plays a report of the current device, and answers how many events it told.
+    /// Plays a report of the current device, and returns its number of events.
     ///
     /// # Errors
     /// R7 if there is no device; U8 or U9 if the bytes are no report of it, as [`RecordedDevice::play`] says; R10 if memory
-    /// runs out for what the report tells.
+    /// runs out for the text of the events.
     pub fn play(
         &mut self,
         alloc: Global,

@@ -2,14 +2,14 @@
 
 ghost use Rattle.std.specs.Prelude.{◌≡◌, ◌≤◌, ◌<◌, false, true, [], Some, None, IfOk, IfErr, OnOk, length, position};
 ghost use Rattle.std.specs.Option.{option_map};
-ghost use Rattle.hid_recording.specs.Dumps.{is_same, described_device, number_of_address, with_address};
-ghost use Rattle.hid_recording.specs.declared.words.TheConstants.{MAX_DEVICES};
+ghost use Rattle.hid_recording.specs.Dumps.{is_same_address, described_device, number_of_address, with_address};
+ghost use Rattle.hid_recording.specs.declared.line_fields.TheConstants.{MAX_DEVICES};
 
-use super::words::{DeviceNumber, MAX_DEVICES};
+use super::line_fields::{DeviceNumber, MAX_DEVICES};
 use std::alloc::{AllocError, Global};
 
 /// The most bytes of a dump (our choice): as many as a descriptor has.
-pub const DUMP_LIMIT: usize = 4096;
+pub const MAX_DUMP: usize = 4096;
 
 /// An interface of a device on a bus, by the numbers that the system gave them.
 #[derive(Clone, Copy, Debug, PartialEq, Eq)]
@@ -55,7 +55,7 @@ impl Dump {
     }
 
     /// No dump is open, and bytes that come are of one that was dropped.
-    pub fn left_out(alloc: Global) -> Self
+    pub fn dropped_dump(alloc: Global) -> Self
         ensures closed { (result.content ≡ None) × (result.is_dropped ≡ true) }
         ensures empty { (result.device ≡ 0) × (result.time.items ≡ []) × (result.bytes.items ≡ []) }
     {
@@ -112,7 +112,7 @@ pub struct Addresses {
 
 /// Whether two addresses are the same.
 fn is_same(a: &Address, b: &Address) -> bool
-    ensures { result ≡ is_same a.now b.now }
+    ensures { result ≡ is_same_address a.now b.now }
 {
     a.bus == b.bus && a.device == b.device && a.interface == b.interface
 }
@@ -127,8 +127,9 @@ impl Addresses {
         }
     }
 
+    /// The place of an address among the known ones.
     fn place(&self, address: &Address) -> Option<usize>
-        ensures { result ≡ position (is_same address.now) self.now.known.items }
+        ensures { result ≡ position (is_same_address address.now) self.now.known.items }
     {
         self.known.iter().position(|known| is_same(address, known))
     }

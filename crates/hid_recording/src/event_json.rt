@@ -27,6 +27,7 @@ pub fn usage_in(event: &Event) -> Usage
     }
 }
 
+/// The word for the kind of an event.
 fn event_word(event: &Event) -> &'static str
     ensures { result.now ≡ event_word event.now }
 {

@@ -4,7 +4,7 @@ ghost use Rattle.std.specs.Prelude.{◌≡◌, ◌++◌, OnOk, string_bytes};
 ghost use Rattle.hid_recording.specs.EventLines.{name_words, plain_line, event_line, event_lines};
 
 use super::event_json::{print_json, usage_in};
-use super::fault::Options;
+use super::options::Options;
 use hid_layout::Usage;
 use hid_names::usage_name;
 use hid_text::EventText;

@@ -1,55 +1,12 @@
-//! What a run counts, what it refuses, and why it ends early.
+//! What a run refuses, and why it ends early.
 
 ghost use Rattle.std.specs.Prelude.{◌≡◌};
 
+use super::summary::Summary;
 use hid_layout::LayoutFault;
 use hid_usages::ReportFault;
 use std::alloc::AllocError;
 use thiserror::Error;
-
-/// What is printed beside the events, and whether what is refused ends the run.
-#[derive(Clone, Copy, Debug, PartialEq, Eq)]
-pub struct Options {
-    /// The layout of each descriptor that is accepted.
-    pub layout: bool,
-    /// The values of each report.
-    pub values: bool,
-    /// The name of each event's usage, where it has one.
-    pub names: bool,
-    /// The first refusal ends the run.
-    pub strict: bool,
-    /// Events and refusals are reported as JSON.
-    pub json: bool,
-}
-
-/// What was played. Counts stop at the greatest `u64`.
-#[derive(Clone, Copy, Debug, PartialEq, Eq)]
-pub struct Summary {
-    /// All lines, empty ones and comments too.
-    pub lines: u64,
-    /// Descriptors that were accepted.
-    pub descriptors: u64,
-    /// Reports that were read.
-    pub reports: u64,
-    pub events: u64,
-    /// Lines that were refused.
-    pub refused: u64,
-}
-
-impl Summary {
-    /// Nothing was played.
-    pub fn none() -> Summary
-        ensures { result ≡ record { lines = 0; descriptors = 0; reports = 0; events = 0; refused = 0 } }
-    {
-        Summary {
-            lines: 0,
-            descriptors: 0,
-            reports: 0,
-            events: 0,
-            refused: 0,
-        }
-    }
-}
 
 /// Why a line is refused. It is printed as its code, and in words.
 #[derive(Clone, Copy, Debug, PartialEq, Eq)]

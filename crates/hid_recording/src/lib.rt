@@ -24,20 +24,24 @@
 #![tactic(auto)]
 
 mod binary;
+mod device;
 mod devices;
 mod dump;
 mod event_json;
 mod event_line;
 mod fault;
 mod fault_text;
+mod line_fields;
+mod options;
 mod output;
 mod player;
 mod record;
-mod recorded;
 mod recording;
 mod runs;
-mod words;
+mod summary;
 
 pub use binary::descriptor_line;
-pub use fault::{Cause, Options, RecordingFault, Refusal, Summary};
+pub use fault::{Cause, RecordingFault, Refusal};
+pub use options::Options;
 pub use runs::{Watch, play};
+pub use summary::Summary;

@@ -4,24 +4,26 @@ ghost use Rattle.std.specs.Prelude.{◌≡◌, ◌++◌, true, None, Option, IfO
 ghost use Rattle.std.specs.Option.{option_map};
 ghost use Rattle.hid_recording.specs.Session.{at_first};
 ghost use Rattle.hid_recording.specs.Records.{record_of};
-ghost use Rattle.hid_recording.specs.LineOutput.{described_text, LineTells, LineBegins, Means, TellsDescriptor, EndTells, with_device, installs, refuses, with_dropped_dump, unread, begins, gathers, gathers_none, chunk_outcome, stream_outcome, report_outcome};
+ghost use Rattle.hid_recording.specs.LineOutput.{described_text, LineGives, LineBegins, MeaningGives, DescriptorGives, DumpEndGives, with_device, outcome_of_device, outcome_of_refusal, with_dropped_dump, outcome_of_unread_descriptor, outcome_of_dump_head, outcome_of_dump_bytes, outcome_of_stray_bytes, chunk_outcome, stream_outcome, report_outcome};
 ghost use Rattle.hid_recording.specs.Words.{time_of};
 ghost use Rattle.hid_recording.specs.Player.{summary_of};
-ghost use Rattle.hid_recording.specs.Refusals.{is_memory, refusal_line};
+ghost use Rattle.hid_recording.specs.Refusals.{refusal_line};
 ghost use Rattle.hid_recording.specs.Gathering.{Gathers, IsCauseOfLine};
-ghost use Rattle.hid_recording.specs.MemoryUse.{RunsOutIf, refusal_takes, descriptor_takes, unread_takes, report_takes, begin_takes, stray_takes, bytes_take, chunk_takes, stream_takes, end_takes, short_takes, line_takes};
+ghost use Rattle.hid_recording.specs.MemoryUse.{RunsOutIf, refusal_allocates, descriptor_allocates, unread_descriptor_allocates, report_allocates, dump_head_allocates, stray_bytes_allocate, dump_bytes_allocate, chunk_allocates, stream_allocates, dump_end_allocates, short_line_allocates, line_allocates};
 ghost use Rattle.hid_recording.specs.Dumps.{number_of_address};
 ghost use Rattle.hid_recording.specs.declared.fault.Refusal.TheVariants as refusals;
-ghost use Rattle.hid_recording.specs.Place.{AppendsTold};
+ghost use Rattle.hid_recording.specs.Place.{AppendsOutput};
 
+use super::device::{Joined, RecordedDevice};
 use super::devices::Devices;
-use super::dump::{Address, Addresses, Content, DUMP_LIMIT, Dump};
+use super::dump::{Address, Addresses, Content, Dump, MAX_DUMP};
 use super::event_json::print_refusal_json;
-use super::fault::{Cause, Options, Refusal, Summary};
+use super::fault::{Cause, Refusal};
+use super::line_fields::read_time;
+use super::options::Options;
 use super::output::write_text;
 use super::record::{Record, read_record};
-use super::recorded::{Joined, RecordedDevice};
-use super::words::read_time;
+use super::summary::Summary;
 use hid_layout::{Layout, LayoutFault};
 use hid_text::print_layout;
 use std::alloc::{AllocError, Global};
@@ -29,9 +31,9 @@ use std::io::Write;
 use std::mem;
 
 /// The longest line, without its end (our choice): a descriptor of 4,096 bytes has 12,295.
-pub const LINE_LIMIT: usize = 16_384;
+pub const MAX_LINE: usize = 16_384;
 
-/// The devices with what is known of them, counts, and room for what a line tells.
+/// The devices with what is known of them, counts, and room for the output of a line.
 #[derive(Drop)]
 pub struct Player {
     alloc: Global,
@@ -45,16 +47,6 @@ pub struct Player {
     events: u64,
     refused: u64,
     text: String,
-}
-
-/// Whether memory ran out for a descriptor.
-fn is_out_of_memory(cause: hid_layout::Cause) -> bool
-    ensures { result ≡ is_memory cause }
-{
-    match cause {
-        hid_layout::Cause::Memory => true,
-        _ => false,
-    }
 }
 
 /// Adds the number of a device and its layout, where layouts are asked for.
@@ -134,19 +126,19 @@ impl Player {
         }
     }
 
-    /// Plays a line, without its end, and writes what it tells.
+    /// Plays a line, without its end, and writes its output.
     ///
     /// # Errors
-    /// R2 if the line is too long; in a strict run the refusal of the line; R10 if memory runs out for what it says or
-    /// tells; R9 if the writer fails.
+    /// R2 if the line is too long; in a strict run the refusal of the line; R10 if memory runs out for the line or its
+    /// output; R9 if the writer fails.
     pub fn line<W: Write>(&mut self, line: &[u8], writer: &mut W) -> Result<(), Cause>
-        ensures told { AppendsTold (W.contents writer.old) (W.contents writer.new)
-            (LineTells (session_of self.old) line.now)
+        ensures outcome { AppendsOutput (W.contents writer.old) (W.contents writer.new)
+            (LineGives (session_of self.old) line.now)
             (LineBegins (session_of self.old) line.now) result (session_of self.new) }
-        ensures memory { RunsOutIf (line_takes (session_of self.old) line.now) result }
+        ensures memory { RunsOutIf (line_allocates (session_of self.old) line.now) result }
         ensures cause { IfErr result (IsCauseOfLine (session_of self.old) line.now) }
     {
-        if line.len() > LINE_LIMIT {
+        if line.len() > MAX_LINE {
             return Err(Cause::LineTooLong);
         }
         self.lines = self.lines.saturating_add(1);
@@ -154,11 +146,11 @@ impl Player {
         write_text(writer, self.text.as_bytes())
     }
 
-    /// Gathers what a line tells, in place of what the one before told.
+    /// Gathers the output of a line, in place of that of the line before.
     fn play_line(&mut self, line: &[u8]) -> Result<(), Cause>
-        ensures told { Gathers (Means (session_of self.old) (record_of line.now)) result
+        ensures outcome { Gathers (MeaningGives (session_of self.old) (record_of line.now)) result
             (string_bytes self.new.text) (session_of self.new) }
-        ensures memory { RunsOutIf (short_takes (session_of self.old) line.now) result }
+        ensures memory { RunsOutIf (short_line_allocates (session_of self.old) line.now) result }
     {
         match read_record(self.alloc, line) {
             Ok(Record::Nothing) => {
@@ -189,22 +181,24 @@ impl Player {
 
     /// A line is refused, and with it the dump in which it stands.
     fn drop_dump(&mut self, refusal: Refusal) -> Result<(), Cause>
-        ensures told { Gathers
-            (λ o. o ≡ refuses (with_dropped_dump (session_of self.old)) refusal) result
+        ensures outcome { Gathers
+            (λ o. o ≡ outcome_of_refusal (with_dropped_dump (session_of self.old)) refusal) result
             (string_bytes self.new.text) (session_of self.new) }
-        ensures memory { RunsOutIf (refusal_takes (session_of self.old)) result }
+        ensures memory { RunsOutIf (refusal_allocates (session_of self.old)) result }
     {
         self.devices.forget(self.dump.described_device());
         self.devices.doubt();
-        self.dump = Dump::left_out(self.alloc);
+        self.dump = Dump::dropped_dump(self.alloc);
         self.refuse(refusal)
     }
 
     /// A descriptor can't be read: the device that it was for has none.
     fn lose_descriptor(&mut self, interface: Option<Address>, refusal: Refusal) -> Result<(), Cause>
-        ensures told { Gathers (λ o. o ≡ unread (session_of self.old) interface refusal) result
+        ensures outcome { Gathers
+            (λ o. o ≡ outcome_of_unread_descriptor (session_of self.old) interface refusal) result
             (string_bytes self.new.text) (session_of self.new) }
-        ensures memory { RunsOutIf (unread_takes (session_of self.old) interface) result }
+        ensures memory { RunsOutIf
+            (unread_descriptor_allocates (session_of self.old) interface) result }
     {
         match interface {
             None => self.devices.put(None),
@@ -218,9 +212,9 @@ impl Player {
 
     /// What is reported is that a line is refused.
     fn refuse(&mut self, refusal: Refusal) -> Result<(), Cause>
-        ensures told { Gathers (λ o. o ≡ refuses (session_of self.old) refusal) result
+        ensures outcome { Gathers (λ o. o ≡ outcome_of_refusal (session_of self.old) refusal) result
             (string_bytes self.new.text) (session_of self.new) }
-        ensures memory { RunsOutIf (refusal_takes (session_of self.old)) result }
+        ensures memory { RunsOutIf (refusal_allocates (session_of self.old)) result }
     {
         if self.options.strict {
             return Err(Cause::Refused(refusal));
@@ -234,14 +228,15 @@ impl Player {
 
     /// Takes a report descriptor of the current device.
     fn describe(&mut self, descriptor: &[u8]) -> Result<(), Cause>
-        ensures told { Gathers (TellsDescriptor descriptor.now (session_of self.old)) result
+        ensures outcome { Gathers (DescriptorGives descriptor.now (session_of self.old)) result
             (string_bytes self.new.text) (session_of self.new) }
-        ensures memory { RunsOutIf (descriptor_takes (session_of self.old) descriptor.now) result }
+        ensures memory { RunsOutIf
+            (descriptor_allocates (session_of self.old) descriptor.now) result }
     {
         match RecordedDevice::new(self.alloc, descriptor) {
             Ok(recorded) => self.install(recorded),
             Err(fault) => {
-                if is_out_of_memory(fault.cause) {
+                if fault.cause.is_memory() {
                     return Err(Cause::Memory);
                 }
                 self.forget(fault)
@@ -251,9 +246,11 @@ impl Player {
 
     /// The descriptor of the current device is refused: it has none.
     fn forget(&mut self, fault: LayoutFault) -> Result<(), Cause>
-        ensures told { Gathers (λ o. o ≡ refuses (with_device (session_of self.old) None) (refusals.Layout fault)) result
+        ensures outcome { Gathers
+            (λ o. o ≡ outcome_of_refusal (with_device (session_of self.old) None)
+            (refusals.Layout fault)) result
             (string_bytes self.new.text) (session_of self.new) }
-        ensures memory { RunsOutIf (refusal_takes (session_of self.old)) result }
+        ensures memory { RunsOutIf (refusal_allocates (session_of self.old)) result }
     {
         self.devices.put(None);
         self.refuse(Refusal::Layout(fault))
@@ -261,7 +258,7 @@ impl Player {
 
     /// The current device is this one from now on.
     fn install(&mut self, recorded: RecordedDevice) -> Result<(), Cause>
-        ensures told { Gathers (λ o. o ≡ installs (session_of self.old) recorded) result
+        ensures outcome { Gathers (λ o. o ≡ outcome_of_device (session_of self.old) recorded) result
             (string_bytes self.new.text) (session_of self.new) }
         ensures memory { RunsOutIf self.old.options.layout result }
     {
@@ -279,9 +276,9 @@ impl Player {
 
     /// Takes a report of the current device.
     fn report(&mut self, time: &str, bytes: &[u8]) -> Result<(), Cause>
-        ensures told { Gathers (λ o. o ≡ report_outcome time.now bytes.now (session_of self.old)) result
+        ensures outcome { Gathers (λ o. o ≡ report_outcome time.now bytes.now (session_of self.old)) result
             (string_bytes self.new.text) (session_of self.new) }
-        ensures memory { RunsOutIf (report_takes (session_of self.old) bytes.now) result }
+        ensures memory { RunsOutIf (report_allocates (session_of self.old) bytes.now) result }
     {
         self.text.clear();
         match self
@@ -300,9 +297,10 @@ impl Player {
 
     /// A dump begins.
     fn begin_dump(&mut self, address: Address, content: Content, time: &str) -> Result<(), Cause>
-        ensures told { Gathers (λ o. o ≡ begins (session_of self.old) address content time.now) result
+        ensures outcome { Gathers
+            (λ o. o ≡ outcome_of_dump_head (session_of self.old) address content time.now) result
             (string_bytes self.new.text) (session_of self.new) }
-        ensures memory { RunsOutIf (begin_takes (session_of self.old)
+        ensures memory { RunsOutIf (dump_head_allocates (session_of self.old)
             (number_of_address self.old.addresses.known.items address)) result }
     {
         let number = self.addresses.number(address)?;
@@ -323,10 +321,10 @@ impl Player {
 
     /// Takes bytes of the dump that is open.
     fn gather(&mut self, bytes: Option<Vec<u8>>) -> Result<(), Cause>
-        ensures told { Gathers (λ o. o ≡ gathers (session_of self.old)
+        ensures outcome { Gathers (λ o. o ≡ outcome_of_dump_bytes (session_of self.old)
             (option_map (λ some. some.items) bytes) self.old.dump.content) result
             (string_bytes self.new.text) (session_of self.new) }
-        ensures memory { RunsOutIf (bytes_take (session_of self.old)
+        ensures memory { RunsOutIf (dump_bytes_allocate (session_of self.old)
             (option_map (λ some. some.items) bytes) self.old.dump.content) result }
     {
         if self.dump.content.is_none() {
@@ -335,7 +333,7 @@ impl Player {
         let Some(bytes) = bytes else {
             return self.drop_dump(Refusal::BadHex);
         };
-        if self.dump.bytes.len().saturating_add(bytes.len()) > DUMP_LIMIT {
+        if self.dump.bytes.len().saturating_add(bytes.len()) > MAX_DUMP {
             return self.drop_dump(Refusal::DumpTooLong);
         }
         self.dump.bytes.extend_from_slice(bytes.as_slice())?;
@@ -345,9 +343,9 @@ impl Player {
 
     /// Bytes, and no dump is open: they are of one that was dropped, or of none.
     fn gather_none(&mut self) -> Result<(), Cause>
-        ensures told { Gathers (λ o. o ≡ gathers_none (session_of self.old)) result
+        ensures outcome { Gathers (λ o. o ≡ outcome_of_stray_bytes (session_of self.old)) result
             (string_bytes self.new.text) (session_of self.new) }
-        ensures memory { RunsOutIf (stray_takes (session_of self.old)) result }
+        ensures memory { RunsOutIf (stray_bytes_allocate (session_of self.old)) result }
     {
         if !self.dump.is_dropped {
             return self.drop_dump(Refusal::Syntax);
@@ -358,9 +356,10 @@ impl Player {
 
     /// An empty line: it ends the dump that is open.
     fn end_dump(&mut self) -> Result<(), Cause>
-        ensures told { Gathers (EndTells (session_of self.old) self.old.dump.content) result
+        ensures outcome { Gathers (DumpEndGives (session_of self.old) self.old.dump.content) result
             (string_bytes self.new.text) (session_of self.new) }
-        ensures memory { RunsOutIf (end_takes (session_of self.old) self.old.dump.content) result }
+        ensures memory { RunsOutIf
+            (dump_end_allocates (session_of self.old) self.old.dump.content) result }
     {
         let dump = mem::replace(&mut self.dump, Dump::none(self.alloc));
         let Some(content) = dump.content else {
@@ -376,10 +375,11 @@ impl Player {
 
     /// Takes the bytes of a dump as a chunk of the current device.
     fn stream(&mut self, time: &[u8], bytes: &[u8]) -> Result<(), Cause>
-        ensures told { Gathers
+        ensures outcome { Gathers
             (λ o. o ≡ stream_outcome (time_of time.now) bytes.now (session_of self.old)) result
             (string_bytes self.new.text) (session_of self.new) }
-        ensures memory { RunsOutIf (stream_takes (session_of self.old) bytes.now (time_of time.now)) result }
+        ensures memory { RunsOutIf
+            (stream_allocates (session_of self.old) bytes.now (time_of time.now)) result }
     {
         match read_time(time) {
             Some(time) => self.chunk(time, bytes),
@@ -389,9 +389,9 @@ impl Player {
 
     /// Takes a chunk of the current device.
     fn chunk(&mut self, time: &str, chunk: &[u8]) -> Result<(), Cause>
-        ensures told { Gathers (λ o. o ≡ chunk_outcome time.now chunk.now (session_of self.old)) result
+        ensures outcome { Gathers (λ o. o ≡ chunk_outcome time.now chunk.now (session_of self.old)) result
             (string_bytes self.new.text) (session_of self.new) }
-        ensures memory { RunsOutIf (chunk_takes (session_of self.old) chunk.now) result }
+        ensures memory { RunsOutIf (chunk_allocates (session_of self.old) chunk.now) result }
     {
         let joined = self.devices.join(self.alloc, chunk)?;
         match joined.into_report() {

@@ -6,7 +6,7 @@ ghost use Rattle.hid_recording.specs.MemoryUse.{RunsOutIf, has_words};
 
 use super::dump::{Address, Content};
 use super::fault::{Cause, Refusal};
-use super::words::{
+use super::line_fields::{
     DeviceNumber, is_count, parts_of_word, read_address, read_bytes, read_content, read_device,
     read_time,
 };
@@ -101,7 +101,7 @@ fn read_selection<'a>(words: &[&'a [u8]]) -> Result<Record<'a>, Cause>
     }
 }
 
-/// Reads the bytes that words spell, if they are as many as the count says.
+/// Reads the bytes that words encode, if they are as many as the count says.
 fn read_counted(alloc: Global, count: &[u8], words: &[&[u8]]) -> Result<Vec<u8>, Cause>
     ensures { MatchResult result
         (λ bytes. counted_bytes count.now (map (λ word. word.now) words.now) ≡ Ok bytes.items)

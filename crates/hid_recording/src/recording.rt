@@ -5,8 +5,9 @@ ghost use Rattle.hid_text.specs.Lines.{IsUnbroken};
 ghost use Rattle.hid_recording.specs.Place.{Takes, AppendsTaken, AppendsRun, EndsAt};
 ghost use Rattle.hid_recording.specs.Runs.{PlayedTo};
 
-use super::fault::{Cause, RecordingFault, Summary};
+use super::fault::{Cause, RecordingFault};
 use super::player::Player;
+use super::summary::Summary;
 use hid_text::{LineBuffer, TooLong, split_line};
 use std::io::Write;
 
@@ -56,7 +57,7 @@ impl Recording {
         self.keep(rest)
     }
 
-    // The last bytes of a line came, and its line feed.
+    /// The last bytes of a line came, and its line feed.
     fn end_line<W: Write>(&mut self, last: &[u8], writer: &mut W) -> Result<(), RecordingFault>
         requires room { self.old.lines < 2 ^ 64 - 1 }
         requires unbroken { IsUnbroken last.now }
@@ -76,7 +77,7 @@ impl Recording {
         Ok(())
     }
 
-    // More bytes of a line came, which don't end it.
+    /// More bytes of a line came, which don't end it.
     fn keep(&mut self, bytes: &[u8]) -> Result<(), RecordingFault>
         requires room { self.old.lines < 2 ^ 64 - 1 }
         requires unbroken { IsUnbroken bytes.now }
@@ -141,7 +142,7 @@ impl Recording {
     }
 }
 
-// What ends the run at the line after those that were played.
+/// What ends the run at the line after those that were played.
 fn stop_at(played: Summary, cause: Cause) -> RecordingFault
     requires { played.lines < 2 ^ 64 - 1 }
     ensures { (result.line ≡ played.lines + 1) × (result.cause ≡ cause) × (result.played ≡ played) }

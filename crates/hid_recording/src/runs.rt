@@ -5,14 +5,16 @@ ghost use Rattle.hid_recording.specs.Runs.{AppendsRecording, line_of, summary_un
 ghost use Rattle.hid_recording.specs.Place.{AppendsFrom};
 ghost use Rattle.hid_recording.specs.Recording.{place_of};
 
-use super::fault::{Cause, Options, RecordingFault, Summary};
+use super::fault::{Cause, RecordingFault};
+use super::options::Options;
 use super::player::Player;
 use super::recording::Recording;
+use super::summary::Summary;
 use std::alloc::Global;
 use std::io::{ErrorKind, Read, Write};
 
 /// How many reads a run makes at most.
-const READS: u64 = 1_000_000_000_000;
+const MAX_READS: u64 = 1_000_000_000_000;
 
 /// How many bytes a read is asked for.
 const PIECE: usize = 4096;
@@ -28,14 +30,13 @@ impl Watch for () {
     fn see(&mut self, _bytes: u64, _summary: &Summary) {}
 }
 
-/// Runs the recording that the reader gives, and writes what it tells. A read of 0 bytes ends the recording, and so does
-/// the first line of a strict run that is refused. A read that is interrupted is tried again. What was reported is
-/// flushed before each read and at the end, also at a fault, so `writer` may be a buffer.
+/// Runs the recording and writes its output. A read of 0 bytes ends the recording, and so does the first line of a strict
+/// run that is refused. An interrupted read is tried again. The output is flushed before each read and at the end, also at a
+/// fault, so `writer` may be a buffer.
 ///
 /// # Errors
-/// What ended the run early, at its line, with what was played before. Where the last flush fails, R9 at that line,
-/// whatever the fault was: what was reported would else be lost without a word. Of a recording that is accepted the
-/// line is the one after the last.
+/// What ended the run early, at its line, with what was played before. If the last flush fails, R9 at that line, whatever the
+/// fault was: else output would be lost without notice. In a recording that is accepted that line is the one after the last.
 pub fn play<R: Read, W: Write, H: Watch>(
     alloc: Global,
     reader: &mut R,
@@ -117,7 +118,7 @@ fn play_pieces<R: Read, W: Write, H: Watch>(
 {
     let mut piece = [0u8; PIECE];
     let mut bytes: u64 = 0;
-    for _ in 0..READS {
+    for _ in 0..MAX_READS {
         if writer.flush().is_err() {
             return Err(recording.fault(Cause::Write));
         }

@@ -5,7 +5,7 @@ use Rattle.std.proofs.lemmas.Bool.Decides.{nat_tests}
 use Rattle.usb_control.specs.declared.descriptors.DeviceInfo.{DeviceInfo}
 use Rattle.usb_control.specs.declared.descriptors.ConfigInfo.{ConfigInfo}
 use Rattle.usb_control.specs.declared.fault.InfoFault.{InfoFault}
-use Rattle.usb_control.specs.Descriptors.{ReadsConfig, config_of, device_info_of}
+use Rattle.usb_control.specs.Descriptors.{ReadsConfig, configuration_of, device_info_of}
 use Rattle.hid_requests.specs.Descriptors.{FitsConfig, FitsDevice, configuration_bytes, configuration_walk, device_bytes}
 
 -- a word and its two bytes
@@ -24,7 +24,8 @@ abbrev config_with : ConfigInfo → ℕ → ℕ → Result ConfigInfo InfoFault
 config_with info len endpoint =
     Ok (record { report_length = len; endpoint = endpoint; subclass = info.subclass; protocol = info.protocol })
 
-config_is : (info : ConfigInfo) (interval : ℕ) → FitsConfig info → config_of (configuration_walk info interval) ≡ Ok info
+config_is : (info : ConfigInfo) (interval : ℕ) → FitsConfig info
+    → configuration_of (configuration_walk info interval) ≡ Ok info
 config_is info interval fits =
     let low : info.endpoint ≤ 15 = fits.endpoint in
     let number : (128 + info.endpoint) % 16 ≡ info.endpoint = omega arith in

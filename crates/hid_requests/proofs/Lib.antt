@@ -1,3 +1,3 @@
-pub mod AskedLemmas
+pub mod RequestKindLemmas
 pub mod DescriptorLemmas
 mod Vectors

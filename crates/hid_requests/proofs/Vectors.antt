@@ -1,7 +1,7 @@
 -- Worked requests and descriptors (USB 2.0, 9.3, 9.4 and 9.6; HID 1.11, 7.2 and appendix E): each is computed by hand, and a wrong
 -- one fails the check.
 use Rattle.std.proofs.Common.{◌≡◌, [], ◌∷◌, true, Some, None, refl}
-use Rattle.hid_descriptor.specs.declared.report.ReportKind.TheVariants.{Feature}
+use Rattle.hid_report_descriptor.specs.declared.report.ReportKind.TheVariants.{Feature}
 use Rattle.usb_control.specs.SetupBytes.{setup_bytes, setup_of}
 use Rattle.hid_requests.specs.declared.request_kinds.RequestKind.TheVariants.{ReportDescriptor}
 use Rattle.hid_requests.specs.declared.codes.TheConstants.{REPORT_ENDPOINT}

@@ -1,8 +1,8 @@
 -- What class requests speak of: the types of reports, 1 Input, 2 Output and 3 Feature, and protocols, 0 boot and 1
 -- report (HID 1.11, 7.2.1 and 7.2.5).
 use Rattle.std.specs.Prelude.{ℕ, ◌==◌, if◌then◌else◌, Option, Some, None}
-use Rattle.hid_descriptor.specs.declared.report.ReportKind.{ReportKind}
-use Rattle.hid_descriptor.specs.declared.report.ReportKind.TheVariants.{Input, Output, Feature}
+use Rattle.hid_report_descriptor.specs.declared.report.ReportKind.{ReportKind}
+use Rattle.hid_report_descriptor.specs.declared.report.ReportKind.TheVariants.{Input, Output, Feature}
 use Rattle.hid_requests.specs.declared.class.Protocol.{Protocol}
 use Rattle.hid_requests.specs.declared.class.Protocol.TheVariants.{Boot, Report}
 
@@ -21,6 +21,6 @@ kind_of type =
     else None
 
 -- the number of a protocol (7.2.5)
-abbrev pub number_of : Protocol → ℕ
-number_of Boot = 0
-number_of Report = 1
+abbrev pub protocol_number : Protocol → ℕ
+protocol_number Boot = 0
+protocol_number Report = 1

@@ -1,8 +1,9 @@
 -- What a refusal of a device is printed as (our choice).
-use Rattle.std.specs.Prelude.{ℕ, Bool, true, false, if◌then◌else◌, List, ◌++◌, codes}
+use Rattle.std.specs.Prelude.{ℕ, if◌then◌else◌, List, ◌++◌, codes}
 use Rattle.std.specs.Fmt.{decimal}
-use Rattle.hid_descriptor.specs.declared.fault.Cause.{Cause}
-use Rattle.hid_descriptor.specs.declared.fault.Cause.TheVariants as cause
+use Rattle.hid_report_descriptor.specs.declared.fault.Cause.{Cause}
+use Rattle.hid_report_descriptor.specs.declared.fault.Cause.TheVariants as cause
+use Rattle.hid_report_descriptor.specs.Faults.{is_memory}
 use Rattle.hid_requests.specs.declared.fault.DeviceCause.{DeviceCause}
 use Rattle.hid_requests.specs.declared.fault.DeviceCause.TheVariants.{BadConfig, Layout, NoEmptyCode, RelativeWithoutZero, Memory}
 
@@ -27,23 +28,18 @@ layout_code cause.TooMany = codes "V16"
 layout_code cause.Memory = codes "V17"
 
 -- the code of each cause for which there is no device: V1 to V21
-abbrev pub code_of : DeviceCause → List ℕ
-code_of BadConfig = codes "V20"
-code_of (Layout found) = layout_code found
-code_of NoEmptyCode = codes "V18"
-code_of RelativeWithoutZero = codes "V19"
-code_of Memory = codes "V21"
-
--- a cause of the descriptor stands at a place
-abbrev pub is_memory : Cause → Bool
-is_memory cause.Memory = true
-is_memory _ = false
+abbrev pub device_cause_code : DeviceCause → List ℕ
+device_cause_code BadConfig = codes "V20"
+device_cause_code (Layout found) = layout_code found
+device_cause_code NoEmptyCode = codes "V18"
+device_cause_code RelativeWithoutZero = codes "V19"
+device_cause_code Memory = codes "V21"
 
 -- the code of a cause, and its place if it has one
 abbrev pub device_fault_text : DeviceCause → ℕ → List ℕ
 device_fault_text (Layout found) at =
     if is_memory found then layout_code found else layout_code found ++ codes " at " ++ decimal at
-device_fault_text BadConfig at = code_of BadConfig
-device_fault_text NoEmptyCode at = code_of NoEmptyCode
-device_fault_text RelativeWithoutZero at = code_of RelativeWithoutZero
-device_fault_text Memory at = code_of Memory
+device_fault_text BadConfig at = device_cause_code BadConfig
+device_fault_text NoEmptyCode at = device_cause_code NoEmptyCode
+device_fault_text RelativeWithoutZero at = device_cause_code RelativeWithoutZero
+device_fault_text Memory at = device_cause_code Memory

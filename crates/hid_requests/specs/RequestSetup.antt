@@ -10,7 +10,7 @@ use Rattle.hid_requests.specs.declared.request.Request.{Request}
 use Rattle.hid_requests.specs.declared.request.Request.TheVariants.{Device, Config, Report, Configure, Status, GetConfiguration, Idle, GetIdle, GetProtocol, GetReport, SetReport, Halt, Clear, EndpointStatus}
 use Rattle.hid_requests.specs.declared.request.Request.TheVariants as requests
 use Rattle.hid_requests.specs.declared.request.Asking.{Asking}
-use Rattle.hid_requests.specs.Class.{number_of, type_of}
+use Rattle.hid_requests.specs.Class.{protocol_number, type_of}
 
 -- a request with wIndex 0: bmRequestType, bRequest, wValue, wLength (table 9-2)
 abbrev pub asks : ℕ → ℕ → ℕ → ℕ → Setup
@@ -18,8 +18,8 @@ asks type number value len =
     record { request_type = type; request = number; value = value; index = 0; length = len }
 
 -- a request of the endpoint of this number, to the host, with wValue 0: bmRequestType, bRequest, wLength (9.3.4)
-abbrev pub asks_endpoint : ℕ → ℕ → ℕ → ℕ → Setup
-asks_endpoint type number endpoint len =
+abbrev pub endpoint_setup : ℕ → ℕ → ℕ → ℕ → Setup
+endpoint_setup type number endpoint len =
     record { request_type = type; request = number; value = 0; index = 0x80 + endpoint; length = len }
 
 -- a word of this high and low byte
@@ -43,13 +43,13 @@ setup_for Status asking = asks 0x80 0 0 2
 setup_for GetConfiguration asking = asks 0x80 8 0 1
 setup_for (Idle id time) asking = asks 0x21 10 (word_of time id) 0
 setup_for (GetIdle id) asking = asks 0xA1 2 id 1
-setup_for (requests.Protocol boot) asking = asks 0x21 11 (number_of (protocol_of boot)) 0
+setup_for (requests.Protocol boot) asking = asks 0x21 11 (protocol_number (protocol_of boot)) 0
 setup_for GetProtocol asking = asks 0xA1 3 0 1
 setup_for (GetReport kind id) asking = asks 0xA1 1 (word_of (type_of kind) id) 256
 setup_for (SetReport kind id bytes) asking = asks 0x21 9 (word_of (type_of kind) id) (length bytes.items)
-setup_for Halt asking = asks_endpoint 0x02 3 asking.endpoint 0
-setup_for Clear asking = asks_endpoint 0x02 1 asking.endpoint 0
-setup_for EndpointStatus asking = asks_endpoint 0x82 0 asking.endpoint 2
+setup_for Halt asking = endpoint_setup 0x02 3 asking.endpoint 0
+setup_for Clear asking = endpoint_setup 0x02 1 asking.endpoint 0
+setup_for EndpointStatus asking = endpoint_setup 0x82 0 asking.endpoint 2
 
 -- The data that go with a request: those of the report that is set.
 abbrev pub sends_of : Request → List ℕ

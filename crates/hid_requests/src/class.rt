@@ -1,8 +1,8 @@
 //! What class requests speak of: the types of reports, and protocols (HID 1.11, 7.2).
 ghost use Rattle.std.specs.Prelude.{◌≡◌};
-ghost use Rattle.hid_requests.specs.Class.{kind_of, number_of, type_of};
+ghost use Rattle.hid_requests.specs.Class.{kind_of, protocol_number, type_of};
 
-use hid_descriptor::ReportKind;
+use hid_report_descriptor::ReportKind;
 
 /// In which form a boot device sends its reports (HID 1.11, 7.2.5).
 #[derive(Clone, Copy, Debug, PartialEq, Eq)]
@@ -16,7 +16,7 @@ pub enum Protocol {
 impl Protocol {
     /// Its number in requests: 0 boot, 1 report.
     pub fn number(self) -> u8
-        ensures { result ≡ number_of self }
+        ensures { result ≡ protocol_number self }
     {
         match self {
             Protocol::Boot => 0,

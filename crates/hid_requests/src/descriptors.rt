@@ -43,7 +43,9 @@ pub fn configuration(info: &ConfigInfo, interval: u8) -> ArrayVec<u8, 34>
     ensures { result.items ≡ configuration_bytes info.now interval }
 {
     let mut bytes = ArrayVec::new();
-    bytes.try_extend_from_slice(&own_descriptor()).unwrap();
+    bytes
+        .try_extend_from_slice(&configuration_descriptor())
+        .unwrap();
     bytes
         .try_extend_from_slice(&interface(info.subclass, info.protocol))
         .unwrap();
@@ -64,22 +66,22 @@ pub fn hid_descriptor(report_length: u16) -> [u8; 9]
     [9, HID, 0x11, 0x01, 0, 1, REPORT, low, high]
 }
 
-// The descriptor of the configuration itself (USB 2.0, table 9-10): 34 bytes in all, one interface, number 1, no string,
-// powered by the bus, 100 mA.
-fn own_descriptor() -> [u8; 9]
+/// The descriptor of the configuration itself (USB 2.0, table 9-10): 34 bytes in all, one interface, number 1, no string,
+/// powered by the bus, 100 mA.
+fn configuration_descriptor() -> [u8; 9]
     ensures { result ≡ configuration_descriptor }
 {
     [9, CONFIGURATION, 34, 0, 1, 1, 0, 0x80, 50]
 }
 
-// The interface (USB 2.0, table 9-12): number 0, no other setting, one endpoint beside endpoint 0, class 03, no string.
+/// The interface (USB 2.0, table 9-12): number 0, no other setting, one endpoint beside endpoint 0, class 03, no string.
 fn interface(subclass: u8, protocol: u8) -> [u8; 9]
     ensures { result ≡ interface_descriptor subclass protocol }
 {
     [9, INTERFACE, 0, 0, 1, 3, subclass, protocol, 0]
 }
 
-// The endpoint (USB 2.0, table 9-13): to the host, interrupt, 64 bytes a packet.
+/// The endpoint (USB 2.0, table 9-13): to the host, interrupt, 64 bytes a packet.
 fn endpoint(endpoint: u8, interval: u8) -> [u8; 7]
     requires { endpoint ≤ 15 }
     ensures { result ≡ endpoint_descriptor endpoint interval }

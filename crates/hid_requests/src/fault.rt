@@ -2,9 +2,9 @@
 
 ghost use Rattle.std.specs.Prelude.{◌≡◌, Some};
 ghost use Rattle.hid_requests.specs.declared.fault.DeviceCause.TheVariants.{Layout, Memory};
-ghost use Rattle.hid_requests.specs.Fault.{layout_code, code_of, device_fault_text};
+ghost use Rattle.hid_requests.specs.Fault.{layout_code, device_cause_code, device_fault_text};
 
-use hid_descriptor::{Cause, LayoutFault};
+use hid_report_descriptor::{Cause, LayoutFault};
 use std::alloc::AllocError;
 use std::fmt;
 
@@ -24,7 +24,7 @@ pub enum DeviceCause {
     Memory,
 }
 
-// The code of a layout's cause, as a device tells it.
+/// The code of a layout's cause, as a device reports it.
 fn layout_code(cause: Cause) -> &'static str
     ensures { result.now ≡ layout_code cause }
 {
@@ -50,7 +50,7 @@ fn layout_code(cause: Cause) -> &'static str
 }
 
 impl fmt::Display for DeviceCause {
-    ghost output = { λ cause. Some (code_of cause) };
+    ghost output = { λ cause. Some (device_cause_code cause) };
 
     fn fmt<W: fmt::Write>(&self, f: &mut fmt::Formatter<W>) -> fmt::Result {
         f.write_str(match self {

@@ -1,7 +1,7 @@
 //! What a host asks.
 ghost use Rattle.std.specs.Prelude.{◌≡◌};
-ghost use Rattle.usb_control.specs.SetupBytes.{IsSpelled};
-ghost use Rattle.hid_requests.specs.RequestSetup.{FitsRequest, asks, asks_endpoint, protocol_of, sends_of, setup_for, word_of};
+ghost use Rattle.usb_control.specs.SetupBytes.{IsEncoded};
+ghost use Rattle.hid_requests.specs.RequestSetup.{FitsRequest, asks, endpoint_setup, protocol_of, sends_of, setup_for, word_of};
 
 use crate::class::{Protocol, type_of};
 use crate::codes::{
@@ -11,49 +11,51 @@ use crate::codes::{
     TO_CLASS, TO_DEVICE, TO_ENDPOINT,
 };
 use arrayvec::ArrayVec;
-use hid_descriptor::ReportKind;
+use hid_report_descriptor::ReportKind;
 use usb_control::Setup;
 
-/// What a host asks: the first four bring a device up, in their order.
+/// A request of a host, by what it is for. The first four bring a device up, in their order. [`Request::setup`] has the setup
+/// data, and [`RequestKind`] is the request as a device understands it.
 #[derive(Debug, Drop, PartialEq, Eq)]
 pub enum Request {
-    /// The device descriptor.
+    /// GET_DESCRIPTOR: the device descriptor (USB 2.0, 9.4.3).
     Device,
-    /// The configuration, with all descriptors that belong to it.
+    /// GET_DESCRIPTOR: the first configuration, with all descriptors that belong to it (9.4.3).
     Config,
-    /// The report descriptor, as many bytes as the configuration says.
+    /// GET_DESCRIPTOR: the report descriptor, as many bytes as the configuration says (HID 1.11, 7.1.1).
     Report,
-    /// To be configured.
+    /// SET_CONFIGURATION with 1: to be configured (USB 2.0, 9.4.7).
     Configure,
-    /// The status of the device.
+    /// GET_STATUS of the device (9.4.5).
     Status,
-    /// Whether the device is configured.
+    /// GET_CONFIGURATION: whether the device is configured (9.4.2).
     GetConfiguration,
-    /// To send a report once more when this time is over without a change (HID 1.11, 7.2.4).
+    /// SET_IDLE: to send a report again when this time is over without a change (HID 1.11, 7.2.4).
     Idle {
         /// The Report ID, 0 for all Input reports.
         id: u8,
         /// In units of 4 ms; 0 is none: the report is sent on change alone.
         time: u8,
     },
-    /// That time.
+    /// GET_IDLE: the time after which a report is sent again (7.2.3).
     GetIdle {
         /// The Report ID, 0 for the lowest Input report.
         id: u8,
     },
-    /// To send boot reports, or the device's own (7.2.6).
+    /// SET_PROTOCOL: to send boot reports, or the device's own (7.2.6).
     Protocol {
+        /// Whether boot reports are asked for.
         boot: bool,
     },
-    /// Which of these it sends.
+    /// GET_PROTOCOL: whether the device sends boot reports or its own (7.2.5).
     GetProtocol,
-    /// A report as it is now (7.2.1).
+    /// GET_REPORT: a report as it is now (7.2.1).
     GetReport {
         kind: ReportKind,
         /// Its Report ID, 0 where it has none.
         id: u8,
     },
-    /// To take a report (7.2.2).
+    /// SET_REPORT: to take a report (7.2.2).
     SetReport {
         kind: ReportKind,
         /// Its Report ID, 0 where it has none.
@@ -61,15 +63,16 @@ pub enum Request {
         /// The report, its ID first where it has one.
         bytes: ArrayVec<u8, 256>,
     },
-    /// To halt the endpoint of its Input reports: SET_FEATURE of ENDPOINT_HALT (USB 2.0, 9.4.9).
+    /// SET_FEATURE of ENDPOINT_HALT: to halt the endpoint of the Input reports (USB 2.0, 9.4.9).
     Halt,
-    /// To end a halt of that endpoint, which begins at DATA0 again: CLEAR_FEATURE of ENDPOINT_HALT (9.4.1 and 9.4.5).
+    /// CLEAR_FEATURE of ENDPOINT_HALT: to end a halt of the endpoint of the Input reports, which begins at DATA0 again (9.4.1
+    /// and 9.4.5).
     Clear,
-    /// The status of that endpoint: whether it is halted (9.4.5).
+    /// GET_STATUS of the endpoint of the Input reports: whether it is halted (9.4.5).
     EndpointStatus,
 }
 
-/// What a host knows of a device when it asks.
+/// What a host knows of a device when it makes a request.
 #[derive(Clone, Copy, Debug, PartialEq, Eq)]
 pub struct Asking {
     /// In bytes, the report descriptor, by the configuration; 0 before that was read, and of a host that is ready.
@@ -83,7 +86,7 @@ impl Request {
     /// report with 256 (our choice).
     pub fn setup(&self, asking: &Asking) -> Setup
         ensures setup { result ≡ setup_for self.now asking.now }
-        ensures spelled { IsSpelled result }
+        ensures encoded { IsEncoded result }
         ensures fits { FitsRequest self.now }
     {
         match self {
@@ -119,9 +122,9 @@ impl Request {
                 word_of(type_of(*kind), *id),
                 bytes.len() as u16,
             ),
-            Request::Halt => asks_endpoint(TO_ENDPOINT, SET_FEATURE, asking.endpoint, 0),
-            Request::Clear => asks_endpoint(TO_ENDPOINT, CLEAR_FEATURE, asking.endpoint, 0),
-            Request::EndpointStatus => asks_endpoint(OF_ENDPOINT, GET_STATUS, asking.endpoint, 2),
+            Request::Halt => endpoint_setup(TO_ENDPOINT, SET_FEATURE, asking.endpoint, 0),
+            Request::Clear => endpoint_setup(TO_ENDPOINT, CLEAR_FEATURE, asking.endpoint, 0),
+            Request::EndpointStatus => endpoint_setup(OF_ENDPOINT, GET_STATUS, asking.endpoint, 2),
         }
     }
 
@@ -169,7 +172,7 @@ impl Request {
     }
 }
 
-// The boot protocol, or the report protocol.
+/// The boot protocol, or the report protocol.
 fn protocol_of(boot: bool) -> Protocol
     ensures { result ≡ protocol_of boot }
 {
@@ -180,17 +183,17 @@ fn protocol_of(boot: bool) -> Protocol
     }
 }
 
-// A word of this high and low byte.
+/// A word of this high and low byte.
 fn word_of(high: u8, low: u8) -> u16
     ensures { result ≡ word_of high low }
 {
     u16::from_le_bytes([low, high])
 }
 
-// A request with wIndex 0.
+/// A request with wIndex 0.
 fn asks(request_type: u8, request: u8, value: u16, length: u16) -> Setup
     ensures setup { result ≡ asks request_type request value length }
-    ensures spelled { IsSpelled result }
+    ensures encoded { IsEncoded result }
 {
     Setup {
         request_type,
@@ -201,10 +204,10 @@ fn asks(request_type: u8, request: u8, value: u16, length: u16) -> Setup
     }
 }
 
-// A request of an endpoint to the host, with wValue 0: of SET_FEATURE and CLEAR_FEATURE that is ENDPOINT_HALT (table 9-6).
-fn asks_endpoint(request_type: u8, request: u8, endpoint: u8, length: u16) -> Setup
-    ensures setup { result ≡ asks_endpoint request_type request endpoint length }
-    ensures spelled { IsSpelled result }
+/// A request of an endpoint to the host, with wValue 0: of SET_FEATURE and CLEAR_FEATURE that is ENDPOINT_HALT (table 9-6).
+fn endpoint_setup(request_type: u8, request: u8, endpoint: u8, length: u16) -> Setup
+    ensures setup { result ≡ endpoint_setup request_type request endpoint length }
+    ensures encoded { IsEncoded result }
 {
     Setup {
         request_type,

@@ -9,7 +9,7 @@ use crate::codes::{
     GET_STATUS, OF_CLASS, OF_DEVICE, OF_ENDPOINT, OF_INTERFACE, SET_CONFIGURATION, SET_FEATURE,
     SET_IDLE, SET_PROTOCOL, SET_REPORT, TO_CLASS, TO_DEVICE, TO_ENDPOINT,
 };
-use hid_descriptor::ReportKind;
+use hid_report_descriptor::ReportKind;
 use usb_control::Setup;
 
 /// What a device is asked: a row of the requests that it answers (USB 2.0, 9.4; HID 1.11, 7.1 and 7.2).
@@ -75,7 +75,7 @@ pub enum RequestKind {
     },
 }
 
-// A request of this type and number, with this value and index.
+/// A request of this type and number, with this value and index.
 fn is_row(setup: &Setup, request_type: u8, request: u8, value: u16, index: u16) -> bool
     ensures { result ≡ is_row setup.now request_type request value index }
 {
@@ -84,28 +84,28 @@ fn is_row(setup: &Setup, request_type: u8, request: u8, value: u16, index: u16) 
         && (setup.value == value && setup.index == index)
 }
 
-// A request of this type and number, with this value and index, and no data.
+/// A request of this type and number, with this value and index, and no data.
 fn is_bare_row(setup: &Setup, request_type: u8, request: u8, value: u16, index: u16) -> bool
     ensures { result ≡ is_bare_row setup.now request_type request value index }
 {
     is_row(setup, request_type, request, value, index) && setup.length == 0
 }
 
-// A request of interface 0 of this type and number, whatever its value.
+/// A request of interface 0 of this type and number, whatever its value.
 fn is_class(setup: &Setup, request_type: u8, request: u8) -> bool
     ensures { result ≡ is_class setup.now request_type request }
 {
     setup.request_type == request_type && setup.request == request && setup.index == 0
 }
 
-// A request of interface 0 of this type and number, without data.
+/// A request of interface 0 of this type and number, without data.
 fn is_bare_class(setup: &Setup, request_type: u8, request: u8) -> bool
     ensures { result ≡ is_bare_class setup.now request_type request }
 {
     is_class(setup, request_type, request) && setup.length == 0
 }
 
-// Its row among the standard requests.
+/// Its row among the standard requests.
 fn standard_row(setup: &Setup) -> Option<RequestKind>
     ensures { result ≡ standard_row setup.now }
 {
@@ -142,8 +142,8 @@ fn standard_row(setup: &Setup) -> Option<RequestKind>
     }
 }
 
-// Its row among the class requests. wValue has an ID in its low byte, and the type of a report or an idle time in its high
-// one.
+/// Its row among the class requests. wValue has an ID in its low byte, and the type of a report or an idle time in its high
+/// one.
 fn class_row(setup: &Setup) -> Option<RequestKind>
     ensures { result ≡ class_row setup.now }
 {

@@ -3,7 +3,7 @@ use Rattle.std.proofs.Common.{◌≡◌, ◌⊎◌, ℕ, zero, suc, ◌+◌, Lis
 use Rattle.std.specs.Str.Lines.{lines}
 use Rattle.std.proofs.KnownBytes.{Appends-nil}
 use Rattle.std.specs.Io.KnownBytes.{Appends, Consumes, Keeps}
-use Rattle.hid_descriptor.specs.declared.usage.Usage.{Usage}
+use Rattle.hid_report_descriptor.specs.declared.usage.Usage.{Usage}
 use Rattle.hid_layout.specs.declared.control.ControlId.{ControlId}
 use Rattle.hid_layout.specs.Layout.{Contents}
 use Rattle.hid_snapshots.specs.declared.fault.ReportFault.{ReportFault}
@@ -16,22 +16,22 @@ use Rattle.hid_bus.specs.declared.step.Step.TheVariants.{Change}
 use Rattle.hid_bus.specs.declared.step.Step.TheVariants as step
 use Rattle.hid_script.specs.declared.fault.Cause.{Cause}
 use Rattle.hid_script.specs.declared.fault.Cause.TheVariants as causes
-use Rattle.hid_script.specs.declared.fault.Options.{Options}
+use Rattle.hid_script.specs.declared.options.Options.{Options}
 use Rattle.hid_script.specs.declared.fault.ScriptFault.{ScriptFault}
-use Rattle.hid_script.specs.declared.fault.Summary.{Summary}
+use Rattle.hid_script.specs.declared.summary.Summary.{Summary}
 use Rattle.hid_text.specs.declared.fault.LineFault.{LineFault}
 use Rattle.hid_text.specs.declared.line.Line.{Line}
 use Rattle.hid_text.specs.declared.line.Line.TheVariants as line
 use Rattle.hid_text.specs.declared.short.ShortLine.{ShortLine}
 use Rattle.hid_text.specs.declared.short.ShortLine.TheVariants as short
-use Rattle.hid_script.specs.declared.wanted.Wanted.{Wanted}
-use Rattle.hid_script.specs.declared.wanted.Wanted.TheVariants as wanted
+use Rattle.hid_script.specs.declared.change_kind.ChangeKind.{ChangeKind}
+use Rattle.hid_script.specs.declared.change_kind.ChangeKind.TheVariants as wanted
 use Rattle.hid_text.specs.Line.{meaning_of}
-use Rattle.hid_script.specs.Output.{IsFront}
+use Rattle.hid_text.specs.Output.{IsPrefix}
 use Rattle.hid_script.specs.Session.{Session, Outcome, success, failure, at_first, Repeats}
-use Rattle.hid_script.specs.Steps.{TellsLayout, TellsDevice, TellsStep, TellsFound, TellsChange, values_outcome, read_report, change_of}
-use Rattle.hid_script.specs.LineOutput.{TellsShort, Once, times, Means, LineTells, LineBegins, Begins, BeginsMeant}
-use Rattle.hid_script.specs.Runs.{Ending, Refusal, Want, Cut, Silence, ending_of, EndsAs, Ends, FirstTells, FirstBegins, RunsTo, Stops, line_of, AppendsScript}
+use Rattle.hid_script.specs.Steps.{LayoutPrints, DevicePrints, StepPrints, FoundPrints, ChangePrints, values_outcome, read_report, change_of}
+use Rattle.hid_script.specs.LineOutput.{ShortLinePrints, LineOutcomeOnce, times, MeaningPrints, LinePrints, LineBegins, Begins, BeginsMeant}
+use Rattle.hid_script.specs.Runs.{Ending, RefusedLine, OutOfMemory, PartlyWritten, NotRun, ending_of, EndsAs, Ends, FirstPrints, FirstBegins, RunsTo, Stops, line_of, AppendsScript}
 use Rattle.hid_script.specs.Place.{Place, Advances, RunsFrom, lines_at, AppendsFrom}
 use Rattle.hid_script.proofs.PlaceLemmas.{first_begins, broken_run}
 
@@ -62,27 +62,28 @@ no_values : (session : Session) (bytes text : List ℕ) (cause : Cause) (layout 
 no_values session bytes text cause None e = no_text text cause _ e
 no_values session bytes text cause (Some layout) e = no_report session layout bytes text cause (report_named layout bytes) e
 
-no_layout_text : (bytes : List ℕ) → PrintsNothing (TellsLayout bytes)
+no_layout_text : (bytes : List ℕ) → PrintsNothing (LayoutPrints bytes)
 no_layout_text bytes session text cause (inl h) = not_accepted text _ cause _ h.1.1
 no_layout_text bytes session text cause (inr h) = no_text text cause _ h.1.1
 
-no_step_text : (step : Step) → PrintsNothing (TellsStep step)
+no_step_text : (step : Step) → PrintsNothing (StepPrints step)
 no_step_text step session text cause (inl h) = not_accepted text _ cause _ h.3
 no_step_text step session text cause (inr h) = no_text text cause _ h.2
 
-no_found_text : (dev : ℕ) (wanted : Wanted) (found : Result ControlId StackFault) → PrintsNothing (TellsFound dev wanted found)
+no_found_text : (dev : ℕ) (wanted : ChangeKind) (found : Result ControlId StackFault)
+    → PrintsNothing (FoundPrints dev wanted found)
 no_found_text dev wanted (Ok control) session text cause h = no_step_text (Change dev (change_of wanted control)) session text cause h
 no_found_text dev wanted (Err fault) session text cause h = no_text text cause _ h
 
-no_change_text : (dev : ℕ) (usage : Usage) (wanted : Wanted) → PrintsNothing (TellsChange dev usage wanted)
+no_change_text : (dev : ℕ) (usage : Usage) (wanted : ChangeKind) → PrintsNothing (ChangePrints dev usage wanted)
 no_change_text dev usage wanted session text cause h = no_found_text dev wanted h.0 session text cause h.2
 
-no_device_text : (start : Start) (boot : Boot) (bytes : List ℕ) → PrintsNothing (TellsDevice start boot bytes)
+no_device_text : (start : Start) (boot : Boot) (bytes : List ℕ) → PrintsNothing (DevicePrints start boot bytes)
 no_device_text start boot bytes session text cause (inl h) = not_accepted text _ cause _ h.5
 no_device_text start boot bytes session text cause (inr h) = no_text text cause _ h.4
 
-short_prints_nothing : (said : ShortLine) → PrintsNothing (TellsShort said)
-unfolding TellsShort
+short_prints_nothing : (said : ShortLine) → PrintsNothing (ShortLinePrints said)
+unfolding ShortLinePrints
 short_prints_nothing (short.Press dev usage) session text cause h = no_change_text dev usage wanted.Press session text cause h
 short_prints_nothing (short.Release dev usage) session text cause h = no_change_text dev usage wanted.Release session text cause h
 short_prints_nothing (short.Null dev usage) session text cause h = no_change_text dev usage wanted.Null session text cause h
@@ -94,8 +95,8 @@ short_prints_nothing (short.Control dev fate count) session text cause h = no_st
 short_prints_nothing (short.Reset dev) session text cause h = no_step_text (step.Reset dev) session text cause h
 short_prints_nothing (short.Halt dev) session text cause h = no_step_text (step.Halt dev) session text cause h
 
-once_prints_nothing : (said : Line) → PrintsNothing (Once said)
-unfolding Once
+once_prints_nothing : (said : Line) → PrintsNothing (LineOutcomeOnce said)
+unfolding LineOutcomeOnce
 once_prints_nothing line.Nothing session text cause h = not_accepted text [] cause session h
 once_prints_nothing (line.Layout bytes) session text cause h = no_layout_text bytes.items session text cause h
 once_prints_nothing (line.Values bytes) session text cause h = no_values session bytes.items text cause session.layout h
@@ -123,12 +124,15 @@ repeats_begin Part nothing (suc n) session text cause (inl h) =
       inl (h.0, h.1, success h.2.text more.1, h.3, more.3, ap (λ t. success t more.1) whole),
     )
 
-meant_begins : (session : Session) (meaning : Result Line LineFault) (text : List ℕ) (cause : Cause) → Means session meaning (refused_with text cause) → BeginsMeant session meaning text
-meant_begins session (Ok said) text cause h = repeats_begin (Once said) (once_prints_nothing said) (times said) session text cause h
+meant_begins : (session : Session) (meaning : Result Line LineFault) (text : List ℕ) (cause : Cause)
+    → MeaningPrints session meaning (refused_with text cause) → BeginsMeant session meaning text
+meant_begins session (Ok said) text cause h =
+    repeats_begin (LineOutcomeOnce said) (once_prints_nothing said) (times said) session text cause h
 meant_begins session (Err why) text cause h = no_text text cause _ h
 
-line_begins : (session : Session) (bytes text : List ℕ) (cause : Cause) → LineTells session bytes (refused_with text cause) → LineBegins session bytes text
-unfolding LineTells LineBegins
+line_begins : (session : Session) (bytes text : List ℕ) (cause : Cause)
+    → LinePrints session bytes (refused_with text cause) → LineBegins session bytes text
+unfolding LinePrints LineBegins
 line_begins session bytes text cause h = meant_begins session (meaning_of bytes) text cause h
 
 -- ---- a run that stopped may as well have been cut off there
@@ -137,35 +141,49 @@ whole_text : (session : Session) (script : List (List ℕ)) (part : List ℕ) (c
     → (cut : List ℕ) × FirstBegins session script (part ++ cut) × ((cause ≡ causes.Write) ⊎ (cut ≡ []))
 whole_text session script part cause h = ([], subst (FirstBegins session script) (sym (append-nil part)) h, inr refl)
 
-begun_whole : (ending : Ending) (session : Session) (script : List (List ℕ)) (part : List ℕ) (cause : Cause) → (ending ≡ Cut → ⊥) → EndsAs ending (FirstTells session script) (FirstBegins session script) part cause
+begun_whole : (ending : Ending) (session : Session) (script : List (List ℕ)) (part : List ℕ) (cause : Cause)
+    → (ending ≡ PartlyWritten → ⊥)
+    → EndsAs ending (FirstPrints session script) (FirstBegins session script) part cause
     → (cut : List ℕ) × FirstBegins session script (part ++ cut) × ((cause ≡ causes.Write) ⊎ (cut ≡ []))
-begun_whole Refusal session [] part cause other h = absurd h
-begun_whole Refusal session (bytes ∷ more) part cause other h = whole_text session (bytes ∷ more) part cause (line_begins session bytes part cause h)
-begun_whole Want session script part cause other h = whole_text session script part cause h
-begun_whole Cut session script part cause other h = absurd (other refl)
-begun_whole Silence session script part cause other h = whole_text session script part cause (subst (FirstBegins session script) (sym h) (first_begins session script))
+begun_whole RefusedLine session [] part cause other h = absurd h
+begun_whole RefusedLine session (bytes ∷ more) part cause other h =
+    whole_text session (bytes ∷ more) part cause (line_begins session bytes part cause h)
+begun_whole OutOfMemory session script part cause other h = whole_text session script part cause h
+begun_whole PartlyWritten session script part cause other h = absurd (other refl)
+begun_whole NotRun session script part cause other h =
+    whole_text session script part cause (subst (FirstBegins session script) (sym h) (first_begins session script))
 
-cut_there : (ending : Ending) (session : Session) (script : List (List ℕ)) (part : List ℕ) (cause : Cause) → EndsAs ending (FirstTells session script) (FirstBegins session script) part cause
-    → (text : List ℕ) × FirstBegins session script text × IsFront part text
-cut_there Refusal session [] part cause h = absurd h
-cut_there Refusal session (bytes ∷ more) part cause h = (part, line_begins session bytes part cause h, ([], sym (append-nil part)))
-cut_there Want session script part cause h = (part, h, ([], sym (append-nil part)))
-cut_there Cut session script part cause h = h
-cut_there Silence session script part cause h = ([], first_begins session script, rw h ([], refl))
+cut_there : (ending : Ending) (session : Session) (script : List (List ℕ)) (part : List ℕ) (cause : Cause)
+    → EndsAs ending (FirstPrints session script) (FirstBegins session script) part cause
+    → (text : List ℕ) × FirstBegins session script text × IsPrefix part text
+cut_there RefusedLine session [] part cause h = absurd h
+cut_there RefusedLine session (bytes ∷ more) part cause h =
+    (part, line_begins session bytes part cause h, ([], sym (append-nil part)))
+cut_there OutOfMemory session script part cause h = (part, h, ([], sym (append-nil part)))
+cut_there PartlyWritten session script part cause h = h
+cut_there NotRun session script part cause h = ([], first_begins session script, rw h ([], refl))
 
 -- only a writer cuts something off the text that a line began to tell
-pub begun_there : (session : Session) (script : List (List ℕ)) (part : List ℕ) (cause : Cause) → Ends (FirstTells session script) (FirstBegins session script) part cause
+pub begun_there : (session : Session) (script : List (List ℕ)) (part : List ℕ) (cause : Cause)
+    → Ends (FirstPrints session script) (FirstBegins session script) part cause
     → (cut : List ℕ) × FirstBegins session script (part ++ cut) × ((cause ≡ causes.Write) ⊎ (cut ≡ []))
 unfolding ending_of
 begun_there session script part causes.Write (text, begun, (rest, is)) = (rest, subst (FirstBegins session script) is begun, inl refl)
-begun_there session script part causes.Syntax h = begun_whole Refusal session script part causes.Syntax (λ e. cc) h
-begun_there session script part causes.LineTooLong h = begun_whole Refusal session script part causes.LineTooLong (λ e. cc) h
-begun_there session script part causes.BadHex h = begun_whole Refusal session script part causes.BadHex (λ e. cc) h
-begun_there session script part (causes.Step fault) h = begun_whole Refusal session script part (causes.Step fault) (λ e. cc) h
-begun_there session script part causes.NoLayout h = begun_whole Refusal session script part causes.NoLayout (λ e. cc) h
-begun_there session script part causes.Memory h = begun_whole Want session script part causes.Memory (λ e. cc) h
-begun_there session script part causes.Read h = begun_whole Silence session script part causes.Read (λ e. cc) h
-begun_there session script part causes.TooManyReads h = begun_whole Silence session script part causes.TooManyReads (λ e. cc) h
+begun_there session script part causes.Syntax h =
+    begun_whole RefusedLine session script part causes.Syntax (λ e. cc) h
+begun_there session script part causes.LineTooLong h =
+    begun_whole RefusedLine session script part causes.LineTooLong (λ e. cc) h
+begun_there session script part causes.BadHex h =
+    begun_whole RefusedLine session script part causes.BadHex (λ e. cc) h
+begun_there session script part (causes.Step fault) h =
+    begun_whole RefusedLine session script part (causes.Step fault) (λ e. cc) h
+begun_there session script part causes.NoLayout h =
+    begun_whole RefusedLine session script part causes.NoLayout (λ e. cc) h
+begun_there session script part causes.Memory h =
+    begun_whole OutOfMemory session script part causes.Memory (λ e. cc) h
+begun_there session script part causes.Read h = begun_whole NotRun session script part causes.Read (λ e. cc) h
+begun_there session script part causes.TooManyReads h =
+    begun_whole NotRun session script part causes.TooManyReads (λ e. cc) h
 
 cut_stops : (session : Session) (script : List (List ℕ)) (before : ℕ) (written : List ℕ) (first fault : ScriptFault) → fault.line ≡ first.line → fault.cause ≡ causes.Write
     → Stops session script before written first → Stops session script before written fault
@@ -179,7 +197,8 @@ cut_stops session script before written first fault at is h = record {
   now = h.now;
   all = h.all;
   part = h.part;
-  ends = subst (λ c. EndsAs (ending_of c) (FirstTells h.now h.others) (FirstBegins h.now h.others) h.part c) (sym is) (cut_there (ending_of first.cause) h.now h.others h.part first.cause h.ends);
+  ends = subst (λ c. EndsAs (ending_of c) (FirstPrints h.now h.others) (FirstBegins h.now h.others) h.part c) (sym is)
+      (cut_there (ending_of first.cause) h.now h.others h.part first.cause h.ends);
   whole = h.whole;
 }
 
@@ -197,7 +216,8 @@ cut_at_end session script written (Ok summary) fault at is h = record {
   now = h.last;
   all = h.all;
   part = [];
-  ends = subst (λ c. EndsAs (ending_of c) (FirstTells h.last []) (FirstBegins h.last []) [] c) (sym is) ([], refl, ([], refl));
+  ends = subst (λ c. EndsAs (ending_of c) (FirstPrints h.last []) (FirstBegins h.last []) [] c) (sym is)
+      ([], refl, ([], refl));
   whole = sym (append-nil written);
 }
 
@@ -231,7 +251,10 @@ cut_here place more fault is at = record {
   now = place.session;
   all = (refl, refl);
   part = [];
-  ends = subst (λ c. EndsAs (ending_of c) (FirstTells place.session (lines_at place more)) (FirstBegins place.session (lines_at place more)) [] c) (sym is) ([], first_begins place.session (lines_at place more), ([], refl));
+  ends = subst
+      (λ c. EndsAs (ending_of c) (FirstPrints place.session (lines_at place more))
+      (FirstBegins place.session (lines_at place more)) [] c) (sym is)
+      ([], first_begins place.session (lines_at place more), ([], refl));
   whole = refl;
 }
 

@@ -1,11 +1,11 @@
--- A line tells one thing, and begins with a front of it.
+-- A line tells one thing, and begins with a prefix of it.
 use Rattle.std.proofs.Common.{◌≡◌, ℕ, zero, suc, ◌≤◌, List, [], ◌∷◌, ◌++◌, length, refl, sym, ap, ◌∙◌, subst, inl, inr, arith, append_assoc, Option, Some, Result, Ok, Err}
 use Rattle.std.specs.Prelude.{slice_get}
-use Rattle.hid_descriptor.specs.declared.fault.LayoutFault.{LayoutFault}
-use Rattle.hid_descriptor.specs.declared.usage.Usage.{Usage}
+use Rattle.hid_report_descriptor.specs.declared.fault.LayoutFault.{LayoutFault}
+use Rattle.hid_report_descriptor.specs.declared.usage.Usage.{Usage}
 use Rattle.hid_layout.specs.declared.control.ControlId.{ControlId}
 use Rattle.hid_layout.specs.Layout.{Contents, layout_of}
-use Rattle.hid_descriptor.specs.Laws.{HasOneReading, AcceptsNoRefused, HasOneCause, HasOnePlace}
+use Rattle.hid_report_descriptor.specs.Laws.{HasOneReading, AcceptsNoRefused, HasOneCause, HasOnePlace}
 use Rattle.hid_requests.specs.declared.boot.Boot.{Boot}
 use Rattle.hid_bus.specs.declared.start.Start.{Start}
 use Rattle.hid_device.specs.declared.config.Config.{Config}
@@ -16,27 +16,27 @@ use Rattle.hid_bus.specs.declared.step.Step.TheVariants as step
 use Rattle.hid_stack.specs.Members.{Member}
 use Rattle.hid_stack.specs.Attaching.{member_at_start}
 use Rattle.hid_script.specs.declared.fault.Cause.{Cause}
-use Rattle.hid_script.specs.declared.wanted.Wanted.{Wanted}
-use Rattle.hid_script.specs.declared.wanted.Wanted.TheVariants as wanted
+use Rattle.hid_script.specs.declared.change_kind.ChangeKind.{ChangeKind}
+use Rattle.hid_script.specs.declared.change_kind.ChangeKind.TheVariants as wanted
 use Rattle.hid_text.specs.declared.fault.LineFault.{LineFault}
 use Rattle.hid_text.specs.declared.line.Line.{Line}
 use Rattle.hid_text.specs.declared.line.Line.TheVariants as line
 use Rattle.hid_text.specs.declared.short.ShortLine.{ShortLine}
 use Rattle.hid_text.specs.declared.short.ShortLine.TheVariants as short
 use Rattle.hid_text.specs.Line.{meaning_of}
-use Rattle.hid_script.specs.Output.{IsFront}
+use Rattle.hid_text.specs.Output.{IsPrefix}
 use Rattle.hid_script.specs.Session.{Session, Outcome, success, after_text, Joins, Repeats}
-use Rattle.hid_script.specs.Steps.{TellsLayout, TellsDevice, TellsStep, TellsFound, TellsChange, lays_out, refuses_layout, attaches, step_outcome, refuses_step, config_of, change_of}
-use Rattle.hid_script.specs.LineOutput.{TellsShort, Once, times, Means, LineTells, LineBegins, BeginsMeant}
-use Rattle.hid_script.specs.Runs.{AllTell}
-use Rattle.hid_stack.specs.Laws.{TellsOneThing, FindsOneControl, AttachesOneDevice}
+use Rattle.hid_script.specs.Steps.{LayoutPrints, DevicePrints, StepPrints, FoundPrints, ChangePrints, lays_out, refuses_layout, attaches, step_outcome, refuses_step, config_of, change_of}
+use Rattle.hid_script.specs.LineOutput.{ShortLinePrints, LineOutcomeOnce, times, MeaningPrints, LinePrints, LineBegins, BeginsMeant}
+use Rattle.hid_script.specs.Runs.{AllPrint}
+use Rattle.hid_stack.specs.Laws.{ResultIsUnique, FindsOneControl, AttachesOneDevice}
 use Rattle.hid_stack.specs.declared.rig.TheConstants.{MAX_DEVICES}
-use Rattle.hid_script.specs.Laws.{LineTellsOneThing, LinesTellOneText, BeginsWithFronts}
+use Rattle.hid_script.specs.Laws.{LineHasOneOutcome, LinesPrintOneText, BeginsWithPrefixes}
 use Rattle.hid_script.proofs.SessionLemmas.{at_last, layout_at_start}
 
 -- the stack answers one thing
 pub record HasOneAnswer : Type 0 where
-  pub tells : TellsOneThing
+  pub tells : ResultIsUnique
   pub finds : FindsOneControl
   pub attaches : AttachesOneDevice
 
@@ -49,7 +49,8 @@ IsOne Part = (session : Session) (o other : Outcome) → Part session o → Part
 same_fault : (f g : LayoutFault) → f.cause ≡ g.cause → f.at ≡ g.at → f ≡ g
 same_fault f g cause at = ap (λ c. record f { cause = c }) cause ∙ ap (λ a. record g { at = a }) at
 
-one_layout : HasOneReading → AcceptsNoRefused → HasOneCause → HasOnePlace → (bytes : List ℕ) → IsOne (TellsLayout bytes)
+one_layout : HasOneReading → AcceptsNoRefused → HasOneCause → HasOnePlace → (bytes : List ℕ)
+    → IsOne (LayoutPrints bytes)
 one_layout reading apart cause place bytes session o other (inl h) (inl k) = h.1.1 ∙ ap (λ items. lays_out session (layout_of items)) (reading bytes h.0 k.0 h.1.0 k.1.0) ∙ sym k.1.1
 one_layout reading apart cause place bytes session o other (inl h) (inr k) = absurd (apart bytes h.0 k.0.cause k.0.at h.1.0 k.1.0)
 one_layout reading apart cause place bytes session o other (inr h) (inl k) = absurd (apart bytes k.0 h.0.cause h.0.at k.1.0 h.1.0)
@@ -58,21 +59,23 @@ one_layout reading apart cause place bytes session o other (inr h) (inr k) =
 
 -- ---- steps
 
-one_step : HasOneAnswer → (step : Step) → IsOne (TellsStep step)
+one_step : HasOneAnswer → (step : Step) → IsOne (StepPrints step)
 one_step one step session o other (inl h) (inl k) =
     h.3 ∙ ap (step_outcome session step) (one.tells session.members step h.0 k.0 h.2 k.2) ∙ sym k.3
 one_step one step session o other (inl h) (inr k) = let taken = h.1 in let refused = k.1 in absurd (cc)
 one_step one step session o other (inr h) (inl k) = let refused = h.1 in let taken = k.1 in absurd (cc)
 one_step one step session o other (inr h) (inr k) = let first = h.1 in let second = k.1 in let same : h.0 ≡ k.0 = cc in h.2 ∙ ap refuses_step same ∙ sym k.2
 
-one_found : HasOneAnswer → (dev : ℕ) (wanted : Wanted) (found : Result ControlId StackFault) → IsOne (TellsFound dev wanted found)
+one_found : HasOneAnswer → (dev : ℕ) (wanted : ChangeKind) (found : Result ControlId StackFault)
+    → IsOne (FoundPrints dev wanted found)
 one_found one dev wanted (Ok control) session o other h k = one_step one (Change dev (change_of wanted control)) session o other h k
 one_found one dev wanted (Err fault) session o other h k = h ∙ sym k
 
-one_change : HasOneAnswer → (dev : ℕ) (usage : Usage) (wanted : Wanted) → IsOne (TellsChange dev usage wanted)
+one_change : HasOneAnswer → (dev : ℕ) (usage : Usage) (wanted : ChangeKind) → IsOne (ChangePrints dev usage wanted)
 one_change one dev usage wanted session o other h k =
     let same = one.finds session.members dev usage h.0 k.0 h.1 k.1 in
-    one_found one dev wanted k.0 session o other (subst (λ found. TellsFound dev wanted found session o) same h.2) k.2
+    one_found one dev wanted k.0 session o other
+    (subst (λ found. FoundPrints dev wanted found session o) same h.2) k.2
 
 -- ---- devices
 
@@ -85,7 +88,7 @@ one_layout_at_start start members config bytes dev other layout next e =
     let begun : first ≡ second = cc in
     sym (layout_at_start start dev config bytes layout) ∙ ap (λ (m : Member). m.layout) begun ∙ layout_at_start start other config bytes next
 
-one_device : HasOneAnswer → (start : Start) (boot : Boot) (bytes : List ℕ) → IsOne (TellsDevice start boot bytes)
+one_device : HasOneAnswer → (start : Start) (boot : Boot) (bytes : List ℕ) → IsOne (DevicePrints start boot bytes)
 one_device one start boot bytes session o other (inl h) (inl k) =
     let same = one.attaches MAX_DEVICES (config_of boot) bytes start session.members h.2 k.2 (Ok h.0) (Ok k.0) h.3 k.3 (λ e. cc) (λ e. cc) in
     let layout = one_layout_at_start start session.members (config_of boot) bytes h.0 k.0 h.1 k.1 (sym h.4 ∙ same.1 ∙ k.4) in
@@ -101,8 +104,8 @@ one_device one start boot bytes session o other (inr h) (inr k) =
 
 -- ---- lines
 
-one_short : HasOneAnswer → (said : ShortLine) → IsOne (TellsShort said)
-unfolding TellsShort
+one_short : HasOneAnswer → (said : ShortLine) → IsOne (ShortLinePrints said)
+unfolding ShortLinePrints
 one_short one (short.Press dev usage) session o other h k = one_change one dev usage wanted.Press session o other h k
 one_short one (short.Release dev usage) session o other h k = one_change one dev usage wanted.Release session o other h k
 one_short one (short.Null dev usage) session o other h k = one_change one dev usage wanted.Null session o other h k
@@ -114,8 +117,9 @@ one_short one (short.Control dev fate count) session o other h k = one_step one 
 one_short one (short.Reset dev) session o other h k = one_step one (step.Reset dev) session o other h k
 one_short one (short.Halt dev) session o other h k = one_step one (step.Halt dev) session o other h k
 
-one_once : HasOneReading → AcceptsNoRefused → HasOneCause → HasOnePlace → HasOneAnswer → (said : Line) → IsOne (Once said)
-unfolding Once
+one_once : HasOneReading → AcceptsNoRefused → HasOneCause → HasOnePlace → HasOneAnswer → (said : Line)
+    → IsOne (LineOutcomeOnce said)
+unfolding LineOutcomeOnce
 one_once reading apart cause place one line.Nothing session o other h k = h ∙ sym k
 one_once reading apart cause place one (line.Layout bytes) session o other h k = one_layout reading apart cause place bytes.items session o other h k
 one_once reading apart cause place one (line.Values bytes) session o other h k = h ∙ sym k
@@ -152,53 +156,60 @@ unfolding Repeats
 one_repeated Part one zero session o other h k = h ∙ sym k
 one_repeated Part one (suc n) session o other h k = one_join (Part session) (Repeats n Part) (one session) (one_repeated Part one n) o other h k
 
-one_meant : HasOneReading → AcceptsNoRefused → HasOneCause → HasOnePlace → HasOneAnswer → (session : Session) (meaning : Result Line LineFault) (o other : Outcome) → Means session meaning o → Means session meaning other → o ≡ other
-one_meant reading apart cause place one session (Ok said) o other h k = one_repeated (Once said) (one_once reading apart cause place one said) (times said) session o other h k
+one_meant : HasOneReading → AcceptsNoRefused → HasOneCause → HasOnePlace → HasOneAnswer
+    → (session : Session) (meaning : Result Line LineFault) (o other : Outcome) → MeaningPrints session meaning o
+    → MeaningPrints session meaning other → o ≡ other
+one_meant reading apart cause place one session (Ok said) o other h k =
+    one_repeated (LineOutcomeOnce said) (one_once reading apart cause place one said) (times said) session o other h k
 one_meant reading apart cause place one session (Err why) o other h k = h ∙ sym k
 
-pub one_outcome : HasOneReading → AcceptsNoRefused → HasOneCause → HasOnePlace → HasOneAnswer → LineTellsOneThing
-unfolding LineTells
+pub one_outcome : HasOneReading → AcceptsNoRefused → HasOneCause → HasOnePlace → HasOneAnswer → LineHasOneOutcome
+unfolding LinePrints
 one_outcome reading apart cause place one session bytes o other h k = one_meant reading apart cause place one session (meaning_of bytes) o other h k
 
-pub one_text : LineTellsOneThing → LinesTellOneText
+pub one_text : LineHasOneOutcome → LinesPrintOneText
 one_text one session [] text other last end h k = (h.0 ∙ sym k.0, h.1 ∙ sym k.1)
 one_text one session (bytes ∷ more) text other last end h k =
     let same = one session bytes (success h.0 h.1) (success k.0 k.1) h.3 k.3 in
     let next = same_session h.0 k.0 h.1 k.1 same in
-    let rest = one_text one k.1 more h.2 k.2 last end (subst (λ s. AllTell s more h.2 last) next h.4) k.4 in (
+    let rest = one_text one k.1 more h.2 k.2 last end (subst (λ s. AllPrint s more h.2 last) next h.4) k.4 in (
       h.5 ∙ ap (λ t. t ++ h.2) (ap (λ (o : Outcome). o.text) same) ∙ ap (λ t. k.0 ++ t) rest.0 ∙ sym k.5,
       rest.1,
     )
 
--- ---- fronts
+-- ---- prefixes
 
-front_repeated : (Part : Session → Outcome → Type 0) → IsOne Part
+prefix_repeated : (Part : Session → Outcome → Type 0) → IsOne Part
     → (n count : ℕ) (session next : Session) (text : List ℕ) (o : Outcome) → n ≤ count
-    → Repeats n Part session (success text next) → Repeats count Part session o → IsFront text o.text
+    → Repeats n Part session (success text next) → Repeats count Part session o → IsPrefix text o.text
 unfolding Repeats
-front_repeated Part one zero count session next text o below h k = let none : text ≡ [] = ap (λ (p : Outcome). p.text) h in rw none (o.text, refl)
-front_repeated Part one (suc n) zero session next text o below h k = absurd (omega arith)
-front_repeated Part one (suc n) (suc count) session next text o below (inr h) k = let ends : (let r : Result Session Cause = Ok next in r) ≡ Err h.1 = ap (λ (p : Outcome). p.end) h.3 in absurd (cc)
-front_repeated Part one (suc n) (suc count) session next text o below (inl h) (inr k) =
+prefix_repeated Part one zero count session next text o below h k = let none : text ≡ [] = ap (λ (p : Outcome). p.text) h in rw none (o.text, refl)
+prefix_repeated Part one (suc n) zero session next text o below h k = absurd (omega arith)
+prefix_repeated Part one (suc n) (suc count) session next text o below (inr h) k = let ends : (let r : Result Session Cause = Ok next in r) ≡ Err h.1 = ap (λ (p : Outcome). p.end) h.3 in absurd (cc)
+prefix_repeated Part one (suc n) (suc count) session next text o below (inl h) (inr k) =
     let ends =
     ap (λ (p : Outcome). p.end) (one session (success h.0 h.1) (record { text = k.0; end = Err k.1 }) h.3 k.2) in
     absurd (cc)
-front_repeated Part one (suc n) (suc count) session next text o below (inl h) (inl k) =
+prefix_repeated Part one (suc n) (suc count) session next text o below (inl h) (inl k) =
     let same = one session (success h.0 h.1) (success k.0 k.1) h.3 k.3 in
     let now = same_session h.0 k.0 h.1 k.1 same in
     let end : (let r : Result Session Cause = Ok next in r) ≡ h.2.end = ap (λ (p : Outcome). p.end) h.5 in
     let rest : Repeats n Part k.1 (success h.2.text next) =
     subst (λ s. Repeats n Part s (success h.2.text next)) now
     (subst (λ e. Repeats n Part h.1 (record { text = h.2.text; end = e })) (sym end) h.4) in
-    let front = front_repeated Part one n count k.1 next h.2.text k.2 (omega arith) rest k.4 in
+    let prefix = prefix_repeated Part one n count k.1 next h.2.text k.2 (omega arith) rest k.4 in
     let first : h.0 ≡ k.0 = ap (λ (p : Outcome). p.text) same in
     let whole : text ≡ k.0 ++ h.2.text = ap (λ (p : Outcome). p.text) h.5 ∙ ap (λ t. t ++ h.2.text) first in
-    (front.0, ap (λ (p : Outcome). p.text) k.5 ∙ ap (λ t. k.0 ++ t) front.1 ∙ sym (append_assoc k.0 h.2.text front.0) ∙ ap (λ t. t ++ front.0) (sym whole))
+    (prefix.0, ap (λ (p : Outcome). p.text) k.5 ∙ ap (λ t. k.0 ++ t) prefix.1 ∙ sym (append_assoc k.0 h.2.text prefix.0) ∙ ap (λ t. t ++ prefix.0) (sym whole))
 
-front_meant : HasOneReading → AcceptsNoRefused → HasOneCause → HasOnePlace → HasOneAnswer → (session : Session) (meaning : Result Line LineFault) (text : List ℕ) (o : Outcome) → BeginsMeant session meaning text → Means session meaning o → IsFront text o.text
-front_meant reading apart cause place one session (Ok said) text o h k = front_repeated (Once said) (one_once reading apart cause place one said) h.0 (times said) session h.1 text o h.2 h.3 k
-front_meant reading apart cause place one session (Err why) text o h k = rw h (o.text, refl)
+prefix_meant : HasOneReading → AcceptsNoRefused → HasOneCause → HasOnePlace → HasOneAnswer
+    → (session : Session) (meaning : Result Line LineFault) (text : List ℕ) (o : Outcome)
+    → BeginsMeant session meaning text → MeaningPrints session meaning o → IsPrefix text o.text
+prefix_meant reading apart cause place one session (Ok said) text o h k =
+    prefix_repeated (LineOutcomeOnce said) (one_once reading apart cause place one said) h.0
+    (times said) session h.1 text o h.2 h.3 k
+prefix_meant reading apart cause place one session (Err why) text o h k = rw h (o.text, refl)
 
-pub fronts : HasOneReading → AcceptsNoRefused → HasOneCause → HasOnePlace → HasOneAnswer → BeginsWithFronts
-unfolding LineTells LineBegins
-fronts reading apart cause place one session bytes text o h k = front_meant reading apart cause place one session (meaning_of bytes) text o h k
+pub prefixes : HasOneReading → AcceptsNoRefused → HasOneCause → HasOnePlace → HasOneAnswer → BeginsWithPrefixes
+unfolding LinePrints LineBegins
+prefixes reading apart cause place one session bytes text o h k = prefix_meant reading apart cause place one session (meaning_of bytes) text o h k

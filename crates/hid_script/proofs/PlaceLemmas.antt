@@ -7,18 +7,18 @@ use Rattle.std.proofs.KnownBytes.{Consumes-trans, Consumes-whole, Appends-trans,
 use Rattle.hid_script.specs.declared.fault.Cause.{Cause}
 use Rattle.hid_script.specs.declared.fault.Cause.TheVariants as causes
 use Rattle.hid_script.specs.declared.fault.ScriptFault.{ScriptFault}
-use Rattle.hid_script.specs.declared.fault.Summary.{Summary}
+use Rattle.hid_script.specs.declared.summary.Summary.{Summary}
 use Rattle.hid_text.specs.Lines.{IsUnbroken}
 use Rattle.hid_text.proofs.PieceLemmas.{gives_nothing, gives_more, gives_none, gives_line, last_line, long_line}
 use Rattle.hid_text.specs.Words.{words_of}
 use Rattle.hid_text.specs.Line.{line_meaning, meaning_of}
-use Rattle.hid_script.specs.declared.fault.Options.{Options}
+use Rattle.hid_script.specs.declared.options.Options.{Options}
 use Rattle.hid_script.specs.Session.{Session, success, failure, at_first, Repeats}
 use Rattle.hid_text.specs.declared.fault.LineFault.{LineFault}
 use Rattle.hid_text.specs.declared.fault.LineFault.TheVariants as line_faults
 use Rattle.hid_text.specs.declared.line.Line.{Line}
-use Rattle.hid_script.specs.LineOutput.{LineTells, LineBegins, BeginsMeant, Means}
-use Rattle.hid_script.specs.Runs.{Silence, ending_of, EndsAs, Ends, FirstTells, FirstBegins, AllTell, RunsTo, AppendsScript}
+use Rattle.hid_script.specs.LineOutput.{LinePrints, LineBegins, BeginsMeant, MeaningPrints}
+use Rattle.hid_script.specs.Runs.{NotRun, ending_of, EndsAs, Ends, FirstPrints, FirstBegins, AllPrint, RunsTo, AppendsScript}
 use Rattle.hid_script.specs.Place.{Place, lines_at, Writes, Advances, RunsFrom, Takes, AppendsFrom}
 
 -- ---- what lines tell, one after the other
@@ -28,15 +28,18 @@ after_both : (a b c t u : List ℕ) → t ≡ a ++ b → t ++ u ≡ a ++ (b ++ u
 after_both a b c t u e = ap (λ l. l ++ u) e ∙ append_assoc a b u
 
 -- lines that are reported after other lines
-all_more : (session middle last : Session) (first more : List (List ℕ)) (text rest : List ℕ) → AllTell session first text middle → AllTell middle more rest last → AllTell session (first ++ more) (text ++ rest) last
+all_more : (session middle last : Session) (first more : List (List ℕ)) (text rest : List ℕ)
+    → AllPrint session first text middle → AllPrint middle more rest last
+    → AllPrint session (first ++ more) (text ++ rest) last
 all_more session middle last [] more text rest h k =
-    subst (λ (s : Session). AllTell s more (text ++ rest) last) h.1 (subst (λ t. AllTell middle more (t ++ rest) last) (sym h.0) k)
+    subst (λ (s : Session). AllPrint s more (text ++ rest) last) h.1
+    (subst (λ t. AllPrint middle more (t ++ rest) last) (sym h.0) k)
 all_more session middle last (line ∷ first) more text rest h k =
     (h.0, h.1, h.2 ++ rest, h.3, all_more h.1 middle last first more h.2 rest h.4 k, after_both h.0 h.2 [] text rest h.5)
 
 -- one line that was reported
-one_tells : (session next : Session) (line text : List ℕ) → LineTells session line (success text next)
-    → AllTell session (line ∷ []) text next
+one_tells : (session next : Session) (line text : List ℕ) → LinePrints session line (success text next)
+    → AllPrint session (line ∷ []) text next
 one_tells session next line text h = (text, next, [], h, (refl, refl), sym (append-nil text))
 
 -- ---- pieces
@@ -59,7 +62,7 @@ advances_kept session begun bytes left n same = rw same (record { ended = []; al
 
 -- the last bytes of a line and its line feed, where the line was told whole
 pub advances_line : (session next : Session) (begun last line : List ℕ) (n : ℕ) (written : List ℕ) → IsUnbroken begun → IsUnbroken last
-    → line ≡ strip_carriage_return (begun ++ last) → LineTells session line (success written next)
+    → line ≡ strip_carriage_return (begun ++ last) → LinePrints session line (success written next)
     → Advances (record { session = session; begun = begun; lines = n }) (last ++ 10 ∷ []) written (record { session = next; begun = []; lines = n + 1 })
 advances_line session next begun last line n written whole apart same told = record {
   ended = line ∷ [];
@@ -72,7 +75,8 @@ advances_line session next begun last line n written whole apart same told = rec
 
 -- a run that ended in its first line
 line_stops : (session : Session) (script others : List (List ℕ)) (before : ℕ) (line part : List ℕ) (cause : Cause) (fault : ScriptFault) → script ≡ line ∷ others → fault.line ≡ before + 1 → fault.cause ≡ cause
-    → Ends (LineTells session line) (LineBegins session line) part cause → RunsTo session script before part (Err fault)
+    → Ends (LinePrints session line) (LineBegins session line) part cause
+    → RunsTo session script before part (Err fault)
 line_stops session script others before line part cause fault e at is h = record {
   first = [];
   others = line ∷ others;
@@ -82,12 +86,14 @@ line_stops session script others before line part cause fault e at is h = record
   now = session;
   all = (refl, refl);
   part = part;
-  ends = subst (λ c. Ends (FirstTells session (line ∷ others)) (FirstBegins session (line ∷ others)) part c) (sym is) h;
+  ends = subst (λ c. Ends (FirstPrints session (line ∷ others)) (FirstBegins session (line ∷ others)) part c)
+      (sym is) h;
   whole = refl;
 }
 
 -- what runs on after lines that were reported
-runs_more : (session middle : Session) (first others : List (List ℕ)) (before after : ℕ) (text rest : List ℕ) (result : Result Summary ScriptFault) → AllTell session first text middle → after ≡ before + length first
+runs_more : (session middle : Session) (first others : List (List ℕ)) (before after : ℕ) (text rest : List ℕ)
+    (result : Result Summary ScriptFault) → AllPrint session first text middle → after ≡ before + length first
     → RunsTo middle others after rest result → RunsTo session (first ++ others) before (text ++ rest) result
 runs_more session middle first others before after text rest (Ok summary) h at k = record {
   last = k.last;
@@ -117,14 +123,14 @@ runs_after p q bytes more written text result h k =
 -- a line that is too long ends the run
 pub long_stops : (place : Place) (bytes more : List ℕ) (fault : ScriptFault) → IsUnbroken place.begun → IsUnbroken bytes → 1025 < length place.begun + length bytes → fault.line ≡ place.lines + 1 → fault.cause ≡ causes.LineTooLong
     → RunsFrom place (bytes ++ more) [] (Err fault)
-unfolding LineTells meaning_of ending_of
+unfolding LinePrints meaning_of ending_of
 long_stops place bytes more fault whole apart long at is =
     let first = long_line 1024 place.begun bytes more whole apart long in
     let meant : meaning_of first.0 ≡ Err line_faults.LineTooLong =
     cond-true (nat_lt 1024 (length first.0)) (Err line_faults.LineTooLong) (line_meaning (words_of first.0))
     (lt-ltb 1024 (length first.0) first.3) in
     line_stops place.session (lines_at place (bytes ++ more)) first.1 place.lines first.0 [] causes.LineTooLong fault first.2 at is
-    (subst (λ m. Means place.session m (failure causes.LineTooLong)) (sym meant) refl)
+    (subst (λ m. MeaningPrints place.session m (failure causes.LineTooLong)) (sym meant) refl)
 
 -- one whose line feed came too
 pub long_line_stops : (place : Place) (last more : List ℕ) (fault : ScriptFault) → IsUnbroken place.begun → IsUnbroken last → 1025 < length place.begun + length last → fault.line ≡ place.lines + 1 → fault.cause ≡ causes.LineTooLong
@@ -134,7 +140,9 @@ long_line_stops place last more fault whole apart long at is =
 
 -- a line that ended the run at its line feed
 pub line_feed_stops : (place : Place) (next : Session) (last line more written : List ℕ) (cause : Cause) (fault : ScriptFault) → IsUnbroken place.begun → IsUnbroken last → line ≡ strip_carriage_return (place.begun ++ last)
-    → Writes (LineTells place.session line) (LineBegins place.session line) written (Err cause) next → fault.line ≡ place.lines + 1 → fault.cause ≡ cause → RunsFrom place ((last ++ 10 ∷ []) ++ more) written (Err fault)
+    → Writes (LinePrints place.session line) (LineBegins place.session line) written (Err cause) next
+    → fault.line ≡ place.lines + 1 → fault.cause ≡ cause
+    → RunsFrom place ((last ++ 10 ∷ []) ++ more) written (Err fault)
 line_feed_stops place next last line more written cause fault whole apart same told at is =
     line_stops place.session (lines_at place ((last ++ 10 ∷ []) ++ more)) (lines more) place.lines line written cause fault (gives_line place.begun last line whole apart same more) at is told
 
@@ -161,7 +169,8 @@ stops_early p r bytes front rest written fault (Err e) parts stops is = λ more.
 -- ---- whole runs
 
 -- a fault that comes before any text of a line may come at any time
-pub outside_stops : (place : Place) (more : List ℕ) (fault : ScriptFault) → ending_of fault.cause ≡ Silence → fault.line ≡ place.lines + 1 → RunsFrom place more [] (Err fault)
+pub outside_stops : (place : Place) (more : List ℕ) (fault : ScriptFault) → ending_of fault.cause ≡ NotRun
+    → fault.line ≡ place.lines + 1 → RunsFrom place more [] (Err fault)
 outside_stops place more fault is at = record {
   first = [];
   others = lines_at place more;
@@ -171,7 +180,9 @@ outside_stops place more fault is at = record {
   now = place.session;
   all = (refl, refl);
   part = [];
-  ends = subst (λ e. EndsAs e (FirstTells place.session (lines_at place more)) (FirstBegins place.session (lines_at place more)) [] fault.cause) (sym is) refl;
+  ends = subst
+      (λ e. EndsAs e (FirstPrints place.session (lines_at place more))
+      (FirstBegins place.session (lines_at place more)) [] fault.cause) (sym is) refl;
   whole = refl;
 }
 
@@ -182,12 +193,14 @@ known_rest (Some xs) None read P h f = absurd h
 known_rest (Some xs) (Some ys) read P h f = subst P (sym h) (f ys)
 
 pub last_line_told : (place : Place) (next : Session) (written : List ℕ) (summary : Summary) → IsUnbroken place.begun
-    → 0 < length place.begun → LineTells place.session place.begun (success written next)
+    → 0 < length place.begun → LinePrints place.session place.begun (success written next)
     → summary.lines ≡ place.lines + 1 → summary.events ≡ next.events → RunsFrom place [] written (Ok summary)
 last_line_told place next written summary whole some told lines' events' =
     rw (last_line place.begun whole some) (record { last = next; all = one_tells place.session next place.begun written told; lines = omega (arith, lines'); events = events' })
 
-pub last_line_stops : (place : Place) (next : Session) (written : List ℕ) (cause : Cause) (fault : ScriptFault) → IsUnbroken place.begun → 0 < length place.begun → Writes (LineTells place.session place.begun) (LineBegins place.session place.begun) written (Err cause) next
+pub last_line_stops : (place : Place) (next : Session) (written : List ℕ) (cause : Cause) (fault : ScriptFault)
+    → IsUnbroken place.begun → 0 < length place.begun
+    → Writes (LinePrints place.session place.begun) (LineBegins place.session place.begun) written (Err cause) next
     → fault.line ≡ place.lines + 1 → fault.cause ≡ cause → RunsFrom place [] written (Err fault)
 last_line_stops place next written cause fault whole some told at is =
     line_stops place.session (lines_at place []) [] place.lines place.begun written cause fault (last_line place.begun whole some) at is told
@@ -218,7 +231,7 @@ broken_run place a b c d f read written text now result from grew taken last sto
 
 -- nothing more is written at a fault from outside
 pub outside_run : (place : Place) (a b c d : Option (List ℕ)) (read written : List ℕ) (now : Place) (fault : ScriptFault) → Consumes a b read → Appends c d written → Advances place read written now
-    → ending_of fault.cause ≡ Silence → fault.line ≡ now.lines + 1 → AppendsFrom place a c d (Err fault)
+    → ending_of fault.cause ≡ NotRun → fault.line ≡ now.lines + 1 → AppendsFrom place a c d (Err fault)
 outside_run place a b c d read written now fault from grew taken is at =
     broken_run place a b c d d read written [] now (Err fault) from grew taken (Appends-nil d) (λ more. outside_stops now more fault is at)
 
@@ -261,7 +274,9 @@ no_line_run options script fault at is = record {
   now = at_first options;
   all = (refl, refl);
   part = [];
-  ends = subst (λ c. Ends (FirstTells (at_first options) (lines script)) (FirstBegins (at_first options) (lines script)) [] c) (sym is) (first_begins (at_first options) (lines script));
+  ends = subst
+      (λ c. Ends (FirstPrints (at_first options) (lines script)) (FirstBegins (at_first options) (lines script)) [] c)
+      (sym is) (first_begins (at_first options) (lines script));
   whole = refl;
 }
 

@@ -6,7 +6,7 @@ use Rattle.std.proofs.lemmas.Bool.{cond_both}
 use Rattle.std.proofs.lemmas.List.{replicate-append-replicate}
 use Rattle.std.proofs.lemmas.List.Elements.{All-cons, All-nil}
 use Rattle.std.proofs.lemmas.Option.{slice_get_within}
-use Rattle.hid_descriptor.specs.declared.usage.Usage.{Usage}
+use Rattle.hid_report_descriptor.specs.declared.usage.Usage.{Usage}
 use Rattle.hid_layout.specs.Layout.{Contents, layout_of}
 use Rattle.hid_snapshots.specs.declared.event.Event.{Event}
 use Rattle.hid_snapshots.specs.declared.fault.ReportFault.{ReportFault}
@@ -22,7 +22,7 @@ use Rattle.hid_bus.specs.declared.step.Delivered.{Delivered}
 use Rattle.hid_bus.specs.Delivered.{from_device}
 use Rattle.hid_stack.specs.declared.rig.TheConstants.{MAX_DEVICES}
 use Rattle.hid_stack.specs.Attaching.{Attaches, member_at_start}
-use Rattle.hid_stack.specs.Headline.{LivesThrough}
+use Rattle.hid_stack.specs.Headline.{MemberFollowsHistory}
 use Rattle.hid_stack.specs.Members.{Member}
 use Rattle.hid_stack.specs.Rig.{bus_after, deliveries_of_step, member_at, with_device_number}
 use Rattle.hid_stack.specs.BusHistory.{Action, Attached, HasMemoryFor, Taken, Unconcluded, bus_after_actions, bus_events_of_actions, deliveries_of_actions, device_actions, member_after_actions, next_number}
@@ -34,20 +34,20 @@ use Rattle.hid_text.specs.declared.line.Line.TheVariants as line
 use Rattle.hid_text.specs.declared.short.ShortLine.{ShortLine}
 use Rattle.hid_text.specs.declared.short.ShortLine.TheVariants as short
 use Rattle.hid_text.specs.Line.{meaning_of}
-use Rattle.hid_text.specs.EventLines.{AreFew, ShowsEvents, event_lines}
+use Rattle.hid_text.specs.EventLines.{HaveOneDigit, ShowsEvents, event_lines}
 use Rattle.hid_text.specs.EventText.{event_text}
 use Rattle.hid_text.specs.LayoutText.{layout_text}
 use Rattle.hid_text.proofs.ShownLemmas.{shows_both, shows_layout, shows_nothing, shows_step, shows_values}
 use Rattle.hid_script.specs.declared.fault.Cause.{Cause}
-use Rattle.hid_script.specs.declared.wanted.Wanted.{Wanted}
-use Rattle.hid_script.specs.declared.wanted.Wanted.TheVariants as wanted
+use Rattle.hid_script.specs.declared.change_kind.ChangeKind.{ChangeKind}
+use Rattle.hid_script.specs.declared.change_kind.ChangeKind.TheVariants as wanted
 use Rattle.hid_script.specs.Laws.{LinesPrintLives, RunsPrintLives}
-use Rattle.hid_script.specs.Printing.{AllDo, AttachesOne, BeginsToDo, ChangesOne, Does, DoesShort, DoUpTo, PrintsLives}
-use Rattle.hid_script.specs.Runs.{AllTell, FirstBegins}
+use Rattle.hid_script.specs.Printing.{AllDo, AttachesOne, BeginsToDo, ChangesOne, ScriptActs, DoesShort, DoUpTo, PrintsHistories}
+use Rattle.hid_script.specs.Runs.{AllPrint, FirstBegins}
 use Rattle.hid_script.proofs.FlushLemmas.{begun_there}
 use Rattle.hid_script.specs.Session.{Session, Outcome, success, after_text, at_first, Repeats}
-use Rattle.hid_script.specs.Steps.{TellsLayout, TellsValues, TellsDevice, TellsStep, TellsChange, attaches, change_of, config_of, saturating_sum, finished_read, lays_out, read_report, refuses_step, step_outcome, values_outcome}
-use Rattle.hid_script.specs.LineOutput.{BeginsMeant, LineBegins, LineTells, Means, Once, TellsShort, short_times, times}
+use Rattle.hid_script.specs.Steps.{LayoutPrints, ValuesPrint, DevicePrints, StepPrints, ChangePrints, attaches, change_of, config_of, saturating_sum, finished_read, lays_out, read_report, refuses_step, step_outcome, values_outcome}
+use Rattle.hid_script.specs.LineOutput.{BeginsMeant, LineBegins, LineOutcomeOnce, LinePrints, MeaningPrints, ShortLinePrints, short_times, times}
 
 -- ---- what a part does
 
@@ -107,21 +107,21 @@ numbered : (members : List Member) (dev : ℕ) (m : Member) → length members <
 numbered members dev m few h =
     let within = slice_get_within members (dev - 1) m (sym (at_place members dev (no_zero members dev m h)) ∙ h) in omega (arith, few, within)
 
-few_tagged : (dev : ℕ) (events : List Event) → dev < 10 → AreFew (map (with_device_number dev) events)
+few_tagged : (dev : ℕ) (events : List Event) → dev < 10 → HaveOneDigit (map (with_device_number dev) events)
 few_tagged dev [] few = tt
 few_tagged dev (e ∷ events) few = (few, few_tagged dev events few)
 
 few_of_one : (members : List Member) (dev : ℕ) (gives : Member → List Event) → length members < 10
-    → AreFew (elim (member_at members dev) as
+    → HaveOneDigit (elim (member_at members dev) as
     (λ _. List Delivered) [ None ↦ [] | Some m ↦ map (with_device_number dev) (gives m) ])
 few_of_one members dev gives few = by_member (member_at members dev) refl
   where
     by_member : (o : Option Member) → member_at members dev ≡ o
-        → AreFew (elim o as (λ _. List Delivered) [ None ↦ [] | Some m ↦ map (with_device_number dev) (gives m) ])
+        → HaveOneDigit (elim o as (λ _. List Delivered) [ None ↦ [] | Some m ↦ map (with_device_number dev) (gives m) ])
     by_member None e = tt
     by_member (Some m) e = few_tagged dev (gives m) (numbered members dev m few e)
 
-few_at : (members : List Member) (x : Step) → length members < 10 → AreFew (deliveries_of_step members x)
+few_at : (members : List Member) (x : Step) → length members < 10 → HaveOneDigit (deliveries_of_step members x)
 few_at members (Change dev change) few = tt
 few_at members Frame few = tt
 few_at members (Poll dev fate) few = few_of_one members dev _ few
@@ -131,7 +131,7 @@ few_at members (Halt dev) few = few_of_one members dev _ few
 few_at members (Reset dev) few = few_of_one members dev _ few
 
 step_done : (x : Step) (session next : Session) (text : List ℕ) → length session.members < 10
-    → TellsStep x session (success text next) → Done session.members text (Taken x ∷ []) next.members
+    → StepPrints x session (success text next) → Done session.members text (Taken x ∷ []) next.members
 step_done x session next text few (inr h) = absurd (not_refused text next h.0 h.2)
 step_done x session next text few (inl h) =
     let members = session.members in
@@ -157,8 +157,10 @@ step_done x session next text few (inl h) =
     }
 
 -- a step n times over
-steps_done : (said : ShortLine) (x : Step) → ((s : Session) (o : Outcome) → TellsShort said s o → TellsStep x s o) → (n : ℕ) (session next : Session) (text : List ℕ) → length session.members < 10
-    → Repeats n (TellsShort said) session (success text next)
+steps_done : (said : ShortLine) (x : Step)
+    → ((s : Session) (o : Outcome) → ShortLinePrints said s o → StepPrints x s o)
+    → (n : ℕ) (session next : Session) (text : List ℕ) → length session.members < 10
+    → Repeats n (ShortLinePrints said) session (success text next)
     → Done session.members text (replicate n (Taken x)) next.members
 unfolding Repeats
 steps_done said x is zero session next text few h =
@@ -170,8 +172,8 @@ steps_done said x is (suc n) session next text few (inr h) = let ends = ap (λ (
 steps_done said x is (suc n) session next text few (inl h) =
     let said_first = step_done x session h.1 h.0 few (is session (success h.0 h.1) h.3) in
     let end : (let r : Result Session Cause = Ok next in r) ≡ h.2.end = ap (λ (o : Outcome). o.end) h.5 in
-    let rest : Repeats n (TellsShort said) h.1 (success h.2.text next) =
-    subst (λ e. Repeats n (TellsShort said) h.1 (record { text = h.2.text; end = e })) (sym end) h.4 in
+    let rest : Repeats n (ShortLinePrints said) h.1 (success h.2.text next) =
+    subst (λ e. Repeats n (ShortLinePrints said) h.1 (record { text = h.2.text; end = e })) (sym end) h.4 in
     let later = steps_done said x is n h.1 next h.2.text said_first.few rest in
     subst (λ t. Done session.members t (Taken x ∷ replicate n (Taken x)) next.members) (sym (ap (λ (o : Outcome). o.text) h.5))
     (done_both session.members h.1.members next.members h.0 h.2.text (Taken x ∷ []) (replicate n (Taken x)) said_first later)
@@ -191,10 +193,10 @@ just_once Part session next text (inl h) =
 -- what a line did, and printed
 abbrev LineDone : Line → Session → List ℕ → Session → Type 0
 LineDone said session text next =
-    (acts : List Action) × Does said session.members acts × Done session.members text acts next.members
+    (acts : List Action) × ScriptActs said session.members acts × Done session.members text acts next.members
 
-change_done : (dev : ℕ) (usage : Usage) (wanted : Wanted) (session next : Session) (text : List ℕ)
-    → length session.members < 10 → TellsChange dev usage wanted session (success text next)
+change_done : (dev : ℕ) (usage : Usage) (wanted : ChangeKind) (session next : Session) (text : List ℕ)
+    → length session.members < 10 → ChangePrints dev usage wanted session (success text next)
     → (acts : List Action) × ChangesOne dev usage wanted session.members acts
     × Done session.members text acts next.members
 change_done dev usage wanted session next text few (Ok control, finds, told) =
@@ -207,7 +209,7 @@ starts_quiet Ready dev config bytes layout = refl
 starts_quiet Cold dev config bytes layout = refl
 
 device_done : (start : Start) (boot : Boot) (bytes : List ℕ) (session next : Session) (text : List ℕ)
-    → TellsDevice start boot bytes session (success text next)
+    → DevicePrints start boot bytes session (success text next)
     → (acts : List Action) × AttachesOne start boot bytes session.members acts
     × Done session.members text acts next.members
 device_done start boot bytes session next text (inr h) = absurd (not_refused text next h.0 h.4)
@@ -229,7 +231,7 @@ device_done start boot bytes session next text (inl (dev, layout, after, attache
     )
 
 layout_done : (bytes : List ℕ) (session next : Session) (text : List ℕ) → length session.members < 10
-    → TellsLayout bytes session (success text next) → Done session.members text [] next.members
+    → LayoutPrints bytes session (success text next) → Done session.members text [] next.members
 layout_done bytes session next text few (inr h) = let ends = ap (λ (o : Outcome). o.end) h.1.1 in absurd (cc)
 layout_done bytes session next text few (inl h) =
     let layout = layout_of h.0 in
@@ -237,7 +239,7 @@ layout_done bytes session next text few (inl h) =
     done_nothing session.members next.members text few (subst (λ t. ShowsEvents t []) (sym (text_is text next (lays_out session layout) h.1.1)) (shows_layout layout)) left
 
 values_done : (bytes : List ℕ) (session next : Session) (text : List ℕ) → length session.members < 10
-    → TellsValues bytes session (success text next) → Done session.members text [] next.members
+    → ValuesPrint bytes session (success text next) → Done session.members text [] next.members
 values_done bytes session next text few h = by_layout session.layout h
   where
     by_report : (layout : Contents) (found : Result ℕ ReportFault)
@@ -258,47 +260,82 @@ ShortDone said session text next =
     (acts : List Action) × DoesShort said session.members acts × Done session.members text acts next.members
 
 short_done : (said : ShortLine) (session next : Session) (text : List ℕ) → length session.members < 10
-    → Repeats (short_times said) (TellsShort said) session (success text next) → ShortDone said session text next
-unfolding TellsShort short_times DoesShort
-short_done (short.Press dev usage) session next text few h = change_done dev usage wanted.Press session next text few (just_once (TellsShort (short.Press dev usage)) session next text h)
-short_done (short.Release dev usage) session next text few h = change_done dev usage wanted.Release session next text few (just_once (TellsShort (short.Release dev usage)) session next text h)
-short_done (short.Null dev usage) session next text few h = change_done dev usage wanted.Null session next text few (just_once (TellsShort (short.Null dev usage)) session next text h)
-short_done (short.Set dev usage value) session next text few h = change_done dev usage (wanted.Set value) session next text few (just_once (TellsShort (short.Set dev usage value)) session next text h)
-short_done (short.Move dev usage by) session next text few h = change_done dev usage (wanted.Move by) session next text few (just_once (TellsShort (short.Move dev usage by)) session next text h)
+    → Repeats (short_times said) (ShortLinePrints said) session (success text next) → ShortDone said session text next
+unfolding ShortLinePrints short_times DoesShort
+short_done (short.Press dev usage) session next text few h =
+    change_done dev usage wanted.Press session next text few
+    (just_once (ShortLinePrints (short.Press dev usage)) session next text h)
+short_done (short.Release dev usage) session next text few h =
+    change_done dev usage wanted.Release session next text few
+    (just_once (ShortLinePrints (short.Release dev usage)) session next text h)
+short_done (short.Null dev usage) session next text few h =
+    change_done dev usage wanted.Null session next text few
+    (just_once (ShortLinePrints (short.Null dev usage)) session next text h)
+short_done (short.Set dev usage value) session next text few h =
+    change_done dev usage (wanted.Set value) session next text few
+    (just_once (ShortLinePrints (short.Set dev usage value)) session next text h)
+short_done (short.Move dev usage by) session next text few h =
+    change_done dev usage (wanted.Move by) session next text few
+    (just_once (ShortLinePrints (short.Move dev usage by)) session next text h)
 short_done (short.Frame count) session next text few h = (replicate count (Taken Frame), refl, steps_done (short.Frame count) Frame (λ s o told. told) count session next text few h)
 short_done (short.Poll dev fate count) session next text few h = (replicate count (Taken (Poll dev fate)), refl, steps_done (short.Poll dev fate count) (Poll dev fate) (λ s o told. told) count session next text few h)
 short_done (short.Control dev fate count) session next text few h = (replicate count (Taken (Control dev fate)), refl, steps_done (short.Control dev fate count) (Control dev fate) (λ s o told. told) count session next text few h)
-short_done (short.Reset dev) session next text few h = (Taken (Reset dev) ∷ [], refl, step_done (Reset dev) session next text few (just_once (TellsShort (short.Reset dev)) session next text h))
-short_done (short.Halt dev) session next text few h = (Taken (Halt dev) ∷ [], refl, step_done (Halt dev) session next text few (just_once (TellsShort (short.Halt dev)) session next text h))
+short_done (short.Reset dev) session next text few h = (
+  Taken (Reset dev) ∷ [],
+  refl,
+  step_done (Reset dev) session next text few (just_once (ShortLinePrints (short.Reset dev)) session next text h),
+)
+short_done (short.Halt dev) session next text few h = (
+  Taken (Halt dev) ∷ [],
+  refl,
+  step_done (Halt dev) session next text few (just_once (ShortLinePrints (short.Halt dev)) session next text h),
+)
 
 line_done : (said : Line) (session next : Session) (text : List ℕ) → length session.members < 10
-    → Repeats (times said) (Once said) session (success text next) → LineDone said session text next
-unfolding Once times Does
+    → Repeats (times said) (LineOutcomeOnce said) session (success text next) → LineDone said session text next
+unfolding LineOutcomeOnce times ScriptActs
 line_done line.Nothing session next text few h =
-    let e = just_once (Once line.Nothing) session next text h in
+    let e = just_once (LineOutcomeOnce line.Nothing) session next text h in
     ([], refl, done_nothing session.members next.members text few (subst (λ t. ShowsEvents t []) (sym (ap (λ (o : Outcome). o.text) e)) shows_nothing) (ap (λ (s : Session). s.members) (session_is text [] next session e)))
-line_done (line.Layout bytes) session next text few h = ([], refl, layout_done bytes.items session next text few (just_once (Once (line.Layout bytes)) session next text h))
-line_done (line.Values bytes) session next text few h = ([], refl, values_done bytes.items session next text few (just_once (Once (line.Values bytes)) session next text h))
-line_done (line.Device start boot bytes) session next text few h = device_done start boot bytes.items session next text (just_once (Once (line.Device start boot bytes)) session next text h)
-line_done (line.Begin dev request) session next text few h = (Taken (Begin dev request) ∷ [], refl, step_done (Begin dev request) session next text few (just_once (Once (line.Begin dev request)) session next text h))
+line_done (line.Layout bytes) session next text few h = (
+  [],
+  refl,
+  layout_done bytes.items session next text few
+      (just_once (LineOutcomeOnce (line.Layout bytes)) session next text h),
+)
+line_done (line.Values bytes) session next text few h = (
+  [],
+  refl,
+  values_done bytes.items session next text few
+      (just_once (LineOutcomeOnce (line.Values bytes)) session next text h),
+)
+line_done (line.Device start boot bytes) session next text few h =
+    device_done start boot bytes.items session next text
+    (just_once (LineOutcomeOnce (line.Device start boot bytes)) session next text h)
+line_done (line.Begin dev request) session next text few h = (
+  Taken (Begin dev request) ∷ [],
+  refl,
+  step_done (Begin dev request) session next text few
+      (just_once (LineOutcomeOnce (line.Begin dev request)) session next text h),
+)
 line_done (line.Step said) session next text few h = short_done said session next text few h
 
 meant_done : (session next : Session) (bytes text : List ℕ) (meaning : Result Line LineFault)
-    → meaning_of bytes ≡ meaning → length session.members < 10 → Means session meaning (success text next)
+    → meaning_of bytes ≡ meaning → length session.members < 10 → MeaningPrints session meaning (success text next)
     → (said : Line) × (meaning_of bytes ≡ Ok said) × LineDone said session text next
 meant_done session next bytes text (Ok said) is few h = (said, is, line_done said session next text few h)
 meant_done session next bytes text (Err fault) is few h = let ends = ap (λ (o : Outcome). o.end) h in absurd (cc)
 
 told_done : (session next : Session) (bytes text : List ℕ) → length session.members < 10
-    → LineTells session bytes (success text next)
+    → LinePrints session bytes (success text next)
     → (said : Line) × (meaning_of bytes ≡ Ok said) × LineDone said session text next
-unfolding LineTells
+unfolding LinePrints
 told_done session next bytes text few h = meant_done session next bytes text (meaning_of bytes) refl few h
 
 -- ---- whole scripts
 
 all_done : (script : List (List ℕ)) (session last : Session) (text : List ℕ) → length session.members < 10
-    → AllTell session script text last
+    → AllPrint session script text last
     → (acts : List Action) × AllDo session.members script acts × Done session.members text acts last.members
 all_done [] session last text few h = ([], refl, done_nothing session.members last.members text few (subst (λ t. ShowsEvents t []) (sym h.0) shows_nothing) (ap (λ (s : Session). s.members) h.1))
 all_done (bytes ∷ more) session last text few h =
@@ -336,13 +373,13 @@ lines_are : (text : List ℕ) (delivered : List Delivered) (dev : ℕ) → Shows
 lines_are text delivered dev h = ap (event_lines dev) (sym (append-nil text)) ∙ h dev [] ∙ append-nil (map (event_text dev) (from_device dev delivered))
 
 lives_of : (Did : List Action → Type 0) (text : List ℕ) (last : List Member) (acts : List Action) → Did acts
-    → Done [] text acts last → PrintsLives Did text last
+    → Done [] text acts last → PrintsHistories Did text last
 lives_of Did text last acts did it =
     record {
       acts = acts;
       done = did;
       bus = it.bus;
-      lives = λ before since m is.
+      history = λ before since m is.
           let dev = next_number before in
           let its = its_own before m since in
           let n = member_after_actions m (device_actions before since) in
@@ -353,9 +390,9 @@ lives_of Did text last acts did it =
             told,
             ap (λ (ms : List Member). member_at ms dev) (it.bus ∙ ap (bus_after_actions []) is) ∙ its.state,
             lines_are text (deliveries_of_actions [] acts) dev it.shows,
-            subst (LivesThrough m (bus_events_of_actions m (device_actions before since)) n)
+            subst (MemberFollowsHistory m (bus_events_of_actions m (device_actions before since)) n)
                 (sym (ap (λ (a : List Action). from_device dev (deliveries_of_actions [] a)) is ∙ its.events_of_steps has))
-                (its.lives quiet),
+                (its.history quiet),
           );
       none = λ dev absent.
           lines_are text (deliveries_of_actions [] acts) dev it.shows
@@ -372,7 +409,7 @@ lives_printed options script text last h =
 -- what the first times of a line did, and printed
 abbrev BegunDone : Line → Session → List ℕ → Session → Type 0
 BegunDone said session text next =
-    (acts : List Action) × ((acts ≡ []) ⊎ ((others : List Action) × Does said session.members (acts ++ others)))
+    (acts : List Action) × ((acts ≡ []) ⊎ ((others : List Action) × ScriptActs said session.members (acts ++ others)))
     × Done session.members text acts next.members
 
 -- a line that is carried out no times
@@ -388,41 +425,41 @@ nothing_begun said session next text few e = (
 
 -- a line that is carried out once
 once_begun : (said : Line) (n : ℕ) (session next : Session) (text : List ℕ) → times said ≡ 1
-    → length session.members < 10 → n ≤ times said → Repeats n (Once said) session (success text next)
+    → length session.members < 10 → n ≤ times said → Repeats n (LineOutcomeOnce said) session (success text next)
     → BegunDone said session text next
 unfolding Repeats
 once_begun said zero session next text one few below h = nothing_begun said session next text few h
 once_begun said (suc zero) session next text one few below h =
     let did =
     line_done said session next text few
-    (subst (λ k. Repeats k (Once said) session (success text next)) (sym one) h) in
-    (did.0, inr ([], subst (Does said session.members) (sym (append-nil did.0)) did.1), did.2)
+    (subst (λ k. Repeats k (LineOutcomeOnce said) session (success text next)) (sym one) h) in
+    (did.0, inr ([], subst (ScriptActs said session.members) (sym (append-nil did.0)) did.1), did.2)
 once_begun said (suc (suc n)) session next text one few below h = absurd (omega (arith, one, below))
 
 -- a step that is taken some times
 steps_begun : (said : ShortLine) (x : Step) (n count : ℕ) (session next : Session) (text : List ℕ)
-    → ((s : Session) (o : Outcome) → TellsShort said s o → TellsStep x s o)
+    → ((s : Session) (o : Outcome) → ShortLinePrints said s o → StepPrints x s o)
     → ((acts : List Action) → acts ≡ replicate count (Taken x) → DoesShort said session.members acts)
-    → length session.members < 10 → n ≤ count → Repeats n (TellsShort said) session (success text next)
+    → length session.members < 10 → n ≤ count → Repeats n (ShortLinePrints said) session (success text next)
     → BegunDone (line.Step said) session text next
-unfolding Does
+unfolding ScriptActs
 steps_begun said x n count session next text is does few below h =
     let whole : n + (count - n) ≡ count = omega (arith, below) in
     let parts : replicate n (Taken x) ++ replicate (count - n) (Taken x) ≡ replicate count (Taken x) = replicate-append-replicate n (count - n) (Taken x) ∙ ap (λ k. replicate k (Taken x)) whole in
     (replicate n (Taken x), inr (replicate (count - n) (Taken x), does (replicate n (Taken x) ++ replicate (count - n) (Taken x)) parts), steps_done said x is n session next text few h)
 
 short_begun : (said : ShortLine) (n : ℕ) (session next : Session) (text : List ℕ) → length session.members < 10
-    → n ≤ short_times said → Repeats n (TellsShort said) session (success text next)
+    → n ≤ short_times said → Repeats n (ShortLinePrints said) session (success text next)
     → BegunDone (line.Step said) session text next
-unfolding Once times TellsShort short_times DoesShort
+unfolding LineOutcomeOnce times ShortLinePrints short_times DoesShort
 short_begun (short.Frame count) n session next text few below h = steps_begun (short.Frame count) Frame n count session next text (λ s o told. told) (λ acts is. is) few below h
 short_begun (short.Poll dev fate count) n session next text few below h = steps_begun (short.Poll dev fate count) (Poll dev fate) n count session next text (λ s o told. told) (λ acts is. is) few below h
 short_begun (short.Control dev fate count) n session next text few below h = steps_begun (short.Control dev fate count) (Control dev fate) n count session next text (λ s o told. told) (λ acts is. is) few below h
 short_begun said n session next text few below h = once_begun (line.Step said) n session next text refl few below h
 
 begun_done : (said : Line) (n : ℕ) (session next : Session) (text : List ℕ) → length session.members < 10
-    → n ≤ times said → Repeats n (Once said) session (success text next) → BegunDone said session text next
-unfolding Once times
+    → n ≤ times said → Repeats n (LineOutcomeOnce said) session (success text next) → BegunDone said session text next
+unfolding LineOutcomeOnce times
 begun_done (line.Step said) n session next text few below h = short_begun said n session next text few below h
 begun_done said n session next text few below h = once_begun said n session next text refl few below h
 

@@ -3,8 +3,8 @@ use Rattle.std.proofs.Common.{◌≡◌, ℕ, zero, suc, ◌<◌, List, [], ◌+
 use Rattle.hid_script.specs.declared.fault.Cause.{Cause}
 use Rattle.hid_script.specs.Session.{Session, Outcome, success, Repeats}
 use Rattle.hid_script.specs.LineOutput.{Begins}
-use Rattle.hid_script.specs.Runs.{Ending, Refusal, Want, Cut, Silence, ending_of, EndsAs, Ends}
-use Rattle.hid_script.specs.Place.{AppendsOnce, AppendsTold, IsBegun, OnceEndsAs, WritesOnce, Writes}
+use Rattle.hid_script.specs.Runs.{Ending, RefusedLine, OutOfMemory, PartlyWritten, NotRun, ending_of, EndsAs, Ends}
+use Rattle.hid_script.specs.Place.{AppendsOnce, AppendsOutput, IsBegun, OnceEndsAs, WritesOnce, Writes}
 
 -- a part that is carried out no times
 pub no_times : (Once : Session → Outcome → Type 0) (session : Session) → Repeats 0 Once session (success [] session)
@@ -75,11 +75,13 @@ ends_behind : (ending : Ending) (n count : ℕ) (Once : Session → Outcome → 
     (x y : List ℕ) (cause : Cause) → n < count → Repeats n Once session (success x now)
     → OnceEndsAs ending (Once now) y cause
     → EndsAs ending (Repeats count Once session) (Begins count Once session) (x ++ y) cause
-ends_behind Refusal n count Once session now x y cause below h k = refused_then n count Once session now x y cause below h k
-ends_behind Want n count Once session now x y cause below h k = begun_behind n count Once session now x y below h k
-ends_behind Cut n count Once session now x y cause below h k =
+ends_behind RefusedLine n count Once session now x y cause below h k =
+    refused_then n count Once session now x y cause below h k
+ends_behind OutOfMemory n count Once session now x y cause below h k =
+    begun_behind n count Once session now x y below h k
+ends_behind PartlyWritten n count Once session now x y cause below h k =
     (x ++ k.0, begun_behind n count Once session now x k.0 below h k.1, (k.2.0, ap (λ l. x ++ l) k.2.1 ∙ sym (append_assoc x y k.2.0)))
-ends_behind Silence n count Once session now x y cause below h k = absurd k
+ends_behind NotRun n count Once session now x y cause below h k = absurd k
 
 -- the last time was refused, or broke off
 pub last_time : (n count : ℕ) (Once : Session → Outcome → Type 0) (session now next other : Session) (x y : List ℕ)
@@ -100,5 +102,5 @@ once_alone Once session next y (Ok u) told = one_more 0 Once session session nex
 once_alone Once session next y (Err cause) told = last_time 0 1 Once session session next next [] y cause (Err cause) (omega arith) (no_times Once session) told refl
 
 pub told_once : (old new : Option (List ℕ)) (Once : Session → Outcome → Type 0) (session next : Session) (r : Result (Unit {0}) Cause) → AppendsOnce old new (Once session) r next
-    → AppendsTold old new (Repeats 1 Once session) (Begins 1 Once session) r next
+    → AppendsOutput old new (Repeats 1 Once session) (Begins 1 Once session) r next
 told_once old new Once session next r told = (told.0, told.1, once_alone Once session next told.0 r told.2)

@@ -3,9 +3,9 @@ use Rattle.std.proofs.Common.{◌≡◌, ℕ, ◌+◌, ◌<◌, ◌≤◌, true,
 use Rattle.std.proofs.lemmas.List.{length-take}
 use Rattle.std.specs.Prelude.{is_err}
 use Rattle.std.specs.Str.Lines.{lines, strip_carriage_return}
-use Rattle.hid_descriptor.specs.declared.fault.LayoutFault.{LayoutFault}
-use Rattle.hid_descriptor.specs.declared.fault.Cause as layouts
-use Rattle.hid_descriptor.specs.declared.fault.Cause.TheVariants as whys
+use Rattle.hid_report_descriptor.specs.declared.fault.LayoutFault.{LayoutFault}
+use Rattle.hid_report_descriptor.specs.declared.fault.Cause as layouts
+use Rattle.hid_report_descriptor.specs.declared.fault.Cause.TheVariants as whys
 use Rattle.hid_host.specs.declared.fault.StackFault.{StackFault}
 use Rattle.hid_host.specs.declared.fault.StackFault.TheVariants as stack
 use Rattle.hid_text.specs.declared.fault.LineFault.{LineFault}
@@ -14,13 +14,13 @@ use Rattle.hid_text.proofs.LineLemmas.{lines_first}
 use Rattle.hid_script.specs.declared.fault.Cause.{Cause}
 use Rattle.hid_script.specs.declared.fault.Cause.TheVariants as causes
 use Rattle.hid_script.specs.declared.fault.ScriptFault.{ScriptFault}
-use Rattle.hid_script.specs.declared.fault.Summary.{Summary}
-use Rattle.hid_script.specs.declared.streams.Lost.{Lost as LostText}
-use Rattle.hid_script.specs.declared.runs.TheConstants.{READS}
+use Rattle.hid_script.specs.declared.summary.Summary.{Summary}
+use Rattle.hid_script.specs.declared.streams.WriteFailed.{WriteFailed as LostText}
+use Rattle.hid_script.specs.declared.runs.TheConstants.{MAX_READS}
 use Rattle.hid_script.specs.LineOutput.{line_cause, cause_from, stack_cause}
 use Rattle.hid_text.specs.Lines.{IsUnbroken}
 use Rattle.hid_script.specs.Place.{Place, Advances, lines_at, RunsFrom}
-use Rattle.hid_script.specs.Streams.{Answer, Gave, Interrupted, GoesOn, bytes_in, ReadsOn, line_after, FewReads, LastRead, LastGives, ReadFault, ReadsTo, Reply, Took, Flushed, Lost, flush_reply, Succeeds, CallsOn, AllSucceed, LastReplies, WriteFault, FromLine, EndsText, EndsLine, WritesTo, LosesText, CauseByWrites, EndsByWrites, Turns, FlushesBeforeReads, TurnsTo, EndsByTurns}
+use Rattle.hid_script.specs.Streams.{Answer, Gave, Interrupted, GoesOn, bytes_read, ReadsOn, line_after, FewReads, LastRead, LastGives, ReadFault, ReadsTo, Reply, Took, Flushed, WriteFailed, flush_reply, Succeeds, CallsOn, AllSucceed, LastReplies, WriteFault, FromLine, EndsText, EndsLine, WritesTo, LosesText, CauseByWrites, EndsByWrites, Turns, FlushesBeforeReads, TurnsTo, EndsByTurns}
 
 -- ---- the line in which a reader stands
 
@@ -41,8 +41,8 @@ unfolding ReadsOn
 no_reads reads reader = (refl, refl)
 
 -- as many as a run makes
-pub all_reads : {R : Type 0} (reads : R → Answer → R → Type 0) (first last : R) (n : ℕ) (bytes : List ℕ) → ReadsOn reads first n bytes last → n ≤ 1000000 → 1000000 ≤ n → ReadsOn reads first READS bytes last
-all_reads reads first last n bytes h below above = let same : n ≡ READS = omega arith in subst (λ k. ReadsOn reads first k bytes last) same h
+pub all_reads : {R : Type 0} (reads : R → Answer → R → Type 0) (first last : R) (n : ℕ) (bytes : List ℕ) → ReadsOn reads first n bytes last → n ≤ 1000000 → 1000000 ≤ n → ReadsOn reads first MAX_READS bytes last
+all_reads reads first last n bytes h below above = let same : n ≡ MAX_READS = omega arith in subst (λ k. ReadsOn reads first k bytes last) same h
 
 -- a read that wasn't the last gave a byte
 pub some_given : (n : ℕ) (buffer : List ℕ) → (n ≡ 0 → ⊥) → n ≤ length buffer → GoesOn (Gave (take n buffer))
@@ -81,7 +81,7 @@ took_some calls first before last n text h some bound call = one_call calls firs
 pub from_behind : {W : Type 0} (calls : W → Reply → W → Type 0) (first middle last : W) (cause : Cause) → AllSucceed calls first middle → FromLine calls middle last cause → FromLine calls first last cause
 from_behind calls first middle last causes.Read h k = k
 from_behind calls first middle last causes.TooManyReads h k = k
-from_behind calls first middle last causes.Write h k = last_replies calls first middle last Lost h k
+from_behind calls first middle last causes.Write h k = last_replies calls first middle last WriteFailed h k
 from_behind calls first middle last cause h k = all_succeed calls first middle last h k
 
 -- ---- what a fault says
@@ -159,7 +159,7 @@ flush_done calls before writer (Ok u) is h = h
 flush_done calls before writer (Err e) is h = absurd (cc)
 
 pub flush_lost : {W : Type 0} (calls : W → Reply → W → Type 0) (before writer : W) (r : Result (Unit {0}) LostText)
-    → is_err r ≡ true → calls before (flush_reply r) writer → LastReplies calls before writer Lost
+    → is_err r ≡ true → calls before (flush_reply r) writer → LastReplies calls before writer WriteFailed
 flush_lost calls before writer (Ok u) is h = absurd (cc)
 flush_lost calls before writer (Err e) is h = (before, no_calls calls before, h)
 
@@ -170,7 +170,8 @@ unfolding Turns
 no_turns reads calls reader writer = (refl, refl, refl)
 
 pub one_turn : {R W : Type 0} (reads : R → Answer → R → Type 0) (calls : W → Reply → W → Type 0) (reader r last : R) (writer w flushed end : W) (n : ℕ) (bytes : List ℕ) (answer : Answer) → Turns reads calls reader writer n bytes r w → calls w Flushed flushed
-    → reads r answer last → GoesOn answer → AllSucceed calls flushed end → Turns reads calls reader writer (suc n) (bytes ++ bytes_in answer) last end
+    → reads r answer last → GoesOn answer → AllSucceed calls flushed end
+    → Turns reads calls reader writer (suc n) (bytes ++ bytes_read answer) last end
 unfolding Turns
 one_turn reads calls reader r last writer w flushed end n bytes answer h flush read on text = (bytes, r, w, flushed, answer, h, flush, read, on, text, refl)
 
@@ -224,11 +225,13 @@ flush_behind : {W : Type 0} (calls : W → Reply → W → Type 0) (first middle
 flush_behind calls first middle last (Ok summary) h flush = (middle, h, flush)
 flush_behind calls first middle last (Err fault) h flush = done_behind calls first middle last fault.cause h flush
 
-lost_cause : {W : Type 0} (calls : W → Reply → W → Type 0) (first middle last : W) (cause : Cause) → WriteFault calls first middle cause → calls middle Lost last → LosesText calls first last
+lost_cause : {W : Type 0} (calls : W → Reply → W → Type 0) (first middle last : W) (cause : Cause)
+    → WriteFault calls first middle cause → calls middle WriteFailed last → LosesText calls first last
 lost_cause calls first middle last causes.Write h flush = inr (middle, h, inr flush)
 lost_cause calls first middle last cause h flush = inl (middle, h, flush)
 
-lost_behind : {W : Type 0} (calls : W → Reply → W → Type 0) (first middle last : W) (r : Result Summary ScriptFault) → WritesTo calls first middle r → calls middle Lost last → LosesText calls first last
+lost_behind : {W : Type 0} (calls : W → Reply → W → Type 0) (first middle last : W) (r : Result Summary ScriptFault)
+    → WritesTo calls first middle r → calls middle WriteFailed last → LosesText calls first last
 lost_behind calls first middle last (Ok summary) h flush = inl (middle, h, flush)
 lost_behind calls first middle last (Err other) h flush = lost_cause calls first middle last other.cause h flush
 
@@ -243,15 +246,18 @@ pub turns_flushed : {R W : Type 0} (reads : R → Answer → R → Type 0) (call
 turns_flushed reads calls reader last writer middle end r h flush =
     turns_on reads calls reader last writer _ _ (λ w k. flush_behind calls w middle end r k flush) h
 
-pub turns_lost : {R W : Type 0} (reads : R → Answer → R → Type 0) (calls : W → Reply → W → Type 0) (reader last : R) (writer middle end : W) (r : Result Summary ScriptFault) (line : ℕ) → TurnsTo reads calls reader writer last middle r → calls middle Lost end
+pub turns_lost : {R W : Type 0} (reads : R → Answer → R → Type 0) (calls : W → Reply → W → Type 0) (reader last : R)
+    (writer middle end : W) (r : Result Summary ScriptFault) (line : ℕ)
+    → TurnsTo reads calls reader writer last middle r → calls middle WriteFailed end
     → EndsByTurns reads calls reader writer last end (Err (record { line = line; cause = causes.Write }))
 turns_lost reads calls reader last writer middle end r line h flush =
     turns_on reads calls reader last writer _ _ (λ w k. lost_behind calls w middle end r k flush) h
 
 -- what the writer answered after calls that succeeded, it answered after those before them
 loses_behind : {W : Type 0} (calls : W → Reply → W → Type 0) (first middle last : W) → AllSucceed calls first middle → LosesText calls middle last → LosesText calls first last
-loses_behind calls first middle last h (inl k) = inl (last_replies calls first middle last Lost h k)
-loses_behind calls first middle last h (inr (lost, k, flush)) = inr (lost, last_replies calls first middle lost Lost h k, flush)
+loses_behind calls first middle last h (inl k) = inl (last_replies calls first middle last WriteFailed h k)
+loses_behind calls first middle last h (inr (lost, k, flush)) =
+    inr (lost, last_replies calls first middle lost WriteFailed h k, flush)
 
 cause_behind : {W : Type 0} (calls : W → Reply → W → Type 0) (first middle last : W) (cause : Cause) → AllSucceed calls first middle → CauseByWrites calls middle last cause → CauseByWrites calls first last cause
 cause_behind calls first middle last causes.Write h k = loses_behind calls first middle last h k

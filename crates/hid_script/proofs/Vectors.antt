@@ -2,7 +2,7 @@
 use Rattle.std.proofs.Common.{◌≡◌, [], ◌∷◌, ◌++◌, refl}
 use Rattle.std.specs.Prelude.{codes}
 use Rattle.std.specs.Fmt.{digits}
-use Rattle.hid_descriptor.specs.declared.fault.Cause.TheVariants as layouts
+use Rattle.hid_report_descriptor.specs.declared.fault.Cause.TheVariants as layouts
 use Rattle.hid_snapshots.specs.declared.fault.ReportFault.TheVariants.{Short}
 use Rattle.hid_script.specs.declared.fault.Cause.TheVariants as causes
 use Rattle.hid_script.specs.declared.fault.StepFault.TheVariants as faults

@@ -2,7 +2,6 @@ pub mod FaultText
 pub mod Session
 pub mod Steps
 pub mod LineOutput
-pub mod Output
 pub mod Runs
 pub mod Laws
 pub mod Place

@@ -1,15 +1,15 @@
 -- The outcome of a line of a script (our choice: docs/SCRIPT.md).
 use Rattle.std.specs.Prelude.{◌≡◌, ℕ, ◌≤◌, List, [], Result, Ok, Err}
-use Rattle.hid_descriptor.specs.declared.fault.LayoutFault.{LayoutFault}
-use Rattle.hid_descriptor.specs.declared.fault.Cause as layouts
-use Rattle.hid_descriptor.specs.declared.fault.Cause.TheVariants as causes_of
+use Rattle.hid_report_descriptor.specs.declared.fault.LayoutFault.{LayoutFault}
+use Rattle.hid_report_descriptor.specs.declared.fault.Cause as layouts
+use Rattle.hid_report_descriptor.specs.declared.fault.Cause.TheVariants as causes_of
 use Rattle.hid_host.specs.declared.fault.StackFault.{StackFault}
 use Rattle.hid_host.specs.declared.fault.StackFault.TheVariants as stack
 use Rattle.hid_bus.specs.declared.step.Step.TheVariants as step
 use Rattle.hid_script.specs.declared.fault.Cause.{Cause}
 use Rattle.hid_script.specs.declared.fault.Cause.TheVariants as causes
 use Rattle.hid_script.specs.declared.fault.StepFault.TheVariants as faults
-use Rattle.hid_script.specs.declared.wanted.Wanted.TheVariants as wanted
+use Rattle.hid_script.specs.declared.change_kind.ChangeKind.TheVariants as wanted
 use Rattle.hid_text.specs.declared.fault.LineFault.{LineFault}
 use Rattle.hid_text.specs.declared.fault.LineFault.TheVariants as lines
 use Rattle.hid_text.specs.declared.line.Line.{Line}
@@ -18,30 +18,30 @@ use Rattle.hid_text.specs.declared.short.ShortLine.{ShortLine}
 use Rattle.hid_text.specs.declared.short.ShortLine.TheVariants as short
 use Rattle.hid_text.specs.Line.{meaning_of}
 use Rattle.hid_script.specs.Session.{Session, Outcome, success, failure, Repeats}
-use Rattle.hid_script.specs.Steps.{TellsLayout, TellsValues, TellsDevice, TellsChange, TellsStep}
+use Rattle.hid_script.specs.Steps.{LayoutPrints, ValuesPrint, DevicePrints, ChangePrints, StepPrints}
 
 -- The outcome of a short line each time that it is carried out: what it prints and the session that it leaves, or why
 -- it is refused. Example: press 1 07:01 is X4 S3 U1
-unfoldable pub TellsShort : ShortLine → Session → Outcome → Type 0
-TellsShort (short.Press dev usage) session o = TellsChange dev usage wanted.Press session o
-TellsShort (short.Release dev usage) session o = TellsChange dev usage wanted.Release session o
-TellsShort (short.Null dev usage) session o = TellsChange dev usage wanted.Null session o
-TellsShort (short.Set dev usage value) session o = TellsChange dev usage (wanted.Set value) session o
-TellsShort (short.Move dev usage by) session o = TellsChange dev usage (wanted.Move by) session o
-TellsShort (short.Frame count) session o = TellsStep step.Frame session o
-TellsShort (short.Poll dev fate count) session o = TellsStep (step.Poll dev fate) session o
-TellsShort (short.Control dev fate count) session o = TellsStep (step.Control dev fate) session o
-TellsShort (short.Reset dev) session o = TellsStep (step.Reset dev) session o
-TellsShort (short.Halt dev) session o = TellsStep (step.Halt dev) session o
+unfoldable pub ShortLinePrints : ShortLine → Session → Outcome → Type 0
+ShortLinePrints (short.Press dev usage) session o = ChangePrints dev usage wanted.Press session o
+ShortLinePrints (short.Release dev usage) session o = ChangePrints dev usage wanted.Release session o
+ShortLinePrints (short.Null dev usage) session o = ChangePrints dev usage wanted.Null session o
+ShortLinePrints (short.Set dev usage value) session o = ChangePrints dev usage (wanted.Set value) session o
+ShortLinePrints (short.Move dev usage by) session o = ChangePrints dev usage (wanted.Move by) session o
+ShortLinePrints (short.Frame count) session o = StepPrints step.Frame session o
+ShortLinePrints (short.Poll dev fate count) session o = StepPrints (step.Poll dev fate) session o
+ShortLinePrints (short.Control dev fate count) session o = StepPrints (step.Control dev fate) session o
+ShortLinePrints (short.Reset dev) session o = StepPrints (step.Reset dev) session o
+ShortLinePrints (short.Halt dev) session o = StepPrints (step.Halt dev) session o
 
 -- the outcome of any line each time that it is carried out
-unfoldable pub Once : Line → Session → Outcome → Type 0
-Once line.Nothing session o = o ≡ success [] session
-Once (line.Layout bytes) session o = TellsLayout bytes.items session o
-Once (line.Values bytes) session o = TellsValues bytes.items session o
-Once (line.Device start kind bytes) session o = TellsDevice start kind bytes.items session o
-Once (line.Begin dev request) session o = TellsStep (step.Begin dev request) session o
-Once (line.Step said) session o = TellsShort said session o
+unfoldable pub LineOutcomeOnce : Line → Session → Outcome → Type 0
+LineOutcomeOnce line.Nothing session o = o ≡ success [] session
+LineOutcomeOnce (line.Layout bytes) session o = LayoutPrints bytes.items session o
+LineOutcomeOnce (line.Values bytes) session o = ValuesPrint bytes.items session o
+LineOutcomeOnce (line.Device start kind bytes) session o = DevicePrints start kind bytes.items session o
+LineOutcomeOnce (line.Begin dev request) session o = StepPrints (step.Begin dev request) session o
+LineOutcomeOnce (line.Step said) session o = ShortLinePrints said session o
 
 -- how many times a short line is carried out
 unfoldable pub short_times : ShortLine → ℕ
@@ -57,7 +57,7 @@ times _ = 1
 
 -- the outcome of a line that was understood: that of all its times
 abbrev pub CarriesOut : Session → Line → Outcome → Type 0
-CarriesOut session said o = Repeats (times said) (Once said) session o
+CarriesOut session said o = Repeats (times said) (LineOutcomeOnce said) session o
 
 -- the script's cause for a line that says nothing: X1, X2 or X3, as the line has it
 abbrev pub line_cause : LineFault → Cause
@@ -71,14 +71,14 @@ line_or_cause (Ok said) = Ok said
 line_or_cause (Err fault) = Err (line_cause fault)
 
 -- the outcome of a line that was read: that of what it says, or its refusal
-abbrev pub Means : Session → Result Line LineFault → Outcome → Type 0
-Means session (Ok said) o = CarriesOut session said o
-Means session (Err fault) o = o ≡ failure (line_cause fault)
+abbrev pub MeaningPrints : Session → Result Line LineFault → Outcome → Type 0
+MeaningPrints session (Ok said) o = CarriesOut session said o
+MeaningPrints session (Err fault) o = o ≡ failure (line_cause fault)
 
 -- The outcome of a line of these bytes: the text that it prints and the session that it leaves, or why it is refused.
 -- Example: layout alone prints no reports
-unfoldable pub LineTells : Session → List ℕ → Outcome → Type 0
-LineTells session bytes o = Means session (meaning_of bytes) o
+unfoldable pub LinePrints : Session → List ℕ → Outcome → Type 0
+LinePrints session bytes o = MeaningPrints session (meaning_of bytes) o
 
 -- what the first times of a part print
 abbrev pub Begins : ℕ → (Session → Outcome → Type 0) → Session → List ℕ → Type 0
@@ -87,7 +87,7 @@ Begins count Part session text =
 
 -- what the first times of a line print; nothing where it isn't understood
 abbrev pub BeginsMeant : Session → Result Line LineFault → List ℕ → Type 0
-BeginsMeant session (Ok said) text = Begins (times said) (Once said) session text
+BeginsMeant session (Ok said) text = Begins (times said) (LineOutcomeOnce said) session text
 BeginsMeant session (Err fault) text = text ≡ []
 
 -- the text of the first times of a line, which running out of memory or the writer may leave

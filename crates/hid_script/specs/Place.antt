@@ -3,12 +3,12 @@ use Rattle.std.specs.Prelude.{◌≡◌, ◌⊎◌, ℕ, ◌+◌, List, [], ◌+
 use Rattle.std.specs.Str.Lines.{lines}
 use Rattle.std.specs.Io.KnownBytes.{Appends}
 use Rattle.hid_text.specs.Lines.{GivesLines}
+use Rattle.hid_text.specs.Output.{IsPrefix}
 use Rattle.hid_script.specs.declared.fault.Cause.{Cause}
 use Rattle.hid_script.specs.declared.fault.ScriptFault.{ScriptFault}
-use Rattle.hid_script.specs.declared.fault.Summary.{Summary}
+use Rattle.hid_script.specs.declared.summary.Summary.{Summary}
 use Rattle.hid_script.specs.Session.{Session, Outcome, success}
-use Rattle.hid_script.specs.Output.{IsFront}
-use Rattle.hid_script.specs.Runs.{Ending, Refusal, Want, Cut, Silence, ending_of, AllTell, Ends, RunsTo}
+use Rattle.hid_script.specs.Runs.{Ending, RefusedLine, OutOfMemory, PartlyWritten, NotRun, ending_of, AllPrint, Ends, RunsTo}
 
 -- what was written of a line: all of its outcome, or what its end leaves of that
 abbrev pub Writes : (Outcome → Type 0) → (List ℕ → Type 0) → List ℕ → Result (Unit {0}) Cause → Session → Type 0
@@ -16,9 +16,9 @@ Writes Tells Begun written (Ok _) next = Tells (success written next)
 Writes Tells Begun written (Err cause) next = Ends Tells Begun written cause
 
 -- known bytes grew by what was written of a line
-abbrev pub AppendsTold : Option (List ℕ) → Option (List ℕ) → (Outcome → Type 0) → (List ℕ → Type 0)
+abbrev pub AppendsOutput : Option (List ℕ) → Option (List ℕ) → (Outcome → Type 0) → (List ℕ → Type 0)
     → Result (Unit {0}) Cause → Session → Type 0
-AppendsTold old new Tells Begun result next =
+AppendsOutput old new Tells Begun result next =
     (written : List ℕ) × Appends old new written × Writes Tells Begun written result next
 
 -- what was written of a part that is reported once: nothing, or all
@@ -27,10 +27,10 @@ IsBegun Tells text = (text ≡ []) ⊎ ((next : Session) × Tells (success text 
 
 -- what its end leaves of a part that is reported once; a read that failed doesn't end one
 abbrev pub OnceEndsAs : Ending → (Outcome → Type 0) → List ℕ → Cause → Type 0
-OnceEndsAs Refusal Tells written cause = Tells (record { text = written; end = Err cause })
-OnceEndsAs Want Tells written cause = IsBegun Tells written
-OnceEndsAs Cut Tells written cause = (text : List ℕ) × IsBegun Tells text × IsFront written text
-OnceEndsAs Silence Tells written cause = ⊥
+OnceEndsAs RefusedLine Tells written cause = Tells (record { text = written; end = Err cause })
+OnceEndsAs OutOfMemory Tells written cause = IsBegun Tells written
+OnceEndsAs PartlyWritten Tells written cause = (text : List ℕ) × IsBegun Tells text × IsPrefix written text
+OnceEndsAs NotRun Tells written cause = ⊥
 
 -- what was written of a part that is reported once
 abbrev pub WritesOnce : (Outcome → Type 0) → List ℕ → Result (Unit {0}) Cause → Session → Type 0
@@ -56,7 +56,7 @@ lines_at place more = lines (place.begun ++ more)
 -- Some bytes came and a text was written: lines ended in them, whatever comes then, and the text is theirs.
 pub record Advances (old : Place) (bytes written : List ℕ) (new : Place) : Type 0 where
   pub ended : List (List ℕ)
-  pub all : AllTell old.session ended written new.session
+  pub all : AllPrint old.session ended written new.session
   pub count : new.lines ≡ old.lines + length ended
   pub split : GivesLines old.begun bytes ended new.begun
 

@@ -3,7 +3,7 @@
 use Rattle.std.specs.Prelude.{◌≡◌, ◌⊎◌, ℕ, zero, suc, List, [], ◌++◌, Option, None, Result, Ok, Err}
 use Rattle.hid_layout.specs.Layout.{Contents}
 use Rattle.hid_stack.specs.Members.{Member}
-use Rattle.hid_script.specs.declared.fault.Options.{Options}
+use Rattle.hid_script.specs.declared.options.Options.{Options}
 use Rattle.hid_script.specs.declared.fault.Cause.{Cause}
 
 -- the options, the last layout that was accepted, the devices with their hosts, and how many events they delivered

@@ -1,10 +1,10 @@
 -- The outcomes of the parts of a script: layouts, values, devices, and steps of the bus (our choice: docs/SCRIPT.md).
 use Rattle.std.specs.Prelude.{◌≡◌, ◌≢◌, ◌⊎◌, ◌∷◌, ◌++◌, ℕ, ◌+◌, ◌-◌, ◌^◌, min, List, [], length, if◌then◌else◌, Option, None, Some, Result, Ok, Err}
-use Rattle.hid_descriptor.specs.Items.{Spelled}
+use Rattle.hid_report_descriptor.specs.Items.{EncodedItem}
 use Rattle.hid_layout.specs.Layout.{Contents, layout_of}
-use Rattle.hid_descriptor.specs.Faults.{Accepts, Refuses}
-use Rattle.hid_descriptor.specs.declared.fault.LayoutFault.{LayoutFault}
-use Rattle.hid_descriptor.specs.declared.usage.Usage.{Usage}
+use Rattle.hid_report_descriptor.specs.Faults.{Accepts, Refuses}
+use Rattle.hid_report_descriptor.specs.declared.fault.LayoutFault.{LayoutFault}
+use Rattle.hid_report_descriptor.specs.declared.usage.Usage.{Usage}
 use Rattle.hid_layout.specs.declared.control.ControlId.{ControlId}
 use Rattle.hid_snapshots.specs.declared.fault.ReportFault.{ReportFault}
 use Rattle.hid_snapshots.specs.declared.change.Change.{Change as OneChange}
@@ -19,7 +19,7 @@ use Rattle.hid_bus.specs.declared.step.Step.TheVariants.{Change, Control}
 use Rattle.hid_bus.specs.declared.step.Told.{Told}
 use Rattle.hid_stack.specs.Members.{Member}
 use Rattle.hid_stack.specs.Rig.{member_at, refusal, bus_after, deliveries_of_step}
-use Rattle.hid_stack.specs.StepResult.{Tells}
+use Rattle.hid_stack.specs.StepResult.{StepReturns}
 use Rattle.hid_stack.specs.declared.rig.TheConstants.{MAX_DEVICES}
 use Rattle.hid_host.specs.declared.fault.StackFault.TheVariants as stack
 use Rattle.hid_stack.specs.Attaching.{Attaches, Finds, member_at_start}
@@ -29,8 +29,8 @@ use Rattle.hid_host.specs.declared.host.Transfer.{Transfer}
 use Rattle.hid_host.specs.Host.{read_bytes_of}
 use Rattle.hid_script.specs.declared.fault.Cause.TheVariants as causes
 use Rattle.hid_script.specs.declared.fault.StepFault.TheVariants as faults
-use Rattle.hid_script.specs.declared.wanted.Wanted.{Wanted}
-use Rattle.hid_script.specs.declared.wanted.Wanted.TheVariants.{Press, Release, Null, Set, Move}
+use Rattle.hid_script.specs.declared.change_kind.ChangeKind.{ChangeKind}
+use Rattle.hid_script.specs.declared.change_kind.ChangeKind.TheVariants.{Press, Release, Null, Set, Move}
 use Rattle.hid_text.specs.LayoutText.{layout_text}
 use Rattle.hid_text.specs.ValuesText.{values_text}
 use Rattle.hid_text.specs.StepText.{step_text}
@@ -42,14 +42,14 @@ use Rattle.hid_script.specs.Session.{Session, Outcome, success, failure}
 abbrev pub lays_out : Session → Contents → Outcome
 lays_out session layout = success (layout_text layout) (record session { layout = Some layout })
 
--- what a descriptor that is refused tells
+-- the outcome of a descriptor that is refused
 abbrev pub refuses_layout : LayoutFault → Outcome
 refuses_layout fault = failure (causes.Step (faults.Layout fault))
 
--- a layout line tells the layout of its descriptor, which is accepted, or the cause for which it is refused
-abbrev pub TellsLayout : List ℕ → Session → Outcome → Type 0
-TellsLayout bytes session o =
-    ((items : List Spelled) × (Accepts bytes items × (o ≡ lays_out session (layout_of items))))
+-- a layout line prints the layout of its descriptor, if this is accepted, or fails with the cause of its refusal
+abbrev pub LayoutPrints : List ℕ → Session → Outcome → Type 0
+LayoutPrints bytes session o =
+    ((items : List EncodedItem) × (Accepts bytes items × (o ≡ lays_out session (layout_of items))))
     ⊎ ((fault : LayoutFault) × (Refuses bytes fault.cause fault.at × (o ≡ refuses_layout fault)))
 
 -- the values of a report, or why the bytes are none
@@ -63,8 +63,8 @@ values_outcome session bytes None = failure causes.NoLayout
 values_outcome session bytes (Some layout) = read_report session layout bytes (report_named layout bytes)
 
 -- the outcome of a line of values, by the layout that stands
-abbrev pub TellsValues : List ℕ → Session → Outcome → Type 0
-TellsValues bytes session o = o ≡ values_outcome session bytes session.layout
+abbrev pub ValuesPrint : List ℕ → Session → Outcome → Type 0
+ValuesPrint bytes session o = o ≡ values_outcome session bytes session.layout
 
 -- ---- devices
 
@@ -83,8 +83,8 @@ attaches session layout members =
 
 -- The next number is the device's, and its descriptor suits; or there is no such device, and running out of memory is
 -- no reason.
-abbrev pub TellsDevice : Start → Boot → List ℕ → Session → Outcome → Type 0
-TellsDevice start boot bytes session o =
+abbrev pub DevicePrints : Start → Boot → List ℕ → Session → Outcome → Type 0
+DevicePrints start boot bytes session o =
     ((dev : ℕ) × (layout : Contents) × (after : List Member)
     × Attaches MAX_DEVICES (config_of boot) bytes start session.members (Ok dev) after
     × (after ≡ session.members ++ member_at_start start dev (config_of boot) bytes layout ∷ [])
@@ -126,14 +126,14 @@ step_outcome session step shown = success
     })
 
 -- a step is taken, or it is refused
-abbrev pub TellsStep : Step → Session → Outcome → Type 0
-TellsStep step session o =
-    ((shown : Told) × (refusal session.members step ≡ None) × Tells session.members step shown
+abbrev pub StepPrints : Step → Session → Outcome → Type 0
+StepPrints step session o =
+    ((shown : Told) × (refusal session.members step ≡ None) × StepReturns session.members step shown
     × (o ≡ step_outcome session step shown))
     ⊎ ((fault : StackFault) × (refusal session.members step ≡ Some fault) × (o ≡ refuses_step fault))
 
 -- the change that is wanted of a control
-abbrev pub change_of : Wanted → ControlId → OneChange
+abbrev pub change_of : ChangeKind → ControlId → OneChange
 change_of Press control = changes.Press control
 change_of Release control = changes.Release control
 change_of Null control = changes.Null control
@@ -141,12 +141,12 @@ change_of (Set value) control = changes.Set control value
 change_of (Move by) control = changes.Move control by
 
 -- a control that was found changes; where there is none, that is reported
-abbrev pub TellsFound : ℕ → Wanted → Result ControlId StackFault → Session → Outcome → Type 0
-TellsFound dev wanted (Ok control) session o = TellsStep (Change dev (change_of wanted control)) session o
-TellsFound dev wanted (Err fault) session o = o ≡ refuses_step fault
+abbrev pub FoundPrints : ℕ → ChangeKind → Result ControlId StackFault → Session → Outcome → Type 0
+FoundPrints dev wanted (Ok control) session o = StepPrints (Change dev (change_of wanted control)) session o
+FoundPrints dev wanted (Err fault) session o = o ≡ refuses_step fault
 
 -- the least control with the usage changes, if there is one
-abbrev pub TellsChange : ℕ → Usage → Wanted → Session → Outcome → Type 0
-TellsChange dev usage wanted session o =
+abbrev pub ChangePrints : ℕ → Usage → ChangeKind → Session → Outcome → Type 0
+ChangePrints dev usage wanted session o =
     (found : Result ControlId StackFault)
-    × Finds session.members dev usage found × TellsFound dev wanted found session o
+    × Finds session.members dev usage found × FoundPrints dev wanted found session o

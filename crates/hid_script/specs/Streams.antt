@@ -5,11 +5,11 @@ use Rattle.std.specs.Io.KnownBytes.{Keeps, Consumes, Appends}
 use Rattle.hid_script.specs.declared.fault.Cause.{Cause}
 use Rattle.hid_script.specs.declared.fault.Cause.TheVariants as causes
 use Rattle.hid_script.specs.declared.fault.ScriptFault.{ScriptFault}
-use Rattle.hid_script.specs.declared.fault.Summary.{Summary}
-use Rattle.hid_script.specs.declared.runs.TheConstants.{READS}
+use Rattle.hid_script.specs.declared.summary.Summary.{Summary}
+use Rattle.hid_script.specs.declared.runs.TheConstants.{MAX_READS}
 use Rattle.hid_script.specs.declared.streams.ReadResult.{ReadResult}
 use Rattle.hid_script.specs.declared.streams.ReadResult.TheVariants as given
-use Rattle.hid_script.specs.declared.streams.Lost.{Lost as LostText}
+use Rattle.hid_script.specs.declared.streams.WriteFailed.{WriteFailed as LostText}
 use Rattle.hid_script.specs.Runs.{line_of}
 
 -- ---- the reader
@@ -27,16 +27,16 @@ answer_of given.Interrupted buffer = Interrupted
 answer_of given.Failed buffer = Failed
 
 -- how many bytes came, if the read didn't fail
-abbrev pub count_of : ReadResult → Result ℕ (Unit {0})
-count_of (given.Bytes n) = Ok n
-count_of given.Interrupted = Err tt
-count_of given.Failed = Err tt
+abbrev pub read_count : ReadResult → Result ℕ (Unit {0})
+read_count (given.Bytes n) = Ok n
+read_count given.Interrupted = Err tt
+read_count given.Failed = Err tt
 
 -- how known bytes of a reader change with an answer
-abbrev pub TellsAnswer : Option (List ℕ) → Answer → Option (List ℕ) → Type 0
-TellsAnswer old (Gave bytes) new = Consumes old new bytes
-TellsAnswer old Interrupted new = Keeps old new
-TellsAnswer old Failed new = Keeps old new
+abbrev pub AnswerConsumes : Option (List ℕ) → Answer → Option (List ℕ) → Type 0
+AnswerConsumes old (Gave bytes) new = Consumes old new bytes
+AnswerConsumes old Interrupted new = Keeps old new
+AnswerConsumes old Failed new = Keeps old new
 
 -- a run reads on after these answers: bytes came, or the read was interrupted
 abbrev pub GoesOn : Answer → Type 0
@@ -45,10 +45,10 @@ GoesOn Interrupted = ⊤
 GoesOn Failed = ⊥
 
 -- the bytes of an answer
-abbrev pub bytes_in : Answer → List ℕ
-bytes_in (Gave bytes) = bytes
-bytes_in Interrupted = []
-bytes_in Failed = []
+abbrev pub bytes_read : Answer → List ℕ
+bytes_read (Gave bytes) = bytes
+bytes_read Interrupted = []
+bytes_read Failed = []
 
 -- Reads after which a run reads on: one after the other they led from one reader to another, each gave bytes or was
 -- interrupted, and in all they gave these bytes.
@@ -56,7 +56,7 @@ unfoldable pub ReadsOn : {R : Type 0} → (R → Answer → R → Type 0) → R 
 ReadsOn {R} reads first zero bytes last = (bytes ≡ []) × (last ≡ first)
 ReadsOn {R} reads first (suc n) bytes last =
     (front : List ℕ) × (before : R) × (answer : Answer) × ReadsOn reads first n front before
-    × reads before answer last × GoesOn answer × (bytes ≡ front ++ bytes_in answer)
+    × reads before answer last × GoesOn answer × (bytes ≡ front ++ bytes_read answer)
 
 -- The number of the line in which the byte after these would stand: of the one that a line feed there would end.
 -- Example: 2 after layout, a line feed and lay
@@ -65,12 +65,12 @@ line_after bytes = length (lines (bytes ++ 10 ∷ []))
 
 -- fewer reads were made than a run makes, and a run reads on after each
 abbrev pub FewReads : {R : Type 0} → (R → Answer → R → Type 0) → R → R → Type 0
-FewReads {R} reads first last = (n : ℕ) × (bytes : List ℕ) × ReadsOn reads first n bytes last × (n < READS)
+FewReads {R} reads first last = (n : ℕ) × (bytes : List ℕ) × ReadsOn reads first n bytes last × (n < MAX_READS)
 
 -- the last read answered so, after some with which a run reads on, which gave these bytes
 abbrev pub LastRead : {R : Type 0} → (R → Answer → R → Type 0) → R → R → Answer → List ℕ → Type 0
 LastRead {R} reads first last answer bytes =
-    (n : ℕ) × (before : R) × ReadsOn reads first n bytes before × reads before answer last × (n < READS)
+    (n : ℕ) × (before : R) × ReadsOn reads first n bytes before × reads before answer last × (n < MAX_READS)
 
 -- the last read answered so, and the bytes before it end in this line
 abbrev pub LastAnswers : {R : Type 0} → (R → Answer → R → Type 0) → R → R → Answer → ℕ → Type 0
@@ -86,7 +86,7 @@ LastGives reads first last line =
 -- as many reads as a run makes were made, and none of them came to the end
 abbrev pub ReadsAll : {R : Type 0} → (R → Answer → R → Type 0) → R → R → ℕ → Type 0
 ReadsAll {R} reads first last line =
-    (bytes : List ℕ) × ReadsOn reads first READS bytes last × (line ≡ line_after bytes)
+    (bytes : List ℕ) × ReadsOn reads first MAX_READS bytes last × (line ≡ line_after bytes)
 
 -- What the cause of a fault says of the reads. X5: the last one failed. X8: as many as a run makes came to no end. Any
 -- other cause: the last one gave bytes, or came to the end in the line of the fault, or a run would have read on.
@@ -115,29 +115,29 @@ EndsByReads reads first last result =
 pub data Reply : Type 0 where
   Took : List ℕ → Reply
   Flushed : Reply
-  Lost : Reply
+  WriteFailed : Reply
 
 -- what a write answered
 abbrev pub write_reply : Result ℕ LostText → List ℕ → Reply
 write_reply (Ok n) text = Took (take n text)
-write_reply (Err lost) text = Lost
+write_reply (Err lost) text = WriteFailed
 
 -- what a flush answered
 abbrev pub flush_reply : Result (Unit {0}) LostText → Reply
 flush_reply (Ok _) = Flushed
-flush_reply (Err lost) = Lost
+flush_reply (Err lost) = WriteFailed
 
 -- how known bytes of a writer change with a reply
-abbrev pub TellsReply : Option (List ℕ) → Reply → Option (List ℕ) → Type 0
-TellsReply old (Took bytes) new = Appends old new bytes
-TellsReply old Flushed new = Keeps old new
-TellsReply old Lost new = Keeps old new
+abbrev pub ReplyAppends : Option (List ℕ) → Reply → Option (List ℕ) → Type 0
+ReplyAppends old (Took bytes) new = Appends old new bytes
+ReplyAppends old Flushed new = Keeps old new
+ReplyAppends old WriteFailed new = Keeps old new
 
 -- a run goes on after these replies: a write took some bytes, or a flush was done
 abbrev pub Succeeds : Reply → Type 0
 Succeeds (Took bytes) = 0 < length bytes
 Succeeds Flushed = ⊤
-Succeeds Lost = ⊥
+Succeeds WriteFailed = ⊥
 
 -- A chain of calls that led from one writer to another, and none of them failed.
 unfoldable pub CallsOn : {W : Type 0} → (W → Reply → W → Type 0) → W → ℕ → W → Type 0
@@ -155,7 +155,7 @@ LastReplies {W} calls first last reply = (before : W) × AllSucceed calls first 
 
 -- what a cause says of the calls of the writer: X6, that the last one failed, and no other; any other cause, that none did
 abbrev pub WriteFault : {W : Type 0} → (W → Reply → W → Type 0) → W → W → Cause → Type 0
-WriteFault calls first last causes.Write = LastReplies calls first last Lost
+WriteFault calls first last causes.Write = LastReplies calls first last WriteFailed
 WriteFault calls first last cause = AllSucceed calls first last
 
 -- a cause that a line may have, and what it says of the calls of the writer: no line ends by X5 or X8
@@ -182,8 +182,9 @@ WritesTo calls first last (Err fault) = WriteFault calls first last fault.cause
 -- X6: the last flush is the first call that failed, or it comes after that call
 abbrev pub LosesText : {W : Type 0} → (W → Reply → W → Type 0) → W → W → Type 0
 LosesText {W} calls first last =
-    LastReplies calls first last Lost
-    ⊎ ((lost : W) × LastReplies calls first lost Lost × (calls lost Flushed last ⊎ calls lost Lost last))
+    LastReplies calls first last WriteFailed
+    ⊎ ((lost : W) × LastReplies calls first lost WriteFailed
+    × (calls lost Flushed last ⊎ calls lost WriteFailed last))
 
 -- what a cause says of the calls of the writer, the last flush among them
 abbrev pub CauseByWrites : {W : Type 0} → (W → Reply → W → Type 0) → W → W → Cause → Type 0
@@ -206,7 +207,7 @@ Turns {R} {W} reads calls reader writer zero bytes r w = (bytes ≡ []) × (r �
 Turns {R} {W} reads calls reader writer (suc n) bytes r w =
     (front : List ℕ) × (r' : R) × (w' : W) × (flushed : W) × (answer : Answer)
     × Turns reads calls reader writer n front r' w' × calls w' Flushed flushed × reads r' answer r × GoesOn answer
-    × AllSucceed calls flushed w × (bytes ≡ front ++ bytes_in answer)
+    × AllSucceed calls flushed w × (bytes ≡ front ++ bytes_read answer)
 
 -- Each read came after a flush of the writer: after some turns either no other read was made, or the writer was flushed
 -- once more and the last read was made. From the writer there on the run ended in this way.
@@ -217,13 +218,14 @@ FlushesBeforeReads {R} {W} reads calls reader writer last Ends =
     × (((last ≡ r) × Ends w)
     ⊎ ((flushed : W) × (answer : Answer) × calls w Flushed flushed × reads r answer last × Ends flushed))
 
--- how a run's reads and writes followed each other before the last flush
+-- each read came after a flush of the writer, and the writes after the last read end as those of a run without its last
+-- flush
 abbrev pub TurnsTo : {R W : Type 0} → (R → Answer → R → Type 0) → (W → Reply → W → Type 0) → R → W → R → W
     → Result Summary ScriptFault → Type 0
 TurnsTo reads calls reader writer reader' writer' result =
     FlushesBeforeReads reads calls reader writer reader' (λ w. WritesTo calls w writer' result)
 
--- how a run's reads and writes followed each other
+-- each read came after a flush of the writer, and the writes after the last read end as those of a run with its last flush
 abbrev pub EndsByTurns : {R W : Type 0} → (R → Answer → R → Type 0) → (W → Reply → W → Type 0) → R → W → R → W
     → Result Summary ScriptFault → Type 0
 EndsByTurns reads calls reader writer reader' writer' result =

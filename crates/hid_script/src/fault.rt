@@ -1,4 +1,4 @@
-//! What a run counts, and why it ends early.
+//! Why a run ends early.
 
 ghost use Rattle.std.specs.Prelude.{◌≡◌};
 
@@ -9,26 +9,7 @@ use hid_text::LineFault;
 use std::alloc::AllocError;
 use thiserror::Error;
 
-/// What is printed beside what the lines tell.
-#[derive(Clone, Copy, Debug, PartialEq, Eq)]
-pub struct Options {
-    /// The layout of each device that is attached.
-    pub layout: bool,
-    /// A line for each poll, and for each try of a transfer.
-    pub trace: bool,
-}
-
-/// What a run that was not cut short counted.
-#[derive(Clone, Copy, Debug, PartialEq, Eq)]
-pub struct Summary {
-    /// All lines, empty ones and comments too.
-    pub lines: u64,
-    /// The events that the lines told, of polls, resets, halts and tries of transfers. The count stops at the greatest
-    /// `u64`.
-    pub events: u64,
-}
-
-/// Why a line that was understood is refused all the same.
+/// Why a valid line is refused when it is carried out.
 #[derive(Clone, Copy, Debug, PartialEq, Eq)]
 pub enum StepFault {
     /// L1 to L16: the descriptor of a `layout` line is refused.

@@ -1,14 +1,14 @@
 //! The line that names a fault, and its codes.
 
 ghost use Rattle.std.specs.Prelude.{◌≡◌, Some, IfOk, IfErr};
-ghost use Rattle.hid_script.specs.FaultText.{step_text, cause_text, fault_text};
+ghost use Rattle.hid_script.specs.FaultText.{step_fault_text, cause_text, fault_text};
 
 use super::fault::{Cause, ScriptFault, StepFault};
 use std::alloc::{AllocError, Global};
 use std::fmt;
 
 impl fmt::Display for StepFault {
-    ghost output = { λ fault. Some (step_text fault) };
+    ghost output = { λ fault. Some (step_fault_text fault) };
 
     fn fmt<W: fmt::Write>(&self, f: &mut fmt::Formatter<W>) -> fmt::Result {
         match self {
@@ -52,6 +52,7 @@ pub fn fault_line(alloc: Global, fault: &ScriptFault) -> Result<Vec<u8>, ScriptF
     })
 }
 
+/// The line that names a fault: `line N: CODES`, with its end.
 fn write_fault_line(alloc: Global, fault: &ScriptFault) -> Result<Vec<u8>, AllocError>
     ensures { IfOk result (λ text. text.items ≡ fault_text fault.now) }
 {

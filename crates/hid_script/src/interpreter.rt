@@ -2,16 +2,17 @@
 
 ghost use Rattle.std.specs.Prelude.{◌≡◌};
 ghost use Rattle.hid_script.specs.Session.{at_first, Repeats};
-ghost use Rattle.hid_script.specs.Steps.{TellsLayout, TellsValues, TellsDevice, TellsStep, TellsChange, finished_read};
-ghost use Rattle.hid_script.specs.LineOutput.{TellsShort, Once, short_times, times, CarriesOut, Begins, LineTells, LineBegins};
-ghost use Rattle.hid_script.specs.Place.{AppendsTold, AppendsOnce};
+ghost use Rattle.hid_script.specs.Steps.{LayoutPrints, ValuesPrint, DevicePrints, StepPrints, ChangePrints, finished_read};
+ghost use Rattle.hid_script.specs.LineOutput.{ShortLinePrints, LineOutcomeOnce, short_times, times, CarriesOut, Begins, LinePrints, LineBegins};
+ghost use Rattle.hid_script.specs.Place.{AppendsOutput, AppendsOnce};
 ghost use Rattle.hid_script.specs.Streams.{EndsText};
 ghost use Rattle.hid_bus.specs.declared.step.Step.TheVariants as Taking;
 
-use super::fault::{Cause, Options};
+use super::change_kind::{ChangeKind, change_of};
+use super::fault::Cause;
+use super::options::Options;
 use super::output::write_text;
 use super::streams::Sink;
-use super::wanted::{Wanted, change_of};
 use hid_device::{Boot, Config};
 use hid_layout::{Layout, Usage};
 use hid_stack::{Delivered, Request, Rig, Start, Step};
@@ -117,8 +118,8 @@ impl Interpreter {
     /// # Errors
     /// The cause for which the line is refused, X6 if its text was not written whole, or X7.
     pub fn line<W: Sink>(&mut self, line: &[u8], writer: &mut W) -> Result<(), Cause>
-        ensures told { AppendsTold (W.contents writer.old) (W.contents writer.new)
-            (LineTells (session_of self.old) line.now)
+        ensures prints { AppendsOutput (W.contents writer.old) (W.contents writer.new)
+            (LinePrints (session_of self.old) line.now)
             (LineBegins (session_of self.old) line.now) result (session_of self.new) }
         ensures outside { EndsText W.calls writer.old writer.new result }
     {
@@ -131,8 +132,8 @@ impl Interpreter {
     /// Carries out any line, without its end.
     #[inline(never)] // an empty line makes no room for what a line says
     fn run_line<W: Sink>(&mut self, line: &[u8], writer: &mut W) -> Result<(), Cause>
-        ensures told { AppendsTold (W.contents writer.old) (W.contents writer.new)
-            (LineTells (session_of self.old) line.now)
+        ensures prints { AppendsOutput (W.contents writer.old) (W.contents writer.new)
+            (LinePrints (session_of self.old) line.now)
             (LineBegins (session_of self.old) line.now) result (session_of self.new) }
         ensures outside { EndsText W.calls writer.old writer.new result }
     {
@@ -145,8 +146,8 @@ impl Interpreter {
     /// Carries out a line that isn't short, with room for the bytes of hex words.
     #[inline(never)] // a short line makes none
     fn run_any<W: Sink>(&mut self, line: &[u8], writer: &mut W) -> Result<(), Cause>
-        ensures told { AppendsTold (W.contents writer.old) (W.contents writer.new)
-            (LineTells (session_of self.old) line.now)
+        ensures prints { AppendsOutput (W.contents writer.old) (W.contents writer.new)
+            (LinePrints (session_of self.old) line.now)
             (LineBegins (session_of self.old) line.now) result (session_of self.new) }
         ensures outside { EndsText W.calls writer.old writer.new result }
     {
@@ -156,12 +157,12 @@ impl Interpreter {
         }
     }
 
-    /// Carries out a line as often as it says, up to the first time that it is refused. What it tells each time is written
+    /// Carries out a line as often as it says, up to the first time that it is refused. The output of each time is written
     /// before the next.
     fn carry_out<W: Sink>(&mut self, line: &Line, writer: &mut W) -> Result<(), Cause>
-        ensures told { AppendsTold (W.contents writer.old) (W.contents writer.new)
+        ensures prints { AppendsOutput (W.contents writer.old) (W.contents writer.new)
             (CarriesOut (session_of self.old) line.now)
-            (Begins (times line.now) (Once line.now) (session_of self.old)) result
+            (Begins (times line.now) (LineOutcomeOnce line.now) (session_of self.old)) result
             (session_of self.new) }
         ensures outside { EndsText W.calls writer.old writer.new result }
     {
@@ -176,15 +177,16 @@ impl Interpreter {
                 writer,
             ),
             Line::Begin { dev, request } => self.begin(*dev, request, writer),
+            // `read_short` takes these first, which its contract doesn't promise
             Line::Step(line) => self.repeat(line, writer),
         }
     }
 
     /// Carries out a short line as often as it says.
     fn repeat<W: Sink>(&mut self, line: &ShortLine, writer: &mut W) -> Result<(), Cause>
-        ensures told { AppendsTold (W.contents writer.old) (W.contents writer.new)
-            (Repeats (short_times line.now) (TellsShort line.now) (session_of self.old))
-            (Begins (short_times line.now) (TellsShort line.now) (session_of self.old)) result
+        ensures prints { AppendsOutput (W.contents writer.old) (W.contents writer.new)
+            (Repeats (short_times line.now) (ShortLinePrints line.now) (session_of self.old))
+            (Begins (short_times line.now) (ShortLinePrints line.now) (session_of self.old)) result
             (session_of self.new) }
         ensures outside { EndsText W.calls writer.old writer.new result }
     {
@@ -194,27 +196,32 @@ impl Interpreter {
         Ok(())
     }
 
-    /// What a short line tells each time.
-    #[tactic(auto, unfolding(crate::specs::LineOutput::TellsShort))]
+    /// The output of a short line each time.
+    #[tactic(auto, unfolding(crate::specs::LineOutput::ShortLinePrints))]
     fn carry_out_once<W: Sink>(&mut self, line: &ShortLine, writer: &mut W) -> Result<(), Cause>
-        ensures told { AppendsOnce (W.contents writer.old) (W.contents writer.new)
-            (TellsShort line.now (session_of self.old)) result (session_of self.new) }
+        ensures prints { AppendsOnce (W.contents writer.old) (W.contents writer.new)
+            (ShortLinePrints line.now (session_of self.old)) result (session_of self.new) }
         ensures outside { EndsText W.calls writer.old writer.new result }
     {
         match line {
-            ShortLine::Press { dev, usage } => self.change(*dev, *usage, Wanted::Press, writer),
-            ShortLine::Release { dev, usage } => self.change(*dev, *usage, Wanted::Release, writer),
-            ShortLine::Null { dev, usage } => self.change(*dev, *usage, Wanted::Null, writer),
+            ShortLine::Press { dev, usage } => self.change(*dev, *usage, ChangeKind::Press, writer),
+            ShortLine::Release { dev, usage } => self.change(
+                *dev,
+                *usage,
+                ChangeKind::Release,
+                writer,
+            ),
+            ShortLine::Null { dev, usage } => self.change(*dev, *usage, ChangeKind::Null, writer),
             ShortLine::Set { dev, usage, value } => self.change(
                 *dev,
                 *usage,
-                Wanted::Set(*value),
+                ChangeKind::Set(*value),
                 writer,
             ),
             ShortLine::Move { dev, usage, by } => self.change(
                 *dev,
                 *usage,
-                Wanted::Move(*by),
+                ChangeKind::Move(*by),
                 writer,
             ),
             ShortLine::Frame { .. } => self.frame(writer),
@@ -228,8 +235,8 @@ impl Interpreter {
     /// Prints the layout that a descriptor gives, and keeps it.
     #[inline(never)]
     fn lay_out<W: Sink>(&mut self, descriptor: &[u8], writer: &mut W) -> Result<(), Cause>
-        ensures told { AppendsOnce (W.contents writer.old) (W.contents writer.new)
-            (TellsLayout descriptor.now (session_of self.old)) result (session_of self.new) }
+        ensures prints { AppendsOnce (W.contents writer.old) (W.contents writer.new)
+            (LayoutPrints descriptor.now (session_of self.old)) result (session_of self.new) }
         ensures outside { EndsText W.calls writer.old writer.new result }
     {
         let layout = Layout::parse(self.alloc, descriptor)?;
@@ -245,8 +252,8 @@ impl Interpreter {
     /// Prints the values of a report of the layout that is kept.
     #[inline(never)]
     fn print_values_of<W: Sink>(&mut self, bytes: &[u8], writer: &mut W) -> Result<(), Cause>
-        ensures told { AppendsOnce (W.contents writer.old) (W.contents writer.new)
-            (TellsValues bytes.now (session_of self.old)) result (session_of self.new) }
+        ensures prints { AppendsOnce (W.contents writer.old) (W.contents writer.new)
+            (ValuesPrint bytes.now (session_of self.old)) result (session_of self.new) }
         ensures outside { EndsText W.calls writer.old writer.new result }
     {
         let Some(layout) = &self.layout else {
@@ -267,8 +274,8 @@ impl Interpreter {
         descriptor: &[u8],
         writer: &mut W,
     ) -> Result<(), Cause>
-        ensures told { AppendsOnce (W.contents writer.old) (W.contents writer.new)
-            (TellsDevice start boot descriptor.now (session_of self.old)) result
+        ensures prints { AppendsOnce (W.contents writer.old) (W.contents writer.new)
+            (DevicePrints start boot descriptor.now (session_of self.old)) result
             (session_of self.new) }
         ensures outside { EndsText W.calls writer.old writer.new result }
     {
@@ -294,11 +301,11 @@ impl Interpreter {
         &mut self,
         dev: u8,
         usage: Usage,
-        wanted: Wanted,
+        wanted: ChangeKind,
         writer: &mut W,
     ) -> Result<(), Cause>
-        ensures told { AppendsOnce (W.contents writer.old) (W.contents writer.new)
-            (TellsChange dev usage wanted (session_of self.old)) result (session_of self.new) }
+        ensures prints { AppendsOnce (W.contents writer.old) (W.contents writer.new)
+            (ChangePrints dev usage wanted (session_of self.old)) result (session_of self.new) }
         ensures outside { EndsText W.calls writer.old writer.new result }
     {
         let control = self.rig.find(dev, usage)?;
@@ -311,8 +318,8 @@ impl Interpreter {
     /// A frame passes.
     #[inline(never)]
     fn frame<W: Sink>(&mut self, writer: &mut W) -> Result<(), Cause>
-        ensures told { AppendsOnce (W.contents writer.old) (W.contents writer.new)
-            (TellsStep (Taking.Frame) (session_of self.old)) result (session_of self.new) }
+        ensures prints { AppendsOnce (W.contents writer.old) (W.contents writer.new)
+            (StepPrints (Taking.Frame) (session_of self.old)) result (session_of self.new) }
         ensures outside { EndsText W.calls writer.old writer.new result }
     {
         self.step(&Step::Frame, writer)
@@ -321,8 +328,8 @@ impl Interpreter {
     /// The host polls a device.
     #[inline(never)]
     fn poll<W: Sink>(&mut self, dev: u8, fate: Fate, writer: &mut W) -> Result<(), Cause>
-        ensures told { AppendsOnce (W.contents writer.old) (W.contents writer.new)
-            (TellsStep (Taking.Poll dev fate) (session_of self.old)) result (session_of self.new) }
+        ensures prints { AppendsOnce (W.contents writer.old) (W.contents writer.new)
+            (StepPrints (Taking.Poll dev fate) (session_of self.old)) result (session_of self.new) }
         ensures outside { EndsText W.calls writer.old writer.new result }
     {
         self.step(&Step::Poll { dev, fate }, writer)
@@ -331,8 +338,9 @@ impl Interpreter {
     /// The host makes a try of the transfer that runs.
     #[inline(never)]
     fn control<W: Sink>(&mut self, dev: u8, fate: Fate, writer: &mut W) -> Result<(), Cause>
-        ensures told { AppendsOnce (W.contents writer.old) (W.contents writer.new)
-            (TellsStep (Taking.Control dev fate) (session_of self.old)) result (session_of self.new) }
+        ensures prints { AppendsOnce (W.contents writer.old) (W.contents writer.new)
+            (StepPrints (Taking.Control dev fate) (session_of self.old)) result
+            (session_of self.new) }
         ensures outside { EndsText W.calls writer.old writer.new result }
     {
         self.step(&Step::Control { dev, fate }, writer)
@@ -341,8 +349,9 @@ impl Interpreter {
     /// The host begins a request.
     #[inline(never)]
     fn begin<W: Sink>(&mut self, dev: u8, request: &Request, writer: &mut W) -> Result<(), Cause>
-        ensures told { AppendsOnce (W.contents writer.old) (W.contents writer.new)
-            (TellsStep (Taking.Begin dev request.now) (session_of self.old)) result (session_of self.new) }
+        ensures prints { AppendsOnce (W.contents writer.old) (W.contents writer.new)
+            (StepPrints (Taking.Begin dev request.now) (session_of self.old)) result
+            (session_of self.new) }
         ensures outside { EndsText W.calls writer.old writer.new result }
     {
         let request = request.copied();
@@ -352,8 +361,8 @@ impl Interpreter {
     /// The bus resets a device.
     #[inline(never)]
     fn reset<W: Sink>(&mut self, dev: u8, writer: &mut W) -> Result<(), Cause>
-        ensures told { AppendsOnce (W.contents writer.old) (W.contents writer.new)
-            (TellsStep (Taking.Reset dev) (session_of self.old)) result (session_of self.new) }
+        ensures prints { AppendsOnce (W.contents writer.old) (W.contents writer.new)
+            (StepPrints (Taking.Reset dev) (session_of self.old)) result (session_of self.new) }
         ensures outside { EndsText W.calls writer.old writer.new result }
     {
         self.step(&Step::Reset { dev }, writer)
@@ -362,18 +371,18 @@ impl Interpreter {
     /// A device halts the endpoint that is polled.
     #[inline(never)]
     fn halt<W: Sink>(&mut self, dev: u8, writer: &mut W) -> Result<(), Cause>
-        ensures told { AppendsOnce (W.contents writer.old) (W.contents writer.new)
-            (TellsStep (Taking.Halt dev) (session_of self.old)) result (session_of self.new) }
+        ensures prints { AppendsOnce (W.contents writer.old) (W.contents writer.new)
+            (StepPrints (Taking.Halt dev) (session_of self.old)) result (session_of self.new) }
         ensures outside { EndsText W.calls writer.old writer.new result }
     {
         self.step(&Step::Halt { dev }, writer)
     }
 
-    /// Takes a step of the bus, and prints what it tells.
+    /// Takes a step of the bus, and prints its result.
     #[inline(always)] // each sort of step pays for no other
     fn step<W: Sink>(&mut self, step: &Step, writer: &mut W) -> Result<(), Cause>
-        ensures told { AppendsOnce (W.contents writer.old) (W.contents writer.new)
-            (TellsStep step.now (session_of self.old)) result (session_of self.new) }
+        ensures prints { AppendsOnce (W.contents writer.old) (W.contents writer.new)
+            (StepPrints step.now (session_of self.old)) result (session_of self.new) }
         ensures outside { EndsText W.calls writer.old writer.new result }
     {
         self.delivered.clear();

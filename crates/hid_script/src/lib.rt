@@ -20,23 +20,27 @@
 //! is written. [`parse_line`] says what a line means by itself.
 //!
 //! The promise: [`run`] writes exactly the text of the script, by its clause. The lines of a device's events are the
-//! text of all that happened to the device: law [`laws::lives_are_printed`].
+//! text of all that happened to the device: law [`laws::histories_are_printed`].
 #![tactic(auto)]
 
+mod change_kind;
 mod fault;
 mod fault_text;
 mod interpreter;
 pub mod laws;
 mod line;
+mod options;
 mod output;
 mod runs;
 mod script;
 mod streams;
-mod wanted;
+mod summary;
 
-pub use fault::{Cause, Options, ScriptFault, StepFault, Summary};
+pub use fault::{Cause, ScriptFault, StepFault};
 pub use fault_text::fault_line;
 pub use hid_text::{Line, ShortLine};
 pub use line::parse_line;
-pub use runs::{READS, run};
-pub use streams::{Lost, ReadResult, Sink, Source};
+pub use options::Options;
+pub use runs::{MAX_READS, run};
+pub use streams::{ReadResult, Sink, Source, WriteFailed};
+pub use summary::Summary;

@@ -6,25 +6,27 @@ ghost use Rattle.hid_script.specs.Place.{AppendsFrom};
 ghost use Rattle.hid_script.specs.Script.{place_of};
 ghost use Rattle.hid_script.specs.Streams.{ReadsTo, EndsByReads, EndsByWrites, TurnsTo, EndsByTurns};
 
-use super::fault::{Cause, Options, ScriptFault, Summary};
+use super::fault::{Cause, ScriptFault};
 use super::interpreter::Interpreter;
+use super::options::Options;
 use super::script::Script;
-use super::streams::{Lost, ReadResult, Sink, Source};
+use super::streams::{ReadResult, Sink, Source, WriteFailed};
+use super::summary::Summary;
 use std::alloc::Global;
 
 /// How many reads a run makes at most.
-pub const READS: u32 = 1_000_000;
+pub const MAX_READS: u32 = 1_000_000;
 
 /// How many bytes a read is asked for.
 const PIECE: usize = 4096;
 
-/// Runs the script that the reader gives, and writes what it tells. A read of 0 bytes ends the script, and so does
-/// the first line that is refused. A read that is interrupted is tried again. What was reported is flushed before
-/// each read and at the end, also at a fault, so `writer` may be a buffer.
+/// Runs the script and writes its output. A read of 0 bytes ends the script, and so does the first line that is refused. An
+/// interrupted read is tried again. The output is flushed before each read and at the end, also at a fault, so `writer` may
+/// be a buffer.
 ///
 /// # Errors
-/// The first fault, at its line. Where the last flush fails, X6 at that line, whatever the fault was: what was
-/// reported would else be lost without a word. Of a script that is accepted the line is the one after the last.
+/// The first fault, at its line. If the last flush fails, X6 at that line, whatever the fault was: else output would be lost
+/// without notice. In a script that is accepted that line is the one after the last.
 pub fn run<R: Source, W: Sink>(
     alloc: Global,
     reader: &mut R,
@@ -42,7 +44,7 @@ pub fn run<R: Source, W: Sink>(
     let end = run_lines(alloc, reader, writer, options);
     match writer.flush() {
         Ok(()) => end,
-        Err(Lost) => Err(ScriptFault {
+        Err(WriteFailed) => Err(ScriptFault {
             line: line_of(&end),
             cause: Cause::Write,
         }),
@@ -99,7 +101,7 @@ fn run_pieces<R: Source, W: Sink>(
     ensures turns { TurnsTo R.reads W.calls reader.old writer.old reader.new writer.new result }
 {
     let mut piece = [0u8; PIECE];
-    for _ in 0..READS {
+    for _ in 0..MAX_READS {
         if writer.flush().is_err() {
             return Err(script.fault(Cause::Write));
         }

@@ -5,9 +5,10 @@ ghost use Rattle.hid_text.specs.Lines.{IsUnbroken};
 ghost use Rattle.hid_script.specs.Place.{Takes, AppendsTaken, AppendsRun};
 ghost use Rattle.hid_script.specs.Streams.{EndsLine};
 
-use super::fault::{Cause, ScriptFault, Summary};
+use super::fault::{Cause, ScriptFault};
 use super::interpreter::Interpreter;
 use super::streams::Sink;
+use super::summary::Summary;
 use hid_text::{LineBuffer, TooLong, split_line};
 
 /// One byte more than a line has: a carriage return may stand before the end.
@@ -56,7 +57,7 @@ impl Script {
         self.keep(rest)
     }
 
-    // The last bytes of a line came, and its line feed.
+    /// The last bytes of a line came, and its line feed.
     fn end_line<W: Sink>(&mut self, last: &[u8], writer: &mut W) -> Result<(), ScriptFault>
         requires room { self.old.lines < 2 ^ 64 - 1 }
         requires unbroken { IsUnbroken last.now }
@@ -76,7 +77,7 @@ impl Script {
         Ok(())
     }
 
-    // More bytes of a line came, which don't end it.
+    /// More bytes of a line came, which don't end it.
     fn keep(&mut self, bytes: &[u8]) -> Result<(), ScriptFault>
         requires room { self.old.lines < 2 ^ 64 - 1 }
         requires unbroken { IsUnbroken bytes.now }
@@ -114,6 +115,7 @@ impl Script {
         Ok(self.summary())
     }
 
+    /// The lines and the events so far.
     fn summary(&self) -> Summary
         ensures lines { result.lines ≡ self.now.lines }
         ensures events { result.events ≡ (session_of self.now.interpreter).events }

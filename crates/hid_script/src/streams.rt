@@ -3,14 +3,14 @@
 ghost use Rattle.std.specs.Prelude.{◌≡◌, ◌<◌, ℕ, List, Option, None, IfOk};
 ghost use Rattle.std.specs.Io.{ReadsAtMost, WritesAtMost};
 ghost use Rattle.std.specs.Io.KnownBytes.{Keeps, ReadConsumes, WriteAppends};
-ghost use Rattle.hid_script.specs.Streams.{Answer, answer_of, count_of, TellsAnswer, Reply, write_reply, flush_reply, TellsReply};
+ghost use Rattle.hid_script.specs.Streams.{Answer, answer_of, read_count, AnswerConsumes, Reply, write_reply, flush_reply, ReplyAppends};
 
 use std::io::{ErrorKind, Read, Write};
 
 /// What a read answered.
 #[derive(Clone, Copy)]
 pub enum ReadResult {
-    /// So many bytes stand first in the buffer. A read of no byte ends a script.
+    /// How many bytes stand first in the buffer. A read of no byte ends a script.
     Bytes(usize),
     /// The read was interrupted, and may be tried again.
     Interrupted,
@@ -20,7 +20,7 @@ pub enum ReadResult {
 
 /// A write or a flush failed, or a write took no byte.
 #[derive(Clone, Copy)]
-pub struct Lost;
+pub struct WriteFailed;
 
 /// A reader, of which contracts name what each read answered. Each [`Read`] is a `Source`.
 pub trait Source {
@@ -32,15 +32,16 @@ pub trait Source {
 
     /// Reads some bytes into the first places of a buffer.
     fn read(&mut self, buf: &mut [u8]) -> ReadResult
-        ensures bound { ReadsAtMost (count_of result) buf.new }
-        ensures bytes { ReadConsumes (remaining self.old) (remaining self.new) (count_of result) buf.new }
+        ensures bound { ReadsAtMost (read_count result) buf.new }
+        ensures bytes { ReadConsumes (remaining self.old) (remaining self.new)
+            (read_count result) buf.new }
         ensures answer { reads self.old (answer_of result buf.new) self.new };
 }
 
 impl<R: Read> Source for R {
     ghost remaining = { R.remaining };
 
-    ghost reads = { λ before answer after. TellsAnswer (R.remaining before) answer (R.remaining after) };
+    ghost reads = { λ before answer after. AnswerConsumes (R.remaining before) answer (R.remaining after) };
 
     fn read(&mut self, buf: &mut [u8]) -> ReadResult {
         match Read::read(self, buf) {
@@ -62,8 +63,8 @@ pub trait Sink {
     /// Takes some of the first bytes of a text, one at least.
     ///
     /// # Errors
-    /// [`Lost`], if the write failed or took no byte.
-    fn write(&mut self, text: &[u8]) -> Result<usize, Lost>
+    /// [`WriteFailed`], if the write failed or took no byte.
+    fn write(&mut self, text: &[u8]) -> Result<usize, WriteFailed>
         ensures bound { WritesAtMost result text.now }
         ensures some { IfOk result (λ n. 0 < n) }
         ensures bytes { WriteAppends (contents self.old) (contents self.new) result text.now }
@@ -72,8 +73,8 @@ pub trait Sink {
     /// Hands on all bytes that the writer took.
     ///
     /// # Errors
-    /// [`Lost`], if the flush failed.
-    fn flush(&mut self) -> Result<(), Lost>
+    /// [`WriteFailed`], if the flush failed.
+    fn flush(&mut self) -> Result<(), WriteFailed>
         ensures bytes { Keeps (contents self.old) (contents self.new) }
         ensures call { calls self.old (flush_reply result) self.new };
 }
@@ -81,19 +82,19 @@ pub trait Sink {
 impl<W: Write> Sink for W {
     ghost contents = { W.contents };
 
-    ghost calls = { λ before reply after. TellsReply (W.contents before) reply (W.contents after) };
+    ghost calls = { λ before reply after. ReplyAppends (W.contents before) reply (W.contents after) };
 
-    fn write(&mut self, text: &[u8]) -> Result<usize, Lost> {
+    fn write(&mut self, text: &[u8]) -> Result<usize, WriteFailed> {
         match Write::write(self, text) {
-            Ok(0) | Err(_) => Err(Lost),
+            Ok(0) | Err(_) => Err(WriteFailed),
             Ok(n) => Ok(n),
         }
     }
 
-    fn flush(&mut self) -> Result<(), Lost> {
+    fn flush(&mut self) -> Result<(), WriteFailed> {
         match Write::flush(self) {
             Ok(()) => Ok(()),
-            Err(_) => Err(Lost),
+            Err(_) => Err(WriteFailed),
         }
     }
 }

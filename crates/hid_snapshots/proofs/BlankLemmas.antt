@@ -7,18 +7,18 @@ use Rattle.std.proofs.lemmas.List.{length-replicate, length-map}
 use Rattle.std.proofs.lemmas.Bool.Decides.{nat_tests}
 use Rattle.std.proofs.lemmas.Option.{slice_get_within}
 use Rattle.hid_layout.specs.declared.main_item.MainItem.{MainItem}
-use Rattle.hid_descriptor.specs.declared.shape.Shape.{Shape}
-use Rattle.hid_descriptor.specs.declared.shape.Shape.TheVariants.{Padding, Variable, Array}
-use Rattle.hid_descriptor.specs.declared.usage.Usage.{Usage}
+use Rattle.hid_report_descriptor.specs.declared.shape.Shape.{Shape}
+use Rattle.hid_report_descriptor.specs.declared.shape.Shape.TheVariants.{Padding, Variable, Array}
+use Rattle.hid_report_descriptor.specs.declared.usage.Usage.{Usage}
 use Rattle.hid_layout.specs.declared.control.Controls.{Controls}
 use Rattle.hid_layout.specs.declared.control.ControlKind.TheVariants.{Switch, Value, NullValue, Relative}
-use Rattle.hid_descriptor.specs.Usages.{Entry, usage_list}
-use Rattle.hid_descriptor.specs.Fields.{is_padding}
+use Rattle.hid_report_descriptor.specs.Usages.{Entry, usage_list}
+use Rattle.hid_report_descriptor.specs.Fields.{is_padding}
 use Rattle.hid_layout.specs.Layout.{Contents}
 use Rattle.hid_layout.specs.Reports.{IsLayout, HasElements, report_bytes}
-use Rattle.hid_layout.specs.Controls.{Form, NoControls, Elements, Keys, Key, Item, items_of, item_of, form_of, form_at, head_of, is_input, input_item, no_item}
+use Rattle.hid_layout.specs.Controls.{Form, NoControls, Elements, Keys, Key, Item, items_of, item_of, form_of, form_at, controls_of_form, is_input, input_item, no_item}
 use Rattle.hid_snapshots.specs.declared.control_state.ControlState.{ControlState}
-use Rattle.hid_snapshots.specs.ControlStates.{is_in, switch_count, blank_state, blank, HasRoom, is_value, are_values, are_motions, are_pressable, InSnapshot, InView, Suits, FitsSnapshot, FitsView}
+use Rattle.hid_snapshots.specs.ControlStates.{is_in, switch_count, blank_state, blank, HasRoom, is_value, are_values, are_motions, are_pressable, InSnapshot, InView, FitControlStates, FitsSnapshot, FitsView}
 use Rattle.hid_snapshots.proofs.ListLemmas.{cons_count, map_at, mapped_at}
 use Rattle.hid_snapshots.proofs.CodeLemmas.{test_true}
 use Rattle.hid_snapshots.proofs.ItemLemmas.{items_from-at, items_of-length, got, form_at-is}
@@ -77,7 +77,7 @@ none_pressable : (keys : List Key) → are_pressable keys (replicate (length key
 none_pressable [] = tt
 none_pressable (key ∷ keys) = ((λ on. absurd (cc)), none_pressable keys)
 
-pub blank_room : (form : Form) → HasRoom (head_of form) (blank_state (head_of form))
+pub blank_room : (form : Form) → HasRoom (controls_of_form form) (blank_state (controls_of_form form))
 blank_room NoControls = tt
 blank_room (Elements Switch least greatest us) = length-replicate (length us) false
 blank_room (Elements Value least greatest us) = length-replicate (length us) _
@@ -85,7 +85,7 @@ blank_room (Elements NullValue least greatest us) = length-replicate (length us)
 blank_room (Elements Relative least greatest us) = length-replicate (length us) (pos 0)
 blank_room (Keys elements rolls keys) = length-replicate (length keys) false
 
-pub blank_in_snapshot : (form : Form) → IsSound form → InSnapshot form (blank_state (head_of form))
+pub blank_in_snapshot : (form : Form) → IsSound form → InSnapshot form (blank_state (controls_of_form form))
 blank_in_snapshot NoControls some = tt
 blank_in_snapshot (Elements Switch least greatest us) some = tt
 blank_in_snapshot (Elements Value least greatest us) some = same_values false least greatest (length us) _ (first_in least greatest some)
@@ -93,7 +93,7 @@ blank_in_snapshot (Elements NullValue least greatest us) some = same_values true
 blank_in_snapshot (Elements Relative least greatest us) some = same_motions (negsuc 0x7FFF_FFFF) (pos 0x7FFF_FFFF) (length us) (pos 0) refl
 blank_in_snapshot (Keys elements rolls keys) some = (none_pressable keys, λ none. omega (arith, none_pressed (length keys)))
 
-pub blank_in_view : (form : Form) → InView form (blank_state (head_of form))
+pub blank_in_view : (form : Form) → InView form (blank_state (controls_of_form form))
 blank_in_view NoControls = tt
 blank_in_view (Elements Switch least greatest us) = tt
 blank_in_view (Elements Value least greatest us) = tt
@@ -104,11 +104,12 @@ blank_in_view (Keys elements rolls keys) = omega (arith, none_pressed (length ke
 -- control states that are made of the items suit them, where each does
 pub suits_all : (stands : Form → ControlState → Type 0) (f : Item → ControlState) (items : List Item)
     → ((i : ℕ) (item : Item) → slice_get items i ≡ Some item
-    → HasRoom (head_of item.form) (f item) × stands item.form (f item))
-    → Suits stands items (map f items)
+    → HasRoom (controls_of_form item.form) (f item) × stands item.form (f item))
+    → FitControlStates stands items (map f items)
 suits_all stands f items each = record {
   one_each = length-map items f;
-  room = λ i item state h g. subst (λ c. HasRoom (head_of item.form) c) (made i item state h g) ((each i item h).0);
+  room = λ i item state h g. subst (λ c. HasRoom (controls_of_form item.form) c) (made i item state h g)
+      ((each i item h).0);
   suits = λ i item state h g. subst (λ c. stands item.form c) (made i item state h g) ((each i item h).1);
 }
   where
@@ -117,19 +118,27 @@ suits_all stands f items each = record {
     made i item state h g = let e = map_at f items i item h in cc
 
 pub blank_fits : (layout : Contents) → IsLayout layout → FitsSnapshot (items_of layout) (blank (items_of layout))
-blank_fits layout laid = suits_all InSnapshot (λ item. blank_state (head_of item.form)) (items_of layout) (λ i item h. (blank_room item.form, blank_in_snapshot item.form (sound_items layout laid i item h)))
+blank_fits layout laid =
+    suits_all InSnapshot (λ item. blank_state (controls_of_form item.form)) (items_of layout)
+    (λ i item h. (blank_room item.form, blank_in_snapshot item.form (sound_items layout laid i item h)))
 
 pub initial_fits : (layout : Contents) → IsLayout layout → FitsView (items_of layout) (blank (items_of layout))
-initial_fits layout laid = suits_all InView (λ item. blank_state (head_of item.form)) (items_of layout) (λ i item h. (blank_room item.form, blank_in_view item.form))
+initial_fits layout laid =
+    suits_all InView (λ item. blank_state (controls_of_form item.form)) (items_of layout)
+    (λ i item h. (blank_room item.form, blank_in_view item.form))
 
 -- one item further
 pub made_more : (f : Controls → ControlState) (items : List Item) (i : ℕ) (controls : Controls) (state : ControlState)
-    (done : List ControlState) → i < length items → controls ≡ head_of (form_at items i)
-    → state ≡ f controls → done ≡ map (λ item. f (head_of item.form)) (take i items) → done ++ state ∷ [] ≡ map (λ item. f (head_of item.form)) (take (i + 1) items)
+    (done : List ControlState) → i < length items → controls ≡ controls_of_form (form_at items i)
+    → state ≡ f controls → done ≡ map (λ item. f (controls_of_form item.form)) (take i items)
+    → done ++ state ∷ [] ≡ map (λ item. f (controls_of_form item.form)) (take (i + 1) items)
 made_more f items i controls state done within heads is so_far =
     let item = got items i within in
-    mapped_at (λ (it : Item). f (head_of it.form)) items done i item.0 state item.1 (is ∙ ap f (heads ∙ ap head_of (form_at-is items i item.0 item.1))) so_far
+    mapped_at (λ (it : Item). f (controls_of_form it.form)) items done i item.0 state item.1
+    (is ∙ ap f (heads ∙ ap controls_of_form (form_at-is items i item.0 item.1))) so_far
 
 pub made_all : (f : Controls → ControlState) (items : List Item) (i : ℕ) (done : List ControlState) → length items ≤ i
-    → done ≡ map (λ item. f (head_of item.form)) (take i items) → done ≡ map (λ item. f (head_of item.form)) items
-made_all f items i done all so_far = so_far ∙ ap (map (λ (item : Item). f (head_of item.form))) (take_all i items all)
+    → done ≡ map (λ item. f (controls_of_form item.form)) (take i items)
+    → done ≡ map (λ item. f (controls_of_form item.form)) items
+made_all f items i done all so_far =
+    so_far ∙ ap (map (λ (item : Item). f (controls_of_form item.form))) (take_all i items all)

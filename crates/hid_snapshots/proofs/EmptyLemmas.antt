@@ -3,11 +3,11 @@ use Rattle.std.proofs.Common.{◌≡◌, ℕ, ◌+◌, ◌&&◌, Bool, true, fal
 use Rattle.std.specs.List.{slice_get}
 use Rattle.std.specs.Option.{is_some}
 use Rattle.hid_layout.specs.declared.main_item.MainItem.{MainItem}
-use Rattle.hid_descriptor.specs.declared.shape.Shape.TheVariants.{Array}
-use Rattle.hid_descriptor.specs.declared.report.Report.{Report}
-use Rattle.hid_descriptor.specs.Usages.{Entry, usage_list}
+use Rattle.hid_report_descriptor.specs.declared.shape.Shape.TheVariants.{Array}
+use Rattle.hid_report_descriptor.specs.declared.report.Report.{Report}
+use Rattle.hid_report_descriptor.specs.Usages.{Entry, usage_list}
 use Rattle.hid_layout.specs.Controls.{is_input}
-use Rattle.hid_layout.specs.Sent.{empty_number}
+use Rattle.hid_layout.specs.Codes.{empty_number}
 use Rattle.hid_snapshots.specs.Codes.{is_array, has_empty_code, empty_codes_from}
 use Rattle.hid_snapshots.proofs.ListLemmas.{drop_at}
 

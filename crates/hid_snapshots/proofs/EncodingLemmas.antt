@@ -11,13 +11,13 @@ use Rattle.std.proofs.lemmas.Nat.{pow_pos}
 use Rattle.hid_layout.specs.declared.main_item.MainItem.{MainItem}
 use Rattle.hid_layout.specs.Layout.{Contents}
 use Rattle.hid_layout.specs.Reports.{IsLayout, HasElements, first_bit, report_bytes}
-use Rattle.hid_descriptor.specs.Fields.{is_padding}
-use Rattle.hid_descriptor.specs.Usages.{Entry, usage_list}
-use Rattle.hid_descriptor.specs.declared.shape.Shape.{Shape}
+use Rattle.hid_report_descriptor.specs.Fields.{is_padding}
+use Rattle.hid_report_descriptor.specs.Usages.{Entry, usage_list}
+use Rattle.hid_report_descriptor.specs.declared.shape.Shape.{Shape}
 use Rattle.hid_layout.specs.Controls.{form_of}
 use Rattle.std.proofs.lemmas.Bool.Decides.{nat_tests}
 use Rattle.hid_snapshots.specs.Numbers.{numbers_in}
-use Rattle.hid_snapshots.specs.Encoding.{IsData, Shows, CanSend, IsEncoding, bare_report, part_numbers, numbers_at, place}
+use Rattle.hid_snapshots.specs.Encoding.{IsData, Shows, CanSend, IsEncoding, bare_report, part_numbers, numbers_at, field_place}
 use Rattle.hid_snapshots.proofs.PlanLemmas.{Skips}
 use Rattle.hid_snapshots.specs.declared.control_state.ControlState.{ControlState}
 use Rattle.hid_snapshots.specs.Sending.{element_numbers, pressed_places_from, switch_count}
@@ -54,14 +54,15 @@ other_passed layout r numbers before bytes i item listed other s =
 
 -- an item's elements are written
 pub shows_next : (layout : Contents) (r : ℕ) (numbers : ℕ → List ℤ) (k : ℕ) (item : MainItem) (before xs ys : List ℕ) → IsLayout layout → IsData layout r k item
-    → numbers_in ys (place layout item) item.size (is_negative item.min) item.count ≡ numbers k
-    → ((n : ℕ) → IsOutside (place layout item) (item.size * item.count) n → bit_of ys n ≡ bit_of xs n)
+    → numbers_in ys (field_place layout item) item.size (is_negative item.min) item.count ≡ numbers k
+    → ((n : ℕ) → IsOutside (field_place layout item) (item.size * item.count) n → bit_of ys n ≡ bit_of xs n)
     → Shows layout r numbers k before xs → Shows layout r numbers (k + 1) before ys
 shows_next layout r numbers k item before xs ys laid d written others s = record {
   elements = λ i a h da. elim (below_next i k h) [
     | inl lt ↦
         let behind : a.offset + a.size * a.count ≤ item.offset = laid.apart i k a item lt da.listed d.listed (da.in_report ∙ sym d.in_report) in
-        numbers_in-agree ys xs (place layout a) a.size (is_negative a.min) a.count (λ m from to. others m (inl (omega arith))) ∙ s.elements i a lt da
+        numbers_in-agree ys xs (field_place layout a) a.size (is_negative a.min) a.count
+        (λ m from to. others m (inl (omega arith))) ∙ s.elements i a lt da
     | inr e ↦
         let same : a ≡ item = same_item layout r k a item (let P : ℕ → Type 0 = λ j. slice_get layout.items j ≡ Some a in subst P e da.listed) d.listed in
         rw (same, e) written
@@ -91,7 +92,8 @@ no_data_if layout r i item listed h other d =
     grind (arith, nat_tests)
 
 -- the item's elements lie in the report
-pub place_inside : (layout : Contents) (r i : ℕ) (item : MainItem) → IsLayout layout → IsData layout r i item → place layout item + item.size * item.count ≤ 8 * report_bytes layout r
+pub place_inside : (layout : Contents) (r i : ℕ) (item : MainItem) → IsLayout layout → IsData layout r i item
+    → field_place layout item + item.size * item.count ≤ 8 * report_bytes layout r
 place_inside layout r i item laid d =
     let h : first_bit layout + (item.offset + item.size * item.count) ≤ 8 * report_bytes layout r = rw (← d.in_report) (laid.inside i item d.listed) in
     omega arith

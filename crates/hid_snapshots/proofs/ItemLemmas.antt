@@ -6,7 +6,7 @@ use Rattle.std.proofs.lemmas.Option.{slice_get_within}
 use Rattle.hid_layout.specs.declared.main_item.MainItem.{MainItem}
 use Rattle.hid_layout.specs.declared.control.Control.{Control}
 use Rattle.hid_layout.specs.declared.control.ControlId.{ControlId}
-use Rattle.hid_descriptor.specs.Usages.{Entry}
+use Rattle.hid_report_descriptor.specs.Usages.{Entry}
 use Rattle.hid_layout.specs.Layout.{Contents}
 use Rattle.hid_layout.specs.Reports.{IsLayout}
 use Rattle.hid_layout.specs.Controls.{Form, NoControls, Item, items_of, items_from, item_of, control_of, control_in, form_at}

@@ -4,16 +4,16 @@ use Rattle.std.specs.List.{slice_get, slice_set}
 use Rattle.std.proofs.lemmas.Option.{slice_get_within, slice_get-get_or}
 use Rattle.hid_layout.specs.declared.control.ControlKind.TheVariants.{Switch, Value, NullValue, Relative}
 use Rattle.hid_layout.specs.declared.main_item.MainItem.{MainItem}
-use Rattle.hid_descriptor.specs.Usages.{Entry, usage_list}
+use Rattle.hid_report_descriptor.specs.Usages.{Entry, usage_list}
 use Rattle.std.proofs.lemmas.Bool.Decides.{Decides-eqb}
 use Rattle.hid_snapshots.proofs.FillLemmas.{unfilled_at, fill_next, filled}
 use Rattle.hid_snapshots.proofs.ItemLemmas.{got, items_from-at}
 use Rattle.hid_layout.specs.Layout.{Contents}
 use Rattle.hid_layout.specs.Reports.{IsLayout, report_bytes}
-use Rattle.hid_layout.specs.Controls.{Form, NoControls, Elements, Keys, Item, items_of, item_of, form_of, head_of, is_input, input_item, no_item}
+use Rattle.hid_layout.specs.Controls.{Form, NoControls, Elements, Keys, Item, items_of, item_of, form_of, controls_of_form, is_input, input_item, no_item}
 use Rattle.hid_snapshots.specs.declared.control_state.ControlState.{ControlState}
 use Rattle.hid_snapshots.specs.declared.control_state.ControlState.TheVariants.{Absent, Switches, Values, Motions, RollOver}
-use Rattle.hid_snapshots.specs.ControlStates.{is_in, are_motions, HasRoom, InSnapshot, InPart, Suits}
+use Rattle.hid_snapshots.specs.ControlStates.{is_in, are_motions, HasRoom, InSnapshot, InPart, FitControlStates}
 use Rattle.hid_snapshots.specs.Parts.{IsInput, item_at, is_of, by_item, HasRoomOf}
 
 pub motion_at : (least greatest : ℤ) (ms : List ℤ) (j : ℕ) (m : ℤ) → are_motions least greatest ms → slice_get ms j ≡ Some m → is_in least greatest m ≡ true
@@ -48,8 +48,9 @@ pub item_at-is : (items : List Item) (i : ℕ) (item : Item) → slice_get items
 item_at-is items i item h = ap (λ (o : Option Item). unwrap_or o no_item) h
 
 -- A control state of a snapshot can be copied into the part of the same item.
-pub room_of : (form : Form) (state part : ControlState) → HasRoom (head_of form) state → InSnapshot form state
-    → HasRoom (head_of form) part → HasRoomOf state part
+pub room_of : (form : Form) (state part : ControlState) → HasRoom (controls_of_form form) state
+    → InSnapshot form state
+    → HasRoom (controls_of_form form) part → HasRoomOf state part
 room_of NoControls Absent Absent room ok room' = tt
 room_of NoControls Absent (Switches bs) room ok room' = absurd room'
 room_of NoControls Absent (Values bs) room ok room' = absurd room'
@@ -176,8 +177,8 @@ of_report layout laid i r m h input =
 
 -- The room of the part that is shown next.
 pub show_room : (f : Item → ControlState → ControlState → ControlState) (items : List Item)
-    (states start now : List ControlState) (i : ℕ) (state d : ControlState) → Suits InSnapshot items states
-    → Suits InPart items start
+    (states start now : List ControlState) (i : ℕ) (state d : ControlState) → FitControlStates InSnapshot items states
+    → FitControlStates InPart items start
     → now ≡ take i (by_item f items states start) ++ drop i start → i < length items → slice_get states i ≡ Some state → length now ≡ length start → HasRoomOf state (get_or now i d)
 show_room f items states start now i state d fits fits' so_far within state_there ln =
     let item = got items i within in

@@ -4,10 +4,10 @@ use Rattle.std.specs.List.{slice_get, All}
 use Rattle.std.proofs.lemmas.List.{drop_all}
 use Rattle.std.proofs.lemmas.Option.{slice_get_within, slice_get-get_or}
 use Rattle.hid_layout.specs.declared.main_item.MainItem.{MainItem}
-use Rattle.hid_descriptor.specs.declared.report.Report.{Report}
+use Rattle.hid_report_descriptor.specs.declared.report.Report.{Report}
 use Rattle.hid_layout.specs.Controls.{is_input_report}
 use Rattle.hid_layout.specs.Layout.{Contents}
-use Rattle.hid_layout.specs.Index.{places_from, plan_of}
+use Rattle.hid_layout.specs.ArrayCodes.{places_from, plan_of}
 use Rattle.hid_snapshots.specs.Parts.{IsInput}
 use Rattle.hid_snapshots.proofs.ListLemmas.{drop_at}
 

@@ -4,17 +4,17 @@ use Rattle.std.specs.List.{slice_get}
 use Rattle.std.proofs.lemmas.List.{get_or_default}
 use Rattle.std.proofs.lemmas.Option.{slice_get_within}
 use Rattle.hid_layout.specs.declared.main_item.MainItem.{MainItem}
-use Rattle.hid_descriptor.specs.Usages.{Entry, usage_list}
-use Rattle.hid_descriptor.specs.Fields.{is_padding}
+use Rattle.hid_report_descriptor.specs.Usages.{Entry, usage_list}
+use Rattle.hid_report_descriptor.specs.Fields.{is_padding}
 use Rattle.hid_layout.specs.Layout.{Contents}
 use Rattle.hid_layout.specs.Reports.{IsLayout, HasElements, report_bytes}
-use Rattle.hid_layout.specs.Controls.{Form, NoControls, Item, items_of, item_of, form_of, head_of, is_input, input_item, no_item}
+use Rattle.hid_layout.specs.Controls.{Form, NoControls, Item, items_of, item_of, form_of, controls_of_form, is_input, input_item, no_item}
 use Rattle.hid_snapshots.specs.declared.control_state.ControlState.{ControlState}
 use Rattle.hid_snapshots.specs.declared.control_state.ControlState.TheVariants.{Absent, Switches, Values, Motions, RollOver}
-use Rattle.hid_snapshots.specs.ControlStates.{HasRoom, InPart, Suits}
+use Rattle.hid_snapshots.specs.ControlStates.{FitControlStates, HasRoom, InPart}
 use Rattle.hid_snapshots.specs.Parts.{IsInput}
 use Rattle.hid_snapshots.specs.Sending.{element_numbers}
-use Rattle.hid_snapshots.specs.Encoding.{IsData, CanSendAll, HasFewPlaces, numbers_at, place, AreBytes, IsEncoding, is_data_in, part_numbers}
+use Rattle.hid_snapshots.specs.Encoding.{IsData, CanSendAll, HasFewPlaces, numbers_at, field_place, AreBytes, IsEncoding, is_data_in, part_numbers}
 use Rattle.std.specs.Int.{bit_at}
 use Rattle.std.proofs.lemmas.Grind.{same_number_lists}
 use Rattle.std.proofs.Math.Nat.{mul-le-mul_left}
@@ -25,7 +25,7 @@ use Rattle.hid_fields.proofs.FieldLemmas.{pattern_of-lt, pattern_of-same}
 use Rattle.hid_fields.proofs.ValueLemmas.{pattern_for-only}
 use Rattle.hid_fields.proofs.WordLemmas.{bit_at-pattern_of, pattern_of-byte}
 use Rattle.hid_snapshots.specs.Numbers.{number_at, numbers_in}
-use Rattle.hid_snapshots.specs.Encoded.{bit_among, bit_sent, packed_bytes, packed_number, part_bytes}
+use Rattle.hid_snapshots.specs.PartBytes.{bit_among, bit_sent, packed_bytes, packed_number, part_bytes}
 use Rattle.std.specs.Prelude.{nat_le, nat_lt, if◌then◌else◌}
 use Rattle.std.proofs.lemmas.Bool.Decides.{nat_tests}
 use Rattle.hid_snapshots.proofs.NumberLemmas.{numbers_in-at}
@@ -64,23 +64,28 @@ form_in_input layout r m es input at_r =
 
 item_room : (layout : Contents) (m : MainItem) (es : List Entry) (state : ControlState)
     → (is_padding m.shape ≡ false → HasElements m) → (is_padding m.shape ≡ false → 0 < length (usage_list es))
-    → HasRoom (head_of (item_of layout m es).form) state → HasFewPlaces state
+    → HasRoom (controls_of_form (item_of layout m es).form) state → HasFewPlaces state
 item_room layout m es state has some room = by_input (is_input layout.reports m.report) room
   where
-    vacant : (state : ControlState) → HasRoom (head_of NoControls) state → HasFewPlaces state
+    vacant : (state : ControlState) → HasRoom (controls_of_form NoControls) state → HasFewPlaces state
     vacant Absent h = tt
     vacant (Switches ps) h = absurd h
     vacant (Values ps) h = absurd h
     vacant (Motions ps) h = absurd h
     vacant (RollOver ps) h = absurd h
 
-    by_input : (b : Bool) → HasRoom (head_of (let a : Item = input_item m.report (report_bytes layout m.report) (form_of m (usage_list es) m.shape) in let z : Item = no_item in cond b a z).form) state → HasFewPlaces state
+    by_input : (b : Bool)
+        → HasRoom
+        (controls_of_form
+        (let a : Item =
+        input_item m.report (report_bytes layout m.report) (form_of m (usage_list es) m.shape) in let z : Item =
+        no_item in cond b a z).form) state → HasFewPlaces state
     by_input true h = few_places m (usage_list es) m.shape state has some h
     by_input false h = vacant state h
 
 -- The parts of an Input report can be sent.
 pub can_send_all : (layout : Contents) (r : ℕ) (parts : List ControlState) → IsLayout layout → IsInput layout r
-    → Suits InPart (items_of layout) parts → CanSendAll layout r parts
+    → FitControlStates InPart (items_of layout) parts → CanSendAll layout r parts
 can_send_all layout r parts laid input fits = record {
   all_there = fits.one_each ∙ items_of-length layout laid;
   each_item = λ i m d.
@@ -92,7 +97,8 @@ can_send_all layout r parts laid input fits = record {
       let form = form_in_input layout r m es.0 input d.in_report in
       rw (state_numbers layout parts i state.0 state.1, numbers_at-is layout i m es.0 state.0 d.listed es.1)
       (can_send m (usage_list es.0) m.shape state.0 d.no_padding (laid.elements i m d.listed d.no_padding) (laid.some_usage i m es.0 d.listed es.1 d.no_padding)
-      (subst (λ (f : Form). HasRoom (head_of f) state.0) form room) (subst (λ (f : Form). InPart f state.0) form ok));
+      (subst (λ (f : Form). HasRoom (controls_of_form f) state.0) form room)
+      (subst (λ (f : Form). InPart f state.0) form ok));
   few_places = λ i state h.
       let within : i < length layout.items = omega (arith, fits.one_each, items_of-length layout laid, slice_get_within parts i state h) in
       let m = got layout.items i within in
@@ -121,8 +127,8 @@ same_bits xs ys at w signed n m some same low high =
     let bit : bit_of xs ((at + w * j) + k) ≡ bit_of ys ((at + w * j) + k) =
     sym (bit_at-pattern_of xs (at + w * j) w k small) ∙ ap (λ (p : ℕ). bit_at p k) pattern ∙ bit_at-pattern_of ys (at + w * j) w k small
     in
-    let place : (at + w * j) + k ≡ m = omega arith in
-    rw place at bit
+    let field_place : (at + w * j) + k ≡ m = omega arith in
+    rw field_place at bit
   where
     below : (j n k : ℕ) → w * j + k < w * n → j < n
     below j n k h = elim (cases_lt j n) [ inl lt ↦ lt | inr ge ↦ let more = mul-le-mul_left w ge in absurd (omega arith) ]
@@ -133,13 +139,15 @@ record Covers (layout : Contents) (r k n : ℕ) : Type 0 where
   item : MainItem
   below : index < k
   is_data : IsData layout r index item
-  low : place layout item ≤ n
-  high : n < place layout item + item.size * item.count
+  low : field_place layout item ≤ n
+  high : n < field_place layout item + item.size * item.count
 
 AreOutside : Contents → ℕ → ℕ → ℕ → Type 0
-AreOutside layout r k n = (i : ℕ) (m : MainItem) → i < k → IsData layout r i m → IsOutside (place layout m) (m.size * m.count) n
+AreOutside layout r k n =
+    (i : ℕ) (m : MainItem) → i < k → IsData layout r i m → IsOutside (field_place layout m) (m.size * m.count) n
 
-one_item_more : (layout : Contents) (r k n : ℕ) (m : MainItem) → slice_get layout.items k ≡ Some m → AreOutside layout r k n → IsOutside (place layout m) (m.size * m.count) n → AreOutside layout r (suc k) n
+one_item_more : (layout : Contents) (r k n : ℕ) (m : MainItem) → slice_get layout.items k ≡ Some m
+    → AreOutside layout r k n → IsOutside (field_place layout m) (m.size * m.count) n → AreOutside layout r (suc k) n
 unfolding AreOutside
 one_item_more layout r k n m there before here = λ i a h d.
     elim (cases_lt i k) [
@@ -168,9 +176,9 @@ covered_or_not layout r zero n h = inr (λ i m lt d. absurd (omega arith))
 covered_or_not layout r (suc k) n h = by_before (covered_or_not layout r k n (omega arith)) (got layout.items k (omega arith))
   where
     by_bits : (m : MainItem) → slice_get layout.items k ≡ Some m → AreOutside layout r k n → IsData layout r k m → Covers layout r (suc k) n ⊎ AreOutside layout r (suc k) n
-    by_bits m there before d = elim (cases_lt n (place layout m)) [
+    by_bits m there before d = elim (cases_lt n (field_place layout m)) [
       | inl under ↦ inr (one_item_more layout r k n m there before (inl under))
-      | inr low ↦ elim (cases_lt n (place layout m + m.size * m.count)) [
+      | inr low ↦ elim (cases_lt n (field_place layout m + m.size * m.count)) [
         | inl high ↦ inl (record { index = k; item = m; below = omega arith; is_data = d; low = low; high = high })
         | inr over ↦ inr (one_item_more layout r k n m there before (inr over))
       ]
@@ -194,7 +202,7 @@ only_one layout r numbers a b laid bytes_a bytes_b is_a is_b = same_number_lists
       | inl c ↦
           let d = c.is_data in
           let has = laid.elements c.index c.item d.listed d.no_padding in
-          same_bits a b (place layout c.item) c.item.size (is_negative c.item.min) c.item.count n has.some_bits
+          same_bits a b (field_place layout c.item) c.item.size (is_negative c.item.min) c.item.count n has.some_bits
           (is_a.shows.elements c.index c.item c.below d ∙ sym (is_b.shows.elements c.index c.item c.below d)) c.low c.high
       | inr out ↦ is_a.shows.others n out ∙ sym (is_b.shows.others n out)
     ]
@@ -239,9 +247,9 @@ place_among bytes at w signed count n numbers some shows low high =
     let v : ℤ = number_at bytes (at + w * j) w signed in
     let here : slice_get numbers j ≡ Some v = ap (λ (l : List ℤ). slice_get l j) (sym shows) ∙ numbers_in-at bytes at w signed count j within in
     let pattern : pattern_of bytes (at + w * j) w ≡ pattern_for v w = sym (pattern_for-only v w signed (pattern_of bytes (at + w * j) w) some (pattern_of-lt bytes (at + w * j) w) refl) in
-    let place : (at + w * j) + k ≡ n = omega arith in
+    let field_place : (at + w * j) + k ≡ n = omega arith in
     let bit : bit_at (pattern_of bytes (at + w * j) w) k ≡ bit_of bytes ((at + w * j) + k) = bit_at-pattern_of bytes (at + w * j) w k small in
-    ap (bit_of bytes) (sym place) ∙ sym bit ∙ ap (λ (p : ℕ). bit_at p k) pattern
+    ap (bit_of bytes) (sym field_place) ∙ sym bit ∙ ap (λ (p : ℕ). bit_at p k) pattern
     ∙ sym (ap (λ (o : Option ℤ). elim o as (λ _. ℕ) [ None ↦ 0 | Some x ↦ bit_at (pattern_for x w) k ]) here)
   where
     below : (j count k : ℕ) → w * j + k < w * count → j < count
@@ -253,7 +261,11 @@ AreFrom layout i items = (j : ℕ) → slice_get items j ≡ slice_get layout.it
 
 abbrev SentBit : Contents → ℕ → (ℕ → List ℤ) → List ℕ → ℕ → ℕ → MainItem → List MainItem → Bool → Type 0
 SentBit layout r numbers bytes n i item items b =
-    bit_of bytes n ≡ (if b && (nat_le (place layout item) n && nat_lt n (place layout item + item.size * item.count)) then bit_among (numbers i) item.size (n - place layout item) else bit_sent layout r numbers (i + 1) items n)
+    bit_of bytes n
+    ≡ (if b &&
+    (nat_le (field_place layout item) n
+    && nat_lt n (field_place layout item + item.size * item.count)) then bit_among (numbers i) item.size
+    (n - field_place layout item) else bit_sent layout r numbers (i + 1) items n)
 
 sent_bits : (layout : Contents) (r : ℕ) (numbers : ℕ → List ℤ) (bytes : List ℕ) (n : ℕ) → IsLayout layout → IsEncoding layout r numbers bytes
     → (i : ℕ) (items : List MainItem) → i + length items ≡ length layout.items → AreFrom layout i items → AreOutside layout r i n
@@ -272,26 +284,41 @@ sent_bits layout r numbers bytes n laid is i (item ∷ items) whole from out =
     next : AreOutside layout r (suc i) n → AreOutside layout r (i + 1) n
     next o = subst (λ (k : ℕ). AreOutside layout r k n) (let e : suc i ≡ i + 1 = omega arith in e) o
 
-    inside : IsData layout r i item → place layout item ≤ n → n < place layout item + item.size * item.count → bit_of bytes n ≡ bit_among (numbers i) item.size (n - place layout item)
+    inside : IsData layout r i item → field_place layout item ≤ n
+        → n < field_place layout item + item.size * item.count
+        → bit_of bytes n ≡ bit_among (numbers i) item.size (n - field_place layout item)
     inside d low high =
         let has = laid.elements i item d.listed d.no_padding in
-        place_among bytes (place layout item) item.size (is_negative item.min) item.count n (numbers i) has.some_bits (is.shows.elements i item (slice_get_within layout.items i item there) d) low high
+        place_among bytes (field_place layout item) item.size (is_negative item.min) item.count n
+        (numbers i) has.some_bits
+        (is.shows.elements i item (slice_get_within layout.items i item there) d) low high
 
     by_bits : IsData layout r i item → (AreOutside layout r (i + 1) n → bit_of bytes n ≡ bit_sent layout r numbers (i + 1) items n) → SentBit layout r numbers bytes n i item items true
-    by_bits d rest = elim (cases_lt n (place layout item)) [
+    by_bits d rest = elim (cases_lt n (field_place layout item)) [
       | inl under ↦
-          let test : nat_le (place layout item) n && nat_lt n (place layout item + item.size * item.count) ≡ false = grind (arith, nat_tests, under) in
+          let test : nat_le (field_place layout item) n && nat_lt n (field_place layout item + item.size * item.count)
+          ≡ false = grind (arith, nat_tests, under) in
           rest (next (one_item_more layout r i n item there out (inl under)))
-          ∙ sym (ap (λ (b : Bool). if b then bit_among (numbers i) item.size (n - place layout item) else bit_sent layout r numbers (i + 1) items n) test)
-      | inr low ↦ elim (cases_lt n (place layout item + item.size * item.count)) [
+          ∙ sym (ap
+          (λ (b : Bool). if b then bit_among (numbers i) item.size
+          (n - field_place layout item) else bit_sent layout r numbers (i + 1) items n) test)
+      | inr low ↦ elim (cases_lt n (field_place layout item + item.size * item.count)) [
         | inl high ↦
-            let test : nat_le (place layout item) n && nat_lt n (place layout item + item.size * item.count) ≡ true = grind (arith, nat_tests, low, high) in
+            let test : nat_le (field_place layout item) n
+            && nat_lt n (field_place layout item + item.size * item.count) ≡ true =
+            grind (arith, nat_tests, low, high) in
             inside d low high
-            ∙ sym (ap (λ (b : Bool). if b then bit_among (numbers i) item.size (n - place layout item) else bit_sent layout r numbers (i + 1) items n) test)
+            ∙ sym (ap
+            (λ (b : Bool). if b then bit_among (numbers i) item.size
+            (n - field_place layout item) else bit_sent layout r numbers (i + 1) items n) test)
         | inr over ↦
-            let test : nat_le (place layout item) n && nat_lt n (place layout item + item.size * item.count) ≡ false = grind (arith, nat_tests, over) in
+            let test : nat_le (field_place layout item) n
+            && nat_lt n (field_place layout item + item.size * item.count) ≡ false =
+            grind (arith, nat_tests, over) in
             rest (next (one_item_more layout r i n item there out (inr over)))
-            ∙ sym (ap (λ (b : Bool). if b then bit_among (numbers i) item.size (n - place layout item) else bit_sent layout r numbers (i + 1) items n) test)
+            ∙ sym (ap
+            (λ (b : Bool). if b then bit_among (numbers i) item.size
+            (n - field_place layout item) else bit_sent layout r numbers (i + 1) items n) test)
       ]
     ]
 

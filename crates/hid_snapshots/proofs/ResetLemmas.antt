@@ -3,7 +3,7 @@ use Rattle.std.proofs.Common.{◌≡◌, ℕ, Bool, false, nat_lt, zero, suc, �
 use Rattle.std.specs.List.{slice_get, slice_set}
 use Rattle.std.proofs.lemmas.Bool.Decides.{nat_tests}
 use Rattle.hid_layout.specs.declared.control.Controls.{Controls}
-use Rattle.hid_layout.specs.Controls.{Form, Item, form_at, head_of}
+use Rattle.hid_layout.specs.Controls.{Form, Item, controls_of_form, form_at}
 use Rattle.hid_layout.specs.declared.control.Controls.TheVariants as head
 use Rattle.hid_layout.specs.declared.control.ControlKind.TheVariants.{Switch, Value, NullValue, Relative}
 use Rattle.hid_snapshots.specs.declared.control_state.ControlState.{ControlState}
@@ -53,10 +53,15 @@ pub ruleset shown_blank = (blank_shown)
 -- one part more is made again
 pub reset_next : (items : List Item) (start now : List ControlState) (i : ℕ) (new : ControlState)
     → length start ≡ length items → now ≡ take i (blank_parts items) ++ drop i start
-    → i < length items → new ≡ shown_state (head_of (form_at items i)) (blank_state (head_of (form_at items i)))
+    → i < length items
+    → new ≡ shown_state (controls_of_form (form_at items i)) (blank_state (controls_of_form (form_at items i)))
     → slice_set now i new ≡ take (i + 1) (blank_parts items) ++ drop (i + 1) start
 reset_next items start now i new long so_far within is =
     let item = got items i within in
-    let target : slice_get (blank_parts items) i ≡ Some (shown_state (head_of item.0.form) (blank_state (head_of item.0.form))) = map_at _ items i item.0 item.1 in
-    let made : new ≡ shown_state (head_of item.0.form) (blank_state (head_of item.0.form)) = is ∙ ap (λ (f : Form). shown_state (head_of f) (blank_state (head_of f))) (form_at-is items i item.0 item.1) in
+    let target : slice_get (blank_parts items) i
+    ≡ Some (shown_state (controls_of_form item.0.form) (blank_state (controls_of_form item.0.form))) =
+    map_at _ items i item.0 item.1 in
+    let made : new ≡ shown_state (controls_of_form item.0.form) (blank_state (controls_of_form item.0.form)) =
+    is ∙ ap (λ (f : Form). shown_state (controls_of_form f) (blank_state (controls_of_form f)))
+    (form_at-is items i item.0 item.1) in
     ap (λ xs. slice_set xs i new) so_far ∙ fill_next (blank_parts items) start i new (target ∙ ap Some (sym made)) (omega arith)

@@ -13,22 +13,22 @@ use Rattle.std.proofs.lemmas.Bool.Decides.{Decides-int_eq}
 use Rattle.hid_fields.specs.Value.{value_of, is_negative, FitsField}
 use Rattle.hid_fields.proofs.ValueLemmas.{twice_half, value_of-low, value_of-high}
 use Rattle.hid_layout.specs.declared.main_item.MainItem.{MainItem}
-use Rattle.hid_descriptor.specs.declared.shape.Shape.{Shape}
-use Rattle.hid_descriptor.specs.declared.shape.Shape.TheVariants.{Padding, Variable, Array}
-use Rattle.hid_descriptor.specs.declared.usage.Usage.{Usage}
+use Rattle.hid_report_descriptor.specs.declared.shape.Shape.{Shape}
+use Rattle.hid_report_descriptor.specs.declared.shape.Shape.TheVariants.{Padding, Variable, Array}
+use Rattle.hid_report_descriptor.specs.declared.usage.Usage.{Usage}
 use Rattle.hid_layout.specs.declared.control.ControlKind.{ControlKind}
 use Rattle.hid_layout.specs.declared.control.ControlKind.TheVariants.{Switch, Value, NullValue, Relative}
-use Rattle.hid_descriptor.specs.Faults.{least_value, greatest_value}
-use Rattle.hid_descriptor.specs.Flags.{has_flag, RELATIVE, NULL_STATE}
-use Rattle.hid_descriptor.specs.Fields.{is_padding}
+use Rattle.hid_report_descriptor.specs.Faults.{least_value, greatest_value}
+use Rattle.hid_report_descriptor.specs.Flags.{has_flag, RELATIVE, NULL_STATE}
+use Rattle.hid_report_descriptor.specs.Fields.{is_padding}
 use Rattle.hid_layout.specs.Reports.{HasElements}
-use Rattle.hid_layout.specs.Controls.{Elements, Keys, least_of, greatest_of, is_encodable, element_kind, has_outside, spread_usages, keys_from, key_places, rollover_from, form_of, head_of, array_keys}
-use Rattle.hid_descriptor.specs.Usages.{is_rollover}
+use Rattle.hid_layout.specs.Controls.{Elements, Keys, least_of, greatest_of, is_encodable, element_kind, has_outside, spread_usages, keys_from, key_places, rollover_from, form_of, controls_of_form, array_keys}
+use Rattle.hid_report_descriptor.specs.Usages.{is_rollover}
 use Rattle.hid_snapshots.specs.declared.control_state.ControlState.{ControlState}
 use Rattle.hid_snapshots.specs.declared.control_state.ControlState.TheVariants.{Absent, Switches, Values, Motions, RollOver}
 use Rattle.hid_snapshots.specs.ControlStates.{is_in, switch_count, are_values, are_motions, are_pressable, HasRoom, InPart}
-use Rattle.hid_layout.specs.Sent.{first_passing}
-use Rattle.hid_snapshots.specs.Sending.{number_of, least_pattern, null_number, empty_number, rollover_number, or_zero, names_nothing, switch_number, pressed_places_from, element_numbers}
+use Rattle.hid_layout.specs.Codes.{first_passing}
+use Rattle.hid_snapshots.specs.Sending.{number_of_pattern, least_pattern, null_number, empty_number, rollover_number, or_zero, names_nothing, switch_number, pressed_places_from, element_numbers}
 use Rattle.hid_snapshots.specs.Encoding.{CanSend, HasFewPlaces}
 use Rattle.hid_snapshots.proofs.CodeLemmas.{true_test, both_true}
 use Rattle.hid_snapshots.proofs.PlaceLemmas.{pressed_places_from-length}
@@ -79,10 +79,12 @@ first_passing_lt test from (suc count) p h = by_test (first_passing_lt test (fro
     by_test rest true e = let same : from ≡ p = cc in omega arith
     by_test rest false e = let next = rest e in omega arith
 
-code_fits : (m : MainItem) (test : ℤ → Bool) → HasElements m → FitsField (or_zero (option_map (number_of m) (least_pattern m test))) m.size (is_negative m.min)
+code_fits : (m : MainItem) (test : ℤ → Bool) → HasElements m
+    → FitsField (or_zero (option_map (number_of_pattern m) (least_pattern m test))) m.size (is_negative m.min)
 code_fits m test has = by_code (least_pattern m test) refl
   where
-    by_code : (o : Option ℕ) → least_pattern m test ≡ o → FitsField (or_zero (option_map (number_of m) o)) m.size (is_negative m.min)
+    by_code : (o : Option ℕ) → least_pattern m test ≡ o
+        → FitsField (or_zero (option_map (number_of_pattern m) o)) m.size (is_negative m.min)
     by_code None e = zero_fits m.size (is_negative m.min) has.some_bits
     by_code (Some p) e = let below = first_passing_lt _ 0 (2 ^ m.size) p e in pattern_fits p m.size (is_negative m.min) has.some_bits (omega arith)
 
@@ -198,7 +200,7 @@ keys_from-length m i (u ∷ us) = ap suc (keys_from-length m (i + 1) us)
 -- a variable item's part, by the kind of its elements
 elements_send : (m : MainItem) (us : List Usage) (kind : ControlKind) (state : ControlState) → HasElements m
     → 0 < length us → element_kind m ≡ kind
-    → HasRoom (head_of (Elements kind (least_of m) (greatest_of m) (spread_usages m.count us))) state
+    → HasRoom (controls_of_form (Elements kind (least_of m) (greatest_of m) (spread_usages m.count us))) state
     → InPart (Elements kind (least_of m) (greatest_of m) (spread_usages m.count us)) state
     → CanSend m (element_numbers m us (Elements kind (least_of m) (greatest_of m) (spread_usages m.count us)) state)
 elements_send m us Switch (Switches ps) has some is room ok =
@@ -239,7 +241,8 @@ elements_send m us Relative (Values vs) has some is room ok = absurd room
 elements_send m us Relative (RollOver vs) has some is room ok = absurd room
 
 keys_send : (m : MainItem) (us : List Usage) (rolls : Bool) (state : ControlState) → HasElements m
-    → HasRoom (head_of (Keys m.count rolls (array_keys m us))) state → InPart (Keys m.count rolls (array_keys m us)) state
+    → HasRoom (controls_of_form (Keys m.count rolls (array_keys m us))) state
+    → InPart (Keys m.count rolls (array_keys m us)) state
     → CanSend m (element_numbers m us (Keys m.count rolls (array_keys m us)) state)
 keys_send m us rolls (Switches ps) has room ok =
     let rest = m.count - switch_count ps in
@@ -259,7 +262,8 @@ keys_send m us rolls (Motions vs) has room ok = absurd room
 
 -- what a part shows of an item can be sent
 pub can_send : (m : MainItem) (us : List Usage) (shape : Shape) (state : ControlState) → is_padding shape ≡ false
-    → HasElements m → 0 < length us → HasRoom (head_of (form_of m us shape)) state → InPart (form_of m us shape) state
+    → HasElements m → 0 < length us → HasRoom (controls_of_form (form_of m us shape)) state
+    → InPart (form_of m us shape) state
     → CanSend m (element_numbers m us (form_of m us shape) state)
 can_send m us Padding state data_ has some room ok = absurd (cc)
 can_send m us Variable state data_ has some room ok = elements_send m us (element_kind m) state has some refl room ok
@@ -271,7 +275,7 @@ places_few m us = omega (arith, keys_from-length m 0 (key_places us), length-tak
 -- no control state of an item has more places than an array may
 pub few_places : (m : MainItem) (us : List Usage) (shape : Shape) (state : ControlState)
     → (is_padding shape ≡ false → HasElements m) → (is_padding shape ≡ false → 0 < length us)
-    → HasRoom (head_of (form_of m us shape)) state → HasFewPlaces state
+    → HasRoom (controls_of_form (form_of m us shape)) state → HasFewPlaces state
 few_places m us shape Absent has some room = tt
 few_places m us shape (Values vs) has some room = tt
 few_places m us shape (Motions vs) has some room = tt
@@ -280,7 +284,8 @@ few_places m us Padding (Switches ps) has some room = absurd room
 few_places m us Variable (Switches ps) has some room = by_kind (element_kind m) room
   where
     by_kind : (kind : ControlKind)
-        → HasRoom (head_of (Elements kind (least_of m) (greatest_of m) (spread_usages m.count us))) (Switches ps)
+        → HasRoom (controls_of_form (Elements kind (least_of m) (greatest_of m) (spread_usages m.count us)))
+        (Switches ps)
         → length ps ≤ 65536
     by_kind Switch h = omega (arith, h, spread_usages-length m.count us (some refl), (has refl).few)
     by_kind Value h = absurd h

@@ -9,10 +9,10 @@ use Rattle.std.proofs.lemmas.Bool.Decides.{nat_tests}
 use Rattle.hid_layout.specs.Layout.{Contents}
 use Rattle.hid_layout.specs.Reports.{IsLayout}
 use Rattle.hid_layout.specs.declared.control.ControlKind.TheVariants.{Switch, Value, NullValue, Relative}
-use Rattle.hid_layout.specs.Controls.{Form, NoControls, Elements, Keys, Item, items_of, head_of}
+use Rattle.hid_layout.specs.Controls.{Form, NoControls, Elements, Keys, Item, items_of, controls_of_form}
 use Rattle.hid_snapshots.specs.declared.control_state.ControlState.{ControlState}
 use Rattle.hid_snapshots.specs.declared.control_state.ControlState.TheVariants.{Absent, Switches, Values, Motions, RollOver}
-use Rattle.hid_snapshots.specs.ControlStates.{is_in, is_i32, switch_count, are_motions, HasRoom, InSnapshot, InPart, Suits, blank_state}
+use Rattle.hid_snapshots.specs.ControlStates.{is_in, is_i32, switch_count, are_motions, HasRoom, InSnapshot, InPart, FitControlStates, blank_state}
 use Rattle.std.proofs.lemmas.Option.{slice_get_within}
 use Rattle.hid_layout.specs.declared.control.Controls.{Controls}
 use Rattle.hid_layout.specs.declared.control.Controls.TheVariants as head
@@ -74,8 +74,8 @@ pub rest_all : (least greatest : ℤ) (ms : List ℤ) → is_in least greatest (
 rest_all least greatest [] h ok = tt
 rest_all least greatest (m ∷ ms) h ok = (rest_i32 least greatest m h ok.0, rest_all least greatest ms h ok.1)
 
-part_room : (form : Form) (state : ControlState) → HasRoom (head_of form) state
-    → HasRoom (head_of form) (shown_state (head_of form) state)
+part_room : (form : Form) (state : ControlState) → HasRoom (controls_of_form form) state
+    → HasRoom (controls_of_form form) (shown_state (controls_of_form form) state)
 part_room NoControls Absent room = room
 part_room NoControls (Switches xs) room = absurd room
 part_room NoControls (Values xs) room = absurd room
@@ -104,7 +104,7 @@ part_room (Elements Relative least greatest us) (RollOver xs) room = absurd room
 part_room (Keys elements rolls keys) Absent room = absurd room
 part_room (Keys elements rolls keys) (Switches xs) room = by_count (nat_lt elements (switch_count xs))
   where
-    by_count : (b : Bool) → HasRoom (head_of (Keys elements rolls keys)) (cond b (RollOver xs) (Switches xs))
+    by_count : (b : Bool) → HasRoom (controls_of_form (Keys elements rolls keys)) (cond b (RollOver xs) (Switches xs))
     by_count true = room
     by_count false = room
 part_room (Keys elements rolls keys) (Values xs) room = absurd room
@@ -112,7 +112,7 @@ part_room (Keys elements rolls keys) (Motions xs) room = absurd room
 part_room (Keys elements rolls keys) (RollOver xs) room = room
 
 part_stands : (form : Form) (state : ControlState) → IsSound form → InSnapshot form state
-    → InPart form (shown_state (head_of form) state)
+    → InPart form (shown_state (controls_of_form form) state)
 part_stands NoControls Absent some ok = tt
 part_stands NoControls (Switches xs) some ok = tt
 part_stands NoControls (Values xs) some ok = tt
@@ -142,11 +142,14 @@ part_stands (Keys elements rolls keys) (RollOver xs) some ok = absurd ok
 pub suits_by : (stands : Form → ControlState → Type 0) (f : Item → ControlState → ControlState → ControlState)
     (items : List Item) (xs bs : List ControlState) → length xs ≡ length items → length bs ≡ length items
     → ((i : ℕ) (item : Item) (a b : ControlState) → slice_get items i ≡ Some item → slice_get xs i ≡ Some a
-    → slice_get bs i ≡ Some b → HasRoom (head_of item.form) (f item a b) × stands item.form (f item a b))
-    → Suits stands items (by_item f items xs bs)
+    → slice_get bs i ≡ Some b → HasRoom (controls_of_form item.form) (f item a b) × stands item.form (f item a b))
+    → FitControlStates stands items (by_item f items xs bs)
 suits_by stands f items xs bs lx lb each = record {
   one_each = by_item_length f items xs bs lx lb;
-  room = λ i item state h g. let p = at i item h in subst (λ c. HasRoom (head_of item.form) c) (made i item state h g) ((each i item p.state p.part h p.state_there p.part_there).0);
+  room = λ i item state h g. let p =
+      at i item h in
+      subst (λ c. HasRoom (controls_of_form item.form) c) (made i item state h g)
+      ((each i item p.state p.part h p.state_there p.part_there).0);
   suits = λ i item state h g. let p = at i item h in subst (λ c. stands item.form c) (made i item state h g) ((each i item p.state p.part h p.state_there p.part_there).1);
 }
   where
@@ -162,26 +165,31 @@ suits_by stands f items xs bs lx lb each = record {
 
 -- What is shown of a snapshot suits the items.
 pub shown_fits : (layout : Contents) (r : ℕ) (states parts : List ControlState) → IsLayout layout
-    → Suits InSnapshot (items_of layout) states → Suits InPart (items_of layout) parts
-    → Suits InPart (items_of layout) (shown_parts (items_of layout) r states parts)
+    → FitControlStates InSnapshot (items_of layout) states → FitControlStates InPart (items_of layout) parts
+    → FitControlStates InPart (items_of layout) (shown_parts (items_of layout) r states parts)
 shown_fits layout r states parts laid fits fits' =
     suits_by InPart (shown_part_of r) (items_of layout) states parts fits.one_each fits'.one_each
     (λ i item a b h g k. by_report (is_of r item) item a b
     (part_room item.form a (fits.room i item a h g), part_stands item.form a (sound_items layout laid i item h) (fits.suits i item a h g)) (fits'.room i item b h k, fits'.suits i item b h k))
   where
     by_report : (b : Bool) (item : Item) (state part : ControlState)
-        → HasRoom (head_of item.form) (shown_state (head_of item.form) state)
-        × InPart item.form (shown_state (head_of item.form) state)
-        → HasRoom (head_of item.form) part × InPart item.form part → HasRoom (head_of item.form) (cond b (shown_state (head_of item.form) state) part) × InPart item.form (cond b (shown_state (head_of item.form) state) part)
+        → HasRoom (controls_of_form item.form) (shown_state (controls_of_form item.form) state)
+        × InPart item.form (shown_state (controls_of_form item.form) state)
+        → HasRoom (controls_of_form item.form) part × InPart item.form part
+        → HasRoom (controls_of_form item.form) (cond b (shown_state (controls_of_form item.form) state) part)
+        × InPart item.form (cond b (shown_state (controls_of_form item.form) state) part)
     by_report true item state part new old = new
     by_report false item state part new old = old
 
-pub blank_parts_fit : (layout : Contents) → IsLayout layout → Suits InPart (items_of layout) (blank_parts (items_of layout))
+pub blank_parts_fit : (layout : Contents) → IsLayout layout
+    → FitControlStates InPart (items_of layout) (blank_parts (items_of layout))
 blank_parts_fit layout laid =
-    suits_all InPart (λ item. shown_state (head_of item.form) (blank_state (head_of item.form))) (items_of layout)
+    suits_all InPart (λ item. shown_state (controls_of_form item.form) (blank_state (controls_of_form item.form)))
+    (items_of layout)
     (λ i item h. (part_room item.form _ (blank_room item.form), part_stands item.form _ (sound_items layout laid i item h) (blank_in_snapshot item.form (sound_items layout laid i item h))))
 
-pub motions_kept : (form : Form) (state : ControlState) → HasRoom (head_of form) state → InSnapshot form state
+pub motions_kept : (form : Form) (state : ControlState) → HasRoom (controls_of_form form) state
+    → InSnapshot form state
     → AreMotions state
 motions_kept NoControls Absent room ok = tt
 motions_kept NoControls (Switches xs) room ok = tt
@@ -214,8 +222,9 @@ motions_kept (Keys elements rolls keys) (Values xs) room ok = tt
 motions_kept (Keys elements rolls keys) (Motions xs) room ok = absurd room
 motions_kept (Keys elements rolls keys) (RollOver xs) room ok = tt
 
-pub motions_shown : (form : Form) (state : ControlState) → has_zero (head_of form) ≡ true → HasRoom (head_of form) state
-    → InSnapshot form state → AreMotions (shown_state (head_of form) state)
+pub motions_shown : (form : Form) (state : ControlState) → has_zero (controls_of_form form) ≡ true
+    → HasRoom (controls_of_form form) state
+    → InSnapshot form state → AreMotions (shown_state (controls_of_form form) state)
 motions_shown NoControls Absent zero_ room ok = tt
 motions_shown NoControls (Switches xs) zero_ room ok = tt
 motions_shown NoControls (Values xs) zero_ room ok = tt
@@ -270,8 +279,9 @@ rest_room (head.Elements Relative least greatest n) (Motions xs) (Motions bs) ro
     length_map_zip (λ (p : ℤ × ℤ). p.0 -ℤ p.1) xs bs like ∙ room
 rest_room (head.Keys elements rolls n) (Motions xs) (Motions bs) room like = absurd room
 
-rest_stands : (form : Form) (state : ControlState) → has_zero (head_of form) ≡ true → HasRoom (head_of form) state
-    → InSnapshot form state → InSnapshot form (minus_motion state (shown_state (head_of form) state))
+rest_stands : (form : Form) (state : ControlState) → has_zero (controls_of_form form) ≡ true
+    → HasRoom (controls_of_form form) state
+    → InSnapshot form state → InSnapshot form (minus_motion state (shown_state (controls_of_form form) state))
 rest_stands NoControls Absent zero_ room ok = ok
 rest_stands NoControls (Switches xs) zero_ room ok = ok
 rest_stands NoControls (Values xs) zero_ room ok = ok
@@ -307,25 +317,28 @@ rest_stands (Keys elements rolls keys) (RollOver xs) zero_ room ok = ok
 pub part_is_shown : (items : List Item) (r : ℕ) (states parts : List ControlState) (i : ℕ) (item : Item)
     (state part : ControlState) → parts ≡ shown_parts items r states parts → slice_get items i ≡ Some item
     → slice_get states i ≡ Some state → slice_get parts i ≡ Some part
-    → is_of r item ≡ true → part ≡ shown_state (head_of item.form) state
+    → is_of r item ≡ true → part ≡ shown_state (controls_of_form item.form) state
 part_is_shown items r states parts i item state part same h g k of_it =
     let e = by_item_at (shown_part_of r) items states parts i item state part h g k in
     let f : slice_get parts i ≡ Some (shown_part_of r item state part) = ap (λ xs. slice_get xs i) same ∙ e in
     let p : part ≡ shown_part_of r item state part = cc in
-    p ∙ ap (λ (b : Bool). cond b (shown_state (head_of item.form) state) part) of_it
+    p ∙ ap (λ (b : Bool). cond b (shown_state (controls_of_form item.form) state) part) of_it
 
-zero_at : (items : List Item) (i : ℕ) (item : Item) → has_zeros items ≡ true → slice_get items i ≡ Some item → has_zero (head_of item.form) ≡ true
+zero_at : (items : List Item) (i : ℕ) (item : Item) → has_zeros items ≡ true → slice_get items i ≡ Some item
+    → has_zero (controls_of_form item.form) ≡ true
 zero_at [] i item h k = absurd (cc)
 zero_at (it ∷ items) zero item h k = let e : it ≡ item = cc in rw (← e) (both_true _ _ h).0
-zero_at (it ∷ items) (suc i) item h k = zero_at items i item ((both_true (has_zero (head_of it.form)) (has_zeros items) h).1) k
+zero_at (it ∷ items) (suc i) item h k =
+    zero_at items i item ((both_true (has_zero (controls_of_form it.form)) (has_zeros items) h).1) k
 
 -- no motion at all, where an element can carry 0
 still_all : (least greatest : ℤ) (n : ℕ) → is_in least greatest (pos 0) ≡ true → are_motions least greatest (replicate n (pos 0))
 still_all least greatest zero h = tt
 still_all least greatest (suc n) h = (h, still_all least greatest n h)
 
-still_stands : (form : Form) (part : ControlState) → has_zero (head_of form) ≡ true → HasRoom (head_of form) part
-    → InPart form part → HasRoom (head_of form) (without_motion part) × InPart form (without_motion part)
+still_stands : (form : Form) (part : ControlState) → has_zero (controls_of_form form) ≡ true
+    → HasRoom (controls_of_form form) part
+    → InPart form part → HasRoom (controls_of_form form) (without_motion part) × InPart form (without_motion part)
 still_stands form Absent zero_ room ok = (room, ok)
 still_stands form (Switches xs) zero_ room ok = (room, ok)
 still_stands form (Values xs) zero_ room ok = (room, ok)
@@ -340,37 +353,44 @@ still_stands (Keys elements rolls keys) (Motions xs) zero_ room ok = absurd room
 
 -- The still part of a snapshot suits the items.
 pub still_fits : (layout : Contents) (r : ℕ) (states parts : List ControlState) → IsLayout layout
-    → has_zeros (items_of layout) ≡ true → Suits InSnapshot (items_of layout) states
-    → Suits InPart (items_of layout) parts
-    → Suits InPart (items_of layout) (still_parts (items_of layout) r states parts)
+    → has_zeros (items_of layout) ≡ true → FitControlStates InSnapshot (items_of layout) states
+    → FitControlStates InPart (items_of layout) parts
+    → FitControlStates InPart (items_of layout) (still_parts (items_of layout) r states parts)
 still_fits layout r states parts laid zeros fits fits' =
     suits_by InPart (still_of r) (items_of layout) states parts fits.one_each fits'.one_each
     (λ i item a b h g k. by_report (is_of r item) item a b
-    (still_stands item.form (shown_state (head_of item.form) a) (zero_at (items_of layout) i item zeros h) (part_room item.form a (fits.room i item a h g)) (part_stands item.form a (sound_items layout laid i item h) (fits.suits i item a h g)))
+    (still_stands item.form (shown_state (controls_of_form item.form) a) (zero_at (items_of layout) i item zeros h)
+    (part_room item.form a (fits.room i item a h g))
+    (part_stands item.form a (sound_items layout laid i item h) (fits.suits i item a h g)))
     (fits'.room i item b h k, fits'.suits i item b h k))
   where
     by_report : (b : Bool) (item : Item) (state part : ControlState)
-        → HasRoom (head_of item.form) (without_motion (shown_state (head_of item.form) state))
-        × InPart item.form (without_motion (shown_state (head_of item.form) state))
-        → HasRoom (head_of item.form) part × InPart item.form part
-        → HasRoom (head_of item.form) (cond b (without_motion (shown_state (head_of item.form) state)) part) × InPart item.form (cond b (without_motion (shown_state (head_of item.form) state)) part)
+        → HasRoom (controls_of_form item.form) (without_motion (shown_state (controls_of_form item.form) state))
+        × InPart item.form (without_motion (shown_state (controls_of_form item.form) state))
+        → HasRoom (controls_of_form item.form) part × InPart item.form part
+        → HasRoom (controls_of_form item.form)
+        (cond b (without_motion (shown_state (controls_of_form item.form) state)) part)
+        × InPart item.form (cond b (without_motion (shown_state (controls_of_form item.form) state)) part)
     by_report true item state part new old = new
     by_report false item state part new old = old
 
 -- What is left of a snapshot's motion suits the items.
 pub taken_fits : (items : List Item) (r : ℕ) (states parts : List ControlState) → has_zeros items ≡ true
-    → parts ≡ shown_parts items r states parts → Suits InSnapshot items states → Suits InPart items parts
-    → Suits InSnapshot items (without_part_motion items r states parts)
+    → parts ≡ shown_parts items r states parts → FitControlStates InSnapshot items states
+    → FitControlStates InPart items parts
+    → FitControlStates InSnapshot items (without_part_motion items r states parts)
 taken_fits items r states parts zeros same fits fits' =
     suits_by InSnapshot (without_motion_of r) items states parts fits.one_each fits'.one_each
     (λ i item a b h g k. by_report (is_of r item) i item refl a b h g k (fits.room i item a h g) (fits.suits i item a h g) (fits'.room i item b h k))
   where
     by_report : (b : Bool) (i : ℕ) (item : Item) → is_of r item ≡ b → (state part : ControlState)
         → slice_get items i ≡ Some item → slice_get states i ≡ Some state → slice_get parts i ≡ Some part
-        → HasRoom (head_of item.form) state → InSnapshot item.form state → HasRoom (head_of item.form) part
-        → HasRoom (head_of item.form) (cond b (minus_motion state part) state) × InSnapshot item.form (cond b (minus_motion state part) state)
+        → HasRoom (controls_of_form item.form) state → InSnapshot item.form state
+        → HasRoom (controls_of_form item.form) part
+        → HasRoom (controls_of_form item.form) (cond b (minus_motion state part) state)
+        × InSnapshot item.form (cond b (minus_motion state part) state)
     by_report true i item of_it state part h g k room ok room' = (
-      rest_room (head_of item.form) state part room (room_of item.form state part room ok room'),
+      rest_room (controls_of_form item.form) state part room (room_of item.form state part room ok room'),
       rw (part_is_shown items r states parts i item state part same h g k of_it) (rest_stands item.form state (zero_at items i item zeros h) room ok),
     )
     by_report false i item of_it state part h g k room ok room' = (room, ok)
@@ -383,8 +403,8 @@ pub record TakesNext (items : List Item) (r : ℕ) (states parts : List ControlS
   pub others : is_of r (item_at items i) ≡ true → AreMotions part
 
 pub takes_next : (items : List Item) (r : ℕ) (states parts : List ControlState) (i : ℕ) (state part : ControlState)
-    → has_zeros items ≡ true → parts ≡ shown_parts items r states parts → Suits InSnapshot items states
-    → Suits InPart items parts
+    → has_zeros items ≡ true → parts ≡ shown_parts items r states parts → FitControlStates InSnapshot items states
+    → FitControlStates InPart items parts
     → i < length items → slice_get states i ≡ Some state → slice_get parts i ≡ Some part → TakesNext items r states parts i state part
 takes_next items r states parts i state part zeros same fits fits' within g k =
     let item = got items i within in
@@ -407,6 +427,8 @@ shown_again (item ∷ items) r (c ∷ states) (p ∷ parts) =
     ap (λ t. shown_part_of r item c (shown_part_of r item c p) ∷ t) (shown_again items r states parts)
     ∙ ap (λ t. t ∷ shown_parts items r states parts) (twice (is_of r item))
   where
-    twice : (b : Bool) → cond b (shown_state (head_of item.form) c) (cond b (shown_state (head_of item.form) c) p) ≡ cond b (shown_state (head_of item.form) c) p
+    twice : (b : Bool)
+        → cond b (shown_state (controls_of_form item.form) c) (cond b (shown_state (controls_of_form item.form) c) p)
+        ≡ cond b (shown_state (controls_of_form item.form) c) p
     twice true = refl
     twice false = refl

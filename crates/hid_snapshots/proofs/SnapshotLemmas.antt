@@ -7,29 +7,30 @@ use Rattle.std.proofs.lemmas.Option.{slice_get_within, slice_get_read}
 use Rattle.std.proofs.lemmas.Int.{ints}
 use Rattle.std.proofs.lemmas.Bool.{cases_eq}
 use Rattle.std.proofs.lemmas.Bool.Decides.{nat_tests}
-use Rattle.hid_descriptor.specs.declared.usage.Usage.{Usage}
+use Rattle.hid_report_descriptor.specs.declared.usage.Usage.{Usage}
 use Rattle.hid_layout.specs.declared.control.Control.{Control}
 use Rattle.hid_layout.specs.declared.control.Controls.{Controls}
 use Rattle.hid_layout.specs.declared.control.Controls.TheVariants as head
 use Rattle.hid_layout.specs.declared.control.ControlKind.{ControlKind}
 use Rattle.hid_layout.specs.declared.control.ControlKind.TheVariants.{Switch, Value, NullValue, Relative}
-use Rattle.hid_layout.specs.Controls.{Form, NoControls, Elements, Keys, Key, Item, control_of, control_in, form_at, head_of}
+use Rattle.hid_layout.specs.Controls.{Form, NoControls, Elements, Keys, Key, Item, control_of, control_in, form_at, controls_of_form}
 use Rattle.hid_snapshots.specs.declared.control_state.ControlState.{ControlState}
 use Rattle.hid_snapshots.specs.declared.control_state.ControlState.TheVariants.{Absent, Switches, Values, Motions, RollOver}
 use Rattle.hid_snapshots.specs.declared.change.Change.{Change}
 use Rattle.hid_snapshots.specs.declared.change.Change.TheVariants.{Press, Release, Set, Null, Move}
-use Rattle.hid_snapshots.specs.declared.change.ChangeFault.{ChangeFault}
-use Rattle.hid_snapshots.specs.ControlStates.{is_in, has_null, is_i32, switch_count, HasRoom, is_value, are_values, are_motions, are_pressable, InSnapshot, Suits}
+use Rattle.hid_snapshots.specs.declared.fault.ChangeFault.{ChangeFault}
+use Rattle.hid_snapshots.specs.ControlStates.{is_in, has_null, is_i32, switch_count, HasRoom, is_value, are_values, are_motions, are_pressable, InSnapshot, FitControlStates}
 use Rattle.hid_snapshots.specs.Snapshots.{OrFault, unless, is_pressed, motion_in, with_pressed, with_value, with_motion, is_full, can_hold, has_direction, changed_state, target, snapshot_after, change_at, with_state, state_at, Changes, ChangesState, HasIndex}
 use Rattle.hid_snapshots.proofs.CodeLemmas.{both_true}
 use Rattle.hid_snapshots.proofs.ListLemmas.{cons_count}
 use Rattle.hid_snapshots.proofs.FillLemmas.{set_length}
 use Rattle.hid_layout.specs.declared.control.ControlId.{ControlId}
-use Rattle.hid_snapshots.specs.declared.change.ChangeFault.TheVariants as ChangeFault_
+use Rattle.hid_snapshots.specs.declared.fault.ChangeFault.TheVariants as ChangeFault_
 use Rattle.hid_snapshots.proofs.ItemLemmas.{mapped_some, set_same, set_here, set_there, IsControl, control_found, form_at-is}
 
 -- a control state with room for an item's controls has a place for each of them
-pub room_index : (form : Form) (state : ControlState) (j : ℕ) (control : Control) → HasRoom (head_of form) state
+pub room_index : (form : Form) (state : ControlState) (j : ℕ) (control : Control)
+    → HasRoom (controls_of_form form) state
     → control_in form j ≡ Some control → HasIndex state j
 room_index form Absent j control room h = tt
 room_index form (RollOver ps) j control room h = tt
@@ -159,7 +160,7 @@ key_switch elements rolls keys j control h key e = by_switch key.is_switch refl
 
 -- What a change leaves in a control state suits its controls.
 pub record Leaves (form : Form) (state : ControlState) : Type 0 where
-  pub room : HasRoom (head_of form) state
+  pub room : HasRoom (controls_of_form form) state
   pub stands : InSnapshot form state
 
 leaves_along : (form : Form) (a b : ControlState) → a ≡ b → Leaves form a → Leaves form b
@@ -179,7 +180,7 @@ not_false false h = refl
 
 pressed_stays : (form : Form) (ps : List Bool) (j : ℕ) (control : Control) → control_in form j ≡ Some control
     → InSnapshot form (Switches ps)
-    → (not (is_pressed (Switches ps) j) && is_full (head_of form) (Switches ps)) ≡ false
+    → (not (is_pressed (Switches ps) j) && is_full (controls_of_form form) (Switches ps)) ≡ false
     → InSnapshot form (Switches (slice_set ps j true))
 pressed_stays NoControls ps j control h ok free = tt
 pressed_stays (Elements kind least greatest us) ps j control h ok free = tt
@@ -215,16 +216,16 @@ released_stays (Keys elements rolls keys) ps j ok =
 
 press_leaves : (form : Form) (state new : ControlState) (c : ControlId) (control : Control)
     → control_in form c.index ≡ Some control → Leaves form state
-    → changed_state Switch (head_of form) state (Press c) ≡ Ok new → Leaves form new
+    → changed_state Switch (controls_of_form form) state (Press c) ≡ Ok new → Leaves form new
 press_leaves form state new c control h was e = by_state state was (unless_ok _ _ _ _ e)
   where
     by_state : (state : ControlState) → Leaves form state
-        → (not (is_pressed state c.index) && is_full (head_of form) state ≡ false)
+        → (not (is_pressed state c.index) && is_full (controls_of_form form) state ≡ false)
         × (let a : OrFault ControlState = Ok (with_pressed state c.index true) in a ≡ Ok new) → Leaves form new
     by_state (Switches ps) was k =
         leaves_along form _ new (done _ new k.1)
         (record {
-          room = with_pressed_room (head_of form) (Switches ps) c.index true was.room;
+          room = with_pressed_room (controls_of_form form) (Switches ps) c.index true was.room;
           stands =
               pressed_stays form ps c.index control h was.stands k.0;
         })
@@ -238,7 +239,7 @@ release_leaves : (form : Form) (state new : ControlState) (j : ℕ) → Leaves f
 release_leaves form (Switches ps) new j was e =
     leaves_along form _ new e
     (record {
-      room = with_pressed_room (head_of form) (Switches ps) j false was.room;
+      room = with_pressed_room (controls_of_form form) (Switches ps) j false was.room;
       stands =
           released_stays form ps j was.stands;
     })
@@ -265,7 +266,7 @@ value_leaves : (form : Form) (state new : ControlState) (j : ℕ) (v : Option �
 value_leaves form (Values vs) new j v held was e =
     leaves_along form _ new e
     (record {
-      room = with_value_room (head_of form) (Values vs) j v was.room;
+      room = with_value_room (controls_of_form form) (Values vs) j v was.room;
       stands =
           valued_stays form vs j v held was.stands;
     })
@@ -274,7 +275,7 @@ value_leaves form (Switches vs) new j v held was e = leaves_along form _ new e w
 value_leaves form (Motions vs) new j v held was e = leaves_along form _ new e was
 value_leaves form (RollOver vs) new j v held was e = leaves_along form _ new e was
 
-set_held : (form : Form) (v : ℤ) → not (can_hold (head_of form) v) ≡ false → Held form (Some v)
+set_held : (form : Form) (v : ℤ) → not (can_hold (controls_of_form form) v) ≡ false → Held form (Some v)
 unfolding Held
 set_held NoControls v h = tt
 set_held (Keys elements rolls keys) v h = tt
@@ -298,7 +299,7 @@ motion_leaves : (form : Form) (state new : ControlState) (j : ℕ) (m : ℤ) →
 motion_leaves form (Motions ms) new j m fits was e =
     leaves_along form _ new e
     (record {
-      room = with_motion_room (head_of form) (Motions ms) j m was.room;
+      room = with_motion_room (controls_of_form form) (Motions ms) j m was.room;
       stands =
           moved_stays form was.stands;
     })
@@ -318,7 +319,7 @@ wrong new e = cc
 -- a change that is accepted leaves a control state that suits the controls
 pub change_leaves : (form : Form) (state new : ControlState) (change : Change) (kind : ControlKind) (u : Usage)
     → control_in form (target change).index ≡ Some (record { kind = kind; usage = u })
-    → Leaves form state → changed_state kind (head_of form) state change ≡ Ok new → Leaves form new
+    → Leaves form state → changed_state kind (controls_of_form form) state change ≡ Ok new → Leaves form new
 change_leaves form state new (Press c) Switch u h was e = press_leaves form state new c _ h was e
 change_leaves form state new (Press c) Value u h was e = absurd (wrong new e)
 change_leaves form state new (Press c) NullValue u h was e = absurd (wrong new e)
@@ -345,21 +346,25 @@ change_leaves form state new (Move c by) NullValue u h was e = absurd (wrong new
 change_leaves form state new (Move c by) Relative u h was e =
     let total : ℤ = motion_in state c.index +ℤ by in
     let end_ : OrFault ControlState = Ok (with_motion state c.index total) in
-    let k = unless_ok (not (has_direction (head_of form) by)) ChangeFault_.NoDirection (unless (not (is_i32 total)) ChangeFault_.MotionFull end_) new e in
+    let k = unless_ok (not (has_direction (controls_of_form form) by)) ChangeFault_.NoDirection
+    (unless (not (is_i32 total)) ChangeFault_.MotionFull end_) new e in
     let l = unless_ok (not (is_i32 total)) ChangeFault_.MotionFull end_ new k.1 in
     motion_leaves form state new c.index total (not_true _ l.0) was (done _ new l.1)
 
 -- A change of one control's control state is a change of the snapshot.
 pub changes_state : (items : List Item) (states : List ControlState) (change : Change) (control : Control)
     (controls : Controls) (state new : ControlState) (result : OrFault (Unit {0}))
-    → control_of items (target change) ≡ Some control → controls ≡ head_of (form_at items (target change).item) → slice_get states (target change).item ≡ Some state
+    → control_of items (target change) ≡ Some control
+    → controls ≡ controls_of_form (form_at items (target change).item)
+    → slice_get states (target change).item ≡ Some state
     → ChangesState control.kind controls state change result new → Changes items states change result (slice_set states (target change).item new)
 changes_state items states change control controls state new (Ok tt_) named heads there h = named_is ∙ ap (with_state states (target change).item) (by_parts ∙ h)
   where
     named_is : snapshot_after items states change ≡ change_at items states change (Some control)
     named_is = ap (change_at items states change) named
 
-    by_parts : changed_state control.kind (head_of (form_at items (target change).item)) (state_at states (target change).item) change ≡ changed_state control.kind controls state change
+    by_parts : changed_state control.kind (controls_of_form (form_at items (target change).item))
+        (state_at states (target change).item) change ≡ changed_state control.kind controls state change
     by_parts = rw (← heads, there) refl
 changes_state items states change control controls state new (Err fault) named heads there h =
     (named_is ∙ ap (with_state states (target change).item) (by_parts ∙ h.0), rw h.1 (set_same states _ state there))
@@ -367,7 +372,8 @@ changes_state items states change control controls state new (Err fault) named h
     named_is : snapshot_after items states change ≡ change_at items states change (Some control)
     named_is = ap (change_at items states change) named
 
-    by_parts : changed_state control.kind (head_of (form_at items (target change).item)) (state_at states (target change).item) change ≡ changed_state control.kind controls state change
+    by_parts : changed_state control.kind (controls_of_form (form_at items (target change).item))
+        (state_at states (target change).item) change ≡ changed_state control.kind controls state change
     by_parts = rw (← heads, there) refl
 
 same_place : {A : Type 0} (xs : List A) (i : ℕ) (a b : A) → slice_get xs i ≡ Some a → slice_get xs i ≡ Some b → a ≡ b
@@ -376,7 +382,8 @@ same_place xs i a b h k = cc
 -- One control state is replaced by another that suits.
 pub suits_set : (stands : Form → ControlState → Type 0) (items : List Item) (states : List ControlState) (i : ℕ)
     (item : Item) (new : ControlState) → slice_get items i ≡ Some item
-    → HasRoom (head_of item.form) new → stands item.form new → Suits stands items states → Suits stands items (slice_set states i new)
+    → HasRoom (controls_of_form item.form) new → stands item.form new → FitControlStates stands items states
+    → FitControlStates stands items (slice_set states i new)
 suits_set stands items states i item new there room ok was = record {
   one_each = set_length states i new ∙ was.one_each;
   room = λ k it state h g. elim (cases_eq i k) [
@@ -399,16 +406,18 @@ suits_set stands items states i item new there room ok was = record {
 -- A change of one control's control state leaves a snapshot that suits the items.
 pub changes_fit : (items : List Item) (states : List ControlState) (change : Change) (control : Control)
     (controls : Controls) (state new : ControlState) (result : OrFault (Unit {0}))
-    → IsControl items (target change) control → controls ≡ head_of (form_at items (target change).item) → slice_get states (target change).item ≡ Some state
-    → ChangesState control.kind controls state change result new → Suits InSnapshot items states → Suits InSnapshot items (slice_set states (target change).item new)
+    → IsControl items (target change) control → controls ≡ controls_of_form (form_at items (target change).item)
+    → slice_get states (target change).item ≡ Some state
+    → ChangesState control.kind controls state change result new → FitControlStates InSnapshot items states
+    → FitControlStates InSnapshot items (slice_set states (target change).item new)
 changes_fit items states change control controls state new result found heads there h was =
     suits_set InSnapshot items states (target change).item found.item new found.there left.room left.stands was
   where
     here : Leaves found.item.form state
     here = record { room = was.room _ found.item state found.there there; stands = was.suits _ found.item state found.there there }
 
-    is_head : controls ≡ head_of found.item.form
-    is_head = heads ∙ ap head_of (form_at-is items (target change).item found.item found.there)
+    is_head : controls ≡ controls_of_form found.item.form
+    is_head = heads ∙ ap controls_of_form (form_at-is items (target change).item found.item found.there)
 
     by_result : (result : OrFault (Unit {0})) → ChangesState control.kind controls state change result new → Leaves found.item.form new
     by_result (Ok tt_) k = change_leaves found.item.form state new change control.kind control.usage found.is here (rw is_head at k)
@@ -420,7 +429,7 @@ changes_fit items states change control controls state new result found heads th
 -- the control state of a control that a layout has
 pub state_of_control : (items : List Item) (states now : List ControlState) (c : ControlId) (control : Control)
     (state : ControlState) → control_of items c ≡ Some control → states ≡ now
-    → Suits InSnapshot items now → state ≡ get_or states c.item state → slice_get now c.item ≡ Some state
+    → FitControlStates InSnapshot items now → state ≡ get_or states c.item state → slice_get now c.item ≡ Some state
 state_of_control items states now c control state named view was value =
     let found = control_found items c control named in
     slice_get_read now (length items) c.item state (sym was.one_each) (slice_get_within items c.item found.item found.there) (value ∙ ap (λ xs. get_or xs c.item state) view)
@@ -428,12 +437,17 @@ state_of_control items states now c control state named view was value =
 -- A snapshot whose control state of the changed control is replaced is the snapshot after the change, and suits the items.
 pub change_done : (items : List Item) (states now : List ControlState) (id : ControlId) (change : Change)
     (control : Control) (controls : Controls) (state new : ControlState) (result : OrFault (Unit {0}))
-    → id ≡ target change → control_of items id ≡ Some control → controls ≡ head_of (form_at items id.item) → states ≡ now → state ≡ get_or states id.item state
-    → Suits InSnapshot items now → ChangesState control.kind controls state change result new
-    → Changes items now change result (slice_set states id.item new) × Suits InSnapshot items (slice_set states id.item new)
+    → id ≡ target change → control_of items id ≡ Some control → controls ≡ controls_of_form (form_at items id.item)
+    → states ≡ now → state ≡ get_or states id.item state
+    → FitControlStates InSnapshot items now → ChangesState control.kind controls state change result new
+    → Changes items now change result (slice_set states id.item new)
+    × FitControlStates InSnapshot items (slice_set states id.item new)
 change_done items states now id change control controls state new result is named heads view value was h =
-    let P : ControlId → Type 0 = λ c. control_of items c ≡ Some control → controls ≡ head_of (form_at items c.item) → slice_get now c.item ≡ Some state
-    → Changes items now change result (slice_set now c.item new) × Suits InSnapshot items (slice_set now c.item new) in
+    let P : ControlId → Type 0 =
+    λ c. control_of items c ≡ Some control → controls ≡ controls_of_form (form_at items c.item)
+    → slice_get now c.item ≡ Some state
+    → Changes items now change result (slice_set now c.item new)
+    × FitControlStates InSnapshot items (slice_set now c.item new) in
     rw view (subst P (sym is)
     (λ n d t. (changes_state items now change control controls state new result n d t h, changes_fit items now change control controls state new result (control_found items (target change) control n) d t h was))
     named heads (state_of_control items states now id control state named view was value))

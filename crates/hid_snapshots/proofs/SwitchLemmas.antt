@@ -9,7 +9,7 @@ use Rattle.std.proofs.lemmas.List.{get_or-map, length-map, take_all}
 use Rattle.hid_fields.specs.Field.{bit_of, pattern_of}
 use Rattle.hid_fields.specs.Value.{value_of, FitsField}
 use Rattle.hid_fields.proofs.WordLemmas.{bit_at-pattern_of}
-use Rattle.hid_snapshots.specs.Words.{words_in, words_of}
+use Rattle.hid_snapshots.specs.Words.{switch_words, words_in}
 use Rattle.hid_snapshots.proofs.WordLemmas.{enough}
 use Rattle.hid_snapshots.specs.Numbers.{number_at, numbers_in}
 use Rattle.hid_snapshots.specs.Sending.{switch_number, IsPatternOf}
@@ -20,7 +20,7 @@ no_place [] h = refl
 no_place (p ∷ ps) h = absurd (omega arith)
 
 -- the first word of up to 32 places is their pattern
-pub first_word : (ps : List Bool) → length ps ≤ 32 → unwrap_or (slice_get (words_of ps) 0) 0 ≡ mask_l ps
+pub first_word : (ps : List Bool) → length ps ≤ 32 → unwrap_or (slice_get (switch_words ps) 0) 0 ≡ mask_l ps
 unfolding words_in
 first_word ps few = of_words (div_ceil (length ps) 64) (enough (length ps))
   where

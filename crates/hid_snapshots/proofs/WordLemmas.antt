@@ -21,7 +21,7 @@ use Rattle.std.proofs.Math.Pow.{pow_mono}
 use Rattle.std.proofs.Math.Nat.{pow-suc}
 use Rattle.std.proofs.lemmas.Bool.{cases_lt, cases_eq}
 use Rattle.hid_snapshots.proofs.FillLemmas.{set_length}
-use Rattle.hid_snapshots.specs.Words.{words_in, words_of, bits_in, places_in, AreWords, is_on, is_alone, is_unlike, is_bit, are_alone, IsFirst, FindsFirst}
+use Rattle.hid_snapshots.specs.Words.{words_in, switch_words, bits_in, places_in, AreWords, is_on, is_alone, is_unlike, is_bit, are_alone, IsFirst, FindsFirst}
 
 pub bits_in-word : (ps : List Bool) → bits_in (length ps) (mask_l ps) ≡ ps
 unfolding bits_in
@@ -63,7 +63,8 @@ places_back (suc k) ps h =
     rw (m, d, bits_in-word (take 64 ps), places_back k (drop 64 ps) within) (take_drop 64 ps)
 
 -- Up to 64 places are the lowest bits of their word.
-pub word_keeps : (ps : List Bool) (w : ℕ) → length ps ≤ 64 → slice_get (words_of ps) 0 ≡ Some w → bits_in (length ps) w ≡ ps
+pub word_keeps : (ps : List Bool) (w : ℕ) → length ps ≤ 64 → slice_get (switch_words ps) 0 ≡ Some w
+    → bits_in (length ps) w ≡ ps
 unfolding words_in
 word_keeps ps w few here = of_words (div_ceil (length ps) 64) here
   where
@@ -83,8 +84,10 @@ pub enough : (n : ℕ) → n ≤ 64 * div_ceil n 64
 enough n = omega arith
 
 -- words that are made from places keep them
-pub kept : (ws : List ℕ) (n : ℕ) (ps : List Bool) → ws ≡ words_of ps → n ≡ length ps → n < 2 ^ 64 → (places_in ws n ≡ ps) × AreWords ws n
-kept ws n ps e l small = (back, record { words = e ∙ ap words_of (sym back); places = ap length back ∙ sym l; small = small })
+pub kept : (ws : List ℕ) (n : ℕ) (ps : List Bool) → ws ≡ switch_words ps → n ≡ length ps → n < 2 ^ 64
+    → (places_in ws n ≡ ps) × AreWords ws n
+kept ws n ps e l small =
+    (back, record { words = e ∙ ap switch_words (sym back); places = ap length back ∙ sym l; small = small })
   where
     back : places_in ws n ≡ ps
     back = rw (e, l) (places_back (div_ceil (length ps) 64) ps (enough (length ps)))
@@ -174,9 +177,10 @@ none_on zero n = refl
 none_on (suc k) n = rw (no_bits 64 n, drop-replicate 64 n false, none_on k (n - 64)) refl
 
 -- what a value with words tells of them
-pub told : (ws : List ℕ) (n : ℕ) (ps : List Bool) → AreWords ws n → places_in ws n ≡ ps → (ws ≡ words_of ps) × (n ≡ length ps) × (length ws ≡ div_ceil n 64)
+pub told : (ws : List ℕ) (n : ℕ) (ps : List Bool) → AreWords ws n → places_in ws n ≡ ps
+    → (ws ≡ switch_words ps) × (n ≡ length ps) × (length ws ≡ div_ceil n 64)
 told ws n ps are e =
-    let made : ws ≡ words_of ps = are.words ∙ ap words_of e in
+    let made : ws ≡ switch_words ps = are.words ∙ ap switch_words e in
     let long : n ≡ length ps = sym are.places ∙ ap length e in
     (made, long, ap length made ∙ words_in-length (div_ceil (length ps) 64) ps ∙ ap (λ m. div_ceil m 64) (sym long))
 
@@ -230,7 +234,7 @@ place_set ws n ps i p w are e h small here others =
     let t = told ws n ps are e in
     let k = div_ceil (length ps) 64 in
     let same : (b : ℕ) → b < 64 → b ≢ i % 64 → bit_at w b ≡ bit_at (get_or (words_in k ps) (i / 64) 0) b = λ b l ne. others b l ne ∙ ap (λ (vs : List ℕ). bit_at (get_or vs (i / 64) 0) b) t.0 in
-    let made : slice_set ws (i / 64) w ≡ words_of (slice_set ps i p) =
+    let made : slice_set ws (i / 64) w ≡ switch_words (slice_set ps i p) =
     ap (λ (vs : List ℕ). slice_set vs (i / 64) w) t.0 ∙ set_word k ps i p w (omega arith) h small here same ∙ ap (λ (m : ℕ). words_in (div_ceil m 64) (slice_set ps i p)) (sym (set_length ps i p)) in
     kept (slice_set ws (i / 64) w) n (slice_set ps i p) made (t.1 ∙ sym (set_length ps i p)) are.small
 
@@ -347,7 +351,7 @@ same_words ws vs n m ps qs r are e are' e' long is =
     let places = slice_eq-Decides booleans_Decides ps qs (pointwise beq ps qs) refl in
     same_tests r (pointwise beq ps qs)
     (λ h. places.1 (sym e ∙ ap (λ (xs : List ℕ). places_in xs n) (words.0 h) ∙ ap (places_in vs) long ∙ e'))
-    (λ h. words.1 ((told ws n ps are e).0 ∙ ap words_of (places.0 h) ∙ sym (told vs m qs are' e').0))
+    (λ h. words.1 ((told ws n ps are e).0 ∙ ap switch_words (places.0 h) ∙ sym (told vs m qs are' e').0))
 
 pub other_words : (ws vs : List ℕ) (n m : ℕ) (ps qs : List Bool) → AreWords ws n → places_in ws n ≡ ps → AreWords vs m → places_in vs m ≡ qs → n ≢ m → false ≡ pointwise beq ps qs
 other_words ws vs n m ps qs are e are' e' apart =
@@ -433,8 +437,9 @@ first_kept ws vs us n m ps qs are e are' e' few none is =
     let t = told us n ps are e in
     let t' = told vs m qs are' e' in
     let long : length (take (length ps) qs) ≡ length ps = length-take-le (length ps) qs few in
-    let made : take (length us) vs ≡ words_of (take (length ps) qs) =
-    ap (λ (xs : List ℕ). take (length us) xs) t'.0 ∙ ap (λ (k : ℕ). take k (words_of qs)) (t.2 ∙ ap (λ (k : ℕ). div_ceil k 64) t.1)
+    let made : take (length us) vs ≡ switch_words (take (length ps) qs) =
+    ap (λ (xs : List ℕ). take (length us) xs) t'.0
+    ∙ ap (λ (k : ℕ). take k (switch_words qs)) (t.2 ∙ ap (λ (k : ℕ). div_ceil k 64) t.1)
     ∙ sym (first_words (div_ceil (length ps) 64) (length ps) (div_ceil (length qs) 64) qs (enough (length ps)) (omega arith) none)
     ∙ ap (λ (k : ℕ). words_in (div_ceil k 64) (take (length ps) qs)) (sym long)
     in

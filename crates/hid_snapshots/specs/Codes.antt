@@ -1,13 +1,13 @@
 -- The codes of arrays, one pair for each listed item (our choice; HID 1.11, 6.2.2.5 on arrays).
 use Rattle.std.specs.Prelude.{List, [], ◌∷◌, Bool, true, false, ◌&&◌, if◌then◌else◌, is_some}
-use Rattle.hid_descriptor.specs.declared.shape.Shape.{Shape}
-use Rattle.hid_descriptor.specs.declared.shape.Shape.TheVariants.{Padding, Variable, Array}
-use Rattle.hid_descriptor.specs.declared.report.Report.{Report}
+use Rattle.hid_report_descriptor.specs.declared.shape.Shape.{Shape}
+use Rattle.hid_report_descriptor.specs.declared.shape.Shape.TheVariants.{Padding, Variable, Array}
+use Rattle.hid_report_descriptor.specs.declared.report.Report.{Report}
 use Rattle.hid_layout.specs.Controls.{is_input}
 use Rattle.hid_layout.specs.declared.main_item.MainItem.{MainItem}
-use Rattle.hid_descriptor.specs.Usages.{Entry, usage_list}
+use Rattle.hid_report_descriptor.specs.Usages.{Entry, usage_list}
 use Rattle.hid_layout.specs.Layout.{Contents}
-use Rattle.hid_layout.specs.Sent.{empty_number}
+use Rattle.hid_layout.specs.Codes.{empty_number}
 
 -- the elements of an item of this shape name keys
 abbrev pub is_array : Shape → Bool

@@ -5,8 +5,8 @@ use Rattle.hid_layout.specs.declared.control.Controls.{Controls}
 use Rattle.hid_layout.specs.declared.control.Controls.TheVariants as head
 use Rattle.hid_layout.specs.declared.control.ControlKind.{ControlKind}
 use Rattle.hid_layout.specs.declared.control.ControlKind.TheVariants.{Switch, Value, NullValue, Relative}
-use Rattle.hid_layout.specs.Controls.{Form, Elements, Keys, Item, Key, head_of}
-pub use Rattle.hid_layout.specs.Sent.{is_in}
+use Rattle.hid_layout.specs.Controls.{Form, Elements, Keys, Item, Key, controls_of_form}
+pub use Rattle.hid_layout.specs.Codes.{is_in}
 pub use Rattle.hid_layout.specs.ControlKinds.{has_null}
 use Rattle.hid_snapshots.specs.declared.control_state.ControlState.{ControlState}
 use Rattle.hid_snapshots.specs.declared.control_state.ControlState.TheVariants.{Absent, Switches, Values, Motions, RollOver}
@@ -40,7 +40,7 @@ blank_state (head.Keys elements rolls_over count) = Switches (replicate count fa
 
 -- The control states of a layout of which nothing is pressed and nothing has moved. Example: a blank hat switch is null
 abbrev pub blank : List Item → List ControlState
-blank items = map (λ item. blank_state (head_of item.form)) items
+blank items = map (λ item. blank_state (controls_of_form item.form)) items
 
 -- a control state has the room that the controls of its item need: one place for each element, or for each place of the
 -- usage list
@@ -103,22 +103,22 @@ InView (Keys elements rolls_over keys) (RollOver ps) = ⊥
 InView form state = Unit {0}
 
 -- Control states that suit items: one for each item, with room for its controls, and with what may stand in it.
-pub record Suits (stands : Form → ControlState → Type 0) (items : List Item)
+pub record FitControlStates (stands : Form → ControlState → Type 0) (items : List Item)
     (states : List ControlState) : Type 0 where
   pub one_each : length states ≡ length items
   pub room : (i : ℕ) (item : Item) (state : ControlState) → slice_get items i ≡ Some item
-      → slice_get states i ≡ Some state → HasRoom (head_of item.form) state
+      → slice_get states i ≡ Some state → HasRoom (controls_of_form item.form) state
   pub suits : (i : ℕ) (item : Item) (state : ControlState) → slice_get items i ≡ Some item
       → slice_get states i ≡ Some state → stands item.form state
 
 -- the control states of a snapshot suit these items
 abbrev pub FitsSnapshot : List Item → List ControlState → Type 0
-FitsSnapshot items states = Suits InSnapshot items states
+FitsSnapshot items states = FitControlStates InSnapshot items states
 
 -- the parts that reports show suit these items
 abbrev pub FitsShown : List Item → List ControlState → Type 0
-FitsShown items states = Suits InPart items states
+FitsShown items states = FitControlStates InPart items states
 
 -- the control states of a view suit these items
 abbrev pub FitsView : List Item → List ControlState → Type 0
-FitsView items states = Suits InView items states
+FitsView items states = FitControlStates InView items states

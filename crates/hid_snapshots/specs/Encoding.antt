@@ -2,13 +2,13 @@
 use Rattle.std.specs.Prelude.{◌≡◌, ◌==◌, ◌&&◌, not, Bool, ℕ, ◌+◌, ◌-◌, ◌*◌, ◌<◌, ◌≤◌, false, if◌then◌else◌, List, [], ◌∷◌, length, replicate, slice_get, Some, None, ℤ, All}
 use Rattle.hid_fields.specs.Field.{bit_of, IsOutside}
 use Rattle.hid_fields.specs.Value.{is_negative, FitsField}
-use Rattle.hid_descriptor.specs.declared.limits.TheConstants.{MAX_KEYS}
+use Rattle.hid_report_descriptor.specs.declared.limits.TheConstants.{MAX_KEYS}
 use Rattle.hid_layout.specs.declared.main_item.MainItem.{MainItem}
-use Rattle.hid_descriptor.specs.Fields.{is_padding}
+use Rattle.hid_report_descriptor.specs.Fields.{is_padding}
 use Rattle.hid_layout.specs.Layout.{Contents}
 use Rattle.hid_layout.specs.Reports.{first_bit, report_bytes, report_id}
-use Rattle.hid_descriptor.specs.declared.shape.Shape.{Shape}
-use Rattle.hid_descriptor.specs.Usages.{Entry, usage_list}
+use Rattle.hid_report_descriptor.specs.declared.shape.Shape.{Shape}
+use Rattle.hid_report_descriptor.specs.Usages.{Entry, usage_list}
 use Rattle.hid_layout.specs.Controls.{form_of}
 use Rattle.hid_snapshots.specs.declared.control_state.ControlState.{ControlState}
 use Rattle.hid_snapshots.specs.declared.control_state.ControlState.TheVariants.{Absent, Switches, Values, Motions, RollOver}
@@ -16,8 +16,8 @@ use Rattle.hid_snapshots.specs.Sending.{element_numbers}
 use Rattle.hid_snapshots.specs.Numbers.{numbers_in}
 
 -- the first bit of an item's elements, in the whole report
-abbrev pub place : Contents → MainItem → ℕ
-place layout item = first_bit layout + item.offset
+abbrev pub field_place : Contents → MainItem → ℕ
+field_place layout item = first_bit layout + item.offset
 
 -- an item of the report that has data elements
 pub record IsData (layout : Contents) (r i : ℕ) (item : MainItem) : Type 0 where
@@ -31,14 +31,15 @@ is_data_in r m = (m.report == r) && not (is_padding m.shape)
 
 -- the numbers of an item's elements in the bytes of its report
 abbrev pub item_numbers : Contents → List ℕ → MainItem → List ℤ
-item_numbers layout bytes item = numbers_in bytes (place layout item) item.size (is_negative item.min) item.count
+item_numbers layout bytes item =
+    numbers_in bytes (field_place layout item) item.size (is_negative item.min) item.count
 
 -- In these bytes the elements of the report's first items have these numbers, and every other bit is as before.
 pub record Shows (layout : Contents) (r : ℕ) (numbers : ℕ → List ℤ) (count : ℕ) (before bytes : List ℕ) : Type 0 where
   pub elements : (i : ℕ) (item : MainItem) → i < count → IsData layout r i item
-      → numbers_in bytes (place layout item) item.size (is_negative item.min) item.count ≡ numbers i
+      → numbers_in bytes (field_place layout item) item.size (is_negative item.min) item.count ≡ numbers i
   pub others : (n : ℕ) → ((i : ℕ) (item : MainItem) → i < count → IsData layout r i item
-      → IsOutside (place layout item) (item.size * item.count) n)
+      → IsOutside (field_place layout item) (item.size * item.count) n)
       → bit_of bytes n ≡ bit_of before n
 
 -- a report of zeros, after its ID where there are IDs

@@ -4,19 +4,19 @@ use Rattle.std.specs.Prelude.{◌≡◌, ℕ, ◌+◌, ◌-◌, min, length, Boo
 use Rattle.std.specs.List.{zip}
 use Rattle.std.specs.Ordering.{int_eq}
 use Rattle.hid_layout.specs.declared.control.ControlId.{ControlId}
-use Rattle.hid_descriptor.specs.declared.usage.Usage.{Usage}
+use Rattle.hid_report_descriptor.specs.declared.usage.Usage.{Usage}
 use Rattle.hid_layout.specs.Controls.{Form, NoControls, Elements, Keys, Key, form_at, items_of}
 use Rattle.hid_layout.specs.Layout.{Contents}
-use Rattle.hid_descriptor.specs.declared.shape.Shape.{Shape}
-use Rattle.hid_descriptor.specs.declared.shape.Shape.TheVariants.{Padding, Variable, Array}
+use Rattle.hid_report_descriptor.specs.declared.shape.Shape.{Shape}
+use Rattle.hid_report_descriptor.specs.declared.shape.Shape.TheVariants.{Padding, Variable, Array}
 use Rattle.hid_snapshots.specs.declared.control_state.ControlState.{ControlState}
 use Rattle.hid_snapshots.specs.declared.control_state.ControlState.TheVariants.{Absent, Switches, Values, Motions, RollOver}
 use Rattle.hid_snapshots.specs.declared.event.Event.{Event}
 use Rattle.hid_snapshots.specs.declared.event.Event.TheVariants as event
 
 -- the control at an index of the item at a place
-abbrev pub at : ℕ → ℕ → ControlId
-at item index = record { item = item; index = index }
+abbrev pub control_at : ℕ → ℕ → ControlId
+control_at item index = record { item = item; index = index }
 
 -- the event of a switch: it goes up or down; none where it stays
 abbrev pub switch_event : ControlId → Usage → Bool → Bool → List Event
@@ -54,23 +54,23 @@ element_list_events f j (u ∷ us) (c ∷ cs) = f j u c ++ element_list_events f
 
 -- the events of an item's switches, by rising index
 abbrev pub switch_events : ℕ → List Usage → List Bool → List Bool → List Event
-switch_events i us bs xs = element_list_events (λ j u p. switch_event (at i j) u p.0 p.1) 0 us (zip bs xs)
+switch_events i us bs xs = element_list_events (λ j u p. switch_event (control_at i j) u p.0 p.1) 0 us (zip bs xs)
 
 -- the events of an item's values, by rising index
 abbrev pub value_events : ℕ → List Usage → List (Option ℤ) → List (Option ℤ) → List Event
-value_events i us bs xs = element_list_events (λ j u p. value_event (at i j) u p.0 p.1) 0 us (zip bs xs)
+value_events i us bs xs = element_list_events (λ j u p. value_event (control_at i j) u p.0 p.1) 0 us (zip bs xs)
 
 -- the events of an item's motions, by rising index
 abbrev pub motion_events : ℕ → List Usage → List ℤ → List Event
-motion_events i us ms = element_list_events (λ j u m. motion_event (at i j) u m) 0 us ms
+motion_events i us ms = element_list_events (λ j u m. motion_event (control_at i j) u m) 0 us ms
 
 -- which keys of an array go up, by rising place
 abbrev pub ups : ℕ → List Usage → List Bool → List Bool → List Event
-ups i us bs xs = element_list_events (λ j u p. up_event (at i j) u p.0 p.1) 0 us (zip bs xs)
+ups i us bs xs = element_list_events (λ j u p. up_event (control_at i j) u p.0 p.1) 0 us (zip bs xs)
 
 -- which keys of an array go down, by rising place
 abbrev pub downs : ℕ → List Usage → List Bool → List Bool → List Event
-downs i us bs xs = element_list_events (λ j u p. down_event (at i j) u p.0 p.1) 0 us (zip bs xs)
+downs i us bs xs = element_list_events (λ j u p. down_event (control_at i j) u p.0 p.1) 0 us (zip bs xs)
 
 -- the usages of an array's places
 abbrev pub key_usages : List Key → List Usage

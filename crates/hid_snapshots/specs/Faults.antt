@@ -1,7 +1,7 @@
 -- What refusals are printed as (our choice).
 use Rattle.std.specs.Prelude.{ℕ, List, codes}
-use Rattle.hid_snapshots.specs.declared.change.ChangeFault.{ChangeFault}
-use Rattle.hid_snapshots.specs.declared.change.ChangeFault.TheVariants.{NoSuchControl, WrongKind, OutOfRange, NoNull, NoDirection, MotionFull, ArrayFull}
+use Rattle.hid_snapshots.specs.declared.fault.ChangeFault.{ChangeFault}
+use Rattle.hid_snapshots.specs.declared.fault.ChangeFault.TheVariants.{NoSuchControl, WrongKind, OutOfRange, NoNull, NoDirection, MotionFull, ArrayFull}
 use Rattle.hid_snapshots.specs.declared.fault.ReportFault.{ReportFault}
 use Rattle.hid_snapshots.specs.declared.fault.ReportFault.TheVariants.{Short, UnknownReport}
 

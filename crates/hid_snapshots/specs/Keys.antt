@@ -7,7 +7,7 @@ use Rattle.hid_layout.specs.declared.control.Controls.{Controls}
 use Rattle.hid_layout.specs.declared.control.Controls.TheVariants as head
 use Rattle.hid_snapshots.specs.declared.control_state.ControlState.{ControlState}
 use Rattle.hid_snapshots.specs.declared.control_state.ControlState.TheVariants.{Absent, Switches, Values, Motions, RollOver}
-use Rattle.hid_snapshots.specs.Words.{words_of, is_bit}
+use Rattle.hid_snapshots.specs.Words.{switch_words, is_bit}
 use Rattle.hid_snapshots.specs.Snapshots.{state_at}
 
 -- the places of an array's usage list
@@ -40,7 +40,7 @@ pressed_places (RollOver ps) = []
 
 -- the words of what is pressed at a listed item
 abbrev pub key_words : List ControlState → ℕ → List ℕ
-key_words states i = words_of (pressed_places (state_at states i))
+key_words states i = switch_words (pressed_places (state_at states i))
 
 -- Bit i mod 64 of word i div 64 is 1 exactly where key i is pressed, and there are as many words as the places need.
 pub record AreKeyWords (places : ℕ) (pressed : ℕ → Bool) (words : List ℕ) : Type 0 where

@@ -1,4 +1,4 @@
-pub mod Full
+pub mod ExactCapacity
 pub mod Faults
 pub mod Words
 pub mod ControlStates
@@ -12,6 +12,6 @@ pub mod Events
 pub mod Views
 pub mod Numbers
 pub mod Sending
-pub mod Sources
+pub mod SentNumbers
 pub mod Encoding
-pub mod Encoded
+pub mod PartBytes

@@ -11,7 +11,7 @@ use Rattle.hid_layout.specs.declared.control.Controls.{Controls}
 use Rattle.hid_layout.specs.declared.control.Controls.TheVariants as head
 use Rattle.hid_layout.specs.declared.control.ControlKind.TheVariants.{Relative}
 use Rattle.hid_layout.specs.Layout.{Contents}
-use Rattle.hid_layout.specs.Controls.{Item, head_of, is_input, no_item}
+use Rattle.hid_layout.specs.Controls.{Item, controls_of_form, is_input, no_item}
 use Rattle.hid_snapshots.specs.declared.control_state.ControlState.{ControlState}
 use Rattle.hid_snapshots.specs.declared.control_state.ControlState.TheVariants.{Absent, Switches, Values, Motions, RollOver}
 use Rattle.hid_layout.specs.declared.control.ControlId.{ControlId}
@@ -49,9 +49,10 @@ shown_state (head.Keys elements rolls_over count) (Switches ps) =
     if nat_lt elements (switch_count ps) then RollOver ps else Switches ps
 shown_state controls state = state
 
--- The parts of all reports, with the part of report r set to what it shows of the snapshot.
+-- The part of an item in report r, as it shows the state of the controls; another item's part stays.
 abbrev pub shown_part_of : ℕ → Item → ControlState → ControlState → ControlState
-shown_part_of r item state part = if is_of r item then shown_state (head_of item.form) state else part
+shown_part_of r item state part =
+    if is_of r item then shown_state (controls_of_form item.form) state else part
 
 -- what a snapshot shows in the part of report r, and the parts of the others as they were: motions are clamped to what
 -- elements carry, and an array with more keys than elements is rolled over. Example: 200 to the right shows 127
@@ -66,21 +67,22 @@ without_motion part = part
 -- The still part of a control state: what its report shows of it, with every motion 0.
 abbrev pub still_of : ℕ → Item → ControlState → ControlState → ControlState
 still_of r item state part =
-    if is_of r item then without_motion (shown_state (head_of item.form) state) else part
+    if is_of r item then without_motion (shown_state (controls_of_form item.form) state) else part
 
 -- the still part of report r of a snapshot, with every motion 0, and the parts of the others as they were. Example:
 -- button 1 and 200 to the right is 01 00 00
 abbrev pub still_parts : List Item → ℕ → List ControlState → List ControlState → List ControlState
 still_parts items r snapshot parts = by_item (still_of r) items snapshot parts
 
--- the part of an item as it is shown, or the still one
+-- the part of an item: the still one if `true`, else as it is shown
 abbrev pub part_shown : Bool → ℕ → Item → ControlState → ControlState → ControlState
 part_shown true = still_of
 part_shown false = shown_part_of
 
 -- the parts of a blank snapshot
 abbrev pub blank_parts : List Item → List ControlState
-blank_parts items = map (λ item. shown_state (head_of item.form) (blank_state (head_of item.form))) items
+blank_parts items =
+    map (λ item. shown_state (controls_of_form item.form) (blank_state (controls_of_form item.form))) items
 
 -- what is left of each motion of a list, less that of another list
 abbrev pub differences : List ℤ → List ℤ → List ℤ
@@ -91,7 +93,7 @@ abbrev pub minus_motion : ControlState → ControlState → ControlState
 minus_motion (Motions ms) (Motions ns) = Motions (differences ms ns)
 minus_motion state part = state
 
--- The snapshot without the motion that the part of report r carries.
+-- The state of an item's controls without the motion that its part carries, if the item is in report r.
 abbrev pub without_motion_of : ℕ → Item → ControlState → ControlState → ControlState
 without_motion_of r item state part = if is_of r item then minus_motion state part else state
 
@@ -128,7 +130,8 @@ is_shown state controls part = is_same_still (shown_state controls state) part
 
 -- The controls of report r call for it: its still part isn't the one that was fixed last, or something has moved.
 abbrev pub calls_for : ℕ → Item → ControlState → ControlState → Bool
-calls_for r item state part = is_of r item && (has_motion state || not (is_shown state (head_of item.form) part))
+calls_for r item state part =
+    is_of r item && (has_motion state || not (is_shown state (controls_of_form item.form) part))
 
 -- Some control calls for report r: something has moved, or its still part isn't the one fixed last. Example: a key
 -- pressed and released calls for nothing
@@ -156,7 +159,7 @@ has_zero controls = true
 
 -- every relative control can send 0
 abbrev pub has_zeros : List Item → Bool
-has_zeros items = list_all (λ item. has_zero (head_of item.form)) items
+has_zeros items = list_all (λ item. has_zero (controls_of_form item.form)) items
 
 -- motions of 32 bits
 abbrev pub AreMotions : ControlState → Type 0

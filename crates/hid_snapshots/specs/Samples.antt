@@ -2,7 +2,7 @@
 -- button, and long reports.
 use Rattle.std.specs.Prelude.{ℕ, true, nat_lt, List, [], ◌∷◌, map, replicate, pos, negsuc}
 use Rattle.std.specs.List.{range_with_len}
-use Rattle.hid_descriptor.specs.declared.usage.Usage.{Usage}
+use Rattle.hid_report_descriptor.specs.declared.usage.Usage.{Usage}
 use Rattle.hid_layout.specs.declared.control.ControlKind.TheVariants.{Switch, Value, NullValue, Relative}
 use Rattle.hid_layout.specs.Controls.{Item, NoControls, Elements, Keys, input_item, no_item}
 

@@ -3,10 +3,10 @@
 use Rattle.std.specs.Prelude.{◌≡◌, ◌<◌, ◌≤◌, ℕ, ◌+◌, ◌-◌, Bool, true, false, List, [], ◌∷◌, ◌++◌, map, length, replicate, unwrap_or, Option, ℤ, pos, ◌+ℤ◌}
 use Rattle.std.specs.Simd.Lanes.{mask_l}
 use Rattle.hid_layout.specs.declared.main_item.MainItem.{MainItem}
-use Rattle.hid_descriptor.specs.declared.usage.Usage.{Usage}
+use Rattle.hid_report_descriptor.specs.declared.usage.Usage.{Usage}
 use Rattle.hid_layout.specs.Controls.{Form, Elements, Keys}
 pub use Rattle.hid_snapshots.specs.ControlStates.{switch_count}
-pub use Rattle.hid_layout.specs.Sent.{number_of, first_passing, least_pattern, null_code, names_nothing, empty_code, null_number, empty_number, rollover_number}
+pub use Rattle.hid_layout.specs.Codes.{number_of_pattern, first_passing, least_pattern, null_code, names_nothing, empty_code, null_number, empty_number, rollover_number}
 use Rattle.hid_snapshots.specs.declared.control_state.ControlState.{ControlState}
 use Rattle.hid_snapshots.specs.declared.control_state.ControlState.TheVariants.{Switches, Values, Motions, RollOver}
 

@@ -8,13 +8,13 @@ use Rattle.hid_layout.specs.declared.control.Controls.{Controls}
 use Rattle.hid_layout.specs.declared.control.Controls.TheVariants as head
 use Rattle.hid_layout.specs.declared.control.ControlKind.{ControlKind}
 use Rattle.hid_layout.specs.declared.control.ControlKind.TheVariants.{Switch, Value, NullValue, Relative}
-use Rattle.hid_layout.specs.Controls.{Item, control_of, form_at, head_of}
+use Rattle.hid_layout.specs.Controls.{Item, control_of, controls_of_form, form_at}
 use Rattle.hid_snapshots.specs.declared.control_state.ControlState.{ControlState}
 use Rattle.hid_snapshots.specs.declared.control_state.ControlState.TheVariants.{Absent, Switches, Values, Motions, RollOver}
 use Rattle.hid_snapshots.specs.declared.change.Change.{Change}
 use Rattle.hid_snapshots.specs.declared.change.Change.TheVariants.{Press, Release, Set, Null, Move}
-use Rattle.hid_snapshots.specs.declared.change.ChangeFault.{ChangeFault}
-use Rattle.hid_snapshots.specs.declared.change.ChangeFault.TheVariants.{NoSuchControl, WrongKind, OutOfRange, NoNull, NoDirection, MotionFull, ArrayFull}
+use Rattle.hid_snapshots.specs.declared.fault.ChangeFault.{ChangeFault}
+use Rattle.hid_snapshots.specs.declared.fault.ChangeFault.TheVariants.{NoSuchControl, WrongKind, OutOfRange, NoNull, NoDirection, MotionFull, ArrayFull}
 use Rattle.hid_snapshots.specs.ControlStates.{is_in, is_i32, switch_count}
 
 -- a value, or why a change is refused
@@ -113,7 +113,8 @@ abbrev pub change_at : List Item → List ControlState → Change → Option Con
 change_at items states change None = Err NoSuchControl
 change_at items states change (Some control) =
     let i = (target change).item in
-    with_state states i (changed_state control.kind (head_of (form_at items i)) (state_at states i) change)
+    with_state states i
+    (changed_state control.kind (controls_of_form (form_at items i)) (state_at states i) change)
 
 -- The snapshot after a change, or the first of U1 to U7, in this order, for which the change is refused. Example: 1 more
 -- than a motion of 7FFFFFFF hex is U6

@@ -1,7 +1,7 @@
 -- A host's view of the controls, and the events between two views (our choice): item by item in layout order; of an
 -- array each release, then each press.
 use Rattle.std.specs.Prelude.{ℕ, ◌+◌, if◌then◌else◌, List, [], ◌∷◌, ◌++◌, map, Option, None, ℤ, unwrap_or, slice_get}
-use Rattle.hid_descriptor.specs.declared.usage.Usage.{Usage}
+use Rattle.hid_report_descriptor.specs.declared.usage.Usage.{Usage}
 use Rattle.hid_layout.specs.Controls.{Form, NoControls, Elements, Keys, Item}
 use Rattle.hid_snapshots.specs.declared.control_state.ControlState.{ControlState}
 use Rattle.hid_snapshots.specs.declared.control_state.ControlState.TheVariants.{Absent, Switches, Values, Motions, RollOver}

@@ -5,18 +5,18 @@ use Rattle.std.specs.Bool.{beq}
 use Rattle.std.specs.Simd.Lanes.{mask_l}
 
 -- the word whose bit j is 1 exactly where place j is pressed
-abbrev pub word : List Bool → ℕ
-word ps = mask_l ps
+abbrev pub switch_word : List Bool → ℕ
+switch_word ps = mask_l ps
 
 -- this many words, of 64 places each
 unfoldable pub words_in : ℕ → List Bool → List ℕ
 words_in zero ps = []
-words_in (suc n) ps = word (take 64 ps) ∷ words_in n (drop 64 ps)
+words_in (suc n) ps = switch_word (take 64 ps) ∷ words_in n (drop 64 ps)
 
 -- as many words as the places need, in which word k has bit b set exactly if place 64k + b is pressed. Example: 07:04 to
 -- 07:0A pressed is 7F0 hex, then 0
-abbrev pub words_of : List Bool → List ℕ
-words_of ps = words_in (div_ceil (length ps) 64) ps
+abbrev pub switch_words : List Bool → List ℕ
+switch_words ps = words_in (div_ceil (length ps) 64) ps
 
 -- the lowest bits of a word, as pressed places
 unfoldable pub bits_in : ℕ → ℕ → List Bool
@@ -30,7 +30,7 @@ places_in (w ∷ ws) n = bits_in (min n 64) w ++ places_in ws (n - 64)
 
 -- Words keep n places, and nothing beyond them.
 pub record AreWords (ws : List ℕ) (n : ℕ) : Type 0 where
-  pub words : ws ≡ words_of (places_in ws n)
+  pub words : ws ≡ switch_words (places_in ws n)
   pub places : length (places_in ws n) ≡ n
   pub small : n < 2 ^ 64
 

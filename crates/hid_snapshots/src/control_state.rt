@@ -6,8 +6,8 @@ ghost use Rattle.std.specs.Ordering.{int_eq};
 ghost use Rattle.hid_snapshots.specs.ControlStates.{is_i32, are_motions};
 ghost use Rattle.hid_snapshots.specs.Parts.{clamp, differences, same_values};
 
+use crate::exact_capacity::full_of;
 use crate::flags::Flags;
-use crate::full::full_of;
 use std::alloc::{AllocError, Global};
 use std::marker::Model;
 
@@ -19,7 +19,7 @@ pub struct Values {
 
 impl Model for Values {
     ghost use Rattle.std.specs.Prelude.{List, Option, ℤ};
-    ghost use Rattle.hid_snapshots.specs.Full.{IsFull};
+    ghost use Rattle.hid_snapshots.specs.ExactCapacity.{IsFull};
 
     ghost Value = { List (Option ℤ) };
 
@@ -95,7 +95,7 @@ pub struct Motions {
 
 impl Model for Motions {
     ghost use Rattle.std.specs.Prelude.{List, ℤ};
-    ghost use Rattle.hid_snapshots.specs.Full.{IsFull};
+    ghost use Rattle.hid_snapshots.specs.ExactCapacity.{IsFull};
 
     ghost Value = { List ℤ };
 
@@ -105,7 +105,7 @@ impl Model for Motions {
 }
 
 impl Motions {
-    /// So many, of which none has moved.
+    /// This many motions, all 0.
     ///
     /// # Errors
     /// Out of memory.
@@ -181,6 +181,7 @@ impl Motions {
     }
 }
 
+/// The amount at an index.
 fn amount_at(amounts: &[i64], index: usize) -> i64
     requires { index < length amounts.now }
     ensures { slice_get amounts.now index ≡ Some result }
@@ -188,12 +189,14 @@ fn amount_at(amounts: &[i64], index: usize) -> i64
     amounts[index]
 }
 
+/// The nearest number to the amount within these bounds.
 fn clamp_amount(amount: &i64, least: &i64, greatest: &i64) -> i64
     ensures { result ≡ clamp least.now greatest.now amount.now }
 {
     (*amount).min(*greatest).max(*least)
 }
 
+/// Brings each amount to the nearest number within these bounds.
 fn clamp_all(amounts: &mut [i64], least: &i64, greatest: &i64)
     ensures { amounts.new ≡ map (clamp least.now greatest.now) amounts.old }
 {
@@ -204,6 +207,7 @@ fn clamp_all(amounts: &mut [i64], least: &i64, greatest: &i64)
     }
 }
 
+/// Subtracts from each amount the other one at its index.
 fn subtract_all(amounts: &mut [i64], others: &[i64])
     requires len { length amounts.old ≡ length others.now }
     requires amounts { are_motions (negsuc 0x7FFF_FFFF) (pos 0x7FFF_FFFF) amounts.old }
@@ -218,6 +222,7 @@ fn subtract_all(amounts: &mut [i64], others: &[i64])
     }
 }
 
+/// The amount less the other one.
 fn difference(amount: &i64, other: &i64) -> i64
     requires amount { is_i32 amount.now ≡ true }
     requires other { is_i32 other.now ≡ true }

@@ -4,24 +4,25 @@ ghost use Rattle.std.specs.Prelude.{◌≡◌, ◌<◌, ◌≤◌, ℕ, List, �
 ghost use Rattle.arrayvec.specs.ArrayVec.{array_vec_len};
 ghost use Rattle.hid_snapshots.specs.Numbers.{KeepsOutside};
 ghost use Rattle.hid_layout.specs.Reports.{first_bit, HasElements, IsLayout, report_bytes, report_id};
-ghost use Rattle.hid_descriptor.specs.Usages.{usage_list};
+ghost use Rattle.hid_report_descriptor.specs.Usages.{usage_list};
 ghost use Rattle.hid_layout.specs.Controls.{items_of};
 ghost use Rattle.hid_snapshots.specs.ControlStates.{FitsShown};
 ghost use Rattle.hid_snapshots.specs.Parts.{IsInput, has_zeros};
-ghost use Rattle.hid_layout.specs.Sent.{AreCodes};
+ghost use Rattle.hid_layout.specs.Codes.{AreCodes};
 ghost use Rattle.hid_snapshots.specs.Codes.{has_empty_codes};
-ghost use Rattle.hid_snapshots.specs.Encoding.{is_data_in, place, bare_report, numbers_at, item_numbers, numbers_of_shape, part_numbers, CanSend, CanSendAll, HasFewPlaces, AreBytes, IsEncoding, IsOnlyEncoding, Shows};
-ghost use Rattle.hid_snapshots.specs.Encoded.{part_bytes};
+ghost use Rattle.hid_snapshots.specs.Encoding.{is_data_in, field_place, bare_report, numbers_at, item_numbers, numbers_of_shape, part_numbers, CanSend, CanSendAll, HasFewPlaces, AreBytes, IsEncoding, IsOnlyEncoding, Shows};
+ghost use Rattle.hid_snapshots.specs.PartBytes.{part_bytes};
 
 use crate::control_state::ControlState;
 use crate::items::{item_at, plan_of};
 use crate::numbers::put_all;
-use crate::send::Sending;
+use crate::sent_numbers::Sending;
 use crate::shown::Shown;
 use arrayvec::ArrayVec;
 use hid_fields::FieldCodec;
 use hid_layout::{Codes, Layout, MainItem, Shape, Usage, null_number};
 
+/// Appends this many bytes of 0.
 fn push_zeros(bytes: &mut ArrayVec<u8, 256>, count: usize)
     requires { array_vec_len bytes.old + count ≤ 256 }
     ensures items { bytes.new.items ≡ bytes.old.items ++ replicate count 0 }
@@ -32,6 +33,7 @@ fn push_zeros(bytes: &mut ArrayVec<u8, 256>, count: usize)
     }
 }
 
+/// The Report ID of a report.
 fn id_of(layout: &Layout, report: usize) -> u8
     requires { report < length layout.now.reports }
     ensures { result ≡ report_id layout.now report }
@@ -91,11 +93,11 @@ fn write_item<C: FieldCodec>(
     requires places { HasFewPlaces state.now }
     requires can { CanSend item.now (numbers_at layout.now i state.now) }
     requires short { length bytes.old ≤ 4096 }
-    requires room { place layout.now item.now + item.now.size * item.now.count
+    requires room { field_place layout.now item.now + item.now.size * item.now.count
         ≤ 8 * length bytes.old }
     ensures written { item_numbers layout.now bytes.new item.now
         ≡ numbers_at layout.now i state.now }
-    ensures others { KeepsOutside (place layout.now item.now) (item.now.size * item.now.count)
+    ensures others { KeepsOutside (field_place layout.now item.now) (item.now.size * item.now.count)
         bytes.old bytes.new }
 {
     let numbers = send_item(layout, i, item, state);
@@ -108,6 +110,7 @@ fn write_item<C: FieldCodec>(
     );
 }
 
+/// The state of the item at a place in the parts.
 fn state_at(shown: &Shown, i: usize) -> &ControlState
     requires { i < length shown.now }
     ensures { slice_get shown.now i ≡ Some result.now }
@@ -206,6 +209,7 @@ fn send_item<'a>(layout: &Layout, i: usize, item: &MainItem, state: &'a ControlS
     }
 }
 
+/// The numbers of a variable item's elements, by its state.
 fn send_elements<'a>(
     item: &MainItem,
     entries: &[(Usage, Usage)],
@@ -223,6 +227,7 @@ fn send_elements<'a>(
     }
 }
 
+/// The numbers of an array's elements, by its state.
 #[tactic(auto, using(crate::proofs::EncodingLemmas::keys_sent))]
 fn send_array<'a>(
     item: &MainItem,

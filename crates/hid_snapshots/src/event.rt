@@ -1,4 +1,4 @@
-//! What a view tells where it changes.
+//! The events of a view.
 use hid_layout::{ControlId, Usage};
 
 /// What became of one control, with its usage. Numbers are in the units of the control's item.

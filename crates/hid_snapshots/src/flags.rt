@@ -2,10 +2,10 @@
 
 ghost use Rattle.std.specs.Prelude.{◌≡◌, ◌≢◌, ◌+◌, ◌++◌, ◌<◌, ◌*◌, ◌/◌, ◌^◌, ◌==◌, ◌≤◌, ℕ, Bool, List, true, false, length, slice_get, slice_set, take, drop, replicate, Some, IfOk, IfSome, unwrap_or, if◌then◌else◌};
 ghost use Rattle.std.specs.Int.{bit_at};
-ghost use Rattle.hid_snapshots.specs.Full.{IsFull};
-ghost use Rattle.hid_snapshots.specs.Words.{bits_in, words_of, is_on, is_alone, is_unlike, is_bit, are_alone, FindsFirst};
+ghost use Rattle.hid_snapshots.specs.ExactCapacity.{IsFull};
+ghost use Rattle.hid_snapshots.specs.Words.{bits_in, switch_words, is_on, is_alone, is_unlike, is_bit, are_alone, FindsFirst};
 
-use crate::full::full_of;
+use crate::exact_capacity::full_of;
 use std::alloc::{AllocError, Global};
 use std::marker::Model;
 
@@ -152,7 +152,7 @@ impl Flags {
 
     /// The words: bit i mod 64 of word i div 64 is 1 exactly where place i is pressed.
     pub fn words(&self) -> &[u64]
-        ensures { result.now ≡ words_of self.now }
+        ensures { result.now ≡ switch_words self.now }
     {
         &self.words
     }
@@ -236,6 +236,7 @@ fn word_alone(words: &[u64], others: &[u64], k: usize) -> u64
     words[k] & !word_or_zero(others, k)
 }
 
+/// The word at an index; 0 past the last.
 fn word_or_zero(words: &[u64], k: usize) -> u64
     ensures { result ≡ unwrap_or (slice_get words.now k) 0 }
 {

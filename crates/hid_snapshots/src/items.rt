@@ -1,10 +1,10 @@
 //! The listed items of a layout.
 
 ghost use Rattle.std.specs.Prelude.{◌≡◌, ◌<◌, length, slice_get, Some, All};
-ghost use Rattle.hid_descriptor.specs.Kinds.{same_kind};
+ghost use Rattle.hid_report_descriptor.specs.Kinds.{same_kind};
 ghost use Rattle.hid_layout.specs.Controls.{items_of, is_input};
 ghost use Rattle.hid_layout.specs.Reports.{IsLayout};
-ghost use Rattle.hid_layout.specs.Index.{plan_of};
+ghost use Rattle.hid_layout.specs.ArrayCodes.{plan_of};
 ghost use Rattle.hid_snapshots.specs.Parts.{IsInput, item_at, is_of};
 
 use hid_layout::{Layout, MainItem, ReportKind};
@@ -53,6 +53,7 @@ pub fn plan_of(layout: &Layout, report: usize) -> &[usize]
     layout.plan(report)
 }
 
+/// Whether it is the kind of Input reports.
 fn is_input_kind(kind: ReportKind) -> bool
     ensures { result ≡ same_kind kind ReportKind.Input }
 {

@@ -3,7 +3,7 @@
 ghost use Rattle.std.specs.Prelude.{◌≡◌};
 ghost use Rattle.hid_layout.specs.Controls.{items_of};
 ghost use Rattle.hid_snapshots.specs.Keys.{has_keys_at, is_array_head, key_words, pressed_places};
-ghost use Rattle.hid_snapshots.specs.Words.{words_of};
+ghost use Rattle.hid_snapshots.specs.Words.{switch_words};
 
 use crate::control_state::ControlState;
 use crate::items::item_count;
@@ -22,6 +22,7 @@ pub fn has_keys(layout: &Layout, item: usize) -> bool
     }
 }
 
+/// Whether the controls are the keys of an array.
 fn is_array(controls: &Controls) -> bool
     ensures { result ≡ is_array_head controls.now }
 {
@@ -44,9 +45,10 @@ pub fn key_words(states: &[ControlState], item: usize) -> &[u64]
     }
 }
 
+/// The words of the flags of a state's switches; none for another state.
 #[tactic(auto, using(crate::proofs::KeyWordLemmas::words_found))]
 fn pressed_words(state: &ControlState) -> &[u64]
-    ensures { result.now ≡ words_of (pressed_places state.now) }
+    ensures { result.now ≡ switch_words (pressed_places state.now) }
 {
     match state {
         ControlState::Switches(flags) => flags.words(),

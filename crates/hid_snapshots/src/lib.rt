@@ -1,5 +1,5 @@
-//! The device's side of reports: snapshots of a device's controls, the parts of them that reports show, and the bytes of these
-//! (HID 1.11, 5.6, 5.8, 5.10, 6.2.2.5 and 8).
+//! What both ends keep of controls: their states, a device's snapshots, the parts of them that reports show and the bytes of
+//! these, and the definitions of views and events (HID 1.11, 5.6, 5.8, 5.10, 6.2.2.5 and 8).
 //! ```text
 //!   press, release, set,   --> Snapshot --shown--> Shown --encode_report--> 02 00 04 00 00 00 00 00
 //!   set_null, shift                <--take_motion--
@@ -26,37 +26,37 @@
 #![tactic(auto)]
 
 mod blank;
+mod blank_in_place;
 mod change;
-mod codes;
 mod control_state;
+mod empty_codes;
 mod encode;
 mod event;
+mod exact_capacity;
 mod fault;
 mod flags;
-mod full;
 mod items;
 mod keys;
 mod numbers;
 mod parts;
 mod pieces;
-mod reset;
-mod send;
+mod sent_numbers;
 mod shown;
 mod snapshot;
 
 pub use blank::{blank_states, first_value};
-pub use change::{Change, ChangeFault};
-pub use codes::has_empty_codes;
+pub use change::Change;
 pub use control_state::{ControlState, Motions, Values};
+pub use empty_codes::has_empty_codes;
 pub use encode::{bare_report, encode_report, first_bit, write_report};
 pub use event::Event;
-pub use fault::{MemoryFault, ReportFault};
+pub use exact_capacity::{full_from, full_of};
+pub use fault::{ChangeFault, MemoryFault, ReportFault};
 pub use flags::Flags;
-pub use full::{full_from, full_of};
 pub use items::{is_input, is_of, item_at, item_count, plan_of};
 pub use keys::{has_keys, key_words};
 pub use numbers::FieldRun;
 pub use parts::{has_zeros, state_at};
-pub use pieces::{piece_of, pieces_of};
+pub use pieces::{MAX_PIECE, piece_of, pieces_of};
 pub use shown::Shown;
 pub use snapshot::Snapshot;

@@ -4,7 +4,7 @@ ghost use Rattle.hid_fields.specs.Field.{pattern_of};
 ghost use Rattle.hid_fields.specs.Value.{FitsEitherSign, FitsField};
 ghost use Rattle.hid_snapshots.specs.Numbers.{IsRun, IsWordOf, byte_numbers, number_at, numbers_in, KeepsOutside};
 
-use crate::send::Sending;
+use crate::sent_numbers::Sending;
 use hid_fields::{FieldCodec, to_pattern, to_value};
 use std::marker::Model;
 
@@ -36,7 +36,7 @@ impl<'a> Model for FieldRun<'a> {
 }
 
 impl<'a> FieldRun<'a> {
-    /// So many fields of this width in bits, from this bit of the bytes on.
+    /// Fields of this width in bits, from this bit of the bytes on, as many as `count` says.
     pub fn new(
         bytes: &'a [u8],
         at: usize,
@@ -133,7 +133,7 @@ impl<'a> FieldRun<'a> {
     }
 }
 
-/// So many bytes from one on.
+/// The bytes from one on, as many as asked for.
 fn part_of(bytes: &[u8], first: usize, count: usize) -> &[u8]
     requires { first + count ≤ length bytes.now }
     ensures numbers { (signed : Bool) → numbers_in bytes.now (8 * first) 8 signed count

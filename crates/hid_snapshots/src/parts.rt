@@ -1,15 +1,15 @@
 //! What a report shows of what is kept, and when its controls call for it.
 
 ghost use Rattle.std.specs.Prelude.{◌≡◌, ◌<◌, IsTrue, true, length, slice_get, Some};
-ghost use Rattle.hid_layout.specs.Controls.{form_at, head_of, items_of};
+ghost use Rattle.hid_layout.specs.Controls.{controls_of_form, form_at, items_of};
 ghost use Rattle.hid_layout.specs.Reports.{IsLayout};
 ghost use Rattle.hid_snapshots.specs.ControlStates.{FitsSnapshot, FitsShown};
 ghost use Rattle.hid_snapshots.specs.Parts.{item_at, IsInput, is_of, shown_state, rolled_state, shown_parts, by_item, minus_motion, without_part_motion, has_motion, is_changed, has_zero, has_zeros, HasRoomOf, AreMotions, still_parts, without_motion, part_shown, without_motion_of, calls_for, is_shown};
 
+use crate::blank_in_place::reset_motions;
 use crate::control_state::ControlState;
 use crate::flags::Flags;
 use crate::items::{is_of, item_at as main_item_at, item_count, plan_of};
-use crate::reset::reset_motions;
 use hid_layout::{ControlKind, Controls, Layout, Shape};
 use std::mem;
 
@@ -28,6 +28,7 @@ fn copy_to_rolled(from: &Flags, to: &mut ControlState)
     };
 }
 
+/// Makes the part one of switches with these flags.
 fn copy_flags(from: &Flags, to: &mut ControlState)
     requires { HasRoomOf (ControlState.Switches from.now) to.old }
     ensures { to.new ≡ ControlState.Switches from.now }
@@ -43,6 +44,7 @@ fn copy_flags(from: &Flags, to: &mut ControlState)
     }
 }
 
+/// Copies a state of a snapshot to a part.
 fn copy_state(from: &ControlState, to: &mut ControlState)
     requires { HasRoomOf from.now to.old }
     ensures { to.new ≡ from.now }
@@ -115,6 +117,7 @@ fn take_motion(state: &mut ControlState, part: &ControlState)
     }
 }
 
+/// Whether any control of the state has moved.
 fn has_motion(state: &ControlState) -> bool
     ensures { result ≡ has_motion state.now }
 {
@@ -146,6 +149,7 @@ fn is_shown(state: &ControlState, controls: &Controls, part: &ControlState) -> b
     }
 }
 
+/// Whether the part still shows switches with these flags.
 fn is_shown_flags(flags: &Flags, controls: &Controls, part: &ControlState) -> bool
     ensures { result ≡ is_shown (ControlState.Switches flags.now) controls.now part.now }
 {
@@ -160,6 +164,7 @@ fn is_shown_flags(flags: &Flags, controls: &Controls, part: &ControlState) -> bo
     }
 }
 
+/// Whether the controls can report that nothing has moved.
 fn has_zero(controls: &Controls) -> bool
     ensures { result ≡ has_zero controls.now }
 {
@@ -195,7 +200,7 @@ fn stop(part: &mut ControlState)
 fn controls_for(layout: &Layout, i: usize, state: &ControlState) -> Controls
     requires { i < length layout.now.items }
     ensures { shown_state result state.now
-        ≡ shown_state (head_of (form_at (items_of layout.now) i)) state.now }
+        ≡ shown_state (controls_of_form (form_at (items_of layout.now) i)) state.now }
 {
     match state {
         ControlState::Motions(_) => layout.controls(i),

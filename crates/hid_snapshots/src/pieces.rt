@@ -6,8 +6,9 @@ ghost use Rattle.hid_snapshots.specs.Pieces.{piece_of, pieces_of};
 
 use hid_layout::Layout;
 
-/// In bytes, the longest piece: what a packet of an interrupt endpoint carries (our choice, of 1 to 64).
-pub(crate) const MAX_PIECE: usize = 64;
+/// In bytes, the longest piece, which each but the last of a report is: what a packet of an interrupt endpoint carries (USB
+/// 2.0, 5.7.3; our choice, of 1 to 64 at full speed).
+pub const MAX_PIECE: usize = 64;
 
 /// In how many pieces an Input report goes: each but the last has 64 bytes, and there is one at least.
 #[tactic(auto, using(crate::proofs::PieceLemmas::pieces_are))]

@@ -2,14 +2,14 @@
 
 ghost use Rattle.std.specs.Prelude.{◌≡◌, IfOk};
 ghost use Rattle.hid_layout.specs.Controls.{items_of};
-ghost use Rattle.hid_snapshots.specs.Full.{IsFull};
+ghost use Rattle.hid_snapshots.specs.ExactCapacity.{IsFull};
 ghost use Rattle.hid_snapshots.specs.ControlStates.{FitsShown};
 ghost use Rattle.hid_snapshots.specs.Parts.{blank_parts, motion_of};
 
 use crate::blank::blank_parts;
+use crate::blank_in_place::reset_parts;
 use crate::control_state::ControlState;
 use crate::fault::MemoryFault;
-use crate::reset::reset_parts;
 use hid_layout::{ControlId, Layout};
 use std::alloc::Global;
 use std::marker::Model;

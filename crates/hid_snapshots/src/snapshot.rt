@@ -2,16 +2,16 @@
 
 ghost use Rattle.std.specs.Prelude.{◌≡◌, true, length, IfOk};
 ghost use Rattle.hid_layout.specs.Controls.{items_of};
-ghost use Rattle.hid_snapshots.specs.Full.{IsFull};
+ghost use Rattle.hid_snapshots.specs.ExactCapacity.{IsFull};
 ghost use Rattle.hid_snapshots.specs.ControlStates.{is_i32, FitsSnapshot, FitsShown, blank};
 ghost use Rattle.hid_snapshots.specs.Parts.{IsInput, is_changed, shown_parts, still_parts, without_part_motion, has_zeros};
 ghost use Rattle.hid_snapshots.specs.Snapshots.{is_pressed, motion_in, with_pressed, with_value, with_motion, is_full, can_hold, has_direction, target, state_at, Changes, ChangesState, HasIndex};
 ghost use Rattle.hid_snapshots.specs.Keys.{keys_at, has_keys_at, key_words, AreKeyWords};
 
 use crate::blank::blank_states;
-use crate::change::{Change, ChangeFault};
+use crate::change::Change;
 use crate::control_state::ControlState;
-use crate::fault::MemoryFault;
+use crate::fault::{ChangeFault, MemoryFault};
 use crate::keys::key_words;
 use crate::parts::{is_changed, show_states, show_still, take_states};
 use crate::shown::Shown;
@@ -19,6 +19,7 @@ use hid_layout::{ControlId, ControlKind, Controls, Layout};
 use std::alloc::Global;
 use std::marker::Model;
 
+/// Whether the switch at an index is pressed; false for a state without switches.
 fn is_pressed(state: &ControlState, index: usize) -> bool
     requires { HasIndex state.now index }
     ensures { result ≡ is_pressed state.now index }
@@ -32,6 +33,7 @@ fn is_pressed(state: &ControlState, index: usize) -> bool
     }
 }
 
+/// Sets the switch at an index; a state without switches stays.
 fn set_pressed(state: &mut ControlState, index: usize, pressed: bool)
     requires { HasIndex state.old index }
     ensures { state.new ≡ with_pressed state.old index pressed }
@@ -45,6 +47,7 @@ fn set_pressed(state: &mut ControlState, index: usize, pressed: bool)
     }
 }
 
+/// Sets the value at an index; a state without values stays.
 fn set_value(state: &mut ControlState, index: usize, value: Option<i64>)
     requires { HasIndex state.old index }
     ensures { state.new ≡ with_value state.old index value }
@@ -58,6 +61,7 @@ fn set_value(state: &mut ControlState, index: usize, value: Option<i64>)
     }
 }
 
+/// The motion at an index; 0 for a state without motions.
 fn motion(state: &ControlState, index: usize) -> i64
     requires { HasIndex state.now index }
     ensures { result ≡ motion_in state.now index }
@@ -71,6 +75,7 @@ fn motion(state: &ControlState, index: usize) -> i64
     }
 }
 
+/// Sets the motion at an index; a state without motions stays.
 #[tactic(auto, using(crate::proofs::ListLemmas::kept))]
 fn set_motion(state: &mut ControlState, index: usize, amount: i64)
     requires { HasIndex state.old index }
@@ -110,6 +115,7 @@ fn is_full(controls: &Controls, state: &ControlState) -> bool
     }
 }
 
+/// Whether the value is in the range of the controls.
 fn can_hold(controls: &Controls, value: i64) -> bool
     ensures { result ≡ can_hold controls.now value }
 {
@@ -123,6 +129,7 @@ fn can_hold(controls: &Controls, value: i64) -> bool
     }
 }
 
+/// Whether the controls can report motion in the direction of this amount.
 fn has_direction(controls: &Controls, by: i64) -> bool
     ensures { result ≡ has_direction controls.now by }
 {
@@ -136,6 +143,7 @@ fn has_direction(controls: &Controls, by: i64) -> bool
     }
 }
 
+/// Presses a switch or a key, unless its array is full.
 fn press(
     state: &mut ControlState,
     controls: &Controls,
@@ -152,6 +160,7 @@ fn press(
     Ok(())
 }
 
+/// Sets a value, unless it is out of range.
 fn set(
     state: &mut ControlState,
     controls: &Controls,
@@ -171,6 +180,7 @@ fn set(
     Ok(())
 }
 
+/// Adds to a motion, unless the controls can't report its direction or the sum is too large.
 fn shift(
     state: &mut ControlState,
     controls: &Controls,
@@ -194,6 +204,7 @@ fn shift(
     }
 }
 
+/// Whether the number fits 32 bits in two's complement.
 fn is_i32(number: i64) -> bool
     ensures { result ≡ is_i32 number }
 {
@@ -300,7 +311,7 @@ impl Snapshot {
     /// # Errors
     /// The first of these that stands, which leaves the snapshot as it was: [`ChangeFault::NoSuchControl`] (U1) where the
     /// layout has no such control, [`ChangeFault::WrongKind`] (U2) where it isn't a switch, [`ChangeFault::ArrayFull`] (U7)
-    /// where every element of its array is taken and the array has no code to tell that more keys are pressed.
+    /// where every element of its array is taken and the array has no code to report that more keys are pressed.
     pub fn press(&mut self, layout: &Layout, control: ControlId) -> Result<(), ChangeFault>
         requires { FitsSnapshot (items_of layout.now) self.old }
         ensures changes { Changes (items_of layout.now) self.old
@@ -439,6 +450,7 @@ impl Snapshot {
         key_words(&self.states, item)
     }
 
+    /// Makes a change, unless it is refused.
     fn change(&mut self, layout: &Layout, change: &Change) -> Result<(), ChangeFault>
         requires { FitsSnapshot (items_of layout.now) self.old }
         ensures changes { Changes (items_of layout.now) self.old change.now result self.new }

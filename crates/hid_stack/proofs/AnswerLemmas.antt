@@ -1,14 +1,14 @@
 -- A bus answers one thing: what a step tells, which control a usage names, and how a device is attached.
 use Rattle.std.proofs.Common.{◌≡◌, ◌≢◌, ◌∙◌, ◌+◌, ◌++◌, ◌<◌, ◌≤◌, ℕ, zero, suc, Bool, true, false, List, [], ◌∷◌, length, Option, Some, None, Result, Ok, Err, refl, ap, sym, subst, inl, inr, ◌⊎◌, arith}
 use Rattle.hid_layout.specs.declared.control.ControlId.{ControlId}
-use Rattle.hid_descriptor.specs.declared.fault.Cause.{Cause}
-use Rattle.hid_descriptor.specs.declared.usage.Usage.{Usage}
+use Rattle.hid_report_descriptor.specs.declared.fault.Cause.{Cause}
+use Rattle.hid_report_descriptor.specs.declared.usage.Usage.{Usage}
 use Rattle.hid_layout.specs.Controls.{items_of}
-use Rattle.hid_descriptor.specs.Faults.{Explains, Refuses}
+use Rattle.hid_report_descriptor.specs.Faults.{is_memory, Explains, Refuses}
 use Rattle.hid_layout.specs.Finding.{control_usage}
-use Rattle.hid_descriptor.specs.Laws.{HasOneReading, AcceptsNoRefused, HasOneCause, HasOnePlace}
+use Rattle.hid_report_descriptor.specs.Laws.{HasOneReading, AcceptsNoRefused, HasOneCause, HasOnePlace}
 use Rattle.hid_layout.specs.Layout.{Contents, layout_of}
-use Rattle.hid_snapshots.specs.declared.change.ChangeFault.TheVariants as change
+use Rattle.hid_snapshots.specs.declared.fault.ChangeFault.TheVariants as change
 use Rattle.usb_transact.specs.declared.transaction.Fate.{Fate}
 use Rattle.usb_transact.specs.declared.transaction.Fate.TheVariants.{Clean, TokenLost, ReplyLost, AckLost}
 use Rattle.hid_snapshots.specs.Codes.{has_empty_codes}
@@ -17,7 +17,6 @@ use Rattle.hid_device.specs.declared.config.Config.{Config}
 use Rattle.hid_requests.specs.declared.fault.DeviceCause.{DeviceCause}
 use Rattle.hid_requests.specs.declared.fault.DeviceCause.TheVariants as causes
 use Rattle.hid_requests.specs.declared.fault.DeviceFault.{DeviceFault}
-use Rattle.hid_requests.specs.Fault.{is_memory}
 use Rattle.hid_device.specs.Creation.{ParsesTo}
 use Rattle.hid_device.specs.Creation as making
 use Rattle.hid_host.specs.declared.fault.StackFault.{StackFault}
@@ -25,21 +24,21 @@ use Rattle.hid_host.specs.declared.fault.StackFault.TheVariants.{NoDevice, NotRe
 use Rattle.hid_host.specs.declared.fault.DescriptorFault.TheVariants.{Info, ReportLength, Layout, Device}
 use Rattle.hid_bus.specs.declared.step.Step.TheVariants.{Change, Frame, Poll, Begin, Control, Halt, Reset}
 use Rattle.hid_bus.specs.declared.step.Told.{Told}
-use Rattle.hid_stack.specs.Attaching.{Suits, is_out_of_memory, Attaches, IsBefore, IsLeast, Finds, member_at_start}
-use Rattle.hid_stack.specs.Laws.{TellsOneThing, FindsOneControl, AttachesOneDevice}
+use Rattle.hid_stack.specs.Attaching.{CanAttach, is_out_of_memory, Attaches, IsBefore, IsLeast, Finds, member_at_start}
+use Rattle.hid_stack.specs.Laws.{ResultIsUnique, FindsOneControl, AttachesOneDevice}
 use Rattle.hid_bus.specs.declared.start.Start.{Start}
 use Rattle.hid_stack.specs.Members.{Member}
 use Rattle.hid_stack.specs.Rig.{member_at}
 use Rattle.hid_host.specs.declared.host.Transfer.{Transfer}
 use Rattle.hid_host.specs.Host.{running}
 use Rattle.hid_bus.specs.LinkState.{LinkState}
-use Rattle.hid_stack.specs.StepResult.{TellsPoll, TellsTry}
+use Rattle.hid_stack.specs.StepResult.{PollReturns, TryReturns}
 use Rattle.hid_host.proofs.ReadyLemmas.{refused_unless}
 
 -- ---- polls
 
-one_poll : (layout : Contents) (s : LinkState) (fate : Fate) (told other : Told) → TellsPoll layout s fate told
-    → TellsPoll layout s fate other → told ≡ other
+one_poll : (layout : Contents) (s : LinkState) (fate : Fate) (told other : Told) → PollReturns layout s fate told
+    → PollReturns layout s fate other → told ≡ other
 one_poll layout s TokenLost told other h k = h ∙ sym k
 one_poll layout s ReplyLost told other h k = h ∙ sym k
 one_poll layout s Clean told other h k = h ∙ sym k
@@ -47,24 +46,25 @@ one_poll layout s AckLost told other h k = h ∙ sym k
 
 -- a poll of the device that a number names, if it names one
 abbrev PollTells : Option Member → Fate → Told → Type 0
-PollTells found fate told = elim found [ None ↦ ⊥ | Some m ↦ TellsPoll m.layout m.link fate told ]
+PollTells found fate told = elim found [ None ↦ ⊥ | Some m ↦ PollReturns m.layout m.link fate told ]
 
 one_of_found : (found : Option Member) (fate : Fate) (told other : Told) → PollTells found fate told → PollTells found fate other → told ≡ other
 one_of_found None fate told other h k = absurd h
 one_of_found (Some m) fate told other h k = one_poll m.layout m.link fate told other h k
 
-try_of : (fate : Fate) (m : Member) (o : Option Transfer) (told other : Told) → TellsTry fate m o told → TellsTry fate m o other → told ≡ other
+try_of : (fate : Fate) (m : Member) (o : Option Transfer) (told other : Told) → TryReturns fate m o told
+    → TryReturns fate m o other → told ≡ other
 try_of fate m None told other h k = absurd h
 try_of fate m (Some t) told other h k = h ∙ sym k
 
 abbrev TryTells : Option Member → Fate → Told → Type 0
-TryTells found fate told = elim found [ None ↦ ⊥ | Some m ↦ TellsTry fate m (running m.transfer) told ]
+TryTells found fate told = elim found [ None ↦ ⊥ | Some m ↦ TryReturns fate m (running m.transfer) told ]
 
 one_try : (found : Option Member) (fate : Fate) (told other : Told) → TryTells found fate told → TryTells found fate other → told ≡ other
 one_try None fate told other h k = absurd h
 one_try (Some m) fate told other h k = try_of fate m (running m.transfer) told other h k
 
-pub tells_one : TellsOneThing
+pub tells_one : ResultIsUnique
 tells_one members (Change dev change) told other h k = h ∙ sym k
 tells_one members Frame told other h k = h ∙ sym k
 tells_one members (Poll dev fate) told other h k = one_of_found (member_at members dev) fate told other h k
@@ -213,7 +213,7 @@ one_refusal one addr config descriptor causes.RelativeWithoutZero causes.Memory 
 
 -- where a device can be made it isn't refused, out of memory aside
 serves_or_refused : OneReading → (addr : ℕ) (config : Config) (descriptor : List ℕ) (layout : Contents) (found : DeviceCause) (at : ℕ)
-    → is_out_of_memory found ≡ false → Suits addr config descriptor layout
+    → is_out_of_memory found ≡ false → CanAttach addr config descriptor layout
     → making.Refuses addr config descriptor found at → ⊥
 serves_or_refused one addr config descriptor layout causes.Memory at aside suits h = cc
 serves_or_refused one addr config descriptor layout causes.BadConfig at aside suits h = clash suits.config_fits h.0
@@ -226,7 +226,8 @@ serves_or_refused one addr config descriptor layout causes.RelativeWithoutZero a
 
 -- what attaching a device comes to, out of memory aside: a member more, no room, or a refusal
 data Attached (room : ℕ) (config : Config) (descriptor : List ℕ) (start : Start) (old : List Member) (r : Result ℕ StackFault) (new : List Member) : Type 0 where
-  OneMore : length old < room → r ≡ Ok (length old + 1) → (layout : Contents) → Suits (length old + 1) config descriptor layout
+  OneMore : length old < room → r ≡ Ok (length old + 1) → (layout : Contents)
+      → CanAttach (length old + 1) config descriptor layout
       → new ≡ old ++ member_at_start start (length old + 1) config descriptor layout ∷ [] → Attached room config descriptor start old r new
   NoRoom : room ≤ length old → r ≡ Err TooManyDevices → new ≡ old → Attached room config descriptor start old r new
   NoPair : length old < room → (fault : DeviceFault) → r ≡ Err (BadDescriptor (Device fault))
@@ -236,7 +237,8 @@ data Attached (room : ℕ) (config : Config) (descriptor : List ℕ) (start : St
 attached : (room : ℕ) (config : Config) (descriptor : List ℕ) (start : Start) (old new : List Member) (r : Result ℕ StackFault)
     → r ≢ Err Memory → Attaches room config descriptor start old r new → Attached room config descriptor start old r new
 attached room config descriptor start old new (Ok dev) aside (within, number, (layout, suits, is)) =
-    OneMore within (ap Ok number) layout (subst (λ n. Suits n config descriptor layout) number suits) (is ∙ ap (λ n. old ++ member_at_start start n config descriptor layout ∷ []) number)
+    OneMore within (ap Ok number) layout (subst (λ n. CanAttach n config descriptor layout) number suits)
+    (is ∙ ap (λ n. old ++ member_at_start start n config descriptor layout ∷ []) number)
 attached room config descriptor start old new (Err TooManyDevices) aside (full, is) = NoRoom full refl is
 attached room config descriptor start old new (Err (BadDescriptor (Device fault))) aside (within, none, is) = NoPair within fault refl none.1 none.0 is
 attached room config descriptor start old new (Err (BadDescriptor (Layout fault))) aside (within, none, is) = absurd none

@@ -5,7 +5,7 @@ use Rattle.std.proofs.lemmas.Bool.Decides.{nat_tests}
 use Rattle.hid_layout.specs.Layout.{Contents}
 use Rattle.hid_device.specs.declared.config.Config.{Config}
 use Rattle.hid_bus.specs.declared.start.Start.{Start}
-use Rattle.hid_stack.specs.Attaching.{Suits, IsAttached, member_at_start}
+use Rattle.hid_stack.specs.Attaching.{CanAttach, IsAttached, member_at_start}
 use Rattle.hid_stack.specs.Members.{Member}
 use Rattle.hid_stack.specs.Rig.{member_at}
 use Rattle.hid_stack.proofs.Isolation.{no_zero, at_place}
@@ -33,7 +33,8 @@ stands_last members m =
     at_place (members ++ m ∷ []) (length members + 1) (some_number (length members)) ∙ ap (slice_get (members ++ m ∷ [])) back ∙ last_at members m
 
 pub is_attached : (config : Config) (descriptor : List ℕ) (start : Start) (members new : List Member) (dev : ℕ) (m : Member) (layout : Contents) → dev ≡ length members + 1
-    → Suits dev config descriptor layout → m ≡ member_at_start start dev config descriptor layout → new ≡ members ++ m ∷ [] → IsAttached config descriptor start members dev new
+    → CanAttach dev config descriptor layout → m ≡ member_at_start start dev config descriptor layout
+    → new ≡ members ++ m ∷ [] → IsAttached config descriptor start members dev new
 is_attached config descriptor start members new dev m layout number suits is new_is = record {
   number = number;
   layout = layout;

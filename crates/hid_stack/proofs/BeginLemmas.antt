@@ -10,19 +10,19 @@ use Rattle.hid_device.specs.Core.{CoreState}
 use Rattle.hid_device.specs.Device.{DeviceState, core_of}
 use Rattle.hid_host.specs.declared.fault.StackFault.{StackFault}
 use Rattle.hid_host.specs.declared.host.Transfer.{Transfer}
-use Rattle.hid_host.specs.Host.{HostEnd, begin_refusal, clearing_with, host_after_begin, transfer_of}
+use Rattle.hid_host.specs.Host.{HostDeviceState, begin_refusal, clearing_with, host_after_begin, transfer_of}
 use Rattle.hid_stack.specs.HostInvariant.{IsConsistent, asking_of}
 use Rattle.hid_host.specs.Phase.{asking_at, state_of}
 use Rattle.hid_stack.specs.Members.{Begins, expected_toggle_of, member_after, member_after_begin, member_held_toggle}
-use Rattle.hid_stack.specs.Slot.{StandTogether, pair_member}
+use Rattle.hid_stack.specs.Slot.{AreConsistentEnds, pair_member}
 use Rattle.hid_stack.proofs.TryLemmas.{halts_so, holds_still}
 
 -- a transfer that has yet to make its first try, with this setup
 abbrev transfer_with : ℕ → Request → Setup → Transfer
 transfer_with addr request setup = record { request = request; ends = at_start addr setup (sends_of request) }
 
-begins_so : (device : DeviceState) (host : HostEnd) (request : Request)
-    → StandTogether device host.clearing host.phase → IsConsistent (host_after_begin host request) device.control
+begins_so : (device : DeviceState) (host : HostDeviceState) (request : Request)
+    → AreConsistentEnds device host.clearing host.phase → IsConsistent (host_after_begin host request) device.control
     → host.addr ≡ device.addr → begin_refusal host request ≡ None
     → pair_member device (host_after_begin host request) ≡ member_after (pair_member device host) (Begins request)
 begins_so device host request together knows home none =
@@ -42,12 +42,12 @@ begins_so device host request together knows home none =
 -- laws of hosts that know their devices
 abbrev BeginsKnow : Type 0
 BeginsKnow =
-    (host : HostEnd) (request : Request) (control : DevControlState CoreState) → FitsRequest request
+    (host : HostDeviceState) (request : Request) (control : DevControlState CoreState) → FitsRequest request
     → begin_refusal host request ≡ None → IsConsistent host control
     → IsConsistent (host_after_begin host request) control
 
-pub begun_so : (result : Result (Unit {0}) StackFault) (device : DeviceState) (host host_then : HostEnd)
-    (request : Request) → BeginsKnow → StandTogether device host.clearing host.phase
+pub begun_so : (result : Result (Unit {0}) StackFault) (device : DeviceState) (host host_then : HostDeviceState)
+    (request : Request) → BeginsKnow → AreConsistentEnds device host.clearing host.phase
     → IsConsistent host device.control → host.addr ≡ device.addr
     → OnOk result ((begin_refusal host request ≡ None) × (host_then ≡ host_after_begin host request))
     → IfOk result (λ _. FitsRequest request)

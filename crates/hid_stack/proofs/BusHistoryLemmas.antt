@@ -15,7 +15,7 @@ use Rattle.hid_bus.specs.HistoryState.{FollowsHistory, history_from}
 use Rattle.hid_bus.specs.DeviceHistory.{events_of_history, history_after_all, outcomes_of_events, state_after_all}
 use Rattle.hid_bus.specs.Rounds.{Polls}
 use Rattle.hid_bus.specs.LinkState.{LinkState}
-use Rattle.hid_bus.proofs.HistoryEventLemmas.{lives_on}
+use Rattle.hid_bus.proofs.HistoryEventLemmas.{history_goes_on}
 use Rattle.hid_snapshots.specs.declared.event.Event.{Event}
 use Rattle.hid_bus.specs.declared.step.Step.{Step}
 use Rattle.hid_bus.specs.declared.step.Step.TheVariants.{Change, Frame, Poll, Begin, Control, Halt, Reset}
@@ -23,7 +23,7 @@ use Rattle.hid_bus.specs.declared.step.Delivered.{Delivered}
 use Rattle.hid_bus.specs.Delivered.{from_device}
 use Rattle.hid_bus.proofs.DeliveredLemmas.{from_append}
 use Rattle.hid_stack.specs.Members.{Member, MemberStep, Scheduled, Controls, Halts, Resets, state_after_event_if, control_of_member, bus_event_of_step, events_of_event_if, member_after, try_bus_event, out_of_memory_bus_event, member_out_of_memory}
-use Rattle.hid_stack.specs.Rig.{bus_after, deliveries_of_step, member_at, member_deliveries, member_step, one_unconcluded, with_device_number, with_member}
+use Rattle.hid_stack.specs.Rig.{bus_after, deliveries_of_step, member_at, member_deliveries, member_step, bus_after_try_out_of_memory, with_device_number, with_member}
 use Rattle.hid_stack.specs.Sums.{AbortsByRequest, AbortsNone}
 use Rattle.hid_stack.specs.BusHistory.{Action, Attached, DeliversHistory, DeviceAction, EndNoRounds, HasMemoryFor, IsItsOwn, Taken, Takes, Unconcluded, Unconcludes, bus_after_actions, bus_event_of_action, bus_events_of_actions, deliveries_of_actions, device_action, device_actions, member_after_action, member_after_actions, next_number}
 use Rattle.hid_stack.proofs.AttachLemmas.{stands_last, stands_still}
@@ -73,7 +73,7 @@ abbrev if_own_act : ℕ → ℕ → Fate → Option DeviceAction
 if_own_act d device fate = cond (eqb d device) (Some (Unconcludes fate)) None
 
 unconcluded_same : (d device : ℕ) (members : List Member) (m : Member) (fate : Fate) → d ≡ device → member_at members device ≡ Some m
-    → member_at (one_unconcluded members d fate) device ≡ Some (member_out_of_memory fate m (running m.transfer))
+    → member_at (bus_after_try_out_of_memory members d fate) device ≡ Some (member_out_of_memory fate m (running m.transfer))
 unconcluded_same d device members m fate same h =
     let there : member_at members d ≡ Some m = ap (member_at members) same ∙ h in
     let u : Member = member_out_of_memory fate m (running m.transfer) in
@@ -86,7 +86,7 @@ unconcluded_same d device members m fate same h =
     ]) device) there
     ∙ ap (member_at (with_member members d u)) (sym same) ∙ with_same members d m u there
 
-unconcluded_other : (d device : ℕ) (members : List Member) (m : Member) (fate : Fate) → (d ≡ device → ⊥) → member_at members device ≡ Some m → member_at (one_unconcluded members d fate) device ≡ Some m
+unconcluded_other : (d device : ℕ) (members : List Member) (m : Member) (fate : Fate) → (d ≡ device → ⊥) → member_at members device ≡ Some m → member_at (bus_after_try_out_of_memory members d fate) device ≡ Some m
 unconcluded_other d device members m fate other h =
     elim (member_at members d) as
     (λ (o : Option Member). member_at members d ≡ o
@@ -103,7 +103,7 @@ unconcluded_other d device members m fate other h =
     ] refl
 
 unconcluded_state : (d device : ℕ) (members : List Member) (m : Member) (fate : Fate) → member_at members device ≡ Some m
-    → member_at (one_unconcluded members d fate) device ≡ Some (after_own_act m (if_own_act d device fate))
+    → member_at (bus_after_try_out_of_memory members d fate) device ≡ Some (after_own_act m (if_own_act d device fate))
 unconcluded_state d device members m fate h = elim (same_or_not d device) [
   | inl same ↦ unconcluded_same d device members m fate same.0 h ∙ sym (ap (λ (b : Bool). Some (after_own_act m (cond b (Some (Unconcludes fate)) None))) same.1)
   | inr other ↦ unconcluded_other d device members m fate other.0 h ∙ sym (ap (λ (b : Bool). Some (after_own_act m (cond b (Some (Unconcludes fate)) None))) other.1)
@@ -130,7 +130,7 @@ state_behind_acts (Taken x ∷ acts) members device m h =
     ∙ ap (λ (t : Member). Some t) (own_acts m own (acts_of device acts))
 state_behind_acts (Unconcluded d fate ∷ acts) members device m h =
     let own = if_own_act d device fate in
-    state_behind_acts acts (one_unconcluded members d fate) device (after_own_act m own) (unconcluded_state d device members m fate h)
+    state_behind_acts acts (bus_after_try_out_of_memory members d fate) device (after_own_act m own) (unconcluded_state d device members m fate h)
     ∙ ap (λ (t : Member). Some t) (own_acts m own (acts_of device acts))
 
 -- what an act tells, and those after it
@@ -193,7 +193,7 @@ told_later_acts (Unconcluded d fate ∷ acts) members device m h ends =
     let own = if_own_act d device fate in
     let actions = acts_of device acts in
     let next = after_own_act m own in
-    told_later_acts acts (one_unconcluded members d fate) device next (unconcluded_state d device members m fate h)
+    told_later_acts acts (bus_after_try_out_of_memory members d fate) device next (unconcluded_state d device members m fate h)
     (rest_ends m own actions ends)
     ∙ ap (λ (l : Contents). events_of_history (items_of l) next.link (bus_events_of_actions next actions))
     (device_action-layout m own)
@@ -309,7 +309,7 @@ nothing_of (Taken x ∷ acts) members device none =
     ∙ ap (λ (es : List Event). es ++ from_device device (deliveries_of_actions (bus_after members x) acts))
     (step_tells_nothing members device x before)
     ∙ nothing_of acts (bus_after members x) device none
-nothing_of (Unconcluded dev fate ∷ acts) members device none = nothing_of acts (one_unconcluded members dev fate) device none
+nothing_of (Unconcluded dev fate ∷ acts) members device none = nothing_of acts (bus_after_try_out_of_memory members dev fate) device none
 
 -- ---- whole lists
 
@@ -318,7 +318,7 @@ pub bus_append : (before later : List Action) (members : List Member)
 bus_append [] later members = refl
 bus_append (Attached m ∷ before) later members = bus_append before later (members ++ m ∷ [])
 bus_append (Taken x ∷ before) later members = bus_append before later (bus_after members x)
-bus_append (Unconcluded dev fate ∷ before) later members = bus_append before later (one_unconcluded members dev fate)
+bus_append (Unconcluded dev fate ∷ before) later members = bus_append before later (bus_after_try_out_of_memory members dev fate)
 
 pub delivered_append : (before later : List Action) (members : List Member)
     → deliveries_of_actions members (before ++ later) ≡ deliveries_of_actions members before
@@ -330,7 +330,7 @@ delivered_append (Taken x ∷ before) later members =
     (delivered_append before later (bus_after members x))
     ∙ sym (append_assoc (deliveries_of_step members x) (deliveries_of_actions (bus_after members x) before)
     (deliveries_of_actions (bus_after_actions (bus_after members x) before) later))
-delivered_append (Unconcluded dev fate ∷ before) later members = delivered_append before later (one_unconcluded members dev fate)
+delivered_append (Unconcluded dev fate ∷ before) later members = delivered_append before later (bus_after_try_out_of_memory members dev fate)
 
 pub its_own : (before : List Action) (m : Member) (later : List Action) → IsItsOwn before m later
 its_own before m later =
@@ -350,10 +350,10 @@ its_own before m later =
           ∙ state_behind_acts later (there ++ m ∷ []) device m stands;
       events_of_steps = λ has. told (with_memory_end later device m has);
       events = told;
-      lives = λ none_open.
+      history = λ none_open.
           subst (λ (s : LinkState). FollowsHistory (items_of m.layout) m.link.view m.link.toggle
           (outcomes_of_events (items_of m.layout) (bus_events_of_actions m xs) (history_from m.link))
           (history_after_all (items_of m.layout) (bus_events_of_actions m xs) (history_from m.link))
           (events_of_history (items_of m.layout) m.link (bus_events_of_actions m xs)) s) (sym (actions_links xs m))
-          (lives_on (items_of m.layout) m.link (bus_events_of_actions m xs) none_open);
+          (history_goes_on (items_of m.layout) m.link (bus_events_of_actions m xs) none_open);
     }

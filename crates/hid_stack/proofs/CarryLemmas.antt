@@ -13,7 +13,7 @@ use Rattle.hid_layout.specs.Controls.{items_of}
 use Rattle.hid_layout.specs.Parsing.{ParsesTo}
 use Rattle.hid_requests.specs.declared.request.Request.{Request}
 use Rattle.hid_requests.specs.RequestSetup.{FitsRequest, sends_of}
-use Rattle.hid_requests.proofs.AskedLemmas.{sends_so}
+use Rattle.hid_requests.proofs.RequestKindLemmas.{sends_so}
 use Rattle.hid_bus.specs.Rounds.{OwnStep, Changes, Frame, Polls}
 use Rattle.hid_requests.specs.declared.codes.TheConstants.{REPORT_ENDPOINT as ENDPOINT}
 use Rattle.hid_device.specs.RequestTable.{core_table}
@@ -25,8 +25,8 @@ use Rattle.hid_host.specs.declared.phase.HostState.{HostState}
 use Rattle.hid_host.specs.declared.phase.HostState.TheVariants as states
 use Rattle.hid_host.specs.Host.{clearing_with, request_aborts_round, running}
 use Rattle.hid_host.specs.Phase.{may_begin, state_of}
-use Rattle.hid_host.specs.Ready.{known_at_start}
-use Rattle.hid_stack.specs.HostInvariant.{FollowsTrail, IsPending, LeavesTransfers, asking_of, info_of}
+use Rattle.hid_host.specs.Ready.{ready_host_at_start}
+use Rattle.hid_stack.specs.HostInvariant.{FollowsTrail, IsPending, LeavesTransfers, asking_of, phase_info}
 use Rattle.hid_stack.specs.Members.{Member, MemberStep, Scheduled, Begins, Controls, Halts, Resets, state_after_event_if, begin_refusal_at, member_after_begin, control_of_member, core_of_member, member_transfer_after, member_after_halt, member_after, poll_bus_event, polls_it, host_state_after_try, member_after_try, member_after_try_in, member_out_of_memory}
 use Rattle.hid_stack.specs.BusHistory.{DeviceAction, EndNoRounds, FitsAction, Takes, Unconcludes, member_after_action}
 use Rattle.hid_stack.specs.Sums.{AbortsByRequest}
@@ -143,9 +143,9 @@ on_halt true m s =
 
 abbrev phase_for : HostState → Member → HostPhase
 phase_for states.Cold m = Cold
-phase_for states.Described m = Described (info_of (core_of_member m))
-phase_for states.Parsed m = Parsed (info_of (core_of_member m)) m.layout
-phase_for states.Ready m = Ready (known_at_start m.addr ENDPOINT m.layout)
+phase_for states.Described m = Described (phase_info (core_of_member m))
+phase_for states.Parsed m = Parsed (phase_info (core_of_member m)) m.layout
+phase_for states.Ready m = Ready (ready_host_at_start m.addr ENDPOINT m.layout)
 
 phase_is : (host : HostState) (m : Member) → state_of (phase_for host m) ≡ host
 phase_is states.Cold m = refl

@@ -20,9 +20,9 @@ use Rattle.hid_requests.specs.declared.request.Asking.{Asking}
 use Rattle.hid_requests.specs.declared.request.Request.{Request}
 use Rattle.hid_requests.specs.declared.request.Request.TheVariants as requests
 use Rattle.hid_requests.specs.RequestSetup.{sends_of}
-use Rattle.hid_requests.proofs.AskedLemmas.{sends_so}
+use Rattle.hid_requests.proofs.RequestKindLemmas.{sends_so}
 use Rattle.hid_bus.specs.Rounds.{OwnStep, Changes, Frame, Polls}
-use Rattle.hid_bus.specs.LinkState.{LinkState, Open, expected_toggle}
+use Rattle.hid_bus.specs.LinkState.{LinkState, OpenRound, expected_toggle}
 use Rattle.hid_requests.specs.declared.codes.TheConstants.{REPORT_ENDPOINT as ENDPOINT}
 use Rattle.hid_device.specs.declared.decisions.PendingWrite.{PendingWrite}
 use Rattle.hid_device.specs.declared.decisions.PendingWrite.TheVariants as pendings
@@ -40,16 +40,16 @@ use Rattle.hid_host.specs.Host.{clearing_after, transfer_of}
 use Rattle.hid_stack.specs.HostInvariant.{FollowsTrail, HasEffect, LeavesTransfers, StartsAtData0, asking_of}
 use Rattle.hid_stack.specs.Trails.{Trail, trail_after_try, trail_from}
 use Rattle.hid_host.specs.Phase.{may_poll}
-use Rattle.hid_host.specs.Ready.{known_at_start}
+use Rattle.hid_host.specs.Ready.{ready_host_at_start}
 use Rattle.hid_stack.proofs.LawLemmas.{carried, carries_on, done_effect, short_so}
 use Rattle.hid_stack.proofs.RoundLemmas.{tried_rounds}
-use Rattle.hid_stack.specs.Members.{Member, MemberStep, Scheduled, Begins, Controls, Halts, Resets, state_after_event_if, begin_refusal_at, member_after_begin, try_bus_event_of, control_of_member, core_of_member, effect_bus_event, member_transfer_after, expects_after, expected_toggle_of, member_after_halt, member_held_toggle, member_after, member_after_all, poll_bus_event, polls_it, try_bus_event, member_after_try, write_bus_event}
-use Rattle.hid_stack.specs.Transfers.{BeginsNone, IsClearing, IsEvenAgain, IsOver, IsUndone, ends_at, setup_at}
+use Rattle.hid_stack.specs.Members.{Member, MemberStep, Scheduled, Begins, Controls, Halts, Resets, state_after_event_if, begin_refusal_at, member_after_begin, try_bus_event_of, control_of_member, core_of_member, effect_bus_event, member_transfer_after, expected_toggle_after_try, expected_toggle_of, member_after_halt, member_held_toggle, member_after, member_after_all, poll_bus_event, polls_it, try_bus_event, member_after_try, write_bus_event}
+use Rattle.hid_stack.specs.Transfers.{BeginsNone, IsClearing, IsCleared, IsOver, IsUndone, ends_at, setup_at}
 use Rattle.hid_stack.proofs.CountLemmas.{halted_transfer, runs_as}
 
 -- ---- the inside of a member after a try is that of its device
 
-abbrev report_of : Option Open → Option ℕ
+abbrev report_of : Option OpenRound → Option ℕ
 report_of o = option_map (λ round. round.report) o
 
 -- the inside of a device and its link state have the same open round, and the same toggle
@@ -98,7 +98,7 @@ tried_agrees fate m t =
       toggle = ap (λ (c : CoreState). c.toggle) same ∙ brought.toggle;
     }
 
-none_open : (o : Option Open) → report_of o ≡ None → o ≡ None
+none_open : (o : Option OpenRound) → report_of o ≡ None → o ≡ None
 none_open None none = refl
 none_open (Some round) none = absurd (cc)
 
@@ -106,7 +106,7 @@ none_open (Some round) none = absurd (cc)
 
 -- a host that is ready, whatever it has
 abbrev ready_with : Member → HostPhase
-ready_with m = Ready (known_at_start m.addr ENDPOINT m.layout)
+ready_with m = Ready (ready_host_at_start m.addr ENDPOINT m.layout)
 
 pub record Pends (phase : HostPhase) (m : Member) (t : Transfer) : Type 0 where
   pub trail : Trail
@@ -300,7 +300,7 @@ even_expects host holds s none even = by_host host holds
   where
     quiet : expected_toggle s ≡ false
     quiet = ap
-        (λ (o : Option Open). elim o as
+        (λ (o : Option OpenRound). elim o as
         (λ _. Bool) [ None ↦ s.toggle | Some round ↦ (if round.crossed then not s.toggle else s.toggle) ]) none ∙ even
 
     by_host : (h : HostState) (b : Bool)
@@ -314,15 +314,16 @@ even_expects host holds s none even = by_host host holds
 
 even_by : (fate : Fate) (m : Member) (t : Transfer) → (member_transfer_after fate m t).stage ≡ stages.Done
     → t.request ≡ requests.Clear → StartsAtData0 (tried_control fate m t).requests
-    → IsEvenAgain (member_after_try fate m (Some t))
+    → IsCleared (member_after_try fate m (Some t))
 even_by fate m t done is restarts =
     let n : Member = member_after_try fate m (Some t) in
     let agrees = tried_agrees fate m t in
     let quiet : n.link.current ≡ None = none_open n.link.current (sym agrees.current ∙ restarts.current) in
     let even : n.link.toggle ≡ false = sym agrees.toggle ∙ restarts.toggle in
-    let data0 : expects_after (member_transfer_after fate m t).stage t.request (expected_toggle_of m) ≡ false
-    = ap (λ (x : HostStage). expects_after x t.request (expected_toggle_of m)) done
-    ∙ ap (λ (q : Request). expects_after stages.Done q (expected_toggle_of m)) is in
+    let data0 : expected_toggle_after_try (member_transfer_after fate m t).stage t.request (expected_toggle_of m)
+    ≡ false
+    = ap (λ (x : HostStage). expected_toggle_after_try x t.request (expected_toggle_of m)) done
+    ∙ ap (λ (q : Request). expected_toggle_after_try stages.Done q (expected_toggle_of m)) is in
     record {
       quiet = quiet;
       sends = even;
@@ -335,7 +336,7 @@ even_by fate m t done is restarts =
           ∙ ap (λ (q : Request). clearing_after stages.Done q m.clearing) is;
     }
 
-pub even_there : (fate : Fate) (phase : HostPhase) (n : Member) → IsUndone n.transfer → PendsThere phase n → IsOver (member_after n (Controls fate)).transfer → IsEvenAgain (member_after n (Controls fate))
+pub even_there : (fate : Fate) (phase : HostPhase) (n : Member) → IsUndone n.transfer → PendsThere phase n → IsOver (member_after n (Controls fate)).transfer → IsCleared (member_after n (Controls fate))
 even_there fate phase n undone p over = elim (cases_Bool (is_running p.transfer.ends.stage)) [
   | inl runs ↦
       let t = p.transfer in
@@ -347,7 +348,7 @@ even_there fate phase n undone p over = elim (cases_Bool (is_running p.transfer.
       done_effect p.pends.trail fate phase t (member_transfer_after fate n t) (control_of_member n)
       (tried_control fate n t) p.short p.pends.carries (is_running_runs t.ends.stage runs)
       (transacts_computed core_table fate t.ends (control_of_member n)) (same_setup fate n t runs) done in
-      subst IsEvenAgain (sym there) (even_by fate n t done p.pends.is (subst (λ (q : Request). HasEffect q (tried_control fate n t).requests) p.pends.is effect))
+      subst IsCleared (sym there) (even_by fate n t done p.pends.is (subst (λ (q : Request). HasEffect q (tried_control fate n t).requests) p.pends.is effect))
   | inr ended ↦
       let there : member_after n (Controls fate) ≡ n = idle_step fate n p.transfer false ended refl p.has in
       let done : p.transfer.ends.stage ≡ stages.Done = subst IsOver p.has (subst (λ (k : Member). IsOver k.transfer) there over) in
@@ -358,7 +359,7 @@ even_there fate phase n undone p over = elim (cases_Bool (is_running p.transfer.
 abbrev ClearsFrom : List MemberStep → Member → Type 0
 ClearsFrom steps begun =
     let n = member_after_all begun steps in IsUndone n.transfer
-    → (polls_it n ≡ false) × ((fate : Fate) → IsOver (member_after n (Controls fate)).transfer → IsEvenAgain (member_after n (Controls fate)))
+    → (polls_it n ≡ false) × ((fate : Fate) → IsOver (member_after n (Controls fate)).transfer → IsCleared (member_after n (Controls fate)))
 
 -- a Clear that begins
 pub begins_pending : (m : Member)

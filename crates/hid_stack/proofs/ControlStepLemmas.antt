@@ -1,7 +1,7 @@
 -- A control step with a virtual device is a function of both ends, memory aside.
 use Rattle.std.proofs.Common.{◌≡◌, ◌⊎◌, inl, inr, ℕ, true, List, length, Option, Some, None, Result, Ok, Err, refl, ap, sym, ◌∙◌, subst}
 use Rattle.std.specs.Prelude.{IfSome, ◌<◌, ◌^◌}
-use Rattle.hid_descriptor.specs.Laws.{HasOneReading, AcceptsNoRefused}
+use Rattle.hid_report_descriptor.specs.Laws.{HasOneReading, AcceptsNoRefused}
 use Rattle.hid_layout.specs.Layout.{Contents}
 use Rattle.usb_transact.specs.declared.transaction.Fate.{Fate}
 use Rattle.usb_control.specs.declared.descriptors.ConfigInfo.{ConfigInfo}
@@ -14,7 +14,7 @@ use Rattle.usb_control.specs.Descriptors.{ReadsConfig}
 use Rattle.usb_control.specs.Device.{DevControlState}
 use Rattle.usb_control.specs.Host.{HostTransferState, IsRunning, progress_of}
 use Rattle.usb_control.specs.Runs.{IsDone}
-use Rattle.usb_control.specs.Transfer.{Place, shape_of}
+use Rattle.usb_control.specs.Transfer.{Place, transfer_shape}
 use Rattle.usb_control.proofs.TryFunctionLemmas.{tries_are}
 use Rattle.usb_control.proofs.LawLemmas.{done_is, read_is}
 use Rattle.hid_requests.specs.declared.request.Request.{Request}
@@ -31,12 +31,12 @@ use Rattle.hid_host.specs.declared.host.Transfer.{Transfer}
 use Rattle.hid_host.specs.declared.phase.HostPhase.{HostPhase}
 use Rattle.hid_host.specs.declared.phase.HostPhase.TheVariants.{Cold, Described, Parsed, Ready}
 use Rattle.hid_stack.specs.ControlSteps.{StepsAsFunction, TakesMemory, core_after_try, phase_after, phase_after_try, transfer_after_try, with_answer_of}
-use Rattle.hid_host.specs.Conclusions.{Configured, Makes, leads_to, phase_made}
-use Rattle.hid_host.specs.Host.{ConcludesAt, ControlSteps, HostEnd, TriesOnce, clearing_after, conclusion_result, read_bytes_of, running}
-use Rattle.hid_stack.specs.HostInvariant.{FollowsTrail, HasEffect, IsAfterSetup, IsConsistent, IsConsistentAt, StartsAtData0, asking_of, info_of}
+use Rattle.hid_host.specs.Conclusions.{Concludes, Configured, phase_after_answer, phase_or_fault}
+use Rattle.hid_host.specs.Host.{ConcludesAt, ControlSteps, HostDeviceState, TriesOnce, clearing_after, conclusion_result, read_bytes_of, running}
+use Rattle.hid_stack.specs.HostInvariant.{FollowsTrail, HasEffect, IsAfterSetup, IsConsistent, IsConsistentAt, StartsAtData0, asking_of, phase_info}
 use Rattle.hid_stack.specs.Trails.{Trail, trail_after_try}
 use Rattle.hid_host.specs.Phase.{may_begin, state_of}
-use Rattle.hid_host.specs.Ready.{known_at_start}
+use Rattle.hid_host.specs.Ready.{ready_host_at_start}
 use Rattle.hid_stack.proofs.HostLemmas.{IsAnswer, config_is, device_is, fits_info, report_is}
 use Rattle.hid_stack.proofs.LawLemmas.{answer_is, carried, done_effect, got_so, knows_on, runs_so}
 use Rattle.hid_stack.proofs.RoundLemmas.{cleared_by, cut_by, parsed_by, tried_rounds}
@@ -49,29 +49,39 @@ MadeBy request addr core phase made =
 report_made : HasOneReading → AcceptsNoRefused
     → (addr : ℕ) (info : ConfigInfo) (core : CoreState) (bytes : List ℕ) (made : Result HostPhase StackFault)
     → ParsesTo core.descriptor core.layout
-    → info ≡ info_of core → bytes ≡ core.descriptor → Makes addr requests.Report (Described info) bytes made → MadeBy requests.Report addr core (Described info) made
+    → info ≡ phase_info core → bytes ≡ core.descriptor → Concludes addr requests.Report (Described info) bytes made
+    → MadeBy requests.Report addr core (Described info) made
 report_made one apart addr info core bytes made lays knows is (read, h, leads) =
     elim (report_is one apart info bytes core.layout read
     (subst (λ (b : List ℕ). ParsesTo b core.layout) (sym is) lays)
     (ap (λ (b : List ℕ). length b) is ∙ ap (λ (i : ConfigInfo). i.report_length) (sym knows)) h) [
-      | inl ok ↦ inl (leads ∙ ap (leads_to (Parsed info)) ok ∙ ap (λ (i : ConfigInfo). Ok (Parsed i core.layout)) knows)
-      | inr none ↦ inr (leads ∙ ap (leads_to (Parsed info)) none, tt)
+      | inl ok ↦
+          inl (leads ∙ ap (phase_or_fault (Parsed info)) ok
+          ∙ ap (λ (i : ConfigInfo). Ok (Parsed i core.layout)) knows)
+      | inr none ↦ inr (leads ∙ ap (phase_or_fault (Parsed info)) none, tt)
     ]
 
-configured_made : (addr : ℕ) (info : ConfigInfo) (layout : Contents) (core : CoreState) (made : Result HostPhase StackFault) → info ≡ info_of core → layout ≡ core.layout → Configured addr info layout made
+configured_made : (addr : ℕ) (info : ConfigInfo) (layout : Contents) (core : CoreState)
+    (made : Result HostPhase StackFault) → info ≡ phase_info core → layout ≡ core.layout
+    → Configured addr info layout made
     → MadeBy requests.Configure addr core (Parsed info layout) made
 configured_made addr info layout core (Ok next) says laid is =
-    inl (ap (λ (p : HostPhase). Ok p) is ∙ ap (λ (i : ConfigInfo). Ok (Ready (known_at_start addr i.endpoint layout))) says ∙ ap (λ (l : Contents). Ok (Ready (known_at_start addr ENDPOINT l))) laid)
+    inl (ap (λ (p : HostPhase). Ok p) is
+    ∙ ap (λ (i : ConfigInfo). Ok (Ready (ready_host_at_start addr i.endpoint layout))) says
+    ∙ ap (λ (l : Contents). Ok (Ready (ready_host_at_start addr ENDPOINT l))) laid)
 configured_made addr info layout core (Err fault) says laid is = inr (ap (λ (f : StackFault). Err f) is, tt)
 
 made_is : HasOneReading → AcceptsNoRefused → (addr : ℕ) (request : Request) (phase : HostPhase) (core : CoreState) (bytes : List ℕ) (made : Result HostPhase StackFault)
     → ParsesTo core.descriptor core.layout → length core.descriptor < 2 ^ 16 → IsConsistentAt phase addr core
     → may_begin request (state_of phase) ≡ true → IsAnswer request core bytes
-    → Makes addr request phase bytes made → MadeBy request addr core phase made
-made_is one apart addr requests.Device phase core bytes made lays short knows needs answer (read, h, is) = inl (is ∙ ap (leads_to (λ _. phase)) (device_is bytes (device_info core.config) read answer h))
+    → Concludes addr request phase bytes made → MadeBy request addr core phase made
+made_is one apart addr requests.Device phase core bytes made lays short knows needs answer (read, h, is) =
+    inl (is ∙ ap (phase_or_fault (λ _. phase)) (device_is bytes (device_info core.config) read answer h))
 made_is one apart addr requests.Config phase core bytes made lays short knows needs answer (read, h, is) =
-    let reads : ReadsConfig bytes (Ok (info_of core)) = subst (λ (b : List ℕ). ReadsConfig b (Ok (info_of core))) (sym answer) (configuration_read (info_of core) core.config.interval (fits_info core short)) in
-    inl (is ∙ ap (leads_to Described) (config_is bytes (info_of core) read reads h))
+    let reads : ReadsConfig bytes (Ok (phase_info core)) =
+    subst (λ (b : List ℕ). ReadsConfig b (Ok (phase_info core))) (sym answer)
+    (configuration_read (phase_info core) core.config.interval (fits_info core short)) in
+    inl (is ∙ ap (phase_or_fault Described) (config_is bytes (phase_info core) read reads h))
 made_is one apart addr requests.Report (Described info) core bytes made lays short knows needs answer makes = report_made one apart addr info core bytes made lays knows answer makes
 made_is one apart addr requests.Report Cold core bytes made lays short knows needs answer is = absurd (cc)
 made_is one apart addr requests.Report (Parsed info layout) core bytes made lays short knows needs answer is = absurd (cc)
@@ -95,8 +105,9 @@ made_is one apart addr requests.EndpointStatus phase core bytes made lays short 
 -- what is concluded: on an answer, or nothing, and then the phase stays
 concluded_so : (stage : HostStage) (addr : ℕ) (request : Request) (phase next : HostPhase) (bytes : List ℕ) (result : Result Progress StackFault) → ConcludesAt stage addr request phase bytes result next
     → ((stage ≡ stages.Done)
-    × ((made : Result HostPhase StackFault) × Makes addr request phase bytes made × (result ≡ conclusion_result made)
-    × (next ≡ phase_made phase made)))
+    × ((made : Result HostPhase StackFault) × Concludes addr request phase bytes made
+    × (result ≡ conclusion_result made)
+    × (next ≡ phase_after_answer phase made)))
     ⊎ ((result ≡ Ok (progress_of stage)) × (next ≡ phase)
     × ((core : CoreState) → phase_after_try stage request addr core phase ≡ phase))
 concluded_so stages.Done addr request phase next bytes result h = inl (refl, h)
@@ -108,8 +119,9 @@ concluded_so stages.StatusOut addr request phase next bytes result h = inr (h.0,
 concluded_so (stages.Failed fault) addr request phase next bytes result h = inr (h.0, h.1, λ core. refl)
 
 -- the host after it
-leads_on : (host : HostEnd) (t : Transfer) (ends other : HostTransferState) (next phase : HostPhase) → ends ≡ other → next ≡ phase
-    → (let behind : HostPhase → HostTransferState → HostEnd
+leads_on : (host : HostDeviceState) (t : Transfer) (ends other : HostTransferState) (next phase : HostPhase)
+    → ends ≡ other → next ≡ phase
+    → (let behind : HostPhase → HostTransferState → HostDeviceState
     = λ p e. record host {
       phase = p;
       transfer = Some (record t { ends = e });
@@ -118,7 +130,7 @@ leads_on : (host : HostEnd) (t : Transfer) (ends other : HostTransferState) (nex
     } in
     behind next ends ≡ behind phase other)
 leads_on host t ends other next phase same moves =
-    let behind : HostPhase → HostTransferState → HostEnd
+    let behind : HostPhase → HostTransferState → HostDeviceState
     = λ p e. record host {
       phase = p;
       transfer = Some (record t { ends = e });
@@ -127,7 +139,9 @@ leads_on host t ends other next phase same moves =
     } in
     ap (λ (p : HostPhase). behind p ends) moves ∙ ap (behind phase) same
 
-once_computed : HasOneReading → AcceptsNoRefused → (trail : Trail) (fate : Fate) (host after : HostEnd) (t : Transfer) (old new : DevControlState CoreState) (result : Result Progress StackFault)
+once_computed : HasOneReading → AcceptsNoRefused
+    → (trail : Trail) (fate : Fate) (host after : HostDeviceState) (t : Transfer)
+    (old new : DevControlState CoreState) (result : Result Progress StackFault)
     → ParsesTo old.requests.descriptor old.requests.layout → length old.requests.descriptor < 2 ^ 16
     → IsConsistentAt host.phase host.addr old.requests → FollowsTrail trail host.phase t old → IsRunning t.ends.stage
     → TriesOnce (PreparesBy core_table) (AppliesBy core_table) core_table.answer_of fate host t old result after new
@@ -150,13 +164,16 @@ once_computed one apart trail fate host after t old new result lays short knows 
           let place : Place = behind_it.place in
           let goes = tried_so.goes in
           let d = tried_so.carries in
-          let is_done : IsDone place = (done_is core_table.answer_of (shape_of tr.ends.setup) (sends_of t.request) place tr.ends new d.stands).0 done in
+          let is_done : IsDone place =
+          (done_is core_table.answer_of (transfer_shape tr.ends.setup)
+          (sends_of t.request) place tr.ends new d.stands).0 done in
           let behind : IsAfterSetup place.host = subst IsAfterSetup (sym is_done.1) tt in
           let answer =
           answer_is t.request behind_it.decider new.requests place.decision (read_bytes_of tr.ends)
           (d.decided behind)
           (got_so tr.ends (setup_for t.request (asking_of new.requests)) place.decision d.asked
-          (λ is_read. read_is core_table.answer_of (shape_of tr.ends.setup) (sends_of t.request) place tr.ends new d.stands is_done is_read)) in
+          (λ is_read. read_is core_table.answer_of (transfer_shape tr.ends.setup)
+          (sends_of t.request) place tr.ends new d.stands is_done is_read)) in
           let lays_on : ParsesTo new.requests.descriptor new.requests.layout =
           subst (λ (x : List ℕ). ParsesTo x new.requests.layout) (sym goes.descriptor)
           (subst (λ l. ParsesTo old.requests.descriptor l) (sym goes.layout) lays) in
@@ -171,7 +188,7 @@ once_computed one apart trail fate host after t old new result lays short knows 
                   | inl ok ↦ inl (
                     told ∙ ap conclusion_result ok ∙ ap (λ (s : HostStage). Ok (progress_of s)) (sym stage),
                     tr.after ∙ leads_on host t tr.ends ends tr.next _ e.0
-                        (moves ∙ ap (phase_made host.phase) ok
+                        (moves ∙ ap (phase_after_answer host.phase) ok
                         ∙ ap (λ (s : HostStage). phase_after_try s t.request host.addr new.requests host.phase)
                         (sym stage)),
                   )
@@ -181,7 +198,8 @@ once_computed one apart trail fate host after t old new result lays short knows 
                         stage,
                         takes,
                         tr.after
-                            ∙ leads_on host t tr.ends ends tr.next host.phase e.0 (moves ∙ ap (phase_made host.phase) none),
+                            ∙ leads_on host t tr.ends ends tr.next host.phase e.0
+                            (moves ∙ ap (phase_after_answer host.phase) none),
                       )
                 ];
             needs = c.needs running;
@@ -208,7 +226,9 @@ once_computed one apart trail fate host after t old new result lays short knows 
       }
     ]
 
-pub steps_computed : HasOneReading → AcceptsNoRefused → (fate : Fate) (host after : HostEnd) (t : Transfer) (old new : DevControlState CoreState) (result : Result Progress StackFault)
+pub steps_computed : HasOneReading → AcceptsNoRefused
+    → (fate : Fate) (host after : HostDeviceState) (t : Transfer) (old new : DevControlState CoreState)
+    (result : Result Progress StackFault)
     → ParsesTo old.requests.descriptor old.requests.layout → length old.requests.descriptor < 2 ^ 16
     → IsConsistent host old → running host.transfer ≡ Some t
     → ControlSteps (PreparesBy core_table) (AppliesBy core_table) core_table.answer_of fate host old result after new

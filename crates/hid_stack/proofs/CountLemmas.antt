@@ -10,10 +10,10 @@ use Rattle.usb_control.specs.declared.host.HostStage.TheVariants as stages
 use Rattle.usb_control.specs.TryFunctions.{control_tried, effect_reached, is_applied, takes_effect}
 use Rattle.usb_control.specs.Device.{Answers, Applies, Decides as Decides', DevControlState, Effect}
 use Rattle.usb_control.specs.Host.{HostTransferState}
-use Rattle.usb_control.specs.Interleaving.{GoesBy, StandAt, act_now, decision_now, is_effect, is_running}
+use Rattle.usb_control.specs.Interleaving.{EndsAreAt, GoesBy, act_now, decision_now, is_effect, is_running}
 use Rattle.usb_control.specs.Runs.{acts, effects, is_open}
-use Rattle.usb_control.specs.SetupBytes.{IsSpelled}
-use Rattle.usb_control.specs.Transfer.{Act, Decides, Nothing, TakesEffect, Decision, Place, Piece, Position, Past, Setup, Shape, Status, act_at, act_of, shape_of, place_after_try}
+use Rattle.usb_control.specs.SetupBytes.{IsEncoded}
+use Rattle.usb_control.specs.Transfer.{Act, Decides, Nothing, TakesEffect, Decision, Place, Piece, Position, Past, Setup, Shape, Status, act_at, act_of, transfer_shape, place_after_try}
 use Rattle.usb_control.proofs.LawLemmas.{kept_is}
 use Rattle.usb_control.proofs.InterleavingLemmas.{goes_by, is_running_runs, runs_so}
 use Rattle.hid_requests.specs.declared.request.Asking.{Asking}
@@ -29,13 +29,13 @@ use Rattle.hid_host.specs.declared.phase.HostState.{HostState}
 use Rattle.hid_requests.specs.RequestSetup.{FitsRequest, sends_of}
 use Rattle.hid_stack.specs.ControlSteps.{is_configure}
 use Rattle.hid_host.specs.Host.{running, running_at}
-use Rattle.hid_requests.proofs.AskedLemmas.{of_reports}
+use Rattle.hid_requests.proofs.RequestKindLemmas.{of_reports}
 use Rattle.hid_stack.specs.HostInvariant.{IsAfterSetup, IsDecided, asking_of}
 use Rattle.hid_stack.specs.Trails.{Trail, trail_after_try}
 use Rattle.hid_stack.proofs.HostInvariantLemmas.{acts_go, decided_behind, decided_stays}
 use Rattle.hid_stack.proofs.RoundLemmas.{is_configuring, pends_so}
 use Rattle.hid_stack.specs.Members.{Member, MemberStep, Scheduled, Begins, Controls, Halts, Resets, try_bus_event_of, control_of_member, core_of_member, bus_events_of_steps, effect_bus_event, member_transfer_after, halt_bus_event_of, member_after_halt, member_after, polls_it, step_bus_event, try_bus_event, member_after_try, member_after_try_in, write_bus_event}
-use Rattle.hid_stack.specs.Transfers.{BeginsNone, configurations, effects_in, ends_at, more_if, setup_at, takes_effect_at, tries_of, try_at}
+use Rattle.hid_stack.specs.Transfers.{BeginsNone, configurations, count_if, effects_in, ends_at, setup_at, takes_effect_at, tries_of, try_at}
 
 -- ---- one try
 
@@ -53,7 +53,7 @@ effect_behind Past shape fate d held applied h = tt
 -- a configuration happens to the device where the effect of a request for it is carried out
 written_as : (core : CoreState) (pending : PendingWrite) (bytes : List ℕ) (rest : List BusEvent)
     → configurations (cons_option (write_bus_event core pending) rest)
-    ≡ more_if (is_configuring pending) (configurations rest)
+    ≡ count_if (is_configuring pending) (configurations rest)
 written_as core pendings.Nothing bytes rest = refl
 written_as core pendings.Configure bytes rest = refl
 written_as core (pendings.Keep i) bytes rest = refl
@@ -65,16 +65,17 @@ written_as core pendings.Clear bytes rest = refl
 effect_as : (e : Effect) (core : CoreState) (sets : Bool) (rest : List BusEvent)
     → (is_applied e ≡ true → is_configuring core.pending ≡ sets)
     → configurations (cons_option (effect_bus_event e core) rest)
-    ≡ more_if (is_applied e && sets) (configurations rest)
+    ≡ count_if (is_applied e && sets) (configurations rest)
 effect_as (Answers answer stage last_packet) core sets rest pends = refl
 effect_as (Decides' bytes) core sets rest pends = refl
-effect_as (Applies bytes) core sets rest pends = written_as core core.pending bytes rest ∙ ap (λ (b : Bool). more_if b (configurations rest)) (pends refl)
+effect_as (Applies bytes) core sets rest pends =
+    written_as core core.pending bytes rest ∙ ap (λ (b : Bool). count_if b (configurations rest)) (pends refl)
 
 brought_as : (fate : Fate) (ends : HostTransferState) (control : DevControlState CoreState) (sets : Bool)
     (rest : List BusEvent)
     → (takes_effect core_table fate ends control ≡ true → is_configuring control.requests.pending ≡ sets)
     → configurations (cons_option (try_bus_event_of fate ends control) rest)
-    ≡ more_if (takes_effect core_table fate ends control && sets) (configurations rest)
+    ≡ count_if (takes_effect core_table fate ends control && sets) (configurations rest)
 brought_as TokenLost ends control sets rest pends = refl
 brought_as Clean ends control sets rest pends = effect_as (effect_reached core_table ends control) control.requests sets rest pends
 brought_as ReplyLost ends control sets rest pends = effect_as (effect_reached core_table ends control) control.requests sets rest pends
@@ -84,9 +85,9 @@ brought_as AckLost ends control sets rest pends = effect_as (effect_reached core
 
 pub record Stood (m : Member) (t : Transfer) (trail : Trail) : Type 0 where
   pub asked : t.ends.setup ≡ setup_at m t.request
-  pub spelled : IsSpelled t.ends.setup
+  pub encoded : IsEncoded t.ends.setup
   pub fits : FitsRequest t.request
-  pub stands : StandAt core_table (sends_of t.request) trail.place (ends_at m t)
+  pub stands : EndsAreAt core_table (sends_of t.request) trail.place (ends_at m t)
   pub decided : IsAfterSetup trail.place.host
       → IsDecided t.request trail.decider (core_of_member m) trail.place.decision
 
@@ -96,9 +97,9 @@ stood_scheduled x m t trail s =
     let n = member_after m (Scheduled x) in
     record {
       asked = s.asked;
-      spelled = s.spelled;
+      encoded = s.encoded;
       fits = s.fits;
-      stands = kept_is core_table.answer_of (shape_of t.ends.setup) (sends_of t.request) trail.place t.ends
+      stands = kept_is core_table.answer_of (transfer_shape t.ends.setup) (sends_of t.request) trail.place t.ends
           (control_of_member m) (control_of_member n) s.stands refl refl;
       decided =
           λ behind. decided_stays t.request trail.decider (core_of_member m) (core_of_member n) trail.place.decision
@@ -113,9 +114,9 @@ stood_halted true m t trail s =
     let n = member_after_halt true m in
     record {
       asked = s.asked;
-      spelled = s.spelled;
+      encoded = s.encoded;
       fits = s.fits;
-      stands = kept_is core_table.answer_of (shape_of t.ends.setup) (sends_of t.request) trail.place t.ends
+      stands = kept_is core_table.answer_of (transfer_shape t.ends.setup) (sends_of t.request) trail.place t.ends
           (control_of_member m) (control_of_member n) s.stands refl refl;
       decided =
           λ behind. decided_stays t.request trail.decider (core_of_member m) (core_of_member n) trail.place.decision
@@ -146,9 +147,9 @@ stood_tried fate m t trail host s g =
     (core_of_member m) control.requests g.acts in
     record {
       asked = g.asked ∙ s.asked;
-      spelled = subst IsSpelled (sym g.asked) s.spelled;
+      encoded = subst IsEncoded (sym g.asked) s.encoded;
       fits = s.fits;
-      stands = kept_is core_table.answer_of (shape_of (member_transfer_after fate m t).setup)
+      stands = kept_is core_table.answer_of (transfer_shape (member_transfer_after fate m t).setup)
           (sends_of t.request) behind.place (member_transfer_after fate m t) control
           (control_of_member n) g.stands refl refl;
       decided =
@@ -161,7 +162,8 @@ stood_tried fate m t trail host s g =
     }
 
 -- what a try adds to both counts
-more_of : (takes sets : Bool) (n : ℕ) → more_if (takes && sets) (if sets then n else 0) ≡ (if sets then more_if takes n else 0)
+more_of : (takes sets : Bool) (n : ℕ)
+    → count_if (takes && sets) (if sets then n else 0) ≡ (if sets then count_if takes n else 0)
 more_of true true n = refl
 more_of true false n = refl
 more_of false true n = refl
@@ -173,20 +175,22 @@ pub decided_now : (fate : Fate) (m : Member) (t : Transfer) (trail : Trail) → 
     → IsDecided t.request trail.decider (core_of_member m) trail.place.decision
 decided_now fate m t trail s g takes =
     let place : Place = trail.place in
-    s.decided (effect_behind place.host (shape_of t.ends.setup) fate (decision_now core_table (ends_at m t)) place.decision place.applied (sym g.takes ∙ takes))
+    s.decided
+    (effect_behind place.host (transfer_shape t.ends.setup) fate
+    (decision_now core_table (ends_at m t)) place.decision place.applied (sym g.takes ∙ takes))
 
 try_configures : (fate : Fate) (m : Member) (t : Transfer) (trail : Trail) (rest : List BusEvent) (later : ℕ)
     → Stood m t trail → GoesBy core_table (sends_of t.request) trail.place fate (ends_at m t)
     → configurations rest ≡ (if is_configure t.request then later else 0)
     → configurations (cons_option (try_bus_event_of fate t.ends (control_of_member m)) rest)
-    ≡ (if is_configure t.request then more_if
+    ≡ (if is_configure t.request then count_if
     (takes_effect core_table fate t.ends (control_of_member m)) later else 0)
 try_configures fate m t trail rest later s g so =
     let takes = takes_effect core_table fate t.ends (control_of_member m) in
     brought_as fate t.ends (control_of_member m) (is_configure t.request) rest
     (λ takes. pends_so t.request trail.decider (core_of_member m) trail.place.decision
     (decided_now fate m t trail s g takes))
-    ∙ ap (more_if (takes && is_configure t.request)) so
+    ∙ ap (count_if (takes && is_configure t.request)) so
     ∙ more_of takes (is_configure t.request) later
 
 -- ---- whole lists
@@ -197,7 +201,7 @@ pub record Counts (request : Request) (before : ℕ) (done : List Act) (later : 
   pub took : effects before done ≡ later + before
   pub configures : configurations bus_events ≡ (if is_configure request then later else 0)
 
-one_act : (n : ℕ) (act : Act) (rest : List Act) → effects n (act ∷ rest) ≡ effects (more_if (is_effect act) n) rest
+one_act : (n : ℕ) (act : Act) (rest : List Act) → effects n (act ∷ rest) ≡ effects (count_if (is_effect act) n) rest
 one_act n Nothing rest = refl
 one_act n (Decides decision) rest = refl
 one_act n TakesEffect rest = let same : n + 1 ≡ suc n = omega arith in ap (λ (k : ℕ). effects k rest) same
@@ -209,7 +213,7 @@ none_counts : (sets : Bool) → (let none : ℕ = 0 in none ≡ (if sets then no
 none_counts true = refl
 none_counts false = refl
 
-more_before : (b : Bool) (m n : ℕ) → m + more_if b n ≡ more_if b m + n
+more_before : (b : Bool) (m n : ℕ) → m + count_if b n ≡ count_if b m + n
 more_before true m n = omega arith
 more_before false m n = refl
 
@@ -260,37 +264,37 @@ runs_as m t has = ap running has ∙ running_so t t.ends.stage (is_running t.end
 abbrev CountsTry : Fate → List MemberStep → Member → Transfer → Trail → ℕ → Option Transfer → Option Transfer → Type 0
 CountsTry fate steps m t trail n runs has =
     Counts t.request n
-    (acts (shape_of t.ends.setup)
+    (acts (transfer_shape t.ends.setup)
     (try_at fate m has ++ tries_of (member_after_try fate m runs) steps) trail.place)
-    (more_if (takes_effect_at fate m runs) (effects_in (member_after_try fate m runs) steps))
+    (count_if (takes_effect_at fate m runs) (effects_in (member_after_try fate m runs) steps))
     (cons_option (try_bus_event fate m runs) (bus_events_of_steps (member_after_try fate m runs) steps))
 
 abbrev Behind : List MemberStep → Type 0
 Behind steps = (m : Member) (t : Transfer) (trail : Trail) (n : ℕ) → m.transfer ≡ Some t → BeginsNone steps → Stood m t trail
-    → Counts t.request n (acts (shape_of t.ends.setup) (tries_of m steps) trail.place) (effects_in m steps)
+    → Counts t.request n (acts (transfer_shape t.ends.setup) (tries_of m steps) trail.place) (effects_in m steps)
     (bus_events_of_steps m steps)
 
 try_counts : (fate : Fate) (steps : List MemberStep) (m : Member) (t : Transfer) (trail : Trail) (n : ℕ) → BeginsNone steps → Stood m t trail → is_running t.ends.stage ≡ true → Behind steps
     → CountsTry fate steps m t trail n (Some t) (Some t)
 try_counts fate steps m t trail n none s runs later =
     let place : Place = trail.place in
-    let shape = shape_of t.ends.setup in
-    let g = goes_by core_table (sends_of t.request) place fate (ends_at m t) s.spelled (is_running_runs t.ends.stage runs) s.stands in
+    let shape = transfer_shape t.ends.setup in
+    let g = goes_by core_table (sends_of t.request) place fate (ends_at m t) s.encoded (is_running_runs t.ends.stage runs) s.stands in
     let act = act_now core_table place fate (ends_at m t) in
     let k = member_after_try fate m (Some t) in
     let behind : Trail = trail_on fate m t trail in
     let xs = tries_of k steps in
-    let more : ℕ = more_if (is_effect act) n in
-    let rest : Counts t.request more (acts (shape_of (member_transfer_after fate m t).setup) xs behind.place)
+    let more : ℕ = count_if (is_effect act) n in
+    let rest : Counts t.request more (acts (transfer_shape (member_transfer_after fate m t).setup) xs behind.place)
     (effects_in k steps) (bus_events_of_steps k steps)
     = later k (tried_transfer fate m t) behind more refl none (stood_tried fate m t trail k.host s g) in
     record {
       took = ap (effects n) (open_acts shape (fate, decision_now core_table (ends_at m t)) xs place (sym (runs_so core_table (sends_of t.request) place (ends_at m t) s.stands) ∙ runs))
           ∙ one_act n act (acts shape xs behind.place)
-          ∙ ap (λ (s : Shape). effects more (acts s xs behind.place)) (sym (ap shape_of g.asked))
+          ∙ ap (λ (s : Shape). effects more (acts s xs behind.place)) (sym (ap transfer_shape g.asked))
           ∙ rest.took
           ∙ more_before (is_effect act) (effects_in k steps) n
-          ∙ ap (λ (b : Bool). more_if b (effects_in k steps) + n) (sym g.takes);
+          ∙ ap (λ (b : Bool). count_if b (effects_in k steps) + n) (sym g.takes);
       configures =
           try_configures fate m t trail (bus_events_of_steps k steps) (effects_in k steps) s g rest.configures;
     }
@@ -299,7 +303,7 @@ over_counts : (fate : Fate) (steps : List MemberStep) (m : Member) (t : Transfer
     → CountsTry fate steps m t trail n None (Some t)
 over_counts fate steps m t trail n has none s over later =
     let place : Place = trail.place in
-    let shape = shape_of t.ends.setup in
+    let shape = transfer_shape t.ends.setup in
     let closed : is_open place ≡ false = sym (runs_so core_table (sends_of t.request) place (ends_at m t) s.stands) ∙ over in
     let rest = later m t trail n has none s in
     record {

@@ -10,7 +10,7 @@ use Rattle.hid_snapshots.specs.Parts.{IsInput}
 use Rattle.hid_snapshots.specs.Pieces.{is_last_piece}
 use Rattle.hid_snapshots.specs.Views.{drops_between}
 use Rattle.hid_bus.specs.DeviceHistory.{BusEvent, Own, Idles, Configures, abort_events}
-use Rattle.hid_bus.specs.DeviceHistory as lives
+use Rattle.hid_bus.specs.DeviceHistory as bus
 use Rattle.hid_bus.specs.ReportState.{ReportState, with_abort}
 use Rattle.hid_bus.specs.LinkState.{LinkState, open_report}
 use Rattle.hid_device.specs.Core.{piece_at, round_of}
@@ -26,11 +26,11 @@ use Rattle.hid_host.specs.declared.host.Transfer.{Transfer}
 use Rattle.hid_host.specs.declared.phase.HostPhase.{HostPhase}
 use Rattle.hid_host.specs.declared.phase.HostPhase.TheVariants.{Cold, Described, Parsed, Ready}
 use Rattle.hid_host.specs.declared.phase.HostState.TheVariants as states
-use Rattle.hid_host.specs.Host.{HostEnd, may_abort_round, request_aborts_round}
+use Rattle.hid_host.specs.Host.{HostDeviceState, may_abort_round, request_aborts_round}
 use Rattle.hid_host.specs.Phase.{IfReady, state_of}
-use Rattle.hid_host.specs.ResetEvents.{SuitsRound, awaited_at, awaited_report, drops_told, part_abort_events}
+use Rattle.hid_host.specs.ResetEvents.{SuitsRound, awaited_at, awaited_report, reported_drops, part_abort_events}
 use Rattle.hid_stack.specs.Members.{Member, control_of_member, events_of_event_if, host_state_after, host_state_after_try, member_transfer_after, state_after_event_if, try_bus_event}
-use Rattle.hid_stack.specs.Slot.{StandTogether, TriesOnPair, link_of, pair_member}
+use Rattle.hid_stack.specs.Slot.{AreConsistentEnds, TriesOnPair, link_of, pair_member}
 use Rattle.hid_stack.specs.Sums.{AbortsByRequest, AbortsNone, IsBetween}
 use Rattle.hid_stack.specs.StepResult.{awaited_of, drops_after_try}
 use Rattle.hid_stack.proofs.MemberLemmas.{IsEffect, brings_effect, quiet_effect}
@@ -48,7 +48,8 @@ input_awaited layout items expects (Some round) piece input = by_toggles (beq ro
     by_toggles true = input
     by_toggles false = tt
 
-pub suits_awaited : (device : DeviceState) (clearing : Bool) (phase : HostPhase) → StandTogether device clearing phase
+pub suits_awaited : (device : DeviceState) (clearing : Bool) (phase : HostPhase)
+    → AreConsistentEnds device clearing phase
     → IfReady phase (λ known. SuitsRound known.layout (round_of (core_of device)) (core_of device).reports.fixed)
     → IfSome (awaited_at phase (round_of (core_of device)) (piece_at (core_of device))) (λ r. IsInput (core_of device).layout r)
 suits_awaited device clearing Cold together suits = tt
@@ -68,14 +69,16 @@ round_suits (Parsed info layout) round parts suits = tt
 round_suits (Ready known) round parts suits = suits.input
 
 -- a report of the device is one that its host knows
-pub report_suits : (device : DeviceState) (clearing : Bool) (phase : HostPhase) (r : ℕ) → StandTogether device clearing phase → IsInput (core_of device).layout r
+pub report_suits : (device : DeviceState) (clearing : Bool) (phase : HostPhase) (r : ℕ)
+    → AreConsistentEnds device clearing phase → IsInput (core_of device).layout r
     → IfReady phase (λ known. IsInput known.layout r)
 report_suits device clearing Cold r together input = tt
 report_suits device clearing (Described info) r together input = tt
 report_suits device clearing (Parsed info layout) r together input = tt
 report_suits device clearing (Ready known) r together input = subst (λ (l : Contents). IsInput l r) (sym together.layout) input
 
-pub parts_suit : (device : DeviceState) (clearing : Bool) (phase : HostPhase) → StandTogether device clearing phase
+pub parts_suit : (device : DeviceState) (clearing : Bool) (phase : HostPhase)
+    → AreConsistentEnds device clearing phase
     → IfReady phase (λ known. FitsShown (items_of known.layout) (core_of device).reports.fixed)
 parts_suit device clearing Cold together = tt
 parts_suit device clearing (Described info) together = tt
@@ -93,9 +96,9 @@ tried_tells items s None before now is behind none gone apart = cut_nothing item
 tried_tells items s (Some (Own x)) before now is behind none gone apart = absurd is
 tried_tells items s (Some (Idles idle)) before now is behind none gone apart = cut_nothing items s (none (sym behind ∙ gone))
 tried_tells items s (Some Configures) before now is behind none gone apart = cut_nothing items s (apart refl)
-tried_tells items s (Some lives.Halts) before now is behind none gone apart = refl
-tried_tells items s (Some lives.Clears) before now is behind none gone apart = refl
-tried_tells items s (Some lives.Resets) before now is behind none gone apart = absurd is
+tried_tells items s (Some bus.Halts) before now is behind none gone apart = refl
+tried_tells items s (Some bus.Clears) before now is behind none gone apart = refl
+tried_tells items s (Some bus.Resets) before now is behind none gone apart = absurd is
 
 -- where it is open still nothing is told
 still_open : (bus_event : Option BusEvent) (before : Option ℕ) (r : ℕ) → IsOpenBehind before bus_event (Some r)
@@ -104,9 +107,9 @@ still_open None before r behind = tt
 still_open (Some (Own x)) before r behind = tt
 still_open (Some (Idles idle)) before r behind = tt
 still_open (Some Configures) before r behind = absurd (cc)
-still_open (Some lives.Halts) before r behind = absurd (cc)
-still_open (Some lives.Clears) before r behind = absurd (cc)
-still_open (Some lives.Resets) before r behind = tt
+still_open (Some bus.Halts) before r behind = absurd (cc)
+still_open (Some bus.Clears) before r behind = absurd (cc)
+still_open (Some bus.Resets) before r behind = tt
 
 -- where it is open no more, it was cut
 was_cut : (bus_event : Option BusEvent) (before : Option ℕ) → IsEffect bus_event → IsOpenBehind before bus_event None
@@ -115,9 +118,9 @@ was_cut None before is behind was_open apart none = was_open (sym behind)
 was_cut (Some (Own x)) before is behind was_open apart none = is
 was_cut (Some (Idles idle)) before is behind was_open apart none = was_open (sym behind)
 was_cut (Some Configures) before is behind was_open apart none = apart refl
-was_cut (Some lives.Halts) before is behind was_open apart none = none
-was_cut (Some lives.Clears) before is behind was_open apart none = none
-was_cut (Some lives.Resets) before is behind was_open apart none = is
+was_cut (Some bus.Halts) before is behind was_open apart none = none
+was_cut (Some bus.Clears) before is behind was_open apart none = none
+was_cut (Some bus.Resets) before is behind was_open apart none = is
 
 -- ---- what the two ends keep of it then
 
@@ -136,10 +139,10 @@ cut_keeps items s None aborted = absurd (aborted tt)
 cut_keeps items s (Some (Own x)) aborted = absurd (aborted tt)
 cut_keeps items s (Some (Idles idle)) aborted = absurd (aborted tt)
 cut_keeps items s (Some Configures) aborted = absurd (aborted tt)
-cut_keeps items s (Some lives.Halts) aborted = record { view = refl; fixed = cut_fixed (open_report s.current) s.reports }
-cut_keeps items s (Some lives.Clears) aborted =
+cut_keeps items s (Some bus.Halts) aborted = record { view = refl; fixed = cut_fixed (open_report s.current) s.reports }
+cut_keeps items s (Some bus.Clears) aborted =
     record { view = refl; fixed = cut_fixed (open_report s.current) s.reports }
-cut_keeps items s (Some lives.Resets) aborted = absurd (aborted tt)
+cut_keeps items s (Some bus.Resets) aborted = absurd (aborted tt)
 
 tried_link : (fate : Fate) (m : Member) (o : Option Transfer) (result : Result Progress StackFault) (new : Member)
     → TriesOnPair fate m o result new
@@ -190,7 +193,7 @@ tried_ready fate m (Some t) (Err fault) new tries aborts aborted ready = ap (λ 
 
 -- a host awaits a round where it is ready
 awaits_ready : (device : DeviceState) (clearing : Bool) (phase : HostPhase) (r : ℕ)
-    → StandTogether device clearing phase → awaited_of (link_of (core_of device) phase) ≡ Some r
+    → AreConsistentEnds device clearing phase → awaited_of (link_of (core_of device) phase) ≡ Some r
     → state_of phase ≡ states.Ready
 awaits_ready device clearing Cold r together is =
     let wrong : None ≡ Some r =
@@ -210,9 +213,10 @@ open_awaited : (s : LinkState) (r : ℕ) → awaited_of s ≡ Some r → s.curre
 open_awaited s r is none = let wrong : None ≡ Some r = sym (awaits_none s none) ∙ is in absurd (cc)
 
 -- a ready host tells it by its view and its layout, which are those of the link state
-drops_ready : (device : DeviceState) (clearing : Bool) (phase : HostPhase) (r : ℕ) → state_of phase ≡ states.Ready → StandTogether device clearing phase
+drops_ready : (device : DeviceState) (clearing : Bool) (phase : HostPhase) (r : ℕ) → state_of phase ≡ states.Ready
+    → AreConsistentEnds device clearing phase
     → (let s : LinkState =
-    link_of (core_of device) phase in drops_told phase r (core_of device).reports.fixed
+    link_of (core_of device) phase in reported_drops phase r (core_of device).reports.fixed
     ≡ drops_between (items_of (core_of device).layout) r s.view s.view s.reports.fixed)
 drops_ready device clearing Cold r ready together = absurd (cc)
 drops_ready device clearing (Described info) r ready together = absurd (cc)
@@ -226,14 +230,17 @@ tried_effect fate m None = tt
 tried_effect fate m (Some t) = brings_effect fate t.ends (control_of_member m)
 
 -- of the round that was awaited before it
-drops_tried : (fate : Fate) (device device_then : DeviceState) (host host_then : HostEnd) (o : Option Transfer) (result : Result Progress StackFault) (r : ℕ)
+drops_tried : (fate : Fate) (device device_then : DeviceState) (host host_then : HostDeviceState)
+    (o : Option Transfer) (result : Result Progress StackFault) (r : ℕ)
     → TriesOnPair fate (pair_member device host) o result (pair_member device_then host_then)
     → AbortsByRequest fate (pair_member device host) o
-    → StandTogether device host.clearing host.phase → StandTogether device_then host_then.clearing host_then.phase → (core_of device_then).layout ≡ (core_of device).layout
+    → AreConsistentEnds device host.clearing host.phase
+    → AreConsistentEnds device_then host_then.clearing host_then.phase
+    → (core_of device_then).layout ≡ (core_of device).layout
     → (AbortsNone (try_bus_event fate (pair_member device host) o) → ⊥)
     → awaited_of (pair_member device host).link ≡ Some r
     → (let s : LinkState =
-    (pair_member device host).link in drops_told host_then.phase r (core_of device_then).reports.fixed
+    (pair_member device host).link in reported_drops host_then.phase r (core_of device_then).reports.fixed
     ≡ drops_between (items_of (core_of device).layout) r s.view s.view s.reports.fixed)
 drops_tried fate device device_then host host_then o result r tries aborts together together_then layout aborted is =
     let m = pair_member device host in
@@ -260,13 +267,16 @@ open_tells None round phase parts = refl
 open_tells (Some report) round phase parts = refl
 
 -- what is reported after a try is what befell the device by it
-pub told_at_try : (fate : Fate) (device device_then : DeviceState) (host host_then : HostEnd) (o : Option Transfer) (result : Result Progress StackFault)
+pub told_at_try : (fate : Fate) (device device_then : DeviceState) (host host_then : HostDeviceState)
+    (o : Option Transfer) (result : Result Progress StackFault)
     → TriesOnPair fate (pair_member device host) o result (pair_member device_then host_then)
     → AbortsByRequest fate (pair_member device host) o
     → IsBetween (pair_member device host).link (try_bus_event fate (pair_member device host) o)
     → IsOpenBehind (core_of device).current (try_bus_event fate (pair_member device host) o)
     (core_of device_then).current
-    → StandTogether device host.clearing host.phase → StandTogether device_then host_then.clearing host_then.phase → (core_of device_then).layout ≡ (core_of device).layout
+    → AreConsistentEnds device host.clearing host.phase
+    → AreConsistentEnds device_then host_then.clearing host_then.phase
+    → (core_of device_then).layout ≡ (core_of device).layout
     → drops_after_try (awaited_of (link_of (core_of device) host.phase)) (round_of (core_of device_then)) host_then.phase
     (core_of device_then).reports.fixed
     ≡ events_of_event_if (items_of (core_of device).layout) (link_of (core_of device) host.phase)

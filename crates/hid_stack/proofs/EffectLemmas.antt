@@ -3,7 +3,7 @@ use Rattle.std.proofs.Common.{◌≡◌, ◌∙◌, ℕ, Bool, true, false, ◌&
 use Rattle.std.specs.Prelude.{if◌then◌else◌, length, not, ◌==◌}
 use Rattle.std.specs.Option.{option_map}
 use Rattle.std.proofs.lemmas.Bool.{cases_Bool}
-use Rattle.hid_descriptor.specs.declared.report.ReportKind.TheVariants.{Input}
+use Rattle.hid_report_descriptor.specs.declared.report.ReportKind.TheVariants.{Input}
 use Rattle.hid_layout.specs.Controls.{items_of}
 use Rattle.usb_transact.specs.declared.transaction.Fate.{Fate}
 use Rattle.usb_transact.specs.declared.transaction.Fate.TheVariants.{Clean, TokenLost, ReplyLost, AckLost}
@@ -13,7 +13,7 @@ use Rattle.usb_control.specs.Device.{Answers, Applies, Decides as Decides', DevC
 use Rattle.usb_control.specs.Host.{HostTransferState}
 use Rattle.usb_control.specs.Interleaving.{GoesBy, act_now, decision_now, is_effect, is_running}
 use Rattle.usb_control.specs.SetupBytes.{reads}
-use Rattle.usb_control.specs.Transfer.{Act, Decides, Nothing, TakesEffect, Accepted, Refused, Decision, Piece, Position, Past, Setup, Shape, Status, act_at, shape_of}
+use Rattle.usb_control.specs.Transfer.{Act, Decides, Nothing, TakesEffect, Accepted, Refused, Decision, Piece, Position, Past, Setup, Shape, Status, act_at, transfer_shape}
 use Rattle.usb_control.proofs.InterleavingLemmas.{goes_by, is_running_runs}
 use Rattle.hid_requests.specs.declared.request.Asking.{Asking}
 use Rattle.hid_requests.specs.declared.request.Request.{Request}
@@ -25,8 +25,8 @@ use Rattle.hid_device.specs.declared.decisions.PendingWrite.{PendingWrite}
 use Rattle.hid_device.specs.declared.decisions.PendingWrite.TheVariants as pendings
 use Rattle.hid_device.specs.Core.{CoreState}
 use Rattle.hid_device.specs.RequestDecisions.{Reads, Refuses, RequestDecision, Writes, writes_if}
-use Rattle.hid_device.specs.RequestTable.{core_after_write, core_table, keeps, row_decision, sets_idle_of}
-use Rattle.hid_device.specs.Outputs.{kept_place, number_of}
+use Rattle.hid_device.specs.RequestTable.{core_after_write, core_table, row_decision, sets_idle_of, sets_report}
+use Rattle.hid_device.specs.Outputs.{kept_place, report_number_of}
 use Rattle.hid_host.specs.declared.host.Transfer.{Transfer}
 use Rattle.hid_host.specs.declared.phase.HostState.{HostState}
 use Rattle.hid_stack.specs.HostInvariant.{IsDecidedBy, asking_of}
@@ -47,7 +47,7 @@ if_writes : (b : Bool) (pending : PendingWrite) → IsNoRead (writes_if b pendin
 if_writes true pending = tt
 if_writes false pending = tt
 
-keeps_writes : (core : CoreState) (len : ℕ) (place : Option ℕ) → IsNoRead (keeps core len place)
+keeps_writes : (core : CoreState) (len : ℕ) (place : Option ℕ) → IsNoRead (sets_report core len place)
 keeps_writes core len None = tt
 keeps_writes core len (Some i) = if_writes _ (pendings.Keep i)
 
@@ -62,7 +62,8 @@ idles_write false time report = idle_writes time report
 writes_only : (request : Request) (asking : Asking) (core : CoreState) → reads (setup_for request asking) ≡ false
     → IsNoRead (row_decision core (row_of request))
 writes_only requests.Configure asking core writes = tt
-writes_only (requests.Idle id time) asking core writes = idles_write (id == 0) time (number_of core.layout.reports Input id)
+writes_only (requests.Idle id time) asking core writes =
+    idles_write (id == 0) time (report_number_of core.layout.reports Input id)
 writes_only (requests.Protocol boot) asking core writes = if_writes (is_boot core.config.boot && not core.is_configured) (pendings.Protocol (protocol_of boot))
 writes_only (requests.SetReport kind id set) asking core writes = keeps_writes core (length set.items) (kept_place core.layout.reports kind id)
 writes_only requests.Halt asking core writes = if_writes core.is_configured pendings.Halt
@@ -178,7 +179,9 @@ took_so fate m t trail host s g takes =
     let act : Act = act_now core_table trail.place fate (ends_at m t) in
     let acts : is_effect act ≡ true = sym g.takes ∙ takes in
     let says = decided_now fate m t trail s g takes in
-    let writes = effect_writes trail.place.host (shape_of t.ends.setup) fate (decision_now core_table (ends_at m t)) trail.place.decision trail.place.applied acts in
+    let writes =
+    effect_writes trail.place.host (transfer_shape t.ends.setup) fate
+    (decision_now core_table (ends_at m t)) trail.place.decision trail.place.applied acts in
     let write : reads (setup_for t.request (asking_of core)) ≡ false = sym (ap (λ (x : Setup'). reads x) s.asked) ∙ writes.0 in
     let new : CoreState = (control_tried core_table fate t.ends (control_of_member m)).requests in
     let does : new ≡ core_after_write core sends core.pending =
@@ -211,7 +214,7 @@ has_effects (Halts ∷ steps) m t trail has none s =
 has_effects (Resets ∷ steps) m t trail has none s = absurd none
 has_effects (Controls fate ∷ steps) m t trail has none s = elim (cases_Bool (is_running t.ends.stage)) [
   | inl runs ↦
-      let g = goes_by core_table (sends_of t.request) trail.place fate (ends_at m t) s.spelled (is_running_runs t.ends.stage runs) s.stands in
+      let g = goes_by core_table (sends_of t.request) trail.place fate (ends_at m t) s.encoded (is_running_runs t.ends.stage runs) s.stands in
       let k = member_after_try fate m (Some t) in
       subst (λ (o : Option Transfer). HasEffectsFrom t.request trail fate steps m o) (sym (runs_as m t has ∙ ap (λ (b : Bool). if b then Some t else None) runs))
       (took_so fate m t trail k.host s g, has_effects steps k (tried_transfer fate m t) (trail_on fate m t trail) refl none (stood_tried fate m t trail k.host s g))

@@ -14,9 +14,9 @@ use Rattle.hid_requests.specs.declared.request.Request.{Request}
 use Rattle.hid_requests.specs.declared.request.Request.TheVariants as requests
 use Rattle.hid_bus.specs.ReportState.{due_where}
 use Rattle.hid_bus.specs.Rounds.{Changes, Frame, Polls}
-use Rattle.hid_bus.specs.LinkState.{LinkState, Open, expected_toggle, round_after_poll, state_after_answer, state_after_step, state_at_token, with_open_report}
+use Rattle.hid_bus.specs.LinkState.{LinkState, OpenRound, expected_toggle, round_after_poll, state_after_answer, state_after_step, state_at_token, with_open_report}
 use Rattle.hid_bus.specs.DeviceHistory.{Configures, BusEvent, RoundEnded, LinkConfigured, RoundAborted, TogglesReset, BusReset, LinkOutcome, Idles, Own, state_after_all, history_after, history_after_all, rounds_as_outcomes, flipped_toggle, outcomes_of_events, outcomes_of_event, toggle_after_outcomes, toggle_after_round}
-use Rattle.hid_bus.specs.DeviceHistory as lives
+use Rattle.hid_bus.specs.DeviceHistory as bus
 use Rattle.hid_host.specs.declared.fault.StackFault.{StackFault}
 use Rattle.hid_host.specs.declared.fault.StackFault.TheVariants.{Control, NotReady}
 use Rattle.usb_control.specs.declared.fault.ControlFault.TheVariants.{Busy}
@@ -36,8 +36,8 @@ use Rattle.hid_bus.specs.declared.step.Step.TheVariants.{Change as ChangeStep, F
 use Rattle.hid_bus.specs.declared.step.Told.{Told}
 use Rattle.hid_host.specs.declared.fault.StackFault.TheVariants as faults
 use Rattle.hid_stack.specs.Attaching.{member_at_start}
-use Rattle.hid_stack.specs.Members.{Begins, Controls, Halts, Member, MemberStep, Resets, Scheduled, begin_refusal_at, control_of_member, expected_toggle_of, expects_after, host_state_after, host_state_after_try, member_after, member_after_begin, member_after_halt, member_after_try, member_after_try_in, member_held_toggle, member_out_of_memory, member_transfer_after, poll_bus_event, polls_it, state_after_event_if, try_bus_event}
-use Rattle.hid_stack.specs.Rig.{bus_after, bus_after_all, bus_after_refusal, member_at, one_after, one_unconcluded, with_member}
+use Rattle.hid_stack.specs.Members.{Begins, Controls, Halts, Member, MemberStep, Resets, Scheduled, begin_refusal_at, control_of_member, expected_toggle_after_try, expected_toggle_of, host_state_after, host_state_after_try, member_after, member_after_begin, member_after_halt, member_after_try, member_after_try_in, member_held_toggle, member_out_of_memory, member_transfer_after, poll_bus_event, polls_it, state_after_event_if, try_bus_event}
+use Rattle.hid_stack.specs.Rig.{bus_after, bus_after_all, bus_after_refusal, member_at, bus_after_member_step, bus_after_try_out_of_memory, with_member}
 use Rattle.hid_stack.proofs.MemberLemmas.{IsEffect, brings_effect}
 
 -- ---- polls of a halted endpoint
@@ -50,7 +50,7 @@ opened_by_halted items s (Some r) = refl
 opened_halted : (items : List Item) (s : LinkState) → (state_at_token items s).halted ≡ s.halted
 opened_halted items s =
     elim s.current as
-    (λ (o : Option Open).
+    (λ (o : Option OpenRound).
     (elim o as
     (λ _. LinkState) [
       | Some round ↦ s
@@ -59,7 +59,7 @@ opened_halted items s =
     ]).halted ≡ s.halted)
     [ Some round ↦ refl | None ↦ opened_by_halted items s (due_where items s.halted s.reports) ]
 
-polled_halted : (items : List Item) (s : LinkState) (round : Open) (fate : Fate)
+polled_halted : (items : List Item) (s : LinkState) (round : OpenRound) (fate : Fate)
     → (round_after_poll items s round fate).halted ≡ s.halted
 polled_halted items s round Clean = refl
 polled_halted items s round TokenLost = refl
@@ -70,7 +70,7 @@ answered_halted : (items : List Item) (s : LinkState) (fate : Fate)
     → (state_after_answer items s fate).halted ≡ s.halted
 answered_halted items s fate =
     elim s.current as
-    (λ (o : Option Open).
+    (λ (o : Option OpenRound).
     (elim o as (λ _. LinkState) [ None ↦ s | Some round ↦ round_after_poll items s round fate ]).halted
     ≡ s.halted)
     [ None ↦ refl | Some round ↦ polled_halted items s round fate ]
@@ -176,9 +176,9 @@ effect_even items s None is even = even
 effect_even items s (Some (Own x)) is even = absurd is
 effect_even items s (Some (Idles idle)) is even = even
 effect_even items s (Some Configures) is even = refl
-effect_even items s (Some lives.Halts) is even = even
-effect_even items s (Some lives.Clears) is even = refl
-effect_even items s (Some lives.Resets) is even = absurd is
+effect_even items s (Some bus.Halts) is even = even
+effect_even items s (Some bus.Clears) is even = refl
+effect_even items s (Some bus.Resets) is even = absurd is
 
 pub tried_effect : (fate : Fate) (m : Member) (t : Transfer) → IsEffect (try_bus_event fate m (Some t))
 tried_effect fate m t = brings_effect fate t.ends (control_of_member m)
@@ -224,7 +224,8 @@ tried_holds fate m t host runs same stays h =
     let needs : may_begin t.request m.host ≡ true = subst (λ (o : Option Transfer). IfSome o (λ u. may_begin u.request m.host ≡ true)) runs h.needs in
     let pends : t.request ≡ requests.Clear → m.clearing ≡ true = subst (λ (o : Option Transfer). IfSome o (λ u. u.request ≡ requests.Clear → m.clearing ≡ true)) runs h.pends in
     record {
-      held = held_self host (n.link.halted || n.clearing) (expects_after stage t.request (expected_toggle_of m))
+      held = held_self host (n.link.halted || n.clearing)
+          (expected_toggle_after_try stage t.request (expected_toggle_of m))
           (expected_toggle n.link);
       even = λ apart. effect_even (items_of m.layout) m.link (try_bus_event fate m (Some t)) (tried_effect fate m t)
           (h.even (λ ready. apart (stays ready)));
@@ -286,7 +287,7 @@ member_holds members device m all h = by_number (eqb device 0) h
     by_number true k = absurd (cc)
     by_number false k = at_place members (device - 1) m all k
 
-one_holds : (members : List Member) (device : ℕ) (x : MemberStep) → AllHoldToggles members → AllHoldToggles (one_after members device x)
+one_holds : (members : List Member) (device : ℕ) (x : MemberStep) → AllHoldToggles members → AllHoldToggles (bus_after_member_step members device x)
 one_holds members device x all = by_member (member_at members device) refl
   where
     by_member : (o : Option Member) → member_at members device ≡ o → AllHoldToggles (elim o as (λ _. List Member) [ None ↦ members | Some m ↦ with_member members device (member_after m x) ])
@@ -308,7 +309,7 @@ pub all_hold : (members : List Member) (steps : List Step) → AllHoldToggles me
 all_hold members [] all = all
 all_hold members (x ∷ steps) all = all_hold (bus_after members x) steps (bus_holds members x all)
 
-tries_hold : (members : List Member) (device : ℕ) (fate : Fate) → AllHoldToggles members → AllHoldToggles (one_unconcluded members device fate)
+tries_hold : (members : List Member) (device : ℕ) (fate : Fate) → AllHoldToggles members → AllHoldToggles (bus_after_try_out_of_memory members device fate)
 tries_hold members device fate all = by_member (member_at members device) refl
   where
     by_member : (o : Option Member) → member_at members device ≡ o

@@ -5,19 +5,19 @@ use Rattle.usb_transact.specs.declared.transaction.Fate.{Fate}
 use Rattle.usb_transact.specs.declared.transaction.Fate.TheVariants.{Clean, TokenLost, ReplyLost, AckLost}
 use Rattle.usb_control.specs.declared.setup.Setup.{Setup as Request'}
 use Rattle.usb_control.specs.TryFunctions.{AppliesBy, PreparesBy}
-use Rattle.usb_control.specs.Transfer.{Act, Acts, Decides, Nothing, TakesEffect, Shape, shape_of, Decision, Accepted, Refused, decision_of, Position, Setup, Piece, Status, Past, Place, act_at, place_after_try_at, place_after_setup, place_after_piece, applies, data_pieces, place_after_decision}
+use Rattle.usb_control.specs.Transfer.{Act, Acts, Decides, Nothing, TakesEffect, Shape, transfer_shape, Decision, Accepted, Refused, decision_of, Position, Setup, Piece, Status, Past, Place, act_at, place_after_try_at, place_after_setup, place_after_piece, applies, data_pieces, place_after_decision}
 use Rattle.hid_requests.specs.declared.request.Request.{Request}
 use Rattle.hid_requests.specs.declared.request.Request.TheVariants as requests
 use Rattle.hid_requests.specs.declared.request.Asking.{Asking}
 use Rattle.hid_requests.specs.RequestSetup.{FitsRequest, IsOfReports, row_of, setup_for}
-use Rattle.hid_requests.proofs.AskedLemmas.{asked_so}
+use Rattle.hid_requests.proofs.RequestKindLemmas.{asked_so}
 use Rattle.hid_device.specs.declared.decisions.PendingWrite.{PendingWrite}
 use Rattle.hid_device.specs.declared.decisions.PendingWrite.TheVariants as pendings
 use Rattle.hid_device.specs.Core.{CoreState}
 use Rattle.hid_device.specs.RequestDecisions.{RequestDecision, Refuses, Reads, Writes, is_accepted, writes_if}
 use Rattle.hid_device.specs.RequestTable.{core_after_decision, core_after_write, core_table, decide, decision_on, row_decision}
 use Rattle.hid_stack.specs.HostInvariant.{IsAfterSetup, IsDecided, IsDecidedBy, StartsAtData0}
-use Rattle.hid_stack.specs.Trails.{decider_after}
+use Rattle.hid_stack.specs.Trails.{deciding_state_after}
 use Rattle.hid_stack.proofs.PlacesLemmas.{accepted_reaches, piece_decision, refused_applied, silent_host, silent_stays}
 
 -- what a device was made with stays, and so does its configuration
@@ -158,44 +158,51 @@ setup_behind AckLost count decision place at behind =
 setup_behind Clean count decision place at behind = refl
 
 by_setup : (request : Request) (asking : Asking) (setup : Request') (bytes : List ℕ) (fate : Fate) (decision : Decision) (place : Place) (decider old new : CoreState) → FitsRequest request → IsOfReports request asking → setup ≡ setup_for request asking
-    → ActsOn setup bytes (act_at Setup (shape_of setup) fate decision place.decision place.applied) old new → fate ≡ Clean
+    → ActsOn setup bytes (act_at Setup (transfer_shape setup) fate decision place.decision place.applied) old new
+    → fate ≡ Clean
     → IsDecided request
-    (decider_after (act_at Setup (shape_of setup) fate decision place.decision place.applied) old decider) new
-    (place_after_setup fate (data_pieces (shape_of setup) decision) decision place).decision
+    (deciding_state_after
+    (act_at Setup (transfer_shape setup) fate decision place.decision place.applied) old decider) new
+    (place_after_setup fate (data_pieces (transfer_shape setup) decision) decision place).decision
 by_setup request asking setup bytes Clean decision place decider old new fits known asks (said, gives, is) clean = decided_so request asking setup old new said decision fits known asks gives.0 gives.1 is
 by_setup request asking setup bytes TokenLost decision place decider old new fits known asks acts clean = absurd (cc)
 by_setup request asking setup bytes ReplyLost decision place decider old new fits known asks acts clean = absurd (cc)
 by_setup request asking setup bytes AckLost decision place decider old new fits known asks acts clean = absurd (cc)
 
 -- a device that decides nothing decided before
-quiet_decider : (act : Act) (core decider : CoreState) → IsQuiet act → decider_after act core decider ≡ decider
+quiet_decider : (act : Act) (core decider : CoreState) → IsQuiet act → deciding_state_after act core decider ≡ decider
 quiet_decider Nothing core decider quiet = refl
 quiet_decider (Decides decision) core decider quiet = absurd quiet
 quiet_decider TakesEffect core decider quiet = refl
 
 later : (request : Request) (setup : Request') (bytes : List ℕ) (fate : Fate) (decision : Decision) (p : Position) (place : Place) (decider old new : CoreState) → p ≢ Setup
-    → ActsOn setup bytes (act_at p (shape_of setup) fate decision place.decision place.applied) old new → IsDecided request decider old place.decision
+    → ActsOn setup bytes (act_at p (transfer_shape setup) fate decision place.decision place.applied) old new
+    → IsDecided request decider old place.decision
     → IsDecided request
-    (decider_after (act_at p (shape_of setup) fate decision place.decision place.applied) old decider) new
-    (place_after_piece (shape_of setup) fate place.decision place).decision
+    (deciding_state_after
+    (act_at p (transfer_shape setup) fate decision place.decision place.applied) old decider) new
+    (place_after_piece (transfer_shape setup) fate place.decision place).decision
 later request setup bytes fate decision p place decider old new apart acts h =
-    let act = act_at p (shape_of setup) fate decision place.decision place.applied in
-    let quiet = behind_at p (shape_of setup) fate decision apart place.decision place.applied in
-    subst (λ (d : Decision). IsDecided request (decider_after act old decider) new d)
-    (sym (piece_decision (shape_of setup) fate place.decision place))
+    let act = act_at p (transfer_shape setup) fate decision place.decision place.applied in
+    let quiet = behind_at p (transfer_shape setup) fate decision apart place.decision place.applied in
+    subst (λ (d : Decision). IsDecided request (deciding_state_after act old decider) new d)
+    (sym (piece_decision (transfer_shape setup) fate place.decision place))
     (subst (λ (c : CoreState). IsDecided request c new place.decision) (sym (quiet_decider act old decider quiet))
     (decided_stays request decider old new place.decision (acts_go setup bytes act old new acts) (quiet_pends setup bytes act old new quiet acts) h))
 
 -- what was decided after SETUP, after a try
 pub decided_behind : (request : Request) (asking : Asking) (setup : Request') (bytes : List ℕ) (fate : Fate) (decision : Decision) (p : Position) (place : Place) (decider old new : CoreState)
-    → FitsRequest request → IsOfReports request asking → setup ≡ setup_for request asking → place.host ≡ p → ActsOn setup bytes (act_at p (shape_of setup) fate decision place.decision place.applied) old new
+    → FitsRequest request → IsOfReports request asking → setup ≡ setup_for request asking → place.host ≡ p
+    → ActsOn setup bytes (act_at p (transfer_shape setup) fate decision place.decision place.applied) old new
     → (IsAfterSetup p → IsDecided request decider old place.decision)
-    → IsAfterSetup (place_after_try_at p (shape_of setup) fate decision place).host
+    → IsAfterSetup (place_after_try_at p (transfer_shape setup) fate decision place).host
     → IsDecided request
-    (decider_after (act_at p (shape_of setup) fate decision place.decision place.applied) old decider) new
-    (place_after_try_at p (shape_of setup) fate decision place).decision
+    (deciding_state_after
+    (act_at p (transfer_shape setup) fate decision place.decision place.applied) old decider) new
+    (place_after_try_at p (transfer_shape setup) fate decision place).decision
 decided_behind request asking setup bytes fate decision Setup place decider old new fits known asks at acts before behind =
-    by_setup request asking setup bytes fate decision place decider old new fits known asks acts (setup_behind fate (data_pieces (shape_of setup) decision) decision place at behind)
+    by_setup request asking setup bytes fate decision place decider old new fits known asks acts
+    (setup_behind fate (data_pieces (transfer_shape setup) decision) decision place at behind)
 decided_behind request asking setup bytes fate decision (Piece k) place decider old new fits known asks at acts before behind =
     later request setup bytes fate decision (Piece k) place decider old new (λ e. cc) acts (before tt)
 decided_behind request asking setup bytes fate decision Status place decider old new fits known asks at acts before behind =
@@ -324,42 +331,56 @@ setup_effect Clean count decision place h = absurd (cc)
 pub effect_at : {pending : PendingWrite} {holds : CoreState → Type 0} → Brings pending holds
     → (setup : Request') (bytes : List ℕ) (fate : Fate) (p : Position) (decision q : Decision) (place : Place)
     (old new : CoreState)
-    → (shape_of setup).reads ≡ false → place.host ≡ p → place.decision ≡ q
+    → (transfer_shape setup).reads ≡ false → place.host ≡ p → place.decision ≡ q
     → (IsAfterSetup p → IsAccepted q → old.pending ≡ pending) → (place.applied ≡ true → holds old)
-    → ActsOn setup bytes (act_at p (shape_of setup) fate decision q place.applied) old new
-    → (place_after_try_at p (shape_of setup) fate decision place).applied ≡ true → holds new
+    → ActsOn setup bytes (act_at p (transfer_shape setup) fate decision q place.applied) old new
+    → (place_after_try_at p (transfer_shape setup) fate decision place).applied ≡ true → holds new
 effect_at brings setup bytes fate Setup decision q place old new writes at held pends effect acts h =
-    let e = setup_effect fate (data_pieces (shape_of setup) decision) decision place h in
-    acts_keep brings setup bytes (act_at Setup (shape_of setup) fate decision q place.applied) old new (setup_keeps (shape_of setup) fate decision q place.applied) acts (effect e.1)
+    let e = setup_effect fate (data_pieces (transfer_shape setup) decision) decision place h in
+    acts_keep brings setup bytes (act_at Setup (transfer_shape setup) fate decision q place.applied) old new
+    (setup_keeps (transfer_shape setup) fate decision q place.applied) acts (effect e.1)
 effect_at brings setup bytes fate (Piece k) decision Refused place old new writes at held pends effect acts h =
-    acts_keep brings setup bytes (act_at (Piece k) (shape_of setup) fate decision Refused place.applied) old new (piece_keeps k (shape_of setup) fate decision Refused place.applied) acts
-    (effect (sym (refused_applied (shape_of setup) fate place)
-    ∙ ap (λ (d : Decision). (place_after_piece (shape_of setup) fate d place).applied) (sym held) ∙ h))
+    acts_keep brings setup bytes (act_at (Piece k) (transfer_shape setup) fate decision Refused place.applied) old new
+    (piece_keeps k (transfer_shape setup) fate decision Refused place.applied) acts
+    (effect (sym (refused_applied (transfer_shape setup) fate place)
+    ∙ ap (λ (d : Decision). (place_after_piece (transfer_shape setup) fate d place).applied) (sym held) ∙ h))
 effect_at brings setup bytes fate Status decision Refused place old new writes at held pends effect acts h =
-    acts_keep brings setup bytes (act_at Status (shape_of setup) fate decision Refused place.applied) old new (refused_keeps (shape_of setup) fate decision place.applied) acts
-    (effect (sym (refused_applied (shape_of setup) fate place)
-    ∙ ap (λ (d : Decision). (place_after_piece (shape_of setup) fate d place).applied) (sym held) ∙ h))
+    acts_keep brings setup bytes (act_at Status (transfer_shape setup) fate decision Refused place.applied) old new
+    (refused_keeps (transfer_shape setup) fate decision place.applied) acts
+    (effect (sym (refused_applied (transfer_shape setup) fate place)
+    ∙ ap (λ (d : Decision). (place_after_piece (transfer_shape setup) fate d place).applied) (sym held) ∙ h))
 effect_at brings setup bytes fate Past decision Refused place old new writes at held pends effect acts h =
-    acts_keep brings setup bytes (act_at Past (shape_of setup) fate decision Refused place.applied) old new (past_keeps (shape_of setup) fate decision Refused place.applied) acts
-    (effect (sym (refused_applied (shape_of setup) fate place)
-    ∙ ap (λ (d : Decision). (place_after_piece (shape_of setup) fate d place).applied) (sym held) ∙ h))
+    acts_keep brings setup bytes (act_at Past (transfer_shape setup) fate decision Refused place.applied) old new
+    (past_keeps (transfer_shape setup) fate decision Refused place.applied) acts
+    (effect (sym (refused_applied (transfer_shape setup) fate place)
+    ∙ ap (λ (d : Decision). (place_after_piece (transfer_shape setup) fate d place).applied) (sym held) ∙ h))
 effect_at brings setup bytes fate (Piece k) decision (Accepted answer) place old new writes at held pends effect acts h =
     let took =
-    sym (accepted_reaches (shape_of setup) fate answer place).applied
-    ∙ ap (λ (d : Decision). (place_after_piece (shape_of setup) fate d place).applied) (sym held) ∙ h in
-    let here : applies (shape_of setup) fate (Piece k) || place.applied ≡ true = sym (ap (λ (x : Position). applies (shape_of setup) fate x || place.applied) at) ∙ took in
-    acts_keep brings setup bytes (act_at (Piece k) (shape_of setup) fate decision (Accepted answer) place.applied) old new (piece_keeps k (shape_of setup) fate decision (Accepted answer) place.applied) acts
-    (effect (or_false (applies (shape_of setup) fate (Piece k)) place.applied (applies_piece (shape_of setup) fate k) here))
+    sym (accepted_reaches (transfer_shape setup) fate answer place).applied
+    ∙ ap (λ (d : Decision). (place_after_piece (transfer_shape setup) fate d place).applied) (sym held) ∙ h in
+    let here : applies (transfer_shape setup) fate (Piece k) || place.applied ≡ true =
+    sym (ap (λ (x : Position). applies (transfer_shape setup) fate x || place.applied) at) ∙ took in
+    acts_keep brings setup bytes
+    (act_at (Piece k) (transfer_shape setup) fate decision (Accepted answer) place.applied) old new
+    (piece_keeps k (transfer_shape setup) fate decision (Accepted answer) place.applied) acts
+    (effect (or_false (applies (transfer_shape setup) fate (Piece k)) place.applied
+    (applies_piece (transfer_shape setup) fate k) here))
 effect_at brings setup bytes fate Past decision (Accepted answer) place old new writes at held pends effect acts h =
     let took =
-    sym (accepted_reaches (shape_of setup) fate answer place).applied
-    ∙ ap (λ (d : Decision). (place_after_piece (shape_of setup) fate d place).applied) (sym held) ∙ h in
-    let here : applies (shape_of setup) fate Past || place.applied ≡ true = sym (ap (λ (x : Position). applies (shape_of setup) fate x || place.applied) at) ∙ took in
-    acts_keep brings setup bytes (act_at Past (shape_of setup) fate decision (Accepted answer) place.applied) old new (past_keeps (shape_of setup) fate decision (Accepted answer) place.applied) acts
-    (effect (or_false (applies (shape_of setup) fate Past) place.applied (applies_past (shape_of setup) fate) here))
+    sym (accepted_reaches (transfer_shape setup) fate answer place).applied
+    ∙ ap (λ (d : Decision). (place_after_piece (transfer_shape setup) fate d place).applied) (sym held) ∙ h in
+    let here : applies (transfer_shape setup) fate Past || place.applied ≡ true =
+    sym (ap (λ (x : Position). applies (transfer_shape setup) fate x || place.applied) at) ∙ took in
+    acts_keep brings setup bytes
+    (act_at Past (transfer_shape setup) fate decision (Accepted answer) place.applied) old new
+    (past_keeps (transfer_shape setup) fate decision (Accepted answer) place.applied) acts
+    (effect (or_false (applies (transfer_shape setup) fate Past) place.applied
+    (applies_past (transfer_shape setup) fate) here))
 effect_at brings setup bytes fate Status decision (Accepted answer) place old new writes at held pends effect acts h =
     let took =
-    sym (accepted_reaches (shape_of setup) fate answer place).applied
-    ∙ ap (λ (d : Decision). (place_after_piece (shape_of setup) fate d place).applied) (sym held) ∙ h in
-    let here : applies (shape_of setup) fate Status || place.applied ≡ true = sym (ap (λ (x : Position). applies (shape_of setup) fate x || place.applied) at) ∙ took in
-    status_effect brings (shape_of setup) setup bytes fate answer decision place.applied old new writes (pends tt tt) effect acts here
+    sym (accepted_reaches (transfer_shape setup) fate answer place).applied
+    ∙ ap (λ (d : Decision). (place_after_piece (transfer_shape setup) fate d place).applied) (sym held) ∙ h in
+    let here : applies (transfer_shape setup) fate Status || place.applied ≡ true =
+    sym (ap (λ (x : Position). applies (transfer_shape setup) fate x || place.applied) at) ∙ took in
+    status_effect brings (transfer_shape setup) setup bytes fate answer decision place.applied old new writes
+    (pends tt tt) effect acts here

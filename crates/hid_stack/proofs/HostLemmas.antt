@@ -2,13 +2,13 @@
 use Rattle.std.proofs.Common.{rules, ◌≡◌, ◌⊎◌, inl, inr, ℕ, true, List, [], ◌∷◌, length, Result, Ok, Err, refl, ap, sym, ◌∙◌, subst, arith}
 use Rattle.std.specs.Prelude.{◌<◌, ◌^◌}
 use Rattle.std.specs.List.{concat}
-use Rattle.hid_descriptor.specs.Laws.{HasOneReading, AcceptsNoRefused}
+use Rattle.hid_report_descriptor.specs.Laws.{HasOneReading, AcceptsNoRefused}
 use Rattle.hid_layout.specs.Layout.{Contents, layout_of}
 use Rattle.usb_control.specs.declared.descriptors.ConfigInfo.{ConfigInfo}
 use Rattle.usb_control.specs.declared.descriptors.DeviceInfo.{DeviceInfo}
 use Rattle.usb_control.specs.declared.fault.InfoFault.{InfoFault}
 use Rattle.usb_control.specs.declared.fault.InfoFault.TheVariants.{TooShort, WrongType, NoHidInterface, NoReportDescriptor, NoEndpoint}
-use Rattle.usb_control.specs.Descriptors.{IsDevice, IsWalk, ReadsConfig, config_of}
+use Rattle.usb_control.specs.Descriptors.{IsDevice, IsWalk, ReadsConfig, configuration_of}
 use Rattle.usb_control.proofs.WalkLemmas.{goes_on}
 use Rattle.hid_requests.specs.declared.request.Request.{Request}
 use Rattle.hid_requests.specs.declared.request.Request.TheVariants as requests
@@ -22,9 +22,9 @@ use Rattle.hid_host.specs.declared.fault.StackFault.TheVariants.{NoDevice, NotRe
 use Rattle.hid_host.specs.declared.fault.DescriptorFault.TheVariants.{Info, ReportLength, Layout, Device}
 use Rattle.hid_host.specs.declared.phase.HostPhase.{HostPhase}
 use Rattle.hid_host.specs.declared.phase.HostPhase.TheVariants.{Cold, Described, Parsed, Ready}
-use Rattle.hid_host.specs.Conclusions.{ConfigRead, Configured, DeviceRead, Makes, ReportRead, leads_to, phase_made}
+use Rattle.hid_host.specs.Conclusions.{Concludes, ConfigRead, Configured, DeviceRead, ReportRead, phase_after_answer, phase_or_fault}
 use Rattle.hid_host.specs.Host.{conclusion_result}
-use Rattle.hid_stack.specs.HostInvariant.{HasEffect, IsConsistentAt, IsNoRefusal, info_of}
+use Rattle.hid_stack.specs.HostInvariant.{HasEffect, IsConsistentAt, IsNoRefusal, phase_info}
 use Rattle.hid_host.specs.Phase.{cleared_phase, may_begin, state_of}
 
 -- ---- a configuration is read in one way
@@ -38,8 +38,9 @@ one_walk bytes (d ∷ ds) es w v =
     let g = goes_on d (concat ds) es w.each.0 (subst (λ (b : List ℕ). IsWalk b es) (sym w.whole) v) in
     ap (λ (xs : List (List ℕ)). d ∷ xs) (one_walk (concat ds) ds g.rest (record { each = w.each.1; whole = refl }) g.walk) ∙ sym g.split
 
-read_by : (bytes : List ℕ) (ds es : List (List ℕ)) (info : ConfigInfo) (r : Result ConfigInfo InfoFault) → IsWalk bytes ds → IsWalk bytes es → Ok info ≡ config_of ds → r ≡ config_of es → r ≡ Ok info
-read_by bytes ds es info r w v is_ok is = is ∙ ap config_of (sym (one_walk bytes ds es w v)) ∙ sym is_ok
+read_by : (bytes : List ℕ) (ds es : List (List ℕ)) (info : ConfigInfo) (r : Result ConfigInfo InfoFault)
+    → IsWalk bytes ds → IsWalk bytes es → Ok info ≡ configuration_of ds → r ≡ configuration_of es → r ≡ Ok info
+read_by bytes ds es info r w v is_ok is = is ∙ ap configuration_of (sym (one_walk bytes ds es w v)) ∙ sym is_ok
 
 one_config : (bytes : List ℕ) (info : ConfigInfo) (r : Result ConfigInfo InfoFault) → ReadsConfig bytes (Ok info) → ReadsConfig bytes r → r ≡ Ok info
 one_config bytes info (Ok other) (ds, walk, first, is) (es, walk', first', is') = read_by bytes ds es info (Ok other) walk walk' is is'
@@ -109,34 +110,40 @@ report_is one apart info bytes layout (Err TooManyDevices) lays long h = absurd 
 -- the bytes that a virtual device gave
 abbrev pub IsAnswer : Request → CoreState → List ℕ → Type 0
 IsAnswer requests.Device core bytes = bytes ≡ device_bytes (device_info core.config)
-IsAnswer requests.Config core bytes = bytes ≡ configuration_bytes (info_of core) core.config.interval
+IsAnswer requests.Config core bytes = bytes ≡ configuration_bytes (phase_info core) core.config.interval
 IsAnswer requests.Report core bytes = bytes ≡ core.descriptor
 IsAnswer _ core bytes = Unit {0}
 
 -- the host knows its device after it, and nothing was refused
 pub record Learns (addr : ℕ) (phase : HostPhase) (core : CoreState) (made : Result HostPhase StackFault) : Type 0 where
-  pub knows : IsConsistentAt (phase_made phase made) addr core
+  pub knows : IsConsistentAt (phase_after_answer phase made) addr core
   pub told : IsNoRefusal (conclusion_result made)
 
 learns_so : (addr : ℕ) (phase : HostPhase) (core : CoreState) (made other : Result HostPhase StackFault) → made ≡ other → Learns addr phase core other → Learns addr phase core made
 learns_so addr phase core made other is h = subst (λ (m : Result HostPhase StackFault). Learns addr phase core m) (sym is) h
 
-pub fits_info : (core : CoreState) → length core.descriptor < 2 ^ 16 → FitsConfig (info_of core)
+pub fits_info : (core : CoreState) → length core.descriptor < 2 ^ 16 → FitsConfig (phase_info core)
 fits_info core short = record { report_length = short; endpoint = search rules }
 
 report_learned : HasOneReading → AcceptsNoRefused
     → (addr : ℕ) (info : ConfigInfo) (core : CoreState) (bytes : List ℕ) (read : Result Contents StackFault)
     → ParsesTo core.descriptor core.layout
-    → info ≡ info_of core → bytes ≡ core.descriptor → ReportRead info bytes read → Learns addr (Described info) core (leads_to (Parsed info) read)
+    → info ≡ phase_info core → bytes ≡ core.descriptor → ReportRead info bytes read
+    → Learns addr (Described info) core (phase_or_fault (Parsed info) read)
 report_learned one apart addr info core bytes read lays knows is h =
     elim (report_is one apart info bytes core.layout read
     (subst (λ (b : List ℕ). ParsesTo b core.layout) (sym is) lays)
     (ap (λ (b : List ℕ). length b) is ∙ ap (λ (i : ConfigInfo). i.report_length) (sym knows)) h) [
-      | inl ok ↦ learns_so addr (Described info) core _ (Ok (Parsed info core.layout)) (ap (leads_to (Parsed info)) ok) (record { knows = (knows, refl); told = tt })
-      | inr none ↦ learns_so addr (Described info) core _ (Err Memory) (ap (leads_to (Parsed info)) none) (record { knows = knows; told = tt })
+      | inl ok ↦
+          learns_so addr (Described info) core _ (Ok (Parsed info core.layout)) (ap (phase_or_fault (Parsed info)) ok)
+          (record { knows = (knows, refl); told = tt })
+      | inr none ↦
+          learns_so addr (Described info) core _ (Err Memory) (ap (phase_or_fault (Parsed info)) none)
+          (record { knows = knows; told = tt })
     ]
 
-configured_learned : (addr : ℕ) (info : ConfigInfo) (layout : Contents) (core : CoreState) (made : Result HostPhase StackFault) → info ≡ info_of core → layout ≡ core.layout → core.is_configured ≡ true
+configured_learned : (addr : ℕ) (info : ConfigInfo) (layout : Contents) (core : CoreState)
+    (made : Result HostPhase StackFault) → info ≡ phase_info core → layout ≡ core.layout → core.is_configured ≡ true
     → Configured addr info layout made → Learns addr (Parsed info layout) core made
 configured_learned addr info layout core (Ok next) says laid took is = record {
   knows = subst (λ (p : HostPhase). IsConsistentAt p addr core) (sym is)
@@ -156,12 +163,18 @@ cleared_known (Ready known) addr core knows = knows
 pub learned : HasOneReading → AcceptsNoRefused → (addr : ℕ) (request : Request) (phase : HostPhase) (core : CoreState) (bytes : List ℕ) (made : Result HostPhase StackFault)
     → ParsesTo core.descriptor core.layout → length core.descriptor < 2 ^ 16 → IsConsistentAt phase addr core
     → may_begin request (state_of phase) ≡ true → IsAnswer request core bytes → HasEffect request core
-    → Makes addr request phase bytes made → Learns addr phase core made
+    → Concludes addr request phase bytes made → Learns addr phase core made
 learned one apart addr requests.Device phase core bytes made lays short knows needs answer effect (read, h, is) =
-    learns_so addr phase core made (Ok phase) (is ∙ ap (leads_to (λ _. phase)) (device_is bytes (device_info core.config) read answer h)) (record { knows = knows; told = tt })
+    learns_so addr phase core made (Ok phase)
+    (is ∙ ap (phase_or_fault (λ _. phase)) (device_is bytes (device_info core.config) read answer h))
+    (record { knows = knows; told = tt })
 learned one apart addr requests.Config phase core bytes made lays short knows needs answer effect (read, h, is) =
-    let reads : ReadsConfig bytes (Ok (info_of core)) = subst (λ (b : List ℕ). ReadsConfig b (Ok (info_of core))) (sym answer) (configuration_read (info_of core) core.config.interval (fits_info core short)) in
-    learns_so addr phase core made (Ok (Described (info_of core))) (is ∙ ap (leads_to Described) (config_is bytes (info_of core) read reads h)) (record { knows = refl; told = tt })
+    let reads : ReadsConfig bytes (Ok (phase_info core)) =
+    subst (λ (b : List ℕ). ReadsConfig b (Ok (phase_info core))) (sym answer)
+    (configuration_read (phase_info core) core.config.interval (fits_info core short)) in
+    learns_so addr phase core made (Ok (Described (phase_info core)))
+    (is ∙ ap (phase_or_fault Described) (config_is bytes (phase_info core) read reads h))
+    (record { knows = refl; told = tt })
 learned one apart addr requests.Report (Described info) core bytes made lays short knows needs answer effect (read, h, is) =
     learns_so addr (Described info) core made _ is (report_learned one apart addr info core bytes read lays knows answer h)
 learned one apart addr requests.Report Cold core bytes made lays short knows needs answer effect is = absurd (cc)

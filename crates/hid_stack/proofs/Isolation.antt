@@ -25,9 +25,9 @@ use Rattle.hid_bus.specs.declared.step.Delivered.{Delivered}
 use Rattle.hid_bus.specs.Delivered.{from_device}
 use Rattle.hid_bus.proofs.DeliveredLemmas.{from_append}
 use Rattle.hid_stack.specs.Members.{Member, MemberStep, Scheduled, Begins, Controls, Halts, Resets, bus_event_of_step, bus_events_of_steps, events_of_event_if, member_after, member_after_all}
-use Rattle.hid_stack.specs.Rig.{HasOnlySchedule, member_at, with_member, one_after, bus_after, with_device_number, member_deliveries, deliveries_of_step, bus_after_all, deliveries_of_steps, is_scheduled, member_step, member_steps, own_step, device_steps, IsIsolated}
-use Rattle.hid_stack.specs.Headline.{DeliversChanges, DevicesLive, KeepsToRounds}
-use Rattle.hid_bus.proofs.HistoryEventLemmas.{lives_on}
+use Rattle.hid_stack.specs.Rig.{HasOnlySchedule, member_at, with_member, bus_after_member_step, bus_after, with_device_number, member_deliveries, deliveries_of_step, bus_after_all, deliveries_of_steps, is_scheduled, member_step, member_steps, own_step, device_steps, IsIsolated}
+use Rattle.hid_stack.specs.Headline.{DeliversChanges, DevicesFollowHistories, KeepsToRounds}
+use Rattle.hid_bus.proofs.HistoryEventLemmas.{history_goes_on}
 use Rattle.hid_bus.proofs.ScheduleLemmas.{delivers_epoch, own_told as own_told_in, stands_by_rounds}
 use Rattle.hid_stack.proofs.MemberLemmas.{layout_stays, links, ready_bus_events, ready_stands, told_on}
 
@@ -68,12 +68,12 @@ own_events m (Some x) = events_of_event_if (items_of m.layout) m.link (bus_event
 pub same_or_not : (d device : ℕ) → ((d ≡ device) × (eqb d device ≡ true)) ⊎ ((d ≡ device → ⊥) × (eqb d device ≡ false))
 same_or_not d device = grind (arith, nat_tests)
 
-state_same : (device : ℕ) (members : List Member) (m : Member) (y : MemberStep) → member_at members device ≡ Some m → member_at (one_after members device y) device ≡ Some (member_after m y)
+state_same : (device : ℕ) (members : List Member) (m : Member) (y : MemberStep) → member_at members device ≡ Some m → member_at (bus_after_member_step members device y) device ≡ Some (member_after m y)
 state_same device members m y h =
     ap (λ (o : Option Member). member_at (elim o as (λ _. List Member) [ None ↦ members | Some t ↦ with_member members device (member_after t y) ]) device) h
     ∙ with_same members device m (member_after m y) h
 
-state_other : (d device : ℕ) (members : List Member) (m : Member) (y : MemberStep) → (d ≡ device → ⊥) → member_at members device ≡ Some m → member_at (one_after members d y) device ≡ Some m
+state_other : (d device : ℕ) (members : List Member) (m : Member) (y : MemberStep) → (d ≡ device → ⊥) → member_at members device ≡ Some m → member_at (bus_after_member_step members d y) device ≡ Some m
 state_other d device members m y ne h =
     elim (member_at members d) as (λ (o : Option Member). member_at members d ≡ o → member_at (elim o as (λ _. List Member) [ None ↦ members | Some t ↦ with_member members d (member_after t y) ]) device ≡ Some m)
     [ None ↦ λ g. h | Some t ↦ λ g. with_other members d device m t (member_after t y) ne g h ] refl
@@ -82,11 +82,11 @@ state_other d device members m y ne h =
 abbrev if_own : ℕ → ℕ → MemberStep → Option MemberStep
 if_own d device y = cond (eqb d device) (Some y) None
 
-one_state : (d device : ℕ) (members : List Member) (m : Member) (y : MemberStep) → member_at members device ≡ Some m → member_at (one_after members d y) device ≡ Some (after_own m (if_own d device y))
+one_state : (d device : ℕ) (members : List Member) (m : Member) (y : MemberStep) → member_at members device ≡ Some m → member_at (bus_after_member_step members d y) device ≡ Some (after_own m (if_own d device y))
 one_state d device members m y h = elim (same_or_not d device) [
   | inl same ↦
       let hit : eqb device device ≡ true = subst (λ (n : ℕ). eqb n device ≡ true) same.0 same.1 in
-      subst (λ (n : ℕ). member_at (one_after members n y) device ≡ Some (after_own m (if_own n device y))) (sym same.0)
+      subst (λ (n : ℕ). member_at (bus_after_member_step members n y) device ≡ Some (after_own m (if_own n device y))) (sym same.0)
       (state_same device members m y h ∙ sym (ap (λ (b : Bool). Some (after_own m (cond b (Some y) None))) hit))
   | inr other ↦ state_other d device members m y other.0 h ∙ sym (ap (λ (b : Bool). Some (after_own m (cond b (Some y) None))) other.1)
 ]
@@ -314,11 +314,11 @@ keeps_to_rounds members after steps states_are device m h ready none_open only =
 -- each device without an open round goes on as its history says, whatever happens to it
 pub devices_live : (members after : List Member) (steps : List Step) (old new : List Delivered)
     → after ≡ bus_after_all members steps → new ≡ old ++ deliveries_of_steps members steps
-    → DevicesLive members steps after old new
+    → DevicesFollowHistories members steps after old new
 devices_live members after steps old new states_are told_are device m h none_open =
     let xs = member_steps device steps in
     let apart = isolated members after steps old new states_are told_are in
-    let lives = lives_on (items_of m.layout) m.link (bus_events_of_steps m xs) none_open in (
+    let holds = history_goes_on (items_of m.layout) m.link (bus_events_of_steps m xs) none_open in (
       member_after_all m xs,
       events_of_history (items_of m.layout) m.link (bus_events_of_steps m xs),
       apart.states device m h,
@@ -326,7 +326,7 @@ devices_live members after steps old new states_are told_are device m h none_ope
       subst (λ (s : LinkState). FollowsHistory (items_of m.layout) m.link.view m.link.toggle
           (outcomes_of_events (items_of m.layout) (bus_events_of_steps m xs) (history_from m.link))
           (history_after_all (items_of m.layout) (bus_events_of_steps m xs) (history_from m.link))
-          (events_of_history (items_of m.layout) m.link (bus_events_of_steps m xs)) s) (sym (links xs m)) lives,
+          (events_of_history (items_of m.layout) m.link (bus_events_of_steps m xs)) s) (sym (links xs m)) holds,
     )
 
 pub ruleset by_itself = (isolated, headline, keeps_to_rounds, devices_live)

@@ -1,7 +1,7 @@
 -- A host knows its virtual device after whatever happens to the two.
 use Rattle.std.proofs.Common.{◌≡◌, ◌⊎◌, inl, inr, ℕ, Bool, true, false, List, [], ◌∷◌, length, take, suc, zero, Option, Some, None, Result, Ok, Err, refl, ap, sym, ◌∙◌, subst, arith}
 use Rattle.std.specs.Prelude.{IfSome, is_some, ◌<◌, ◌≤◌, ◌^◌, if◌then◌else◌}
-use Rattle.hid_descriptor.specs.Laws.{HasOneReading, AcceptsNoRefused}
+use Rattle.hid_report_descriptor.specs.Laws.{HasOneReading, AcceptsNoRefused}
 use Rattle.hid_layout.specs.Layout.{Contents}
 use Rattle.usb_transact.specs.declared.transaction.Fate.{Fate}
 use Rattle.usb_transact.specs.declared.host.Took.{Took}
@@ -16,17 +16,17 @@ use Rattle.usb_control.specs.Device.{DevControlState}
 use Rattle.usb_control.specs.Host.{HostTransferState, IsRunning, progress_of}
 use Rattle.usb_control.specs.Interleaving.{decision_now}
 use Rattle.usb_control.specs.Runs.{IsDone}
-use Rattle.usb_control.specs.SetupBytes.{IsSpelled, reads}
-use Rattle.usb_control.specs.Positions.{Stands}
+use Rattle.usb_control.specs.SetupBytes.{IsEncoded, reads}
+use Rattle.usb_control.specs.Positions.{TransferIsAt}
 use Rattle.usb_control.specs.Transaction.{Transacts}
-use Rattle.usb_control.specs.Transfer.{Act, Decision, Place, answered_bytes, act_of, shape_of, place_after_try}
+use Rattle.usb_control.specs.Transfer.{Act, Decision, Place, answered_bytes, act_of, transfer_shape, place_after_try}
 use Rattle.usb_control.proofs.LawLemmas.{begins, done_is, kept_is, read_is}
 use Rattle.usb_control.proofs.TryFunctionLemmas.{tries_are}
 use Rattle.usb_control.proofs.InterleavingLemmas.{goes_by}
 use Rattle.hid_requests.specs.declared.request.Request.{Request}
 use Rattle.hid_requests.specs.declared.request.Request.TheVariants as requests
 use Rattle.hid_requests.specs.declared.request.Asking.{Asking}
-use Rattle.hid_requests.specs.RequestSetup.{FitsRequest, asks_endpoint, sends_of, setup_for}
+use Rattle.hid_requests.specs.RequestSetup.{FitsRequest, endpoint_setup, sends_of, setup_for}
 use Rattle.hid_requests.specs.Descriptors.{configuration_bytes, device_bytes}
 use Rattle.hid_requests.specs.declared.codes.TheConstants.{REPORT_ENDPOINT as ENDPOINT}
 use Rattle.hid_snapshots.specs.declared.change.Change.{Change}
@@ -38,13 +38,13 @@ use Rattle.hid_host.specs.declared.fault.StackFault.TheVariants.{NotReady, Contr
 use Rattle.hid_host.specs.declared.host.Transfer.{Transfer}
 use Rattle.hid_host.specs.declared.phase.HostPhase.{HostPhase}
 use Rattle.hid_host.specs.declared.phase.HostPhase.TheVariants.{Cold, Described, Parsed, Ready}
-use Rattle.hid_host.specs.Conclusions.{Makes, phase_made}
-use Rattle.hid_host.specs.Host.{ConcludesAt, ControlSteps, HostEnd, TriesOnce, begin_refusal, clearing_after, clearing_with, cold_host, conclusion_result, host_after_begin, host_after_reply, read_bytes_of, ready_host, running, running_at}
-use Rattle.hid_stack.specs.HostInvariant.{FollowsTrail, HasEffect, IsAfterSetup, IsConsistentAt, IsConsistentBy, IsDecided, IsNoRefusal, IsPending, LeavesTransfers, asking_of, info_of, with_core}
+use Rattle.hid_host.specs.Conclusions.{Concludes, phase_after_answer}
+use Rattle.hid_host.specs.Host.{ConcludesAt, ControlSteps, HostDeviceState, TriesOnce, begin_refusal, clearing_after, clearing_with, cold_host, conclusion_result, host_after_begin, host_after_reply, read_bytes_of, ready_host, running, running_at}
+use Rattle.hid_stack.specs.HostInvariant.{FollowsTrail, HasEffect, IsAfterSetup, IsConsistentAt, IsConsistentBy, IsDecided, IsNoRefusal, IsPending, LeavesTransfers, asking_of, host_with_core, phase_info}
 use Rattle.hid_host.specs.Phase.{IfReady, asking_at, has_endpoint, may_begin, state_of}
-use Rattle.hid_host.specs.Ready.{Known, known_after}
-use Rattle.hid_requests.proofs.AskedLemmas.{of_reports, sends_so, spelled_so}
-use Rattle.hid_stack.specs.Trails.{Trail, ends_with, trail_after, trail_after_try, trail_from}
+use Rattle.hid_host.specs.Ready.{ReadyHostState, ready_host_after}
+use Rattle.hid_requests.proofs.RequestKindLemmas.{of_reports, sends_so, encoded_so}
+use Rattle.hid_stack.specs.Trails.{Trail, ends_of, trail_after, trail_after_try, trail_from}
 use Rattle.hid_stack.proofs.HostLemmas.{IsAnswer, learned}
 use Rattle.hid_stack.proofs.HostInvariantLemmas.{ActsOn, Goes, acts_go, clear_brings, clear_pends, configure_brings, decided_behind, decided_stays, effect_at}
 use Rattle.hid_stack.proofs.PlacesLemmas.{open_place, past_applied}
@@ -82,13 +82,16 @@ asked_with (requests.Protocol boot) phase addr core knows needs = refl
 asked_with requests.GetProtocol phase addr core knows needs = refl
 asked_with (requests.GetReport kind id) phase addr core knows needs = refl
 asked_with (requests.SetReport kind id bytes) phase addr core knows needs = refl
-asked_with requests.Halt phase addr core knows needs = ap (λ (e : ℕ). asks_endpoint 0x02 3 e 0) (endpoint_with phase addr core knows needs)
-asked_with requests.Clear phase addr core knows needs = ap (λ (e : ℕ). asks_endpoint 0x02 1 e 0) (endpoint_with phase addr core knows needs)
-asked_with requests.EndpointStatus phase addr core knows needs = ap (λ (e : ℕ). asks_endpoint 0x82 0 e 2) (endpoint_with phase addr core knows needs)
+asked_with requests.Halt phase addr core knows needs =
+    ap (λ (e : ℕ). endpoint_setup 0x02 3 e 0) (endpoint_with phase addr core knows needs)
+asked_with requests.Clear phase addr core knows needs =
+    ap (λ (e : ℕ). endpoint_setup 0x02 1 e 0) (endpoint_with phase addr core knows needs)
+asked_with requests.EndpointStatus phase addr core knows needs =
+    ap (λ (e : ℕ). endpoint_setup 0x82 0 e 2) (endpoint_with phase addr core knows needs)
 
 -- ---- what a host knows stays so
 
-info_on : (old new : CoreState) → Goes old new → info_of old ≡ info_of new
+info_on : (old new : CoreState) → Goes old new → phase_info old ≡ phase_info new
 info_on old new goes =
     ap (λ config. config_info config (length old.descriptor)) (sym goes.config) ∙ ap (λ (d : List ℕ). config_info new.config (length d)) (sym goes.descriptor)
 
@@ -110,19 +113,21 @@ take_all (suc n) (x ∷ xs) h = ap (λ (l : List ℕ). x ∷ l) (take_all n xs (
 
 -- the bytes of a read that is done are what the device answered
 pub answer_is : (request : Request) (decider core : CoreState) (decision : Decision) (bytes : List ℕ) → IsDecided request decider core decision
-    → (reads (setup_for request (asking_of core)) ≡ true → bytes ≡ answered_bytes (shape_of (setup_for request (asking_of core))) decision)
+    → (reads (setup_for request (asking_of core)) ≡ true
+    → bytes ≡ answered_bytes (transfer_shape (setup_for request (asking_of core))) decision)
     → IsAnswer request core bytes
 answer_is requests.Device decider core decision bytes says got =
-    got refl ∙ ap (answered_bytes (shape_of (setup_for requests.Device (asking_of core)))) says.by.0 ∙ take_all 18 (device_bytes (device_info decider.config)) (omega arith)
+    got refl ∙ ap (answered_bytes (transfer_shape (setup_for requests.Device (asking_of core)))) says.by.0
+    ∙ take_all 18 (device_bytes (device_info decider.config)) (omega arith)
     ∙ ap (λ config. device_bytes (device_info config)) (sym says.same.config)
 answer_is requests.Config decider core decision bytes says got =
-    got refl ∙ ap (answered_bytes (shape_of (setup_for requests.Config (asking_of core)))) says.by.0
-    ∙ take_all 255 (configuration_bytes (info_of decider) decider.config.interval) (omega arith)
+    got refl ∙ ap (answered_bytes (transfer_shape (setup_for requests.Config (asking_of core)))) says.by.0
+    ∙ take_all 255 (configuration_bytes (phase_info decider) decider.config.interval) (omega arith)
     ∙ ap (λ config. configuration_bytes (config_info config (length decider.descriptor)) config.interval) (sym says.same.config)
     ∙ ap (λ (d : List ℕ). configuration_bytes (config_info core.config (length d)) core.config.interval) (sym says.same.descriptor)
 answer_is requests.Report decider core decision bytes says got =
     let all : length decider.descriptor ≤ length core.descriptor = let same = ap (λ (d : List ℕ). length d) says.same.descriptor in omega (arith, same) in
-    got refl ∙ ap (answered_bytes (shape_of (setup_for requests.Report (asking_of core)))) says.by.0
+    got refl ∙ ap (answered_bytes (transfer_shape (setup_for requests.Report (asking_of core)))) says.by.0
     ∙ take_all (length core.descriptor) decider.descriptor all ∙ sym says.same.descriptor
 answer_is requests.Configure decider core decision bytes says got = tt
 answer_is requests.Status decider core decision bytes says got = tt
@@ -140,8 +145,8 @@ answer_is requests.EndpointStatus decider core decision bytes says got = tt
 effect_so : (request : Request) (asking : Asking) (setup : Setup) (fate : Fate) (decision : Decision) (place : Place) (decider old new : CoreState) → setup ≡ setup_for request asking
     → (IsAfterSetup place.host → IsDecided request decider old place.decision)
     → (place.applied ≡ true → HasEffect request old)
-    → ActsOn setup (sends_of request) (act_of (shape_of setup) fate decision place) old new
-    → (place_after_try (shape_of setup) fate decision place).applied ≡ true → HasEffect request new
+    → ActsOn setup (sends_of request) (act_of (transfer_shape setup) fate decision place) old new
+    → (place_after_try (transfer_shape setup) fate decision place).applied ≡ true → HasEffect request new
 effect_so requests.Configure asking setup fate decision place decider old new asks decided effect acts took =
     effect_at configure_brings setup [] fate place.host decision place.decision place old new (ap (λ (s : Setup). reads s) asks) refl refl (λ behind accepted. (decided behind).by.1) effect acts took
 effect_so requests.Clear asking setup fate decision place decider old new asks decided effect acts took =
@@ -176,20 +181,25 @@ carried trail fate phase next t ends old new short c running transacts same stay
     let asking : Asking = asking_of old.requests in
     let setup : Setup = t.ends.setup in
     let place : Place = trail.place in
-    let spelled : IsSpelled setup = subst IsSpelled (sym c.asked) (spelled_so t.request asking c.fits short (omega arith)) in
-    let both = ends_with t old in
+    let encoded : IsEncoded setup = subst IsEncoded (sym c.asked) (encoded_so t.request asking c.fits short (omega arith)) in
+    let both = ends_of t old in
     let e = (tries_are core_table fate t.ends old ends new).0 transacts in
-    let g = goes_by core_table (sends_of t.request) place fate both spelled running c.stands in
+    let g = goes_by core_table (sends_of t.request) place fate both encoded running c.stands in
     let decision : Decision = decision_now core_table both in
-    let behind : Place = place_after_try (shape_of setup) fate decision place in
-    let act : Act = act_of (shape_of setup) fate decision place in
+    let behind : Place = place_after_try (transfer_shape setup) fate decision place in
+    let act : Act = act_of (transfer_shape setup) fate decision place in
     let acts : ActsOn setup (sends_of t.request) act old.requests new.requests
     = subst (λ (d : DevControlState CoreState). ActsOn setup (sends_of t.request) act old.requests d.requests) (sym e.1) g.acts in
-    let stands : Stands core_table.answer_of (shape_of ends.setup) (sends_of t.request) behind ends new
-    = subst (λ (h : HostTransferState). Stands core_table.answer_of (shape_of h.setup) (sends_of t.request) behind h new) (sym e.0)
-    (subst (λ (d : DevControlState CoreState). Stands core_table.answer_of (shape_of (host_tried core_table fate t.ends old).setup) (sends_of t.request) behind (host_tried core_table fate t.ends old) d) (sym e.1) g.stands) in
+    let stands : TransferIsAt core_table.answer_of (transfer_shape ends.setup) (sends_of t.request) behind ends new
+    = subst (λ (h : HostTransferState). TransferIsAt core_table.answer_of (transfer_shape h.setup)
+    (sends_of t.request) behind h new) (sym e.0)
+    (subst (λ (d : DevControlState CoreState). TransferIsAt core_table.answer_of
+    (transfer_shape (host_tried core_table fate t.ends old).setup) (sends_of t.request) behind
+    (host_tried core_table fate t.ends old) d) (sym e.1) g.stands) in
     let goes = acts_go setup (sends_of t.request) act old.requests new.requests acts in
-    let apart = open_place core_table.answer_of (shape_of setup) (sends_of t.request) place t.ends old c.stands running in
+    let apart =
+    open_place core_table.answer_of (transfer_shape setup)
+    (sends_of t.request) place t.ends old c.stands running in
     let effect : behind.applied ≡ true → HasEffect t.request new.requests
     = λ took. effect_so t.request asking setup fate decision place trail.decider old.requests new.requests c.asked c.decided (c.effect running) acts took in
     record {
@@ -201,7 +211,9 @@ carried trail fate phase next t ends old new short c running transacts same stay
         needs = λ run. subst (λ (p : HostPhase). may_begin t.request (state_of p) ≡ true) (sym (stays run)) (c.needs running);
         decided = decided_behind t.request asking setup (sends_of t.request) fate decision place.host place trail.decider old.requests new.requests c.fits (of_reports t.request asking refl) c.asked refl acts c.decided;
         effect = λ run took. effect took;
-        applied = λ done writes. past_applied (shape_of setup) fate decision place.host place.decision place (ap (λ (s : Setup). reads s) (sym same) ∙ writes) refl apart done.1;
+        applied =
+            λ done writes. past_applied (transfer_shape setup) fate decision place.host place.decision place
+            (ap (λ (s : Setup). reads s) (sym same) ∙ writes) refl apart done.1;
       };
       effect = effect;
     }
@@ -209,8 +221,9 @@ carried trail fate phase next t ends old new short c running transacts same stay
 -- what is concluded: on an answer, or nothing
 concluded_by : (stage : HostStage) (addr : ℕ) (request : Request) (phase next : HostPhase) (bytes : List ℕ) (result : Result Progress StackFault) → ConcludesAt stage addr request phase bytes result next
     → ((stage ≡ stages.Done)
-    × ((made : Result HostPhase StackFault) × Makes addr request phase bytes made × (result ≡ conclusion_result made)
-    × (next ≡ phase_made phase made)))
+    × ((made : Result HostPhase StackFault) × Concludes addr request phase bytes made
+    × (result ≡ conclusion_result made)
+    × (next ≡ phase_after_answer phase made)))
     ⊎ ((result ≡ Ok (progress_of stage)) × (next ≡ phase))
 concluded_by stages.Done addr request phase next bytes result h = inl (refl, h)
 concluded_by stages.Setup addr request phase next bytes result h = inr h
@@ -222,7 +235,7 @@ concluded_by (stages.Failed fault) addr request phase next bytes result h = inr 
 
 -- an effect that is done
 done_by : (request : Request) (asking : Asking) (setup : Setup) (core : CoreState) (applied : Bool) → setup ≡ setup_for request asking → (applied ≡ true → HasEffect request core)
-    → ((shape_of setup).reads ≡ false → applied ≡ true) → HasEffect request core
+    → ((transfer_shape setup).reads ≡ false → applied ≡ true) → HasEffect request core
 done_by requests.Configure asking setup core applied asks effect took = effect (took (ap (λ (s : Setup). reads s) asks))
 done_by requests.Device asking setup core applied asks effect took = tt
 done_by requests.Config asking setup core applied asks effect took = tt
@@ -247,17 +260,22 @@ done_effect trail fate phase t ends old new short c running transacts same done 
     let tried_so = carried trail fate phase phase t ends old new short c running transacts same (λ run. refl) in
     let place : Place = (trail_after_try fate t old trail).place in
     let d = tried_so.carries in
-    let is_done : IsDone place = (done_is core_table.answer_of (shape_of ends.setup) (sends_of t.request) place ends new d.stands).0 done in
+    let is_done : IsDone place =
+    (done_is core_table.answer_of (transfer_shape ends.setup)
+    (sends_of t.request) place ends new d.stands).0 done in
     done_by t.request (asking_of new.requests) ends.setup new.requests place.applied d.asked tried_so.effect (d.applied is_done)
 
 -- the bytes of a read that is done
-pub got_so : (ends : HostTransferState) (setup : Setup) (decision : Decision) → ends.setup ≡ setup → (reads ends.setup ≡ true → ends.bytes ≡ answered_bytes (shape_of ends.setup) decision)
-    → reads setup ≡ true → read_bytes_of ends ≡ answered_bytes (shape_of setup) decision
+pub got_so : (ends : HostTransferState) (setup : Setup) (decision : Decision) → ends.setup ≡ setup
+    → (reads ends.setup ≡ true → ends.bytes ≡ answered_bytes (transfer_shape ends.setup) decision)
+    → reads setup ≡ true → read_bytes_of ends ≡ answered_bytes (transfer_shape setup) decision
 got_so ends setup decision is got is_read =
     let here : reads ends.setup ≡ true = ap (λ (s : Setup). reads s) is ∙ is_read in
-    ap (λ (b : Bool). if b then ends.bytes else []) here ∙ got here ∙ ap (λ (s : Setup). answered_bytes (shape_of s) decision) is
+    ap (λ (b : Bool). if b then ends.bytes else []) here ∙ got here
+    ∙ ap (λ (s : Setup). answered_bytes (transfer_shape s) decision) is
 
-record Behind (trail : Trail) (host : HostEnd) (result : Result Progress StackFault) (new : DevControlState CoreState) : Type 0 where
+record Behind (trail : Trail) (host : HostDeviceState) (result : Result Progress StackFault)
+    (new : DevControlState CoreState) : Type 0 where
   knows : IsConsistentBy trail host new
   told : IsNoRefusal result
 
@@ -275,7 +293,9 @@ clears_on stages.StatusIn request clearing run h = h
 clears_on stages.StatusOut request clearing run h = h
 clears_on (stages.Failed fault) request clearing run h = h
 
-once_known : HasOneReading → AcceptsNoRefused → (trail : Trail) (fate : Fate) (host after : HostEnd) (t : Transfer) (old new : DevControlState CoreState) (result : Result Progress StackFault)
+once_known : HasOneReading → AcceptsNoRefused
+    → (trail : Trail) (fate : Fate) (host after : HostDeviceState) (t : Transfer)
+    (old new : DevControlState CoreState) (result : Result Progress StackFault)
     → ParsesTo old.requests.descriptor old.requests.layout → length old.requests.descriptor < 2 ^ 16
     → IsConsistentAt host.phase host.addr old.requests → FollowsTrail trail host.phase t old
     → IsPending host.clearing t
@@ -294,13 +314,16 @@ once_known one apart trail fate host after t old new result lays short knows c p
           let tried_so = carried trail fate host.phase tr.next t tr.ends old new short c running tr.transacts tr.same not_running in
           let goes = tried_so.goes in
           let d = tried_so.carries in
-          let is_done : IsDone place = (done_is core_table.answer_of (shape_of tr.ends.setup) (sends_of t.request) place tr.ends new d.stands).0 done in
+          let is_done : IsDone place =
+          (done_is core_table.answer_of (transfer_shape tr.ends.setup)
+          (sends_of t.request) place tr.ends new d.stands).0 done in
           let behind : IsAfterSetup place.host = subst IsAfterSetup (sym is_done.1) tt in
           let answer =
           answer_is t.request behind_it.decider new.requests place.decision (read_bytes_of tr.ends)
           (d.decided behind)
           (got_so tr.ends (setup_for t.request (asking_of new.requests)) place.decision d.asked
-          (λ is_read. read_is core_table.answer_of (shape_of tr.ends.setup) (sends_of t.request) place tr.ends new d.stands is_done is_read)) in
+          (λ is_read. read_is core_table.answer_of (transfer_shape tr.ends.setup)
+          (sends_of t.request) place tr.ends new d.stands is_done is_read)) in
           let effect = done_effect trail fate host.phase t tr.ends old new short c running tr.transacts tr.same done in
           let lays_on : ParsesTo new.requests.descriptor new.requests.layout =
           subst (λ (x : List ℕ). ParsesTo x new.requests.layout) (sym goes.descriptor)
@@ -311,7 +334,7 @@ once_known one apart trail fate host after t old new result lays short knows c p
           (knows_on host.phase host.addr old.requests new.requests goes knows)
           (c.needs running) answer effect makes in
           record {
-            knows = subst (λ (h : HostEnd). IsConsistentBy behind_it h new) (sym tr.after)
+            knows = subst (λ (h : HostDeviceState). IsConsistentBy behind_it h new) (sym tr.after)
                 (record {
                   phase =
                       subst (λ (p : HostPhase). IsConsistentAt p host.addr new.requests) (sym moves) l.knows;
@@ -324,7 +347,7 @@ once_known one apart trail fate host after t old new result lays short knows c p
       | inr (told, stays) ↦
           let tried_so = carried trail fate host.phase tr.next t tr.ends old new short c running tr.transacts tr.same (λ run. stays) in
           record {
-            knows = subst (λ (h : HostEnd). IsConsistentBy behind_it h new) (sym tr.after) (record {
+            knows = subst (λ (h : HostDeviceState). IsConsistentBy behind_it h new) (sym tr.after) (record {
               phase = subst (λ (p : HostPhase). IsConsistentAt p host.addr new.requests) (sym stays)
                   (knows_on host.phase host.addr old.requests new.requests tried_so.goes knows);
               transfer = tried_so.carries;
@@ -350,7 +373,9 @@ runs_so (Some u) t h =
     let r = runs_at u t u.ends.stage h in
     (ap (λ (x : Transfer). Some x) r.0, subst (λ (x : Transfer). IsRunning x.ends.stage) r.0 r.1)
 
-steps_by : HasOneReading → AcceptsNoRefused → (trail : Trail) (fate : Fate) (host after : HostEnd) (old new : DevControlState CoreState) (result : Result Progress StackFault) (o : Option Transfer)
+steps_by : HasOneReading → AcceptsNoRefused
+    → (trail : Trail) (fate : Fate) (host after : HostDeviceState) (old new : DevControlState CoreState)
+    (result : Result Progress StackFault) (o : Option Transfer)
     → ParsesTo old.requests.descriptor old.requests.layout → length old.requests.descriptor < 2 ^ 16
     → IsConsistentBy trail host old → running host.transfer ≡ o
     → (elim o as (λ _. Type 0) [
@@ -358,7 +383,7 @@ steps_by : HasOneReading → AcceptsNoRefused → (trail : Trail) (fate : Fate) 
       | Some t ↦ TriesOnce (PreparesBy core_table) (AppliesBy core_table) core_table.answer_of fate host t old result after new
     ]) → Behind (trail_after fate o old trail) after result new
 steps_by one apart trail fate host after old new result None lays short knows is (told, same, stays) = record {
-  knows = subst (λ (h : HostEnd). IsConsistentBy trail h new) (sym same)
+  knows = subst (λ (h : HostDeviceState). IsConsistentBy trail h new) (sym same)
       (subst (λ (c : DevControlState CoreState). IsConsistentBy trail host c) (sym stays) knows);
   told = subst IsNoRefusal (sym told) tt;
 }
@@ -369,7 +394,9 @@ steps_by one apart trail fate host after old new result (Some t) lays short know
     (λ (x : Transfer). FollowsTrail trail host.phase x old)) r.0 knows.transfer)
     (subst (λ (o : Option Transfer). IfSome o (IsPending host.clearing)) r.0 knows.clears) r.1 tr
 
-pub steps_know : HasOneReading → AcceptsNoRefused → (trail : Trail) (fate : Fate) (host after : HostEnd) (old new : DevControlState CoreState) (result : Result Progress StackFault)
+pub steps_know : HasOneReading → AcceptsNoRefused
+    → (trail : Trail) (fate : Fate) (host after : HostDeviceState) (old new : DevControlState CoreState)
+    (result : Result Progress StackFault)
     → ParsesTo old.requests.descriptor old.requests.layout → length old.requests.descriptor < 2 ^ 16
     → IsConsistentBy trail host old
     → ControlSteps (PreparesBy core_table) (AppliesBy core_table) core_table.answer_of fate host old result after new
@@ -385,7 +412,7 @@ may_if true may h = absurd (cc)
 may_if false true h = refl
 may_if false false h = absurd (cc)
 
-pub begins_know : (trail : Trail) (host : HostEnd) (request : Request) (control : DevControlState CoreState)
+pub begins_know : (trail : Trail) (host : HostDeviceState) (request : Request) (control : DevControlState CoreState)
     → FitsRequest request → begin_refusal host request ≡ None → IsConsistentBy trail host control
     → IsConsistentBy (trail_from control.requests) (host_after_begin host request) control
 begins_know trail host request control fits none knows =
@@ -434,7 +461,8 @@ carries_on trail phase clearing old new None l h pending = tt
 carries_on trail phase clearing old new (Some t) l c pending =
     let goes = leaves_goes clearing old new l in
     record {
-      stands = kept_is core_table.answer_of (shape_of t.ends.setup) (sends_of t.request) trail.place t.ends old new c.stands l.answer l.stage;
+      stands = kept_is core_table.answer_of (transfer_shape t.ends.setup)
+          (sends_of t.request) trail.place t.ends old new c.stands l.answer l.stage;
       asked = c.asked ∙ ap (λ (d : List ℕ). setup_for t.request (record { report_length = length d; endpoint = ENDPOINT })) (sym goes.descriptor);
       fits = c.fits;
       needs = c.needs;
@@ -443,7 +471,7 @@ carries_on trail phase clearing old new (Some t) l c pending =
       applied = c.applied;
     }
 
-pub leaves_know : (trail : Trail) (host : HostEnd) (old new : DevControlState CoreState)
+pub leaves_know : (trail : Trail) (host : HostDeviceState) (old new : DevControlState CoreState)
     → LeavesTransfers host.clearing old new → IsConsistentBy trail host old → IsConsistentBy trail host new
 leaves_know trail host old new l knows = record {
   phase = knows_on host.phase host.addr old.requests new.requests (leaves_goes host.clearing old new l) knows.phase;
@@ -452,10 +480,12 @@ leaves_know trail host old new l knows = record {
 }
 
 -- a change of a control and a frame leave the transfers
-pub change_leaves : (clearing : Bool) (control : DevControlState CoreState) (change : Change) → LeavesTransfers clearing control (with_core control (changed_core control.requests change))
+pub change_leaves : (clearing : Bool) (control : DevControlState CoreState) (change : Change)
+    → LeavesTransfers clearing control (host_with_core control (changed_core control.requests change))
 change_leaves clearing control change = record { layout = refl; config = refl; descriptor = refl; configured = λ h. h; answer = refl; pending = refl; stage = refl; restarts = λ is h. record { current = h.current; toggle = h.toggle } }
 
-pub frame_leaves : (clearing : Bool) (control : DevControlState CoreState) → LeavesTransfers clearing control (with_core control (framed_core control.requests))
+pub frame_leaves : (clearing : Bool) (control : DevControlState CoreState)
+    → LeavesTransfers clearing control (host_with_core control (framed_core control.requests))
 frame_leaves clearing control = record { layout = refl; config = refl; descriptor = refl; configured = λ h. h; answer = refl; pending = refl; stage = refl; restarts = λ is h. record { current = h.current; toggle = h.toggle } }
 
 -- ---- at first
@@ -470,8 +500,9 @@ ready_knows trail addr control configured = record { phase = (refl, configured, 
 
 -- ---- the answer to a poll
 
-knows_behind : (known : Known) (addr : ℕ) (core : CoreState) (took : Took) → IsConsistentAt (Ready known) addr core
-    → IsConsistentAt (Ready (known_after known took)) addr core
+knows_behind : (known : ReadyHostState) (addr : ℕ) (core : CoreState) (took : Took)
+    → IsConsistentAt (Ready known) addr core
+    → IsConsistentAt (Ready (ready_host_after known took)) addr core
 knows_behind known addr core (Fresh payload) h = h
 knows_behind known addr core Again h = h
 knows_behind known addr core Nak h = h
@@ -503,11 +534,12 @@ replies_at trail (Described info) addr transfer clearing control took knows = tt
 replies_at trail (Parsed info layout) addr transfer clearing control took knows = tt
 replies_at trail (Ready known) addr transfer clearing control took knows = record {
   phase = knows_behind known addr control.requests took knows.phase;
-  transfer = carries_so trail (Ready known) (Ready (known_after known took)) control transfer refl knows.transfer;
+  transfer =
+      carries_so trail (Ready known) (Ready (ready_host_after known took)) control transfer refl knows.transfer;
   clears = knows.clears;
 }
 
-pub replies_know : (trail : Trail) (host : HostEnd) (control : DevControlState CoreState) (took : Took)
+pub replies_know : (trail : Trail) (host : HostDeviceState) (control : DevControlState CoreState) (took : Took)
     → IsConsistentBy trail host control
     → IfReady host.phase (λ known. IsConsistentBy trail (host_after_reply host known took) control)
 replies_know trail host control took knows = replies_at trail host.phase host.addr host.transfer host.clearing control took knows

@@ -10,7 +10,7 @@ use Rattle.usb_control.specs.Device.{Answers, Applies, Decides, DevControlState,
 use Rattle.usb_control.specs.Host.{HostTransferState}
 use Rattle.hid_requests.specs.declared.request.Request.{Request}
 use Rattle.hid_bus.specs.DeviceHistory.{BusEvent, Own, Idles, Configures, state_after, state_after_all, steps_as_events, events_of_history}
-use Rattle.hid_bus.specs.DeviceHistory as lives
+use Rattle.hid_bus.specs.DeviceHistory as bus
 use Rattle.hid_bus.specs.Motion.{AreBetweenRounds}
 use Rattle.hid_bus.specs.Rounds.{OwnStep, Changes, Frame, Polls}
 use Rattle.hid_bus.specs.LinkState.{LinkState, state_after_steps}
@@ -24,7 +24,7 @@ use Rattle.hid_device.specs.declared.decisions.PendingWrite.{PendingWrite}
 use Rattle.hid_device.specs.declared.decisions.PendingWrite.TheVariants as pendings
 use Rattle.hid_device.specs.Core.{CoreState}
 use Rattle.hid_device.specs.RequestTable.{core_table}
-use Rattle.hid_stack.specs.Laws.{IsMadeAs}
+use Rattle.hid_stack.specs.Laws.{HasSameOrigin}
 use Rattle.hid_stack.specs.Sums.{AbortsNone, IsBetween}
 
 -- ---- what stays, and how the link state stands
@@ -60,7 +60,7 @@ made_stays_all : (xs : List MemberStep) (m : Member) → made_of (member_after_a
 made_stays_all [] m = refl
 made_stays_all (x ∷ xs) m = made_stays_all xs (member_after m x) ∙ made_stays m x
 
-pub stays_as_made : (m : Member) (steps : List MemberStep) → IsMadeAs m (member_after_all m steps)
+pub stays_as_made : (m : Member) (steps : List MemberStep) → HasSameOrigin m (member_after_all m steps)
 stays_as_made m steps =
     let same = made_stays_all steps m in
     record {
@@ -120,7 +120,7 @@ unconcluded_link fate m (Some t) = by_request (request_aborts_round t.request)
 -- what a try brings about is no step of the schedule, and no reset
 abbrev pub IsEffect : Option BusEvent → Type 0
 IsEffect (Some (Own x)) = ⊥
-IsEffect (Some lives.Resets) = ⊥
+IsEffect (Some bus.Resets) = ⊥
 IsEffect _ = Unit {0}
 
 written_effect : (core : CoreState) (pending : PendingWrite) → IsEffect (write_bus_event core pending)
@@ -151,9 +151,9 @@ quiet_effect items s None is none = refl
 quiet_effect items s (Some (Own x)) is none = absurd is
 quiet_effect items s (Some (Idles idle)) is none = refl
 quiet_effect items s (Some Configures) is none = refl
-quiet_effect items s (Some lives.Halts) is none = absurd none
-quiet_effect items s (Some lives.Clears) is none = absurd none
-quiet_effect items s (Some lives.Resets) is none = absurd is
+quiet_effect items s (Some bus.Halts) is none = absurd none
+quiet_effect items s (Some bus.Clears) is none = absurd none
+quiet_effect items s (Some bus.Resets) is none = absurd is
 
 -- ---- lists of steps
 

@@ -7,7 +7,7 @@ use Rattle.std.proofs.lemmas.Result.{IfOk-weaker, on_ok_weaker}
 use Rattle.hid_layout.specs.Controls.{items_of, max_events}
 use Rattle.hid_snapshots.specs.declared.control_state.ControlState.{ControlState}
 use Rattle.hid_snapshots.specs.declared.change.Change.{Change}
-use Rattle.hid_snapshots.specs.declared.change.ChangeFault.{ChangeFault}
+use Rattle.hid_snapshots.specs.declared.fault.ChangeFault.{ChangeFault}
 use Rattle.hid_snapshots.specs.Snapshots.{snapshot_after}
 use Rattle.hid_snapshots.specs.Snapshots as snapshots
 use Rattle.usb_transact.specs.declared.transaction.Fate.{Fate}
@@ -29,10 +29,10 @@ use Rattle.hid_bus.specs.declared.step.Told.{Told}
 use Rattle.hid_bus.specs.declared.step.Told.TheVariants.{Quiet}
 use Rattle.hid_bus.specs.declared.step.Told.TheVariants as tellings
 use Rattle.hid_stack.specs.Members.{Member, MemberStep, Scheduled, Controls, begin_refusal_at, bus_event_of_step, member_transfer_after, events_of_event_if, member_after, polls_it, member_after_try, member_out_of_memory}
-use Rattle.hid_stack.specs.Rig.{HasRoomToTry, TakesMemory, TriesWithMemory, member_at, max_events_of_step, max_events_of_try, with_member, one_after, member_deliveries, one_unconcluded, with_device_number, change_refusal, control_refusal, poll_refusal, refusal, bus_after_refusal, IsRefusal, HasRoomFor}
+use Rattle.hid_stack.specs.Rig.{HasRoomToTry, TakesMemory, TriesWithMemory, member_at, max_events_of_step, max_events_of_try, with_member, bus_after_member_step, member_deliveries, bus_after_try_out_of_memory, with_device_number, change_refusal, control_refusal, poll_refusal, refusal, bus_after_refusal, IsRefusal, HasRoomFor}
 use Rattle.hid_stack.specs.Slot.{TriesTransfer}
 use Rattle.hid_stack.specs.Sums.{AbortsByRequest, ConfiguresBetweenRounds, IsBetween, OnlyHaltsAbort}
-use Rattle.hid_stack.specs.StepResult.{TellsPoll, TellsTry, Tells}
+use Rattle.hid_stack.specs.StepResult.{PollReturns, TryReturns, StepReturns}
 use Rattle.hid_stack.proofs.SumLemmas.{try_between}
 
 -- the member of a number, at its place
@@ -55,10 +55,10 @@ named slots members dev i m same number within is =
 
 -- where the bus stands after its step
 pub leaves : (slots members : List Member) (dev i : ℕ) (m n : Member) (x : MemberStep) → slots ≡ members → IsNamed members dev i m → n ≡ member_after m x
-    → slice_set slots i n ≡ one_after members dev x
+    → slice_set slots i n ≡ bus_after_member_step members dev x
 leaves slots members dev i m n x same at_place after =
     let place = at_place.place in
-    let to_one : with_member members dev (member_after m x) ≡ one_after members dev x
+    let to_one : with_member members dev (member_after m x) ≡ bus_after_member_step members dev x
     = sym (ap (λ (o : Option Member). elim o as (λ _. List Member) [ None ↦ members | Some k ↦ with_member members dev (member_after k x) ]) at_place.here) in
     let moved : slice_set slots i n ≡ with_member members dev (member_after m x) = cc in
     moved ∙ to_one
@@ -103,11 +103,12 @@ change_only members dev i m change (Err fault) states r at_place changes told =
 
 -- a poll of it
 pub poll_tells : (members : List Member) (dev i : ℕ) (m : Member) (fate : Fate) (r : Result Told StackFault) → IsNamed members dev i m
-    → IfOk r (λ told. TellsPoll m.layout m.link fate told) → IfOk r (λ told. Tells members (Poll dev fate) told)
+    → IfOk r (λ told. PollReturns m.layout m.link fate told)
+    → IfOk r (λ told. StepReturns members (Poll dev fate) told)
 poll_tells members dev i m fate r at_place tells =
-    IfOk-weaker r (λ told. TellsPoll m.layout m.link fate told) (λ told. Tells members (Poll dev fate) told)
+    IfOk-weaker r (λ told. PollReturns m.layout m.link fate told) (λ told. StepReturns members (Poll dev fate) told)
     (λ told h. subst
-    (λ (o : Option Member). elim o as (λ _. Type 0) [ None ↦ ⊥ | Some k ↦ TellsPoll k.layout k.link fate told ])
+    (λ (o : Option Member). elim o as (λ _. Type 0) [ None ↦ ⊥ | Some k ↦ PollReturns k.layout k.link fate told ])
     (sym at_place.here) h) tells
 
 -- what a step of it delivers
@@ -250,8 +251,8 @@ control_stands members dev i m fate at_place =
 
 -- what a try of the transfer that runs comes to at the bus
 pub record TriesNamed (slots members : List Member) (dev i : ℕ) (m n : Member) (fate : Fate) (r : Result Told StackFault) : Type 0 where
-  pub told : IfOk r (λ told. Tells members (Control dev fate) told)
-  pub after : OnOk r (slice_set slots i n ≡ one_after members dev (Controls fate))
+  pub told : IfOk r (λ told. StepReturns members (Control dev fate) told)
+  pub after : OnOk r (slice_set slots i n ≡ bus_after_member_step members dev (Controls fate))
   pub refused : (e : StackFault) → refusal members (Control dev fate) ≡ Some e → r ≡ Err e
   pub only : IfErr r (λ e. IsRefusal members (Control dev fate) e)
   pub err : IfErr r (λ e. slice_set slots i n ≡ bus_after_refusal members (Control dev fate) e)
@@ -259,18 +260,19 @@ pub record TriesNamed (slots members : List Member) (dev i : ℕ) (m n : Member)
 tells_named : (members : List Member) (dev i : ℕ) (m : Member) (fate : Fate) (t : Transfer) (told : Told)
     → IsNamed members dev i m → running m.transfer ≡ Some t
     → told ≡ tellings.Transfer (progress_of (member_transfer_after fate m t).stage)
-    → Tells members (Control dev fate) told
+    → StepReturns members (Control dev fate) told
 tells_named members dev i m fate t told at_place runs is =
-    subst (λ (o : Option Member). elim o as (λ _. Type 0) [ None ↦ ⊥ | Some k ↦ TellsTry fate k (running k.transfer) told ]) (sym at_place.here)
-    (subst (λ (o : Option Transfer). TellsTry fate m o told) (sym runs) is)
+    subst (λ (o : Option Member). elim o as
+    (λ _. Type 0) [ None ↦ ⊥ | Some k ↦ TryReturns fate k (running k.transfer) told ]) (sym at_place.here)
+    (subst (λ (o : Option Transfer). TryReturns fate m o told) (sym runs) is)
 
 unconcluded_at : (slots members : List Member) (dev i : ℕ) (m n : Member) (fate : Fate) → slots ≡ members
     → IsNamed members dev i m → n ≡ member_out_of_memory fate m (running m.transfer)
-    → slice_set slots i n ≡ one_unconcluded members dev fate
+    → slice_set slots i n ≡ bus_after_try_out_of_memory members dev fate
 unconcluded_at slots members dev i m n fate same at_place is =
     let place = at_place.place in
     let to_one : with_member members dev (member_out_of_memory fate m (running m.transfer))
-    ≡ one_unconcluded members dev fate
+    ≡ bus_after_try_out_of_memory members dev fate
     = sym (ap
     (λ (o : Option Member). elim o as
     (λ _. List Member) [

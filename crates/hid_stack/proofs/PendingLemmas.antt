@@ -17,7 +17,7 @@ use Rattle.hid_host.specs.Host.{clearing_after, clearing_with, is_clear, running
 use Rattle.hid_stack.specs.PendingClear.{IsClearDone, IsPendingUntilDone, LeavePending}
 use Rattle.hid_stack.specs.HostInvariant.{asking_of}
 use Rattle.hid_stack.specs.Members.{Member, MemberStep, Scheduled, Begins, Controls, Halts, Resets, begin_refusal_at, member_after_begin, core_of_member, member_transfer_after, member_after_halt, member_after, member_after_all, polls_it, member_after_try}
-use Rattle.hid_stack.specs.Transfers.{IsEvenAgain, IsOver, IsUndone}
+use Rattle.hid_stack.specs.Transfers.{IsCleared, IsOver, IsUndone}
 use Rattle.hid_stack.proofs.ClearLemmas.{Pends, begins_pending, even_there, halted_pends, idle_step, polls_none, scheduled_pends, tried_pends, tried_transfer}
 use Rattle.hid_stack.proofs.CountLemmas.{runs_as}
 use Rattle.hid_stack.proofs.LawLemmas.{short_so}
@@ -145,7 +145,7 @@ undone_as o t is undone = subst IsUndone (sym is) undone
 not_done : (stage : HostStage) → is_running stage ≡ true → stage ≢ stages.Done
 not_done stage run done = let wrong : true ≡ false = sym run ∙ ap is_running done in absurd (cc)
 
-even_where : (fate : Fate) (n : Member) (o : Option Transfer) → n.transfer ≡ o → StaysPending n → IsClearDone (member_after n (Controls fate)).transfer → IsEvenAgain (member_after n (Controls fate))
+even_where : (fate : Fate) (n : Member) (o : Option Transfer) → n.transfer ≡ o → StaysPending n → IsClearDone (member_after n (Controls fate)).transfer → IsCleared (member_after n (Controls fate))
 even_where fate n None has s done = absurd (s.undone (subst (λ (k : Member). IsClearDone k.transfer) (no_transfer fate n has) done))
 even_where fate n (Some t) has s done = elim (cases_Bool (is_running t.ends.stage)) [
   | inl run ↦
@@ -161,7 +161,7 @@ even_where fate n (Some t) has s done = elim (cases_Bool (is_running t.ends.stag
 abbrev PendingFrom : List MemberStep → Member → Type 0
 PendingFrom steps begun =
     let n = member_after_all begun steps in LeavePending begun steps
-    → (polls_it n ≡ false) × ((fate : Fate) → IsClearDone (member_after n (Controls fate)).transfer → IsEvenAgain (member_after n (Controls fate)))
+    → (polls_it n ≡ false) × ((fate : Fate) → IsClearDone (member_after n (Controls fate)).transfer → IsCleared (member_after n (Controls fate)))
 
 pub pending_until_done : (m : Member) (steps : List MemberStep) → ParsesTo m.descriptor m.layout
     → begin_refusal_at m requests.Clear ≡ None → IsPendingUntilDone m steps

@@ -5,7 +5,7 @@ use Rattle.std.specs.Prelude.{nat_le, nat_lt, position}
 use Rattle.std.specs.Option.{option_and_then}
 use Rattle.std.proofs.lemmas.Bool.Decides.{nat_tests}
 use Rattle.arrayvec.specs.declared.array_vec.ArrayVec.{ArrayVec}
-use Rattle.hid_descriptor.specs.declared.limits.TheConstants.{MAX_REPORT_BYTES}
+use Rattle.hid_report_descriptor.specs.declared.limits.TheConstants.{MAX_REPORT_BYTES}
 use Rattle.hid_layout.specs.Controls.{items_of}
 use Rattle.hid_layout.specs.Layout.{Contents, report_bytes}
 use Rattle.hid_snapshots.specs.declared.control_state.ControlState.{ControlState}
@@ -14,13 +14,13 @@ use Rattle.hid_snapshots.specs.declared.fault.ReportFault.{ReportFault}
 use Rattle.hid_snapshots.specs.declared.fault.ReportFault.TheVariants.{Short}
 use Rattle.hid_snapshots.specs.Pieces.{piece_of, pieces_for, pieces_of, is_last_piece}
 use Rattle.hid_snapshots.proofs.PieceLemmas.{collected_all, collected_more, full_piece, more_to_come}
-use Rattle.hid_usages.specs.Crossing.{ReadsAsShown}
+use Rattle.hid_usages.specs.PartsReadBack.{ReadsAsShown}
 use Rattle.hid_usages.specs.Reading.{bytes_awaited, first_byte, is_input_with, report_begun, report_named, whole_report}
 use Rattle.hid_usages.specs.Taking.{read_view, read_events}
 use Rattle.hid_snapshots.specs.Views.{view_after_part}
 use Rattle.usb_transact.specs.declared.host.Took.TheVariants.{Fresh}
 use Rattle.hid_bus.specs.Rounds.{part_events}
-use Rattle.hid_host.specs.Ready.{Known, bytes_with, collected_bytes_with, data_read, ends_with, events_after, events_of_report, is_whole, known_after, outcome_of, read_or_fault, read_outcome, view_after_report, view_with}
+use Rattle.hid_host.specs.Ready.{ReadyHostState, bytes_with, collected_bytes_with, data_read, ends_with, events_after, events_of_report, is_whole, outcome_of, read_or_fault, read_outcome, ready_host_after, view_after_report, view_with}
 
 -- ---- how long a report is, by the first of its bytes that came
 
@@ -116,7 +116,7 @@ abbrev pub payload : List ℕ → ArrayVec ℕ 64 (Unit {0})
 payload bytes = record { items = bytes }
 
 -- its toggle changes with each
-abbrev pub known_as : Known → List ControlState → List ℕ → Known
+abbrev pub known_as : ReadyHostState → List ControlState → List ℕ → ReadyHostState
 known_as known view collected = record {
   layout = known.layout;
   pipe = record known.pipe { expects = not known.pipe.expects };
@@ -125,17 +125,17 @@ known_as known view collected = record {
 }
 
 -- its view sees the part with the last piece, and before that it keeps what came
-abbrev pub taking : Known → ℕ → List ControlState → List ℕ → ℕ → Bool → Known
+abbrev pub taking : ReadyHostState → ℕ → List ControlState → List ℕ → ℕ → Bool → ReadyHostState
 taking known r parts bytes piece last =
     known_as known (cond last (view_after_part (items_of known.layout) r known.view parts) known.view)
     (cond last [] (up_to bytes piece))
 
 -- what came joined with the piece, and whether the report ends so
-record Joins (known : Known) (bytes : List ℕ) (piece : ℕ) (last : Bool) : Type 0 where
+record Joins (known : ReadyHostState) (bytes : List ℕ) (piece : ℕ) (last : Bool) : Type 0 where
   came : bytes_with known (piece_of bytes piece) ≡ up_to bytes piece
   ends : ends_with known (piece_of bytes piece) ≡ last
 
-joins : (known : Known) (r : ℕ) (parts : List ControlState) (bytes : List ℕ) (piece : ℕ) (last : Bool)
+joins : (known : ReadyHostState) (r : ℕ) (parts : List ControlState) (bytes : List ℕ) (piece : ℕ) (last : Bool)
     → Reads known.layout r parts bytes known.view → is_last_piece (items_of known.layout) r piece ≡ last
     → known.collected ≡ take (64 * piece) bytes → Joins known bytes piece last
 joins known r parts bytes piece last reads is got =
@@ -146,7 +146,7 @@ joins known r parts bytes piece last reads is got =
       ends = ap (λ (bs : List ℕ). is_whole known.layout bs (length p)) came ∙ ends_by known.layout r parts bytes known.view piece last reads is;
     }
 
-view_then : (known : Known) (r : ℕ) (parts : List ControlState) (bytes : List ℕ) (piece : ℕ) (last : Bool)
+view_then : (known : ReadyHostState) (r : ℕ) (parts : List ControlState) (bytes : List ℕ) (piece : ℕ) (last : Bool)
     → Reads known.layout r parts bytes known.view → is_last_piece (items_of known.layout) r piece ≡ last
     → cond last (view_after_report known.layout (up_to bytes piece) known.view) known.view
     ≡ cond last (view_after_part (items_of known.layout) r known.view parts) known.view
@@ -161,7 +161,7 @@ view_then known r parts bytes piece true reads is =
           known.view
     ]) reads.shown.report ∙ reads.shown.view
 
-events_then : (known : Known) (r : ℕ) (parts : List ControlState) (bytes : List ℕ) (piece : ℕ) (last : Bool)
+events_then : (known : ReadyHostState) (r : ℕ) (parts : List ControlState) (bytes : List ℕ) (piece : ℕ) (last : Bool)
     → Reads known.layout r parts bytes known.view → is_last_piece (items_of known.layout) r piece ≡ last
     → cond last (events_of_report known.layout (up_to bytes piece) known.view) []
     ≡ cond last (part_events (items_of known.layout) r known.view parts) []
@@ -171,7 +171,7 @@ events_then known r parts bytes piece true reads is =
     (all_came known.layout r parts bytes known.view piece reads is)
     ∙ ap (λ (o : Result ℕ ReportFault). elim o as (λ _. List Event) [ Ok n ↦ read_events known.layout n bytes known.view | Err fault ↦ [] ]) reads.shown.report ∙ reads.shown.events
 
-told_then : (known : Known) (r : ℕ) (parts : List ControlState) (bytes : List ℕ) (piece : ℕ) (last : Bool)
+told_then : (known : ReadyHostState) (r : ℕ) (parts : List ControlState) (bytes : List ℕ) (piece : ℕ) (last : Bool)
     → Reads known.layout r parts bytes known.view → is_last_piece (items_of known.layout) r piece ≡ last
     → cond {A = Result (Unit {0}) ReportFault} last (read_or_fault (report_named known.layout (up_to bytes piece))) (Ok tt) ≡ Ok tt
 told_then known r parts bytes piece false reads is = refl
@@ -179,14 +179,15 @@ told_then known r parts bytes piece true reads is =
     ap (λ (bs : List ℕ). read_or_fault (report_named known.layout bs)) (all_came known.layout r parts bytes known.view piece reads is) ∙ ap read_or_fault reads.shown.report
 
 -- a host that takes the piece at hand, where the pieces before it came
-pub record TakesPiece (known : Known) (r : ℕ) (parts : List ControlState) (bytes : List ℕ) (piece : ℕ)
+pub record TakesPiece (known : ReadyHostState) (r : ℕ) (parts : List ControlState) (bytes : List ℕ) (piece : ℕ)
     (last : Bool) : Type 0 where
   pub told : outcome_of known (Fresh (payload (piece_of bytes piece))) ≡ Ok (Fresh (payload (piece_of bytes piece)))
-  pub behind : known_after known (Fresh (payload (piece_of bytes piece))) ≡ taking known r parts bytes piece last
+  pub behind : ready_host_after known (Fresh (payload (piece_of bytes piece))) ≡ taking known r parts bytes piece last
   pub events : events_after known (Fresh (payload (piece_of bytes piece)))
       ≡ cond last (part_events (items_of known.layout) r known.view parts) []
 
-pub takes_piece : (known : Known) (r : ℕ) (parts : List ControlState) (bytes : List ℕ) (piece : ℕ) (last : Bool)
+pub takes_piece : (known : ReadyHostState) (r : ℕ) (parts : List ControlState) (bytes : List ℕ) (piece : ℕ)
+    (last : Bool)
     → Reads known.layout r parts bytes known.view → is_last_piece (items_of known.layout) r piece ≡ last
     → known.collected ≡ take (64 * piece) bytes → TakesPiece known r parts bytes piece last
 takes_piece known r parts bytes piece last reads is got =

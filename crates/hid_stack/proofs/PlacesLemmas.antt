@@ -7,7 +7,7 @@ use Rattle.usb_control.specs.declared.fault.ControlFault.{ControlFault}
 use Rattle.usb_control.specs.declared.fault.ControlFault.TheVariants.{BusFault}
 use Rattle.usb_control.specs.Device.{DevControlState}
 use Rattle.usb_control.specs.Host.{HostTransferState, IsRunning}
-use Rattle.usb_control.specs.Positions.{Stands, StandsWith, host_stage}
+use Rattle.usb_control.specs.Positions.{TransferIsAt, TransferIsAtWithFault, host_stage}
 use Rattle.usb_control.specs.Transfer.{Shape, Decision, Refused, Accepted, Position, Setup, Piece, Status, Past, Place, place_after_silence, place_after_in, place_after_out, place_after_refusal, place_after_piece, applies, comes_from_device, data_pieces, place_after_decision, next_position, place_after_setup, place_after_try_at}
 
 -- a place after a try that wasn't decided on, and didn't take effect, by what stays
@@ -171,10 +171,11 @@ past_applied shape fate decision Past q place writes at apart h = absurd (apart 
 -- ---- a transfer that runs is at a place that is open
 
 pub open_place : {R : Type 0} (answer_of : R → Option (List ℕ)) (shape : Shape) (sends : List ℕ) (place : Place) (host : HostTransferState) (control : DevControlState R)
-    → Stands answer_of shape sends place host control → IsRunning host.stage → place.host ≢ Past
+    → TransferIsAt answer_of shape sends place host control → IsRunning host.stage → place.host ≢ Past
 open_place answer_of shape sends place host control stands running at =
-    let by_fault : StandsWith answer_of shape sends place place.fault host control → ⊥
-    = elim place.fault as (λ (f : Option ControlFault). StandsWith answer_of shape sends place f host control → ⊥) [
+    let by_fault : TransferIsAtWithFault answer_of shape sends place place.fault host control → ⊥
+    = elim place.fault as
+    (λ (f : Option ControlFault). TransferIsAtWithFault answer_of shape sends place f host control → ⊥) [
       | Some fault ↦ λ h. let wrong = subst IsRunning h running in cc
       | None ↦ λ b. let wrong = subst IsRunning (b.sender.stage ∙ ap (host_stage shape) at) running in cc
     ] in by_fault stands

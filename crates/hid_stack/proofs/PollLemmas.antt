@@ -7,13 +7,13 @@ use Rattle.hid_layout.specs.Reports.{IsLayout}
 use Rattle.hid_snapshots.specs.declared.control_state.ControlState.{ControlState}
 use Rattle.hid_snapshots.specs.declared.event.Event.{Event}
 use Rattle.hid_snapshots.specs.Pieces.{is_last_piece, piece_of, pieces_of}
-use Rattle.hid_snapshots.specs.Encoded.{part_bytes}
+use Rattle.hid_snapshots.specs.PartBytes.{part_bytes}
 use Rattle.hid_snapshots.specs.ControlStates.{FitsView}
 use Rattle.hid_snapshots.specs.Views.{view_after_part}
 use Rattle.hid_usages.proofs.CrossingLemmas.{seen_is_view}
 use Rattle.usb_packet.specs.declared.packet.Packet.{Packet}
 use Rattle.usb_packet.specs.declared.packet.Packet.TheVariants as packets
-use Rattle.usb_packet.specs.Spelling.{spelling}
+use Rattle.usb_packet.specs.PacketEncoding.{encoding}
 use Rattle.usb_transact.specs.declared.bus.Phase.TheVariants.{Reply, Acknowledgement}
 use Rattle.usb_transact.specs.declared.host.Took.{Took}
 use Rattle.usb_transact.specs.declared.host.Took.TheVariants.{Fresh, Again, Nak, Silent}
@@ -22,7 +22,7 @@ use Rattle.usb_transact.specs.declared.transaction.Fate.TheVariants.{Clean, Repl
 use Rattle.usb_transact.specs.Bus.{Arrivals, Carries}
 use Rattle.usb_transact.specs.Device.{answer_with}
 use Rattle.usb_transact.specs.Fate.{arrives_under}
-use Rattle.usb_transact.specs.Taken.{reply_outcome}
+use Rattle.usb_transact.specs.Replies.{reply_outcome}
 use Rattle.usb_transact.specs.Exchange.{outcome_when_received}
 use Rattle.usb_transact.proofs.TableLemmas.{read_whole, read_lost, took_answer}
 use Rattle.hid_requests.specs.declared.codes.TheConstants.{REPORT_ENDPOINT as ENDPOINT}
@@ -35,14 +35,14 @@ use Rattle.hid_host.specs.declared.fault.StackFault.{StackFault}
 use Rattle.hid_bus.specs.declared.step.Told.{Told}
 use Rattle.hid_bus.specs.declared.step.Told.TheVariants.{Polled}
 use Rattle.hid_host.specs.declared.phase.HostPhase.TheVariants.{Ready}
-use Rattle.hid_host.specs.Host.{HostEnd, host_after_reply}
+use Rattle.hid_host.specs.Host.{HostDeviceState, host_after_reply}
 use Rattle.hid_host.specs.declared.phase.HostState.TheVariants as states
 use Rattle.hid_stack.specs.Members.{Member, crossed_bytes, partial_report_of}
 use Rattle.hid_stack.specs.Slot.{link_of_pair, pair_member, TogglesAgree, ArePaired, IsPair}
-use Rattle.hid_host.specs.Ready.{Known, outcome_of, events_after}
+use Rattle.hid_host.specs.Ready.{ReadyHostState, outcome_of, events_after}
 use Rattle.hid_stack.specs.Polls.{Receives, ReceivesAck, Ends, encoded_packet, poll_outcome}
 use Rattle.hid_bus.specs.Rounds.{part_events}
-use Rattle.hid_bus.specs.LinkState.{LinkState, Open, state_at_token, with_open_report, state_after_answer, poll_events}
+use Rattle.hid_bus.specs.LinkState.{LinkState, OpenRound, state_at_token, with_open_report, state_after_answer, poll_events}
 use Rattle.hid_stack.specs.StepResult.{piece_shown, poll_result}
 use Rattle.hid_stack.proofs.PieceLemmas.{Reads, TakesPiece, more_so, payload, taking, takes_piece, up_to}
 
@@ -52,11 +52,11 @@ beq_same true = refl
 beq_same false = refl
 
 -- the round of a report whose piece at this place is at hand, and is awaited or not
-abbrev round_at : CoreState → ℕ → ℕ → Bool → Open
+abbrev round_at : CoreState → ℕ → ℕ → Bool → OpenRound
 round_at c r piece awaits = record { report = r; pieces = pieces_of (items_of c.layout) r; piece = piece; crossed = not awaits }
 
 -- opening a round at the device opens it at the link state
-opens_if : (c : CoreState) (known : Known) (due : Option ℕ) → c.toggle ≡ known.pipe.expects
+opens_if : (c : CoreState) (known : ReadyHostState) (due : Option ℕ) → c.toggle ≡ known.pipe.expects
     → link_of_pair (core_with_due_round (record c { current = None }) due) known
     ≡ with_open_report (items_of c.layout) (link_of_pair (record c { current = None }) known) due
 opens_if c known None even = refl
@@ -66,22 +66,24 @@ opens_if c known (Some r) even =
     record s { current = Some (round_at c r 0 b) })
     (ap (λ (t : Bool). beq c.toggle t) (sym even) ∙ beq_same c.toggle)
 
-opens_at : (c : CoreState) (known : Known) (current : Option ℕ) → TogglesAgree c.toggle known.pipe.expects current
+opens_at : (c : CoreState) (known : ReadyHostState) (current : Option ℕ)
+    → TogglesAgree c.toggle known.pipe.expects current
     → link_of_pair (core_at_poll (record c { current = current })) known
     ≡ state_at_token (items_of c.layout) (link_of_pair (record c { current = current }) known)
 opens_at c known None even = opens_if c known (due_where (items_of c.layout) c.halted c.reports) even
 opens_at c known (Some r) even = refl
 
-pub opens : (c : CoreState) (known : Known) → TogglesAgree c.toggle known.pipe.expects c.current
+pub opens : (c : CoreState) (known : ReadyHostState) → TogglesAgree c.toggle known.pipe.expects c.current
     → link_of_pair (core_at_poll c) known ≡ state_at_token (items_of c.layout) (link_of_pair c known)
 opens c known even = opens_at c known c.current even
 
 -- what its host has of the open round of a device
-abbrev pub got_by : CoreState → Known → List ℕ
+abbrev pub got_by : CoreState → ReadyHostState → List ℕ
 got_by c known = partial_report_of c.layout c.reports.fixed (link_of_pair c known).current
 
 -- of a round that opens it has nothing
-got_if : (c : CoreState) (known : Known) (due : Option ℕ) → c.toggle ≡ known.pipe.expects → known.collected ≡ []
+got_if : (c : CoreState) (known : ReadyHostState) (due : Option ℕ) → c.toggle ≡ known.pipe.expects
+    → known.collected ≡ []
     → known.collected ≡ got_by (core_with_due_round (record c { current = None }) due) known
 got_if c known None even none = none
 got_if c known (Some r) even none =
@@ -90,13 +92,14 @@ got_if c known (Some r) even none =
     ≡ crossed_bytes (part_bytes c.layout r there.reports.fixed) (round_at c r 0 b))
     (sym (ap (λ (t : Bool). beq c.toggle t) (sym even) ∙ beq_same c.toggle)) none
 
-got_at : (c : CoreState) (known : Known) (current : Option ℕ) → TogglesAgree c.toggle known.pipe.expects current
+got_at : (c : CoreState) (known : ReadyHostState) (current : Option ℕ)
+    → TogglesAgree c.toggle known.pipe.expects current
     → known.collected ≡ got_by (record c { current = current }) known
     → known.collected ≡ got_by (core_at_poll (record c { current = current })) known
 got_at c known None even got = got_if c known (due_where (items_of c.layout) c.halted c.reports) even got
 got_at c known (Some r) even got = got
 
-pub got_open : (c : CoreState) (known : Known) → TogglesAgree c.toggle known.pipe.expects c.current
+pub got_open : (c : CoreState) (known : ReadyHostState) → TogglesAgree c.toggle known.pipe.expects c.current
     → known.collected ≡ got_by c known → known.collected ≡ got_by (core_at_poll c) known
 got_open c known even got = got_at c known c.current even got
 
@@ -148,7 +151,7 @@ abbrev pub bytes_of : CoreState → ℕ → List ℕ
 bytes_of c r = part_bytes c.layout r c.reports.fixed
 
 -- what holds of a device and its host beside their toggles
-pub record Meets (addr : ℕ) (c : CoreState) (known : Known) : Type 0 where
+pub record Meets (addr : ℕ) (c : CoreState) (known : ReadyHostState) : Type 0 where
   pub configured : c.is_configured ≡ true
   pub to_device : known.pipe.addr ≡ addr
   pub endp : known.pipe.endp ≡ ENDPOINT
@@ -157,16 +160,18 @@ pub record Meets (addr : ℕ) (c : CoreState) (known : Known) : Type 0 where
   pub fits : FitsView (items_of c.layout) known.view
 
 -- the two ends with the host's layout that of the device
-abbrev pub sharing : CoreState → Known → Known
+abbrev pub sharing : CoreState → ReadyHostState → ReadyHostState
 sharing c known = record known { layout = c.layout }
 
 -- a host without a clear that is pending
-abbrev pub unpending : HostEnd → HostEnd
+abbrev pub unpending : HostDeviceState → HostDeviceState
 unpending home = record { addr = home.addr; phase = home.phase; transfer = home.transfer; clearing = false }
 
 -- a poll whose token arrived, from the device's answer on
-pub record Arrives (fate : Fate) (c : CoreState) (known : Known) (d : DeviceState) (home : HostEnd) (packet : Packet)
-    (result : Result Told StackFault) (device_then : DeviceState) (host_then : HostEnd) (events : List Event) : Type 0 where
+pub record Arrives (fate : Fate) (c : CoreState) (known : ReadyHostState) (d : DeviceState) (home : HostDeviceState)
+    (packet : Packet)
+    (result : Result Told StackFault) (device_then : DeviceState) (host_then : HostDeviceState)
+    (events : List Event) : Type 0 where
   pub reply : Option Packet
   pub replied : Carries (arrives_under fate) Reply packet reply
   pub told : result
@@ -178,7 +183,7 @@ pub record Arrives (fate : Fate) (c : CoreState) (known : Known) (d : DeviceStat
       (device_after_poll d c) device_then
 
 -- the member of a device with this inside and of its ready host, by the toggle that is held and its link state
-abbrev pub ready_member : DeviceState → HostEnd → CoreState → Option Bool → LinkState → Member
+abbrev pub ready_member : DeviceState → HostDeviceState → CoreState → Option Bool → LinkState → Member
 ready_member d home c held s = record {
   addr = d.addr;
   config = c.config;
@@ -201,24 +206,28 @@ ready_member d home c held s = record {
 
 -- what a poll makes of the link state, once a round was opened for it
 pub record Lands (fate : Fate) (of : LinkState → Member) (s : LinkState)
-    (result : Result Told StackFault) (device_then : DeviceState) (host_then : HostEnd) (events : List Event) : Type 0 where
+    (result : Result Told StackFault) (device_then : DeviceState) (host_then : HostDeviceState)
+    (events : List Event) : Type 0 where
   pub member : pair_member device_then host_then ≡ of (state_after_answer (items_of (of s).layout) s fate)
   pub delivered : events ≡ poll_events (items_of (of s).layout) s fate
   pub told : result ≡ Ok (poll_result s fate (piece_shown (of s).layout s))
   pub pair : IsPair device_then host_then.clearing host_then.phase
 
 -- the two ends after a poll, put together
-abbrev pub ready_with : HostEnd → Known → HostEnd
+abbrev pub ready_with : HostDeviceState → ReadyHostState → HostDeviceState
 ready_with home known = record { addr = home.addr; phase = Ready known; transfer = home.transfer; clearing = false }
 
-pub member_of : (d e : DeviceState) (h : HostEnd) (home : HostEnd) (known : Known) → d ≡ e → h ≡ ready_with home known
+pub member_of : (d e : DeviceState) (h : HostDeviceState) (home : HostDeviceState) (known : ReadyHostState) → d ≡ e
+    → h ≡ ready_with home known
     → pair_member d h ≡ pair_member e (ready_with home known)
 member_of d e h home known device_is host_is =
-    ap (λ (x : DeviceState). pair_member x h) device_is ∙ ap (λ (x : HostEnd). pair_member e x) host_is
+    ap (λ (x : DeviceState). pair_member x h) device_is ∙ ap (λ (x : HostDeviceState). pair_member e x) host_is
 
-pub pair_of : (d e : DeviceState) (h : HostEnd) (home : HostEnd) (known : Known) → d ≡ e → h ≡ ready_with home known → ArePaired e known false → IsPair d h.clearing h.phase
+pub pair_of : (d e : DeviceState) (h : HostDeviceState) (home : HostDeviceState) (known : ReadyHostState) → d ≡ e
+    → h ≡ ready_with home known → ArePaired e known false → IsPair d h.clearing h.phase
 pair_of d e h home known device_is host_is pair =
-    subst (λ (x : DeviceState). IsPair x h.clearing h.phase) (sym device_is) (subst (λ (x : HostEnd). IsPair e x.clearing x.phase) (sym host_is) pair)
+    subst (λ (x : DeviceState). IsPair x h.clearing h.phase) (sym device_is)
+    (subst (λ (x : HostDeviceState). IsPair e x.clearing x.phase) (sym host_is) pair)
 
 -- the device's wait, after its answer
 abbrev waiting : DeviceState → CoreState → ℕ → DeviceState
@@ -248,7 +257,7 @@ closed_sound c r false is sound =
 
 -- an ACK that arrives closes the piece
 ack_closes : (arrivals : Arrivals) (d : DeviceState) (c : CoreState) (r : ℕ) (last : Bool) (after : DeviceState)
-    → arrivals Acknowledgement (spelling packets.Ack) ≡ Some (spelling packets.Ack)
+    → arrivals Acknowledgement (encoding packets.Ack) ≡ Some (encoding packets.Ack)
     → is_last_piece (items_of c.layout) r c.piece ≡ last → ReceivesAck arrivals (waiting d c r) after
     → after ≡ closed_device d c r last
 ack_closes arrivals d c r last after whole is h =
@@ -259,7 +268,7 @@ ack_closes arrivals d c r last after whole is h =
 
 -- one that is lost leaves it
 ack_lost : (arrivals : Arrivals) (d : DeviceState) (c : CoreState) (r : ℕ) (after : DeviceState)
-    → arrivals Acknowledgement (spelling packets.Ack) ≡ None → ReceivesAck arrivals (waiting d c r) after
+    → arrivals Acknowledgement (encoding packets.Ack) ≡ None → ReceivesAck arrivals (waiting d c r) after
     → after ≡ waiting d c r
 ack_lost arrivals d c r after lost h =
     let came = read_lost arrivals Acknowledgement packets.Ack h.came lost h.carried in
@@ -268,13 +277,15 @@ ack_lost arrivals d c r after lost h =
     receives.1
 
 -- the host after fresh data
-fresh_host : (known : Known) (home : HostEnd) (r : ℕ) (parts : List ControlState) (bytes : List ℕ) (piece : ℕ)
+fresh_host : (known : ReadyHostState) (home : HostDeviceState) (r : ℕ) (parts : List ControlState) (bytes : List ℕ)
+    (piece : ℕ)
     (last : Bool) → TakesPiece known r parts bytes piece last
     → host_after_reply (unpending home) known (Fresh (payload (piece_of bytes piece)))
     ≡ ready_with home (taking known r parts bytes piece last)
 fresh_host known home r parts bytes piece last takes = ap (ready_with home) takes.behind
 
-taken_fits : (addr : ℕ) (c : CoreState) (known : Known) (r : ℕ) (last : Bool) → Meets addr (going c (Some r)) known
+taken_fits : (addr : ℕ) (c : CoreState) (known : ReadyHostState) (r : ℕ) (last : Bool)
+    → Meets addr (going c (Some r)) known
     → FitsView (items_of c.layout)
     (cond last (view_after_part (items_of c.layout) r known.view c.reports.fixed) known.view)
 taken_fits addr c known r true meets =
@@ -282,54 +293,59 @@ taken_fits addr c known r true meets =
 taken_fits addr c known r false meets = meets.fits
 
 -- the link state of a device with an open round, by whether its piece at hand is awaited
-abbrev link_with : CoreState → Option Open → Bool → List ControlState → LinkState
+abbrev link_with : CoreState → Option OpenRound → Bool → List ControlState → LinkState
 link_with c current odd view =
     record { reports = c.reports; current = current; toggle = odd; view = view; halted = false }
 
-abbrev open_link : CoreState → Known → ℕ → Bool → LinkState
+abbrev open_link : CoreState → ReadyHostState → ℕ → Bool → LinkState
 open_link c known r awaits = link_with c (Some (round_at c r c.piece awaits)) c.toggle known.view
 
 -- the part that a view sees, where it sees it
-abbrev seen_if : CoreState → Known → ℕ → Bool → List ControlState
+abbrev seen_if : CoreState → ReadyHostState → ℕ → Bool → List ControlState
 seen_if c known r sees = cond sees (view_after_part (items_of c.layout) r known.view c.reports.fixed) known.view
 
 -- the link state after a poll of which nothing is lost, by whether the piece is the last one
-abbrev clean_link : CoreState → Known → ℕ → Bool → Bool → LinkState
+abbrev clean_link : CoreState → ReadyHostState → ℕ → Bool → Bool → LinkState
 clean_link c known r awaits last =
     link_with c (cond last None (Some (round_at c r (c.piece + 1) true))) (not c.toggle)
     (seen_if c known r (last && not (not awaits)))
 
-clean_as : (c : CoreState) (known : Known) (r : ℕ) (awaits last : Bool) (d : DeviceState) (home : HostEnd) → is_last_piece (items_of c.layout) r c.piece ≡ last
+clean_as : (c : CoreState) (known : ReadyHostState) (r : ℕ) (awaits last : Bool) (d : DeviceState)
+    (home : HostDeviceState) → is_last_piece (items_of c.layout) r c.piece ≡ last
     → ready_member d home c None (clean_link c known r awaits last)
     ≡ ready_member d home c None (state_after_answer (items_of c.layout) (open_link c known r awaits) Clean)
 clean_as c known r awaits last d home is =
     ap (λ (b : Bool). ready_member d home c None (clean_link c known r awaits b)) (sym is)
 
 -- the link state after a poll whose ACK is lost, by whether the piece is the last one
-abbrev lost_link : CoreState → Known → ℕ → Bool → Bool → LinkState
+abbrev lost_link : CoreState → ReadyHostState → ℕ → Bool → Bool → LinkState
 lost_link c known r awaits last =
     link_with c (Some (round_at c r c.piece false)) c.toggle (seen_if c known r (last && not (not awaits)))
 
-lost_as : (c : CoreState) (known : Known) (r : ℕ) (awaits last : Bool) (d : DeviceState) (home : HostEnd) → is_last_piece (items_of c.layout) r c.piece ≡ last
+lost_as : (c : CoreState) (known : ReadyHostState) (r : ℕ) (awaits last : Bool) (d : DeviceState)
+    (home : HostDeviceState) → is_last_piece (items_of c.layout) r c.piece ≡ last
     → ready_member d home c None (lost_link c known r awaits last)
     ≡ ready_member d home c None (state_after_answer (items_of c.layout) (open_link c known r awaits) AckLost)
 lost_as c known r awaits last d home is =
     ap (λ (b : Bool). ready_member d home c None (lost_link c known r awaits b)) (sym is)
 
 -- what either tells
-abbrev part_if : CoreState → Known → ℕ → Bool → List Event
+abbrev part_if : CoreState → ReadyHostState → ℕ → Bool → List Event
 part_if c known r tells = cond tells (part_events (items_of c.layout) r known.view c.reports.fixed) []
 
-fresh_delivers : (c : CoreState) (known : Known) (r : ℕ) (last : Bool) → is_last_piece (items_of c.layout) r c.piece ≡ last
+fresh_delivers : (c : CoreState) (known : ReadyHostState) (r : ℕ) (last : Bool)
+    → is_last_piece (items_of c.layout) r c.piece ≡ last
     → part_if c known r last ≡ part_if c known r (is_last_piece (items_of c.layout) r c.piece && true)
 fresh_delivers c known r last is = ap (part_if c known r) (sym (and_true last) ∙ ap (λ (b : Bool). b && true) (sym is))
 
-again_delivers : (c : CoreState) (known : Known) (r : ℕ) (last : Bool) → [] ≡ part_if c known r (last && false)
+again_delivers : (c : CoreState) (known : ReadyHostState) (r : ℕ) (last : Bool)
+    → [] ≡ part_if c known r (last && false)
 again_delivers c known r last = ap (part_if c known r) (sym (and_false last))
 
 -- data that reach a host which awaits them
-record IsTaken (d : DeviceState) (home : HostEnd) (c : CoreState) (known : Known) (r : ℕ) (last : Bool)
-    (result : Result Told StackFault) (host_then : HostEnd) (events : List Event) : Type 0 where
+record IsTaken (d : DeviceState) (home : HostDeviceState) (c : CoreState) (known : ReadyHostState) (r : ℕ)
+    (last : Bool)
+    (result : Result Told StackFault) (host_then : HostDeviceState) (events : List Event) : Type 0 where
   meets : Meets d.addr (going c (Some r)) known
   is : is_last_piece (items_of c.layout) r c.piece ≡ last
   same : beq c.toggle known.pipe.expects ≡ true
@@ -340,7 +356,9 @@ record IsTaken (d : DeviceState) (home : HostEnd) (c : CoreState) (known : Known
   delivers : events ≡ part_if c known r last
 
 -- where the ACK arrives
-fresh_clean : (d : DeviceState) (home : HostEnd) (c : CoreState) (known : Known) (r : ℕ) (last : Bool) (result : Result Told StackFault) (device_then : DeviceState) (host_then : HostEnd) (events : List Event)
+fresh_clean : (d : DeviceState) (home : HostDeviceState) (c : CoreState) (known : ReadyHostState) (r : ℕ)
+    (last : Bool) (result : Result Told StackFault) (device_then : DeviceState) (host_then : HostDeviceState)
+    (events : List Event)
     → IsTaken d home c known r last result host_then events
     → ReceivesAck (arrives_under Clean) (waiting d c r) device_then
     → Lands Clean (ready_member d home c None) (open_link c known r true) result device_then host_then events
@@ -390,7 +408,9 @@ fresh_clean d home c known r false result device_then host_then events t hears =
     }
 
 -- where it is lost
-fresh_ack_lost : (d : DeviceState) (home : HostEnd) (c : CoreState) (known : Known) (r : ℕ) (last : Bool) (result : Result Told StackFault) (device_then : DeviceState) (host_then : HostEnd) (events : List Event)
+fresh_ack_lost : (d : DeviceState) (home : HostDeviceState) (c : CoreState) (known : ReadyHostState) (r : ℕ)
+    (last : Bool) (result : Result Told StackFault) (device_then : DeviceState) (host_then : HostDeviceState)
+    (events : List Event)
     → IsTaken d home c known r last result host_then events
     → ReceivesAck (arrives_under AckLost) (waiting d c r) device_then
     → Lands AckLost (ready_member d home c None) (open_link c known r true) result device_then host_then events
@@ -424,8 +444,9 @@ fresh_ack_lost d home c known r last result device_then host_then events t hears
     }
 
 -- data that a host took before
-record IsRepeated (d : DeviceState) (home : HostEnd) (c : CoreState) (known : Known) (r : ℕ) (last : Bool)
-    (result : Result Told StackFault) (host_then : HostEnd) (events : List Event) : Type 0 where
+record IsRepeated (d : DeviceState) (home : HostDeviceState) (c : CoreState) (known : ReadyHostState) (r : ℕ)
+    (last : Bool)
+    (result : Result Told StackFault) (host_then : HostDeviceState) (events : List Event) : Type 0 where
   meets : Meets d.addr (going c (Some r)) known
   is : is_last_piece (items_of c.layout) r c.piece ≡ last
   differ : beq c.toggle known.pipe.expects ≡ false
@@ -436,7 +457,9 @@ record IsRepeated (d : DeviceState) (home : HostEnd) (c : CoreState) (known : Kn
   delivers : events ≡ []
 
 -- where the ACK arrives
-again_clean : (d : DeviceState) (home : HostEnd) (c : CoreState) (known : Known) (r : ℕ) (last : Bool) (result : Result Told StackFault) (device_then : DeviceState) (host_then : HostEnd) (events : List Event)
+again_clean : (d : DeviceState) (home : HostDeviceState) (c : CoreState) (known : ReadyHostState) (r : ℕ)
+    (last : Bool) (result : Result Told StackFault) (device_then : DeviceState) (host_then : HostDeviceState)
+    (events : List Event)
     → IsRepeated d home c known r last result host_then events
     → ReceivesAck (arrives_under Clean) (waiting d c r) device_then
     → Lands Clean (ready_member d home c None) (open_link c known r false) result device_then host_then events
@@ -483,7 +506,9 @@ again_clean d home c known r false result device_then host_then events t hears =
     }
 
 -- a repeated packet whose ACK is lost
-again_ack_lost : (d : DeviceState) (home : HostEnd) (c : CoreState) (known : Known) (r : ℕ) (last : Bool) (result : Result Told StackFault) (device_then : DeviceState) (host_then : HostEnd) (events : List Event)
+again_ack_lost : (d : DeviceState) (home : HostDeviceState) (c : CoreState) (known : ReadyHostState) (r : ℕ)
+    (last : Bool) (result : Result Told StackFault) (device_then : DeviceState) (host_then : HostDeviceState)
+    (events : List Event)
     → IsRepeated d home c known r last result host_then events
     → ReceivesAck (arrives_under AckLost) (waiting d c r) device_then
     → Lands AckLost (ready_member d home c None) (open_link c known r false) result device_then host_then events
@@ -518,12 +543,12 @@ abbrev pub armed_at : CoreState → Option ℕ → Option (List ℕ)
 armed_at c current = piece_armed c.layout c.reports.fixed current c.piece
 
 -- the host has the pieces that crossed
-abbrev pub HasGot : CoreState → Option ℕ → Known → Type 0
+abbrev pub HasGot : CoreState → Option ℕ → ReadyHostState → Type 0
 HasGot c current known = known.collected ≡ got_by (going c current) known
 
 -- where nothing is taken and no piece closes, the link state stays
-stays : (c : CoreState) (known : Known) (d : DeviceState) (home : HostEnd) (current : Option ℕ)
-    (result : Result Told StackFault) (device_then : DeviceState) (host_then : HostEnd) (events : List Event)
+stays : (c : CoreState) (known : ReadyHostState) (d : DeviceState) (home : HostDeviceState) (current : Option ℕ)
+    (result : Result Told StackFault) (device_then : DeviceState) (host_then : HostDeviceState) (events : List Event)
     → TogglesAgree c.toggle known.pipe.expects current → HasGot c current known → Meets d.addr (going c current) known
     → result ≡ Ok (Polled (encoded_packet (Some (answer_with false c.toggle (armed_at c current)))) Silent)
     → device_then ≡ device_after_poll d (going c current) → host_then ≡ ready_with home (sharing c known)
@@ -566,8 +591,9 @@ stays c known d home (Some r) result device_then host_then events even got meets
 }
 
 -- a reply that is lost
-pub reply_lost : (c : CoreState) (known : Known) (d : DeviceState) (home : HostEnd) (current : Option ℕ) (packet : Packet)
-    (result : Result Told StackFault) (device_then : DeviceState) (host_then : HostEnd) (events : List Event)
+pub reply_lost : (c : CoreState) (known : ReadyHostState) (d : DeviceState) (home : HostDeviceState)
+    (current : Option ℕ) (packet : Packet)
+    (result : Result Told StackFault) (device_then : DeviceState) (host_then : HostDeviceState) (events : List Event)
     → TogglesAgree c.toggle known.pipe.expects current → HasGot c current known → Meets d.addr (going c current) known
     → packet ≡ answer_with false c.toggle (armed_at c current)
     → Arrives ReplyLost (going c current) known d home packet result device_then host_then events
@@ -589,23 +615,26 @@ reply_lost c known d home current packet result device_then host_then events eve
     (t.delivers ∙ ap (events_after shared) took)
 
 -- what a poll whose answer reaches the host comes to, by what the host takes
-pub record Comes (fate : Fate) (c : CoreState) (known : Known) (d : DeviceState) (home : HostEnd) (packet : Packet) (took : Took)
-    (result : Result Told StackFault) (device_then : DeviceState) (host_then : HostEnd) (events : List Event) : Type 0 where
+pub record Comes (fate : Fate) (c : CoreState) (known : ReadyHostState) (d : DeviceState) (home : HostDeviceState)
+    (packet : Packet) (took : Took)
+    (result : Result Told StackFault) (device_then : DeviceState) (host_then : HostDeviceState)
+    (events : List Event) : Type 0 where
   pub told : result ≡ poll_outcome (Some packet) (outcome_of (sharing c known) took)
   pub host_moved : host_then ≡ host_after_reply (unpending home) (sharing c known) took
   pub delivers : events ≡ events_after (sharing c known) took
   pub ended : Ends (arrives_under fate) (outcome_of (sharing c known) took) (device_after_poll d c) device_then
 
 -- an answer that reaches the host is taken by its row
-pub comes : (fate : Fate) (c : CoreState) (known : Known) (d : DeviceState) (home : HostEnd) (armed : Option (List ℕ)) (packet : Packet)
-    (result : Result Told StackFault) (device_then : DeviceState) (host_then : HostEnd) (events : List Event)
+pub comes : (fate : Fate) (c : CoreState) (known : ReadyHostState) (d : DeviceState) (home : HostDeviceState)
+    (armed : Option (List ℕ)) (packet : Packet)
+    (result : Result Told StackFault) (device_then : DeviceState) (host_then : HostDeviceState) (events : List Event)
     → ((bytes : List ℕ) → arrives_under fate Reply bytes ≡ Some bytes) → packet ≡ answer_with c.halted c.toggle armed
     → Arrives fate c known d home packet result device_then host_then events
     → Comes fate c known d home (answer_with c.halted c.toggle armed)
     (outcome_when_received known.pipe.expects c.halted c.toggle armed) result device_then host_then events
 comes fate c known d home armed packet result device_then host_then events whole packet_is t =
     let shared = sharing c known in
-    let came = read_whole (arrives_under fate) Reply packet t.reply (whole (spelling packet)) t.replied in
+    let came = read_whole (arrives_under fate) Reply packet t.reply (whole (encoding packet)) t.replied in
     let took : reply_outcome known.pipe.expects t.reply
     ≡ outcome_when_received known.pipe.expects c.halted c.toggle armed
     = ap (reply_outcome known.pipe.expects) (came ∙ ap (λ (x : Packet). Some x) packet_is)
@@ -622,16 +651,17 @@ comes fate c known d home armed packet result device_then host_then events whole
     }
 
 -- an answer that the host takes is taken as any that equals it
-comes_as : (fate : Fate) (c : CoreState) (known : Known) (d : DeviceState) (home : HostEnd) (packet : Packet) (took other : Took)
-    (result : Result Told StackFault) (device_then : DeviceState) (host_then : HostEnd) (events : List Event)
+comes_as : (fate : Fate) (c : CoreState) (known : ReadyHostState) (d : DeviceState) (home : HostDeviceState)
+    (packet : Packet) (took other : Took)
+    (result : Result Told StackFault) (device_then : DeviceState) (host_then : HostDeviceState) (events : List Event)
     → took ≡ other → Comes fate c known d home packet took result device_then host_then events
     → Comes fate c known d home packet other result device_then host_then events
 comes_as fate c known d home packet took other result device_then host_then events is t =
     subst (λ (x : Took). Comes fate c known d home packet x result device_then host_then events) is t
 
 -- a poll at which no round is open and none opens
-nak : (fate : Fate) (c : CoreState) (known : Known) (d : DeviceState) (home : HostEnd)
-    (result : Result Told StackFault) (device_then : DeviceState) (host_then : HostEnd) (events : List Event)
+nak : (fate : Fate) (c : CoreState) (known : ReadyHostState) (d : DeviceState) (home : HostDeviceState)
+    (result : Result Told StackFault) (device_then : DeviceState) (host_then : HostDeviceState) (events : List Event)
     → TogglesAgree c.toggle known.pipe.expects None → HasGot c None known → Meets d.addr (going c None) known
     → Comes fate (going c None) known d home packets.Nak Nak result device_then host_then events
     → (pair_member device_then host_then ≡ ready_member d home c None (link_of_pair (going c None) known))
@@ -656,8 +686,9 @@ nak fate c known d home result device_then host_then events even got meets t = (
 )
 
 -- the link state of an open round, by the toggles
-opens_link : (fate : Fate) (d : DeviceState) (home : HostEnd) (c : CoreState) (known : Known) (r : ℕ) (b : Bool)
-    (result : Result Told StackFault) (device_then : DeviceState) (host_then : HostEnd) (events : List Event)
+opens_link : (fate : Fate) (d : DeviceState) (home : HostDeviceState) (c : CoreState) (known : ReadyHostState) (r : ℕ)
+    (b : Bool)
+    (result : Result Told StackFault) (device_then : DeviceState) (host_then : HostDeviceState) (events : List Event)
     → beq c.toggle known.pipe.expects ≡ b
     → Lands fate (ready_member d home c None) (open_link c known r b) result device_then host_then events
     → Lands fate (ready_member d home c None)
@@ -671,14 +702,14 @@ abbrev row : Bool → List ℕ → Took
 row b bytes = cond b (Fresh (payload bytes)) Again
 
 -- what a host has of the open round, by the toggles
-got_as : (c : CoreState) (known : Known) (r : ℕ) (b : Bool) → beq c.toggle known.pipe.expects ≡ b
+got_as : (c : CoreState) (known : ReadyHostState) (r : ℕ) (b : Bool) → beq c.toggle known.pipe.expects ≡ b
     → HasGot c (Some r) known → known.collected ≡ crossed_bytes (bytes_of c r) (round_at c r c.piece b)
 got_as c known r b is got =
     subst (λ (x : Bool). known.collected ≡ crossed_bytes (bytes_of c r) (round_at c r c.piece x)) is got
 
 -- data that a host takes
-is_taken : (fate : Fate) (d : DeviceState) (home : HostEnd) (c : CoreState) (known : Known) (r : ℕ)
-    (result : Result Told StackFault) (device_then : DeviceState) (host_then : HostEnd) (events : List Event)
+is_taken : (fate : Fate) (d : DeviceState) (home : HostDeviceState) (c : CoreState) (known : ReadyHostState) (r : ℕ)
+    (result : Result Told StackFault) (device_then : DeviceState) (host_then : HostDeviceState) (events : List Event)
     → Meets d.addr (going c (Some r)) known → HasGot c (Some r) known
     → Reads c.layout r c.reports.fixed (bytes_of c r) known.view → beq c.toggle known.pipe.expects ≡ true
     → Comes fate (going c (Some r)) known d home (packets.Data c.toggle (payload (piece_of (bytes_of c r) c.piece))) (Fresh (payload (piece_of (bytes_of c r) c.piece))) result device_then host_then events
@@ -703,8 +734,9 @@ is_taken fate d home c known r result device_then host_then events meets got rea
     )
 
 -- data that it took before
-is_repeated : (fate : Fate) (d : DeviceState) (home : HostEnd) (c : CoreState) (known : Known) (r : ℕ)
-    (result : Result Told StackFault) (device_then : DeviceState) (host_then : HostEnd) (events : List Event)
+is_repeated : (fate : Fate) (d : DeviceState) (home : HostDeviceState) (c : CoreState) (known : ReadyHostState)
+    (r : ℕ)
+    (result : Result Told StackFault) (device_then : DeviceState) (host_then : HostDeviceState) (events : List Event)
     → Meets d.addr (going c (Some r)) known → HasGot c (Some r) known → beq c.toggle known.pipe.expects ≡ false
     → Comes fate (going c (Some r)) known d home (packets.Data c.toggle (payload (piece_of (bytes_of c r) c.piece))) Again result device_then host_then events
     → IsRepeated d home c known r (is_last_piece (items_of c.layout) r c.piece) result host_then events
@@ -719,14 +751,16 @@ is_repeated fate d home c known r result device_then host_then events meets got 
 }
 
 -- a poll whose answer reaches the host
-abbrev ComesTo : Fate → DeviceState → HostEnd → CoreState → Known → Option ℕ → Result Told StackFault → DeviceState → HostEnd → List Event → Type 0
+abbrev ComesTo : Fate → DeviceState → HostDeviceState → CoreState → ReadyHostState → Option ℕ → Result Told StackFault
+    → DeviceState → HostDeviceState → List Event → Type 0
 ComesTo fate d home c known current result device_then host_then events =
     Comes fate (going c current) known d home (answer_with false c.toggle (armed_at c current))
     (outcome_when_received known.pipe.expects false c.toggle
     (armed_at c current)) result device_then host_then events
 
-comes_row : (fate : Fate) (d : DeviceState) (home : HostEnd) (c : CoreState) (known : Known) (r : ℕ) (b : Bool)
-    (result : Result Told StackFault) (device_then : DeviceState) (host_then : HostEnd) (events : List Event)
+comes_row : (fate : Fate) (d : DeviceState) (home : HostDeviceState) (c : CoreState) (known : ReadyHostState) (r : ℕ)
+    (b : Bool)
+    (result : Result Told StackFault) (device_then : DeviceState) (host_then : HostDeviceState) (events : List Event)
     → beq c.toggle known.pipe.expects ≡ b → ComesTo fate d home c known (Some r) result device_then host_then events
     → Comes fate (going c (Some r)) known d home (packets.Data c.toggle (payload (piece_of (bytes_of c r) c.piece))) (row b (piece_of (bytes_of c r) c.piece)) result device_then host_then events
 comes_row fate d home c known r b result device_then host_then events is t =
@@ -735,8 +769,8 @@ comes_row fate d home c known r b result device_then host_then events is t =
     (row b (piece_of (bytes_of c r) c.piece))
     result device_then host_then events (ap (λ (x : Bool). row x (piece_of (bytes_of c r) c.piece)) is) t
 
-pub clean : (c : CoreState) (known : Known) (d : DeviceState) (home : HostEnd) (current : Option ℕ)
-    (result : Result Told StackFault) (device_then : DeviceState) (host_then : HostEnd) (events : List Event)
+pub clean : (c : CoreState) (known : ReadyHostState) (d : DeviceState) (home : HostDeviceState) (current : Option ℕ)
+    (result : Result Told StackFault) (device_then : DeviceState) (host_then : HostDeviceState) (events : List Event)
     → TogglesAgree c.toggle known.pipe.expects current → HasGot c current known → Meets d.addr (going c current) known
     → ((r : ℕ) → current ≡ Some r → Reads c.layout r c.reports.fixed (bytes_of c r) known.view)
     → ComesTo Clean d home c known current result device_then host_then events
@@ -759,8 +793,9 @@ clean c known d home (Some r) result device_then host_then events even got meets
           (again_clean d home c known r last result device_then host_then events f row.ended)
     ]
 
-pub ack_lost_poll : (c : CoreState) (known : Known) (d : DeviceState) (home : HostEnd) (current : Option ℕ)
-    (result : Result Told StackFault) (device_then : DeviceState) (host_then : HostEnd) (events : List Event)
+pub ack_lost_poll : (c : CoreState) (known : ReadyHostState) (d : DeviceState) (home : HostDeviceState)
+    (current : Option ℕ)
+    (result : Result Told StackFault) (device_then : DeviceState) (host_then : HostDeviceState) (events : List Event)
     → TogglesAgree c.toggle known.pipe.expects current → HasGot c current known → Meets d.addr (going c current) known
     → ((r : ℕ) → current ≡ Some r → Reads c.layout r c.reports.fixed (bytes_of c r) known.view)
     → ComesTo AckLost d home c known current result device_then host_then events

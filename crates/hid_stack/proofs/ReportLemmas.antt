@@ -10,9 +10,9 @@ use Rattle.usb_transact.specs.declared.transaction.Fate.TheVariants.{Clean, Toke
 use Rattle.hid_bus.specs.DeviceHistory.{BusEvent, Own, Idles, Configures, Halts, Clears, Resets, state_after}
 use Rattle.hid_bus.specs.Rounds.{Changes, Frame, Polls, part_events, reaches_host}
 use Rattle.hid_bus.specs.ReportState.{due_where}
-use Rattle.hid_bus.specs.LinkState.{LinkState, Open, completes, is_last, next_piece, poll_events, state_after_answer, state_at_token, state_before_answer, with_open_report}
+use Rattle.hid_bus.specs.LinkState.{LinkState, OpenRound, completes, is_last, piece_after, poll_events, state_after_answer, state_at_token, state_before_answer, with_open_report}
 use Rattle.hid_stack.specs.Members.{Member, MemberStep, Scheduled, bus_event_of_step, events_of_event_if, poll_bus_event, polls_it, state_after_event_if}
-use Rattle.hid_stack.specs.Reports.{IsSameRound, IsWholeOrNothing, KeepsToRound, TellsBy, is_missing_last}
+use Rattle.hid_stack.specs.Reports.{DeliversIfComplete, IsSameRound, IsWholeOrNothing, KeepsToRound, is_missing_last}
 use Rattle.hid_stack.proofs.MemberLemmas.{link_is}
 use Rattle.hid_stack.proofs.SlotLemmas.{fixed_stays}
 
@@ -24,7 +24,7 @@ record Nothing (items : List Item) (s : LinkState) (fate : Fate) : Type 0 where
   view : (state_after_answer items s fate).view ≡ s.view
 
 record Part (items : List Item) (s : LinkState) (fate : Fate) : Type 0 where
-  round : Open
+  round : OpenRound
   is_open : s.current ≡ Some round
   crosses : completes round ≡ true
   events : poll_events items s fate ≡ part_events items round.report s.view s.reports.fixed
@@ -34,17 +34,18 @@ abbrev By : Bool → List Item → LinkState → Fate → Type 0
 By true items s fate = Part items s fate
 By false items s fate = Nothing items s fate
 
-abbrev with_open : LinkState → Option Open → LinkState
+abbrev with_open : LinkState → Option OpenRound → LinkState
 with_open s current = record s { current = current }
 
 -- where the piece at hand reaches the host
-abbrev told_if : List Item → LinkState → Open → Bool → List Event
+abbrev told_if : List Item → LinkState → OpenRound → Bool → List Event
 told_if items s round b = cond b (part_events items round.report s.view s.reports.fixed) []
 
-abbrev seen_if : List Item → LinkState → Open → Bool → List ControlState
+abbrev seen_if : List Item → LinkState → OpenRound → Bool → List ControlState
 seen_if items s round b = cond b (view_after_part items round.report s.view s.reports.fixed) s.view
 
-reaches : (items : List Item) (s : LinkState) (round : Open) (fate : Fate) (whole : Bool) → completes round ≡ whole
+reaches : (items : List Item) (s : LinkState) (round : OpenRound) (fate : Fate) (whole : Bool)
+    → completes round ≡ whole
     → poll_events items (with_open s (Some round)) fate ≡ told_if items s round (completes round)
     → (state_after_answer items (with_open s (Some round)) fate).view ≡ seen_if items s round (completes round)
     → By whole items (with_open s (Some round)) fate
@@ -57,7 +58,7 @@ reaches items s round fate true whole told view = record {
 }
 reaches items s round fate false more told view = record { events = told ∙ ap (told_if items s round) more; view = view ∙ ap (seen_if items s round) more }
 
-answers : (items : List Item) (s : LinkState) (current : Option Open) (fate : Fate)
+answers : (items : List Item) (s : LinkState) (current : Option OpenRound) (fate : Fate)
     → By (reaches_host fate && is_missing_last current) items (with_open s current) fate
 answers items s None Clean = record { events = refl; view = refl }
 answers items s None TokenLost = record { events = refl; view = refl }
@@ -73,7 +74,7 @@ opened_if_view : (items : List Item) (s : LinkState) (due : Option ℕ) → (wit
 opened_if_view items s None = refl
 opened_if_view items s (Some r) = refl
 
-opened_view : (items : List Item) (s : LinkState) (current : Option Open)
+opened_view : (items : List Item) (s : LinkState) (current : Option OpenRound)
     → (state_at_token items (with_open s current)).view ≡ s.view
 opened_view items s None = opened_if_view items (with_open s None) (due_where items s.halted s.reports)
 opened_view items s (Some round) = refl
@@ -86,7 +87,8 @@ arrived_view items s AckLost = opened_view items s s.current
 
 -- a poll that is made
 made_by : (m : Member) (fate : Fate) (whole : Bool) → polls_it m ≡ true
-    → By whole (items_of m.layout) (state_before_answer (items_of m.layout) m.link fate) fate → TellsBy whole m fate
+    → By whole (items_of m.layout) (state_before_answer (items_of m.layout) m.link fate) fate
+    → DeliversIfComplete whole m fate
 made_by m fate true polls part =
     let items = items_of m.layout in
     let s = state_before_answer items m.link fate in
@@ -120,12 +122,12 @@ pub whole_or_nothing : (m : Member) (fate : Fate) → IsWholeOrNothing m fate
 whole_or_nothing m fate = elim (cases_Bool (polls_it m)) [
   | inl polls ↦
       let s = state_before_answer (items_of m.layout) m.link fate in
-      subst (λ (b : Bool). TellsBy (b && missing_at m fate) m fate) (sym polls)
+      subst (λ (b : Bool). DeliversIfComplete (b && missing_at m fate) m fate) (sym polls)
       (made_by m fate (missing_at m fate) polls (answers (items_of m.layout) s s.current fate))
   | inr silent ↦
       let bus_event : bus_event_of_step m (Scheduled (Polls fate)) ≡ None =
       ap (λ (b : Bool). poll_bus_event b fate) silent in
-      subst (λ (b : Bool). TellsBy (b && missing_at m fate) m fate) (sym silent) (record {
+      subst (λ (b : Bool). DeliversIfComplete (b && missing_at m fate) m fate) (sym silent) (record {
         events = ap (events_of_event_if (items_of m.layout) m.link) bus_event;
         view = ap (λ (o : Option BusEvent). (state_after_event_if (items_of m.layout) m.link o).view) bus_event;
       })
@@ -133,22 +135,23 @@ whole_or_nothing m fate = elim (cases_Bool (polls_it m)) [
 
 -- ---- the open round
 
-abbrev Stays : Open → LinkState → LinkState → Type 0
+abbrev Stays : OpenRound → LinkState → LinkState → Type 0
 Stays round s t = (t.current ≡ None) ⊎ IsSameRound round s t
 
-same_round : (round : Open) (s t : LinkState) (crossed : Bool) → t.current ≡ Some (record round { crossed = crossed })
+same_round : (round : OpenRound) (s t : LinkState) (crossed : Bool)
+    → t.current ≡ Some (record round { crossed = crossed })
     → t.reports.fixed ≡ s.reports.fixed → Stays round s t
 same_round round s t crossed is part =
     inr (record { now = record round { crossed = crossed }; is_open = is; report = refl; pieces = refl; piece = inl refl; part = part })
 
 -- a piece that closes
-closes : (items : List Item) (s : LinkState) (round : Open)
+closes : (items : List Item) (s : LinkState) (round : OpenRound)
     → Stays round (with_open s (Some round)) (state_after_answer items (with_open s (Some round)) Clean)
 closes items s round = elim (cases_Bool (is_last round)) [
-  | inl last ↦ inl (ap (λ (b : Bool). cond b None (Some (next_piece round))) last)
+  | inl last ↦ inl (ap (λ (b : Bool). cond b None (Some (piece_after round))) last)
   | inr more ↦ inr (record {
-    now = next_piece round;
-    is_open = ap (λ (b : Bool). cond b None (Some (next_piece round))) more;
+    now = piece_after round;
+    is_open = ap (λ (b : Bool). cond b None (Some (piece_after round))) more;
     report = refl;
     pieces = refl;
     piece = inr refl;
@@ -156,7 +159,7 @@ closes items s round = elim (cases_Bool (is_last round)) [
   })
 ]
 
-bus_event_keeps : (items : List Item) (s : LinkState) (round : Open) (bus_event : BusEvent)
+bus_event_keeps : (items : List Item) (s : LinkState) (round : OpenRound) (bus_event : BusEvent)
     → Stays round (with_open s (Some round)) (state_after items (with_open s (Some round)) bus_event)
 bus_event_keeps items s round (Own (Changes change)) =
     same_round round (with_open s (Some round))
@@ -183,7 +186,7 @@ bus_event_keeps items s round Halts = inl refl
 bus_event_keeps items s round Clears = inl refl
 bus_event_keeps items s round Resets = inl refl
 
-by_bus_event : (items : List Item) (s : LinkState) (round : Open) (o : Option BusEvent)
+by_bus_event : (items : List Item) (s : LinkState) (round : OpenRound) (o : Option BusEvent)
     → Stays round (with_open s (Some round)) (state_after_event_if items (with_open s (Some round)) o)
 by_bus_event items s round None =
     same_round round (with_open s (Some round)) (with_open s (Some round)) round.crossed refl refl

@@ -9,19 +9,19 @@ use Rattle.hid_snapshots.specs.declared.event.Event.{Event}
 use Rattle.hid_snapshots.specs.Views.{changes_between, changes_from, drops_between}
 use Rattle.hid_usages.proofs.CrossingLemmas.{same_state}
 use Rattle.hid_bus.specs.DeviceHistory.{reset_events, state_after}
-use Rattle.hid_bus.specs.DeviceHistory as lives
-use Rattle.hid_bus.specs.LinkState.{LinkState, is_whole}
+use Rattle.hid_bus.specs.DeviceHistory as bus
+use Rattle.hid_bus.specs.LinkState.{LinkState, has_all_pieces}
 use Rattle.hid_snapshots.specs.Pieces.{is_last_piece}
 use Rattle.hid_device.specs.Core.{CoreState, IsSound, piece_at, reset_core, round_of}
 use Rattle.hid_device.specs.Device.{DeviceState, core_of, reset_device}
 use Rattle.hid_host.specs.declared.phase.HostPhase.{HostPhase}
 use Rattle.hid_host.specs.declared.phase.HostPhase.TheVariants.{Cold, Described, Parsed, Ready}
-use Rattle.hid_host.specs.Host.{HostEnd, cold_host}
+use Rattle.hid_host.specs.Host.{HostDeviceState, cold_host}
 use Rattle.hid_stack.specs.HostInvariant.{IsConsistent}
 use Rattle.hid_host.specs.ResetEvents.{awaited_report, host_reset_events, release_events}
 use Rattle.usb_control.specs.Device.{DevControlState}
 use Rattle.hid_stack.specs.Members.{Resets, member_after}
-use Rattle.hid_stack.specs.Slot.{IsUntouched, StandTogether, link_of, pair_member, round_between}
+use Rattle.hid_stack.specs.Slot.{AreConsistentEnds, IsUntouched, link_of, pair_member, round_between}
 
 -- a view that stays tells nothing
 pub same_view : (i : ℕ) (items : List Item) (item_states : List ControlState) → changes_from i items item_states item_states ≡ []
@@ -34,7 +34,7 @@ same_view i (item ∷ items) (item_state ∷ item_states) =
 abbrev round_told_back : List Item → List ControlState → List ControlState → Bool → Bool → Option ℕ → ℕ → List Event
 round_told_back items view parts toggle expects current piece = elim (round_between items toggle expects current piece) as (λ _. List Event) [
   | None ↦ changes_between items view (blank items)
-  | Some round ↦ (if is_whole round then changes_between items view (blank items)
+  | Some round ↦ (if has_all_pieces round then changes_between items view (blank items)
       else drops_between items round.report view (blank items) parts)
 ]
 
@@ -64,7 +64,8 @@ unready_tells core untouched =
     (blank items) core.reports.fixed core.toggle core.toggle o core.piece) untouched.no_round
     ∙ same_view 0 items (blank items))
 
-pub told_at_reset : (device : DeviceState) (clearing : Bool) (phase : HostPhase) → StandTogether device clearing phase
+pub told_at_reset : (device : DeviceState) (clearing : Bool) (phase : HostPhase)
+    → AreConsistentEnds device clearing phase
     → host_reset_events phase (round_of (core_of device)) (piece_at (core_of device)) (core_of device).reports.fixed
     ≡ reset_events (items_of (core_of device).layout) (link_of (core_of device) phase)
 told_at_reset device clearing Cold together = unready_tells (core_of device) together
@@ -79,21 +80,21 @@ told_at_reset device clearing (Ready known) together =
 
 -- the link state is reset, however far the host had come
 reset_link : (core : CoreState) (phase : HostPhase)
-    → link_of (reset_core core) Cold ≡ state_after (items_of core.layout) (link_of core phase) lives.Resets
+    → link_of (reset_core core) Cold ≡ state_after (items_of core.layout) (link_of core phase) bus.Resets
 reset_link core Cold = refl
 reset_link core (Described info) = refl
 reset_link core (Parsed info layout) = refl
 reset_link core (Ready known) = refl
 
 -- what a reset of the two comes to
-pub record ResetsPair (device device_then : DeviceState) (host host_then : HostEnd) : Type 0 where
+pub record ResetsPair (device device_then : DeviceState) (host host_then : HostDeviceState) : Type 0 where
   pub after : pair_member device_then host_then ≡ member_after (pair_member device host) Resets
-  pub together : StandTogether device_then host_then.clearing host_then.phase
+  pub together : AreConsistentEnds device_then host_then.clearing host_then.phase
   pub knows : IsConsistent host_then device_then.control
   pub home : (host_then.addr ≡ host.addr) × (device_then.addr ≡ device.addr)
   pub layout : (core_of device_then).layout ≡ (core_of device).layout
 
-pub resets_so : (device device_then : DeviceState) (host host_then : HostEnd)
+pub resets_so : (device device_then : DeviceState) (host host_then : HostDeviceState)
     → ((addr : ℕ) (control : DevControlState CoreState) → IsConsistent (cold_host addr) control)
     → device_then ≡ reset_device device → host_then ≡ cold_host host.addr → IsSound (core_of device_then) → ResetsPair device device_then host host_then
 resets_so device device_then host host_then begins device_is host_is sound =
@@ -105,4 +106,5 @@ resets_so device device_then host host_then begins device_is host_is sound =
       home = (refl, refl);
       layout = refl;
     } in
-    subst (λ (d : DeviceState). ResetsPair device d host host_then) (sym device_is) (subst (λ (h : HostEnd). ResetsPair device (reset_device device) host h) (sym host_is) both)
+    subst (λ (d : DeviceState). ResetsPair device d host host_then) (sym device_is)
+    (subst (λ (h : HostDeviceState). ResetsPair device (reset_device device) host h) (sym host_is) both)

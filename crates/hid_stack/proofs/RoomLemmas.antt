@@ -16,7 +16,7 @@ use Rattle.hid_bus.specs.declared.step.Step.TheVariants.{Change, Frame, Poll, Be
 use Rattle.hid_bus.specs.declared.step.Told.{Told}
 use Rattle.hid_host.specs.Host.{running}
 use Rattle.hid_stack.specs.Members.{Member, MemberStep, Scheduled, Begins, Controls, Halts, Resets, member_after}
-use Rattle.hid_stack.specs.Rig.{AreScheduled, member_at, with_member, one_after, bus_after, bus_after_all, HasRoomAt, HasRoomFor, HasRoomToTry, is_scheduled, max_events_of_step, max_events_of_steps, refusal, bus_after_refusal, bus_after_stop, IsRefusal, NoneIsRefused, StopsAt}
+use Rattle.hid_stack.specs.Rig.{AreScheduled, member_at, with_member, bus_after_member_step, bus_after, bus_after_all, HasRoomAt, HasRoomFor, HasRoomToTry, is_scheduled, max_events_of_step, max_events_of_steps, refusal, bus_after_refusal, bus_after_stop, IsRefusal, NoneIsRefused, StopsAt}
 use Rattle.hid_host.specs.declared.fault.StackFault.{StackFault}
 use Rattle.hid_stack.proofs.MemberLemmas.{layout_stays}
 
@@ -29,7 +29,7 @@ layouts members = map layout_of_member members
 found_layout : (members : List Member) (i : ℕ) (m : Member) → slice_get members i ≡ Some m → m.layout ≡ (get_or members i m).layout
 found_layout members i m h = ap layout_of_member (sym (get_or_from_slice_get members i m m h))
 
-one_layouts : (members : List Member) (dev : ℕ) (x : MemberStep) → layouts (one_after members dev x) ≡ layouts members
+one_layouts : (members : List Member) (dev : ℕ) (x : MemberStep) → layouts (bus_after_member_step members dev x) ≡ layouts members
 one_layouts members dev x = by_member (member_at members dev) refl
   where
     by_number : (b : Bool) (m : Member) → cond b None (slice_get members (dev - 1)) ≡ Some m → m.layout ≡ (get_or members (dev - 1) m).layout

@@ -14,21 +14,21 @@ use Rattle.usb_control.specs.TryFunctions.{after_ack_if, control_after, control_
 use Rattle.usb_control.specs.Device.{DevControlState, Effect, Answers, Decides, Applies, effect_of_ack}
 use Rattle.usb_control.specs.Host.{HostTransferState, IsRunning}
 use Rattle.usb_control.specs.SetupBytes.{setup_of}
-use Rattle.usb_control.specs.Positions.{StandsWith, host_stage}
+use Rattle.usb_control.specs.Positions.{TransferIsAtWithFault, host_stage}
 use Rattle.usb_control.specs.Transaction.{effect_of_stage}
-use Rattle.usb_control.specs.Transfer.{Decision, Piece, Place, Position, Past, Shape, Status, shape_of}
+use Rattle.usb_control.specs.Transfer.{Decision, Piece, Place, Position, Past, Shape, Status, transfer_shape}
 use Rattle.usb_control.specs.Transfer as positions
 use Rattle.hid_requests.specs.declared.request.Request.{Request}
 use Rattle.hid_requests.specs.declared.request.Request.TheVariants as requests
 use Rattle.hid_device.specs.declared.decisions.PendingWrite.{PendingWrite}
 use Rattle.hid_device.specs.declared.decisions.PendingWrite.TheVariants as pendings
 use Rattle.hid_device.specs.Core.{CoreState}
-use Rattle.hid_descriptor.specs.declared.report.ReportKind.TheVariants.{Input}
+use Rattle.hid_report_descriptor.specs.declared.report.ReportKind.TheVariants.{Input}
 use Rattle.hid_requests.specs.declared.class.Protocol.{Protocol}
-use Rattle.hid_requests.specs.Class.{number_of as protocol_number}
+use Rattle.hid_requests.specs.Class.{protocol_number}
 use Rattle.hid_device.specs.EndpointIndependence.{effect_aborts_round, effect_sets_configuration}
-use Rattle.hid_device.specs.Outputs.{kept_place, number_of}
-use Rattle.hid_device.specs.RequestTable.{core_after_decision, core_table, decide, endpoint_status, idle_time_of, keeps, reads_any, report_now, row_decision, sets_idle_of}
+use Rattle.hid_device.specs.Outputs.{kept_place, report_number_of}
+use Rattle.hid_device.specs.RequestTable.{core_after_decision, core_table, decide, endpoint_status, idle_time_of, reads_optional, report_now, row_decision, sets_idle_of, sets_report}
 use Rattle.hid_device.specs.RequestDecisions.{Reads, Refuses, RequestDecision, Writes, reads_if, writes_if}
 use Rattle.hid_host.specs.declared.host.Transfer.{Transfer}
 use Rattle.hid_host.specs.declared.phase.HostPhase.{HostPhase}
@@ -131,7 +131,7 @@ behind_unless Status apart = tt
 behind_unless Past apart = tt
 
 behind_by : (shape : Shape) (sends : List ℕ) (place : Place) (fault : Option ControlFault) (ends : HostTransferState) (control : DevControlState CoreState)
-    → StandsWith core_table.answer_of shape sends place fault ends control → IsRunning ends.stage
+    → TransferIsAtWithFault core_table.answer_of shape sends place fault ends control → IsRunning ends.stage
     → ends.stage ≢ stages.Setup → IsAfterSetup place.host
 behind_by shape sends place (Some fault) ends control stands running apart = let wrong = subst IsRunning stands running in absurd (cc)
 behind_by shape sends place None ends control stands running apart = behind_unless place.host (λ at. apart (stands.sender.stage ∙ ap (host_stage shape) at))
@@ -164,7 +164,7 @@ pends_by test none Refuses decision pending h = ap test h.1 ∙ none
 pends_by test none (Reads bytes) decision pending h = ap test h.1 ∙ none
 pends_by test none (Writes held) decision pending h = ap test h.1
 
-any_is_read : (test : PendingWrite → Bool) (o : Option (List ℕ)) → writes_by test (reads_any o) ≡ false
+any_is_read : (test : PendingWrite → Bool) (o : Option (List ℕ)) → writes_by test (reads_optional o) ≡ false
 any_is_read test None = refl
 any_is_read test (Some bytes) = refl
 
@@ -194,7 +194,7 @@ clearing_of_pipe : IsOfPipe is_clearing
 clearing_of_pipe = record { nothing = refl; keep = λ i. refl; idle = λ report time. refl; protocol = λ protocol. refl }
 
 keeps_only : (test : PendingWrite → Bool) → IsOfPipe test → (core : CoreState) (len : ℕ) (place : Option ℕ)
-    → writes_by test (keeps core len place) ≡ false
+    → writes_by test (sets_report core len place) ≡ false
 keeps_only test of core len None = refl
 keeps_only test of core len (Some i) = write_is_other test _ (pendings.Keep i) (of.keep i)
 
@@ -238,7 +238,9 @@ row_asks requests.Report core = asks_else requests.Report _ refl (λ test of. re
 row_asks requests.Configure core = record { configures = refl; aborts = λ h. absurd (cc); clears = λ h. absurd (cc) }
 row_asks requests.Status core = asks_else requests.Status _ refl (λ test of. refl)
 row_asks requests.GetConfiguration core = asks_else requests.GetConfiguration _ refl (λ test of. refl)
-row_asks (requests.Idle id time) core = asks_else (requests.Idle id time) _ refl (λ test of. idles_only test of (id == 0) time (number_of core.layout.reports Input id))
+row_asks (requests.Idle id time) core =
+    asks_else (requests.Idle id time) _ refl
+    (λ test of. idles_only test of (id == 0) time (report_number_of core.layout.reports Input id))
 row_asks (requests.GetIdle id) core =
     asks_else (requests.GetIdle id) _ refl
     (λ test of. any_is_read test (option_map (λ time. time ∷ []) (idle_time_of core id)))
@@ -299,7 +301,9 @@ decided_at : (trail : Trail) (phase : HostPhase) (t : Transfer) (control : DevCo
     → IsDecided t.request trail.decider control.requests trail.place.decision
 decided_at trail phase t control c running applied =
     let apart = not_at_setup t.ends.stage t.ends.setup t.ends.bytes control.stage control.requests.answer applied in
-    c.decided (behind_by (shape_of t.ends.setup) (sends_of t.request) trail.place trail.place.fault t.ends control c.stands running apart)
+    c.decided
+    (behind_by (transfer_shape t.ends.setup)
+    (sends_of t.request) trail.place trail.place.fault t.ends control c.stands running apart)
 
 pub parsed_by : (trail : Trail) (fate : Fate) (phase : HostPhase) (t : Transfer) (control : DevControlState CoreState)
     → FollowsTrail trail phase t control → IsRunning t.ends.stage → try_configures fate t.ends control ≡ true

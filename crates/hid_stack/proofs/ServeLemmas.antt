@@ -4,7 +4,7 @@ use Rattle.std.specs.Prelude.{slice_get, slice_set, IfOk, IfErr, IfSome, OnOk, O
 use Rattle.std.proofs.lemmas.Result.{on_ok_weaker}
 use Rattle.hid_layout.specs.Controls.{items_of, max_events}
 use Rattle.hid_snapshots.specs.declared.change.Change.{Change}
-use Rattle.hid_snapshots.specs.declared.change.ChangeFault.{ChangeFault}
+use Rattle.hid_snapshots.specs.declared.fault.ChangeFault.{ChangeFault}
 use Rattle.hid_snapshots.specs.Snapshots as snapshots
 use Rattle.usb_transact.specs.declared.transaction.Fate.{Fate}
 use Rattle.usb_control.specs.declared.host.Progress.{Progress}
@@ -20,11 +20,11 @@ use Rattle.hid_bus.specs.declared.step.Step.TheVariants.{Change as ChangeStep, F
 use Rattle.hid_bus.specs.declared.step.Told.{Told}
 use Rattle.hid_bus.specs.declared.step.Told.TheVariants.{Quiet}
 use Rattle.hid_stack.specs.Members.{Member, MemberStep, Scheduled, Begins, Controls, Halts, Resets, begin_refusal_at, bus_event_of_step, events_of_event_if, member_after, polls_it}
-use Rattle.hid_stack.specs.Rig.{FitsStep, HasRoomFor, HasRoomToTry, IsRefusal, TakesMemory, bus_after, bus_after_refusal, deliveries_of_step, max_events_of_step, max_events_of_try, member_at, member_deliveries, one_after, poll_refusal, refusal, with_device_number, with_member}
+use Rattle.hid_stack.specs.Rig.{FitsStep, HasRoomFor, HasRoomToTry, IsRefusal, TakesMemory, bus_after, bus_after_refusal, deliveries_of_step, max_events_of_step, max_events_of_try, member_at, member_deliveries, bus_after_member_step, poll_refusal, refusal, with_device_number, with_member}
 use Rattle.hid_stack.specs.Slot.{TriesTransfer}
 use Rattle.hid_stack.specs.Steps.{StepsTo, device_of_step}
 use Rattle.hid_stack.specs.Sums.{AbortsByRequest, ConfiguresBetweenRounds, IsBetween, OnlyHaltsAbort}
-use Rattle.hid_stack.specs.StepResult.{Tells, TellsPoll}
+use Rattle.hid_stack.specs.StepResult.{PollReturns, StepReturns}
 use Rattle.hid_stack.proofs.NamedLemmas.{IsNamed, RefusedBy, begin_err, begin_only, begin_refused, begin_told, change_err, change_only, change_refused, change_told, control_between, control_cuts, control_done, control_few, control_room, control_told, control_undone, enough_room, few_of_it, leaves, memory_only, named, never_refused, never_stands, one_delivered, poll_only, poll_refused, poll_tells, stays_refused, tries_named}
 use Rattle.hid_stack.proofs.SumLemmas.{others_between, try_between}
 
@@ -103,7 +103,7 @@ change_serves m n d change y done r es len cap is changes after told =
 
 -- a step that moves one member on, delivers what that tells, and is refused without a trace
 record IsOneStep (members : List Member) (d : ℕ) (x : Step) (k : MemberStep) : Type 0 where
-  after : bus_after members x ≡ one_after members d k
+  after : bus_after members x ≡ bus_after_member_step members d k
   events : deliveries_of_step members x ≡ member_deliveries members d k
   most : max_events_of_step members x
       ≡ (elim (member_at members d) as (λ _. ℕ) [ None ↦ 0 | Some m ↦ max_events (items_of m.layout) ])
@@ -115,7 +115,7 @@ record IsOneStep (members : List Member) (d : ℕ) (x : Step) (k : MemberStep) :
 
 -- what it tells, and why it is refused
 record IsAnswered (members : List Member) (x : Step) (r : Result Told StackFault) : Type 0 where
-  told : IfOk r (λ told. Tells members x told)
+  told : IfOk r (λ told. StepReturns members x told)
   refused : (e : StackFault) → refusal members x ≡ Some e → r ≡ Err e
   only : IfErr r (λ e. IsRefusal members x e)
 
@@ -162,7 +162,7 @@ one_serves m n d x y k r old new len len_then cap cap_then is names steps answer
 
 -- a poll
 pub poll_serves : (m n : Member) (d : ℕ) (fate : Fate) (y : Step) (r : Result Told StackFault) (old new : List Delivered) (len len_then cap cap_then : ℕ) → y ≡ Poll d fate
-    → IfOk r (λ told. TellsPoll m.layout m.link fate told) → OnOk r (n ≡ member_after m (Scheduled (Polls fate)))
+    → IfOk r (λ told. PollReturns m.layout m.link fate told) → OnOk r (n ≡ member_after m (Scheduled (Polls fate)))
     → OnOk r (new ≡ old
     ++ map (with_device_number d)
     (events_of_event_if (items_of m.layout) m.link (bus_event_of_step m (Scheduled (Polls fate)))))
@@ -179,7 +179,9 @@ poll_serves m n d fate y r old new len len_then cap cap_then is told after event
     }) after events err room few more
 
 -- a halt and a reset: nothing but out of memory refuses these
-never : (members : List Member) (x : Step) (r : Result Told StackFault) → refusal members x ≡ None → TakesMemory members x → IfOk r (λ told. Tells members x told) → IfErr r (λ fault. fault ≡ Memory) → IsAnswered members x r
+never : (members : List Member) (x : Step) (r : Result Told StackFault) → refusal members x ≡ None
+    → TakesMemory members x → IfOk r (λ told. StepReturns members x told) → IfErr r (λ fault. fault ≡ Memory)
+    → IsAnswered members x r
 never members x r none takes told only = record { told = told; refused = never_refused members x r none; only = memory_only members x r none takes only }
 
 pub halt_serves : (m n : Member) (d : ℕ) (y : Step) (r : Result Told StackFault) (old new : List Delivered) (len len_then cap cap_then : ℕ) → y ≡ Halt d

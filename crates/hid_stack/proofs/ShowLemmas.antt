@@ -6,28 +6,30 @@ use Rattle.hid_layout.specs.Controls.{Item, items_of}
 use Rattle.hid_layout.specs.Layout.{Contents}
 use Rattle.hid_snapshots.specs.declared.control_state.ControlState.{ControlState}
 use Rattle.usb_transact.specs.Host.{HostPipeState}
-use Rattle.hid_bus.specs.LinkState.{Open}
+use Rattle.hid_bus.specs.LinkState.{OpenRound}
 use Rattle.hid_requests.specs.declared.codes.TheConstants.{REPORT_ENDPOINT as ENDPOINT}
 use Rattle.hid_device.specs.Device.{DeviceState, core_of}
 use Rattle.hid_host.specs.declared.host.Transfer.{Transfer}
 use Rattle.hid_host.specs.declared.phase.HostPhase.{HostPhase}
 use Rattle.hid_host.specs.declared.phase.HostPhase.TheVariants.{Cold, Described, Parsed, Ready}
-use Rattle.hid_host.specs.Host.{HostEnd}
+use Rattle.hid_host.specs.Host.{HostDeviceState}
 use Rattle.hid_stack.specs.HostInvariant.{IsConsistent, IsConsistentAt}
-use Rattle.hid_host.specs.Ready.{Known}
+use Rattle.hid_host.specs.Ready.{ReadyHostState}
 use Rattle.hid_stack.specs.Members.{partial_report_of, toggle_if_held}
 use Rattle.hid_stack.specs.Accessors.{ShowsDevice, ShowsHost, ShowsKnown}
-use Rattle.hid_stack.specs.Slot.{ArePaired, HasReceivedUnless, StandTogether, link_of, pair_member, round_between}
+use Rattle.hid_stack.specs.Slot.{AreConsistentEnds, ArePaired, HasReceivedUnless, link_of, pair_member, round_between}
 use Rattle.hid_stack.proofs.TryLemmas.{expects_so, host_by}
 
 -- ---- the device
 
-report_shown : (items : List Item) (t e : Bool) (current : Option ℕ) (piece : ℕ) → current ≡ option_map (λ (round : Open). round.report) (round_between items t e current piece)
+report_shown : (items : List Item) (t e : Bool) (current : Option ℕ) (piece : ℕ)
+    → current ≡ option_map (λ (round : OpenRound). round.report) (round_between items t e current piece)
 report_shown items t e None piece = refl
 report_shown items t e (Some r) piece = refl
 
 piece_shown : (items : List Item) (t e : Bool) (current : Option ℕ) (piece : ℕ)
-    → (elim current as (λ _. Option ℕ) [ None ↦ None | Some r ↦ Some piece ]) ≡ option_map (λ (round : Open). round.piece) (round_between items t e current piece)
+    → (elim current as (λ _. Option ℕ) [ None ↦ None | Some r ↦ Some piece ])
+    ≡ option_map (λ (round : OpenRound). round.piece) (round_between items t e current piece)
 piece_shown items t e None piece = refl
 piece_shown items t e (Some r) piece = refl
 
@@ -48,14 +50,18 @@ shows_device_at device addr transfer clearing phase e current standing odd halte
       descriptor = refl;
       layout = refl;
       reports = sym standing;
-      open_report = report_shown items core.toggle e core.current core.piece ∙ ap (option_map (λ (round : Open). round.report)) (sym current);
-      open_piece = piece_shown items core.toggle e core.current core.piece ∙ ap (option_map (λ (round : Open). round.piece)) (sym current);
+      open_report =
+          report_shown items core.toggle e core.current core.piece
+          ∙ ap (option_map (λ (round : OpenRound). round.report)) (sym current);
+      open_piece =
+          piece_shown items core.toggle e core.current core.piece
+          ∙ ap (option_map (λ (round : OpenRound). round.piece)) (sym current);
       toggle = sym odd;
       halted = sym halted;
       endpoint = refl;
     }
 
-pub shows_device : (device : DeviceState) (host : HostEnd) → ShowsDevice (pair_member device host) device
+pub shows_device : (device : DeviceState) (host : HostDeviceState) → ShowsDevice (pair_member device host) device
 shows_device device host = by_phase host.phase
   where
     by_phase : (phase : HostPhase)
@@ -70,13 +76,14 @@ shows_device device host = by_phase host.phase
 abbrev pipe_by : ℕ → ℕ → Bool → HostPipeState
 pipe_by addr endp expects = record { addr = addr; endp = endp; expects = expects }
 
-got_shown : (b expects : Bool) (layout : Contents) (parts : List ControlState) (current : Option Open)
+got_shown : (b expects : Bool) (layout : Contents) (parts : List ControlState) (current : Option OpenRound)
     (bytes : List ℕ) → HasReceivedUnless b layout parts current bytes → toggle_if_held b expects ≡ None
     → bytes ≡ partial_report_of layout parts current
 got_shown true expects layout parts current bytes got none = absurd (cc)
 got_shown false expects layout parts current bytes got none = got
 
-shows_known : (device : DeviceState) (addr : ℕ) (transfer : Option Transfer) (clearing : Bool) (known : Known)
+shows_known : (device : DeviceState) (addr : ℕ) (transfer : Option Transfer) (clearing : Bool)
+    (known : ReadyHostState)
     → ArePaired device known clearing
     → ShowsKnown (pair_member device (host_by addr transfer clearing (Ready known))) known
 shows_known device addr transfer clearing known pair = record {
@@ -90,7 +97,7 @@ shows_known device addr transfer clearing known pair = record {
 }
 
 shows_at : (device : DeviceState) (addr : ℕ) (transfer : Option Transfer) (clearing : Bool) (phase : HostPhase)
-    → StandTogether device clearing phase → IsConsistentAt phase addr (core_of device) → addr ≡ device.addr
+    → AreConsistentEnds device clearing phase → IsConsistentAt phase addr (core_of device) → addr ≡ device.addr
     → ShowsHost (pair_member device (host_by addr transfer clearing phase)) (host_by addr transfer clearing phase)
 shows_at device addr transfer clearing Cold together knows home = record { home = home; state = refl; knows = tt; configured = λ ready. absurd ready; transfer = refl; clearing = refl }
 shows_at device addr transfer clearing (Described info) together knows home = record { home = home; state = refl; knows = knows; configured = λ ready. absurd ready; transfer = refl; clearing = refl }
@@ -104,6 +111,6 @@ shows_at device addr transfer clearing (Ready known) together knows home = recor
   clearing = refl;
 }
 
-pub shows_host : (device : DeviceState) (host : HostEnd) → StandTogether device host.clearing host.phase
+pub shows_host : (device : DeviceState) (host : HostDeviceState) → AreConsistentEnds device host.clearing host.phase
     → IsConsistent host device.control → host.addr ≡ device.addr → ShowsHost (pair_member device host) host
 shows_host device host together knows home = shows_at device host.addr host.transfer host.clearing host.phase together knows.by.phase home

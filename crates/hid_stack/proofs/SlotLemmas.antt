@@ -12,10 +12,10 @@ use Rattle.hid_snapshots.specs.declared.control_state.ControlState.{ControlState
 use Rattle.hid_snapshots.specs.declared.event.Event.{Event}
 use Rattle.hid_layout.specs.Controls.{Item, items_of, max_events}
 use Rattle.hid_snapshots.specs.declared.change.Change.{Change}
-use Rattle.hid_snapshots.specs.declared.change.ChangeFault.{ChangeFault}
+use Rattle.hid_snapshots.specs.declared.fault.ChangeFault.{ChangeFault}
 use Rattle.hid_snapshots.specs.Snapshots.{snapshot_after}
 use Rattle.hid_bus.specs.ReportState.{ReportState, after_change, most_frames}
-use Rattle.hid_descriptor.specs.Laws.{HasOneReading, AcceptsNoRefused}
+use Rattle.hid_report_descriptor.specs.Laws.{HasOneReading, AcceptsNoRefused}
 use Rattle.hid_layout.specs.Layout.{Contents, layout_of}
 use Rattle.hid_layout.specs.Reports.{IsLayout}
 use Rattle.hid_layout.proofs.WellFormed.{layout_of_accepted}
@@ -34,20 +34,20 @@ use Rattle.hid_host.specs.declared.host.Transfer.{Transfer}
 use Rattle.hid_stack.specs.ControlSteps.{TakesMemory}
 use Rattle.hid_stack.specs.HostInvariant.{IsConsistent, LeavesTransfers}
 use Rattle.hid_host.specs.Phase.{may_poll, state_of}
-use Rattle.hid_host.specs.Ready.{Known}
-use Rattle.hid_stack.specs.Attaching.{Suits, IsNoPair, member_at_start}
+use Rattle.hid_host.specs.Ready.{ReadyHostState}
+use Rattle.hid_stack.specs.Attaching.{CanAttach, IsAttachFault, member_at_start}
 use Rattle.hid_host.specs.Conclusions.{IsNoLayout}
-use Rattle.hid_host.specs.Host.{HostEnd, cold_host, may_abort_round, ready_host, request_aborts_round}
+use Rattle.hid_host.specs.Host.{HostDeviceState, cold_host, may_abort_round, ready_host, request_aborts_round}
 use Rattle.hid_host.specs.declared.phase.HostPhase.{HostPhase}
 use Rattle.hid_host.specs.declared.phase.HostPhase.TheVariants.{Cold, Described, Parsed, Ready}
 use Rattle.hid_bus.specs.declared.step.Delivered.{Delivered}
 use Rattle.hid_stack.specs.Members.{Member, member_after_try_in}
 use Rattle.hid_stack.specs.Rig.{HasRoomToTry, with_device_number}
-use Rattle.hid_stack.specs.Slot.{pair_member, round_between, HasReceivedUnless, TogglesAgreeUnless, IsPair, IsUntouched, StandTogether, TriesOnPair, TriesTransfer}
+use Rattle.hid_stack.specs.Slot.{pair_member, round_between, HasReceivedUnless, TogglesAgreeUnless, IsPair, IsUntouched, AreConsistentEnds, TriesOnPair, TriesTransfer}
 
 -- where the device accepts the descriptor, its host lacks nothing but memory
 pub no_pair : (addr : ℕ) (config : Config) (descriptor : List ℕ) (fault : StackFault) (made : DeviceState)
-    → AcceptsNoRefused → MakesDevice addr config descriptor (Ok made) → IsNoLayout descriptor fault → IsNoPair addr config descriptor fault
+    → AcceptsNoRefused → MakesDevice addr config descriptor (Ok made) → IsNoLayout descriptor fault → IsAttachFault addr config descriptor fault
 no_pair addr config descriptor (faults.BadDescriptor (Layout f)) made law (fits, (layout, serves, is)) none =
     absurd (law descriptor serves.lays.items f.cause f.at serves.lays.accepted none)
 no_pair addr config descriptor (faults.BadDescriptor (Device f)) made law makes none = absurd none
@@ -62,19 +62,23 @@ no_pair addr config descriptor (faults.Report f) made law makes none = absurd no
 no_pair addr config descriptor faults.TooManyDevices made law makes none = absurd none
 
 -- a device and a host that were made from one descriptor
-pub record Made (start : Start) (addr : ℕ) (config : Config) (descriptor : List ℕ) (device : DeviceState) (host : HostEnd) : Type 0 where
+pub record Made (start : Start) (addr : ℕ) (config : Config) (descriptor : List ℕ) (device : DeviceState)
+    (host : HostDeviceState) : Type 0 where
   pub layout : Contents
-  pub suits : Suits addr config descriptor layout
+  pub suits : CanAttach addr config descriptor layout
   pub member : pair_member device host ≡ member_at_start start addr config descriptor layout
-  pub together : StandTogether device host.clearing host.phase
+  pub together : AreConsistentEnds device host.clearing host.phase
   pub knows : IsConsistent host device.control
   pub home : host.addr ≡ device.addr
 
 -- what a slot of the two gives begins as the member does
-pub joined_begins : (start : Start) (addr : ℕ) (config : Config) (descriptor : List ℕ) (device : DeviceState) (host : HostEnd)
+pub joined_begins : (start : Start) (addr : ℕ) (config : Config) (descriptor : List ℕ) (device : DeviceState)
+    (host : HostDeviceState)
     → Made start addr config descriptor device host → (result : Result Member StackFault)
     → IfOk result (λ slot. slot ≡ pair_member device host)
-    → IfOk result (λ slot. (layout : Contents) × Suits addr config descriptor layout × (slot ≡ member_at_start start addr config descriptor layout))
+    → IfOk result
+    (λ slot. (layout : Contents) × CanAttach addr config descriptor layout
+    × (slot ≡ member_at_start start addr config descriptor layout))
 joined_begins start addr config descriptor device host made (Ok slot) joins = (made.layout, made.suits, joins ∙ made.member)
 joined_begins start addr config descriptor device host made (Err fault) joins = tt
 
@@ -90,7 +94,8 @@ StartsCold = (addr : ℕ) (control : DevControlState CoreState) → IsConsistent
 laid_by : (descriptor : List ℕ) (layout : Contents) → ParsesTo descriptor layout → IsLayout layout
 laid_by descriptor layout lays = subst IsLayout (sym lays.laid) (layout_of_accepted descriptor lays.items lays.accepted)
 
-pub makes_ready : (addr : ℕ) (config : Config) (descriptor : List ℕ) (made device : DeviceState) (host : HostEnd)
+pub makes_ready : (addr : ℕ) (config : Config) (descriptor : List ℕ) (made device : DeviceState)
+    (host : HostDeviceState)
     → HasOneReading → StartsReady → MakesDevice addr config descriptor (Ok made) → device ≡ configured_device made
     → ((other : Contents) × ParsesTo descriptor other × (host ≡ ready_host addr other)) → IsSound (core_of device)
     → Made starts.Ready addr config descriptor device host
@@ -103,27 +108,30 @@ makes_ready addr config descriptor made device host law begins (fits, (layout, s
       layout = layout;
       suits = record { config_fits = fits; serves = serves };
       member = ap (λ (d : DeviceState). pair_member d host) device_is
-          ∙ ap (λ (h : HostEnd). pair_member
+          ∙ ap (λ (h : HostDeviceState). pair_member
           (configured_device (new_device addr config descriptor layout)) h) host_is;
-      together = subst (λ (d : DeviceState). StandTogether d host.clearing host.phase) (sym device_is) (subst (λ (h : HostEnd). StandTogether (configured_device (new_device addr config descriptor layout)) h.clearing h.phase) (sym host_is) (record {
-        configured = refl;
-        layout = refl;
-        addr = refl;
-        endp = refl;
-        even = refl;
-        got = refl;
-        sound = subst (λ (d : DeviceState). IsSound (core_of d)) device_is sound;
-        laid = laid;
-        fits = initial_fits layout laid;
-      }));
+      together =
+          subst (λ (d : DeviceState). AreConsistentEnds d host.clearing host.phase) (sym device_is)
+          (subst (λ (h : HostDeviceState). AreConsistentEnds
+          (configured_device (new_device addr config descriptor layout)) h.clearing h.phase) (sym host_is) (record {
+            configured = refl;
+            layout = refl;
+            addr = refl;
+            endp = refl;
+            even = refl;
+            got = refl;
+            sound = subst (λ (d : DeviceState). IsSound (core_of d)) device_is sound;
+            laid = laid;
+            fits = initial_fits layout laid;
+          }));
       knows = subst (λ (d : DeviceState). IsConsistent host d.control) (sym device_is)
-          (subst (λ (h : HostEnd). IsConsistent h
+          (subst (λ (h : HostDeviceState). IsConsistent h
           (configured_device (new_device addr config descriptor layout)).control) (sym host_is)
           (begins addr (configured_device (new_device addr config descriptor layout)).control refl));
-      home = ap (λ (h : HostEnd). h.addr) host_is ∙ sym (ap (λ (d : DeviceState). d.addr) device_is);
+      home = ap (λ (h : HostDeviceState). h.addr) host_is ∙ sym (ap (λ (d : DeviceState). d.addr) device_is);
     }
 
-pub makes_cold : (addr : ℕ) (config : Config) (descriptor : List ℕ) (device : DeviceState) (host : HostEnd)
+pub makes_cold : (addr : ℕ) (config : Config) (descriptor : List ℕ) (device : DeviceState) (host : HostDeviceState)
     → StartsCold → MakesDevice addr config descriptor (Ok device) → host ≡ cold_host addr → IsSound (core_of device)
     → Made starts.Cold addr config descriptor device host
 makes_cold addr config descriptor device host begins (fits, (layout, serves, device_is)) host_is sound =
@@ -132,14 +140,15 @@ makes_cold addr config descriptor device host begins (fits, (layout, serves, dev
       layout = layout;
       suits = record { config_fits = fits; serves = serves };
       member = ap (λ (d : DeviceState). pair_member d host) device_is
-          ∙ ap (λ (h : HostEnd). pair_member made h) host_is;
-      together = subst (λ (h : HostEnd). StandTogether device h.clearing h.phase) (sym host_is) (record {
+          ∙ ap (λ (h : HostDeviceState). pair_member made h) host_is;
+      together = subst (λ (h : HostDeviceState). AreConsistentEnds device h.clearing h.phase) (sym host_is) (record {
         sound = sound;
         no_round = ap (λ (d : DeviceState). (core_of d).current) device_is;
         even = ap (λ (d : DeviceState). (core_of d).toggle) device_is;
       });
-      knows = subst (λ (h : HostEnd). IsConsistent h device.control) (sym host_is) (begins addr device.control);
-      home = ap (λ (h : HostEnd). h.addr) host_is ∙ sym (ap (λ (d : DeviceState). d.addr) device_is);
+      knows = subst (λ (h : HostDeviceState). IsConsistent h device.control) (sym host_is)
+          (begins addr device.control);
+      home = ap (λ (h : HostDeviceState). h.addr) host_is ∙ sym (ap (λ (d : DeviceState). d.addr) device_is);
     }
 
 -- ---- what leaves the two together
@@ -159,7 +168,7 @@ pub record Leaves (device device_then : DeviceState) : Type 0 where
 untouched_on : (device device_then : DeviceState) → Leaves device device_then → IsUntouched (core_of device) → IsUntouched (core_of device_then)
 untouched_on device device_then l u = record { sound = l.sound; no_round = l.current ∙ u.no_round; even = l.toggle ∙ u.even }
 
-even_on : (known : Known) (clearing h t i u : Bool) (o p : Option ℕ) → i ≡ h → u ≡ t → p ≡ o
+even_on : (known : ReadyHostState) (clearing h t i u : Bool) (o p : Option ℕ) → i ≡ h → u ≡ t → p ≡ o
     → TogglesAgreeUnless (h || clearing) t known.pipe.expects o
     → TogglesAgreeUnless (i || clearing) u known.pipe.expects p
 even_on known clearing h t i u o p halted toggle current even =
@@ -168,12 +177,12 @@ even_on known clearing h t i u o p halted toggle current even =
     (subst (λ (x : Option ℕ). TogglesAgreeUnless (h || clearing) t known.pipe.expects x) (sym current) even))
 
 -- what a host has of the open round
-abbrev Got : Known → Bool → Contents → Bool → Bool → List ControlState → Option ℕ → ℕ → Type 0
+abbrev Got : ReadyHostState → Bool → Contents → Bool → Bool → List ControlState → Option ℕ → ℕ → Type 0
 Got known clearing layout h t parts o n =
     HasReceivedUnless (h || clearing) layout parts
     (round_between (items_of layout) t known.pipe.expects o n) known.collected
 
-got_on : (known : Known) (clearing h t i u : Bool) (l k : Contents) (parts others : List ControlState)
+got_on : (known : ReadyHostState) (clearing h t i u : Bool) (l k : Contents) (parts others : List ControlState)
     (o p : Option ℕ) (n m : ℕ) → i ≡ h → u ≡ t → k ≡ l → others ≡ parts → p ≡ o → m ≡ n
     → Got known clearing l h t parts o n → Got known clearing k i u others p m
 got_on known clearing h t i u l k parts others o p n m halted toggle layout fixed current piece got =
@@ -184,7 +193,9 @@ got_on known clearing h t i u l k parts others o p n m halted toggle layout fixe
     (subst (λ (x : Option ℕ). Got known clearing l h t parts x m) (sym current)
     (subst (λ (x : ℕ). Got known clearing l h t parts o x) (sym piece) got)))))
 
-pub stays_together : (clearing : Bool) (phase : HostPhase) (device device_then : DeviceState) → Leaves device device_then → StandTogether device clearing phase → StandTogether device_then clearing phase
+pub stays_together : (clearing : Bool) (phase : HostPhase) (device device_then : DeviceState)
+    → Leaves device device_then → AreConsistentEnds device clearing phase
+    → AreConsistentEnds device_then clearing phase
 stays_together clearing Cold device device_then l u = untouched_on device device_then l u
 stays_together clearing (Described info) device device_then l u = untouched_on device device_then l u
 stays_together clearing (Parsed info layout) device device_then l u = untouched_on device device_then l u
@@ -204,18 +215,19 @@ stays_together clearing (Ready known) device device_then l pair = record {
 }
 
 -- the invariant of a slot
-abbrev Holds : DeviceState → HostEnd → ℕ → ℕ → Type 0
+abbrev Holds : DeviceState → HostDeviceState → ℕ → ℕ → Type 0
 Holds device host capacity most =
-    StandTogether device host.clearing host.phase × IsConsistent host device.control × (host.addr ≡ device.addr)
+    AreConsistentEnds device host.clearing host.phase × IsConsistent host device.control × (host.addr ≡ device.addr)
     × (capacity ≡ max_events (items_of (core_of device).layout))
     × (most ≡ max_events (items_of (core_of device).layout))
 
 abbrev OthersLeave : Type 0
 OthersLeave =
-    (host : HostEnd) (old new : DevControlState CoreState) → LeavesTransfers host.clearing old new
+    (host : HostDeviceState) (old new : DevControlState CoreState) → LeavesTransfers host.clearing old new
     → IsConsistent host old → IsConsistent host new
 
-pub holds_on : (device device_then : DeviceState) (host : HostEnd) (capacity most : ℕ) → OthersLeave → LeavesTransfers host.clearing device.control device_then.control → Leaves device device_then
+pub holds_on : (device device_then : DeviceState) (host : HostDeviceState) (capacity most : ℕ) → OthersLeave
+    → LeavesTransfers host.clearing device.control device_then.control → Leaves device device_then
     → Holds device host capacity most → Holds device_then host capacity most
 holds_on device device_then host capacity most others transfers l (together, knows, home, room, events) = (
   stays_together host.clearing host.phase device device_then l together,
@@ -226,8 +238,8 @@ holds_on device device_then host capacity most others transfers l (together, kno
 )
 
 -- the invariant of a slot is kept by a step at both ends
-pub holds_by : (device device_then : DeviceState) (host host_then : HostEnd) (capacity capacity_then most : ℕ)
-    → StandTogether device_then host_then.clearing host_then.phase → IsConsistent host_then device_then.control
+pub holds_by : (device device_then : DeviceState) (host host_then : HostDeviceState) (capacity capacity_then most : ℕ)
+    → AreConsistentEnds device_then host_then.clearing host_then.phase → IsConsistent host_then device_then.control
     → host_then.addr ≡ host.addr → device_then.addr ≡ device.addr
     → (core_of device_then).layout ≡ (core_of device).layout → capacity_then ≡ capacity → Holds device host capacity most → Holds device_then host_then capacity_then most
 holds_by device device_then host host_then capacity capacity_then most together knows home addr layout same (_, _, at_home, room, events) = (
@@ -288,14 +300,17 @@ transfers_as clearing device other device_then is leaves = subst (λ (d : Device
 
 -- ---- polls
 
-pub pair_where_polled : (device : DeviceState) (clearing : Bool) (phase : HostPhase) → may_poll (state_of phase) clearing ≡ true → StandTogether device clearing phase → IsPair device false phase × (clearing ≡ false)
+pub pair_where_polled : (device : DeviceState) (clearing : Bool) (phase : HostPhase)
+    → may_poll (state_of phase) clearing ≡ true → AreConsistentEnds device clearing phase
+    → IsPair device false phase × (clearing ≡ false)
 pair_where_polled device clearing Cold is together = absurd (cc)
 pair_where_polled device clearing (Described info) is together = absurd (cc)
 pair_where_polled device clearing (Parsed info layout) is together = absurd (cc)
 pair_where_polled device true (Ready known) is together = absurd (cc)
 pair_where_polled device false (Ready known) is together = (together, refl)
 
-pub pair_together : (device : DeviceState) (clearing : Bool) (phase : HostPhase) → IsPair device clearing phase → StandTogether device clearing phase
+pub pair_together : (device : DeviceState) (clearing : Bool) (phase : HostPhase) → IsPair device clearing phase
+    → AreConsistentEnds device clearing phase
 pair_together device clearing Cold pair = absurd pair
 pair_together device clearing (Described info) pair = absurd pair
 pair_together device clearing (Parsed info layout) pair = absurd pair

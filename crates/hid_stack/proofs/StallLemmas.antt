@@ -9,16 +9,16 @@ use Rattle.usb_transact.specs.declared.host.Took.TheVariants.{Silent, Stall}
 use Rattle.usb_transact.specs.declared.transaction.Fate.{Fate}
 use Rattle.usb_transact.specs.declared.transaction.Fate.TheVariants.{Clean, ReplyLost, AckLost}
 use Rattle.usb_transact.specs.Fate.{arrives_under}
-use Rattle.usb_transact.specs.Taken.{reply_outcome}
+use Rattle.usb_transact.specs.Replies.{reply_outcome}
 use Rattle.usb_transact.proofs.TableLemmas.{read_lost}
 use Rattle.hid_device.specs.Core.{CoreState}
 use Rattle.hid_device.specs.Device.{DeviceState, device_after_poll}
 use Rattle.hid_host.specs.declared.fault.StackFault.{StackFault}
 use Rattle.hid_bus.specs.declared.step.Told.{Told}
 use Rattle.hid_bus.specs.declared.step.Told.TheVariants.{Polled}
-use Rattle.hid_host.specs.Host.{HostEnd, host_after_reply}
+use Rattle.hid_host.specs.Host.{HostDeviceState, host_after_reply}
 use Rattle.hid_stack.specs.Slot.{link_of_pair}
-use Rattle.hid_host.specs.Ready.{Known, outcome_of, events_after}
+use Rattle.hid_host.specs.Ready.{ReadyHostState, outcome_of, events_after}
 use Rattle.hid_stack.specs.Polls.{Ends, encoded_packet, poll_outcome}
 use Rattle.hid_stack.specs.StepResult.{poll_result}
 use Rattle.hid_stack.proofs.PollLemmas.{Meets, sharing, unpending, Arrives, ready_member, Lands, ready_with, member_of, pair_of, Comes}
@@ -29,8 +29,8 @@ abbrev pub stalled : CoreState → CoreState
 stalled c = record c { current = None; halted = true }
 
 -- what is taken and told of it
-stall_stays : (fate : Fate) (c : CoreState) (known : Known) (d : DeviceState) (home : HostEnd)
-    (result : Result Told StackFault) (device_then : DeviceState) (host_then : HostEnd) (events : List Event)
+stall_stays : (fate : Fate) (c : CoreState) (known : ReadyHostState) (d : DeviceState) (home : HostDeviceState)
+    (result : Result Told StackFault) (device_then : DeviceState) (host_then : HostDeviceState) (events : List Event)
     → Meets d.addr (stalled c) known → device_then ≡ device_after_poll d (stalled c)
     → host_then ≡ ready_with home (sharing c known) → events ≡ []
     → result ≡ Ok (poll_result (link_of_pair (stalled c) known) fate [])
@@ -54,24 +54,24 @@ stall_stays fate c known d home result device_then host_then events meets device
       });
 }
 
-pub stall_clean : (c : CoreState) (known : Known) (d : DeviceState) (home : HostEnd)
-    (result : Result Told StackFault) (device_then : DeviceState) (host_then : HostEnd) (events : List Event)
+pub stall_clean : (c : CoreState) (known : ReadyHostState) (d : DeviceState) (home : HostDeviceState)
+    (result : Result Told StackFault) (device_then : DeviceState) (host_then : HostDeviceState) (events : List Event)
     → Meets d.addr (stalled c) known → Comes Clean (stalled c) known d home packets.Stall Stall result device_then host_then events
     → Lands Clean (ready_member d home c (Some known.pipe.expects))
     (link_of_pair (stalled c) known) result device_then host_then events
 stall_clean c known d home result device_then host_then events meets t =
     stall_stays Clean c known d home result device_then host_then events meets t.ended t.host_moved t.delivers t.told
 
-pub stall_ack_lost : (c : CoreState) (known : Known) (d : DeviceState) (home : HostEnd)
-    (result : Result Told StackFault) (device_then : DeviceState) (host_then : HostEnd) (events : List Event)
+pub stall_ack_lost : (c : CoreState) (known : ReadyHostState) (d : DeviceState) (home : HostDeviceState)
+    (result : Result Told StackFault) (device_then : DeviceState) (host_then : HostDeviceState) (events : List Event)
     → Meets d.addr (stalled c) known → Comes AckLost (stalled c) known d home packets.Stall Stall result device_then host_then events
     → Lands AckLost (ready_member d home c (Some known.pipe.expects))
     (link_of_pair (stalled c) known) result device_then host_then events
 stall_ack_lost c known d home result device_then host_then events meets t =
     stall_stays AckLost c known d home result device_then host_then events meets t.ended t.host_moved t.delivers t.told
 
-pub stall_lost : (c : CoreState) (known : Known) (d : DeviceState) (home : HostEnd) (packet : Packet)
-    (result : Result Told StackFault) (device_then : DeviceState) (host_then : HostEnd) (events : List Event)
+pub stall_lost : (c : CoreState) (known : ReadyHostState) (d : DeviceState) (home : HostDeviceState) (packet : Packet)
+    (result : Result Told StackFault) (device_then : DeviceState) (host_then : HostDeviceState) (events : List Event)
     → Meets d.addr (stalled c) known → packet ≡ packets.Stall → Arrives ReplyLost (stalled c) known d home packet result device_then host_then events
     → Lands ReplyLost (ready_member d home c (Some known.pipe.expects))
     (link_of_pair (stalled c) known) result device_then host_then events

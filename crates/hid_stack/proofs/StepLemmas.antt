@@ -13,7 +13,7 @@ use Rattle.hid_snapshots.proofs.PieceLemmas.{pieces_are}
 use Rattle.hid_usages.proofs.CrossingLemmas.{parts_back}
 use Rattle.usb_packet.specs.declared.packet.Packet.{Packet}
 use Rattle.usb_packet.specs.declared.packet.Packet.TheVariants as packets
-use Rattle.usb_packet.specs.Spelling.{spelling}
+use Rattle.usb_packet.specs.PacketEncoding.{encoding}
 use Rattle.usb_transact.specs.declared.bus.Phase.TheVariants.{Token, Reply}
 use Rattle.usb_transact.specs.declared.host.Took.{Took}
 use Rattle.usb_transact.specs.declared.host.Took.TheVariants.{Silent}
@@ -23,12 +23,12 @@ use Rattle.usb_transact.specs.Bus.{Arrivals, Replies}
 use Rattle.usb_transact.specs.Device.{answer_with}
 use Rattle.usb_transact.specs.Fate.{arrives_under}
 use Rattle.usb_transact.specs.Host.{token_to}
-use Rattle.usb_transact.specs.Taken.{reply_outcome}
+use Rattle.usb_transact.specs.Replies.{reply_outcome}
 use Rattle.usb_transact.proofs.TableLemmas.{read_whole, read_lost}
 use Rattle.hid_requests.specs.declared.codes.TheConstants.{REPORT_ENDPOINT as ENDPOINT}
 use Rattle.hid_device.specs.Inputs.{input_count}
 use Rattle.hid_bus.specs.ReportState.{due_where}
-use Rattle.hid_device.specs.Core.{CoreState, IsSound, IsBelow, IsQuiet, SendsPart, core_with_due_round, core_at_poll, poll_response}
+use Rattle.hid_device.specs.Core.{CoreState, IsSound, IsBelow, HasNoRoundWhileHalted, SendsPart, core_with_due_round, core_at_poll, poll_response}
 use Rattle.hid_device.specs.Device.{DeviceState, is_poll, device_after_poll, control_answer, device_after_other, core_of}
 use Rattle.hid_bus.specs.Rounds.{Polls}
 use Rattle.hid_host.specs.declared.fault.StackFault.{StackFault}
@@ -36,18 +36,18 @@ use Rattle.hid_host.specs.declared.phase.HostPhase.{HostPhase}
 use Rattle.hid_host.specs.declared.phase.HostPhase.TheVariants.{Cold, Described, Parsed, Ready}
 use Rattle.hid_bus.specs.declared.step.Told.{Told}
 use Rattle.hid_bus.specs.declared.step.Told.TheVariants.{Polled}
-use Rattle.hid_host.specs.Host.{HostEnd, host_after_reply}
+use Rattle.hid_host.specs.Host.{HostDeviceState, host_after_reply}
 use Rattle.hid_host.specs.Phase.{IfReady}
 use Rattle.hid_stack.specs.Slot.{link_of_pair, link_of, pair_member, held_toggle, HasReceivedUnless, TogglesAgree, TogglesAgreeUnless, ArePaired, IsPair}
-use Rattle.hid_host.specs.Ready.{Known, outcome_of, events_after}
-use Rattle.hid_stack.specs.Polls.{Receives, Ends, PollsOver, GoesByPackets, encoded_packet, poll_outcome}
+use Rattle.hid_host.specs.Ready.{ReadyHostState, outcome_of, events_after}
+use Rattle.hid_stack.specs.Polls.{Receives, Ends, PollsOver, IsPollByPackets, encoded_packet, poll_outcome}
 use Rattle.hid_bus.specs.LinkState.{LinkState, state_at_token, state_after_answer, poll_events, state_after_step, events_of_step}
 use Rattle.hid_stack.specs.Laws.{PacketsMakePolls}
 use Rattle.usb_control.specs.Device.{DevControlState}
 use Rattle.hid_host.specs.declared.host.Transfer.{Transfer}
 use Rattle.hid_stack.specs.HostInvariant.{IsConsistent, LeavesTransfers}
 use Rattle.hid_stack.specs.Members.{Member, Scheduled, member_after, toggle_if_held}
-use Rattle.hid_stack.specs.StepResult.{TellsPoll, piece_shown, poll_result}
+use Rattle.hid_stack.specs.StepResult.{PollReturns, piece_shown, poll_result}
 use Rattle.hid_stack.proofs.PieceLemmas.{Reads}
 use Rattle.hid_stack.proofs.PollLemmas.{opens, got_by, got_open, HasGot, Meets, Arrives, Lands, armed_at, bytes_of, going, unpending, ready_member, sharing, ready_with, member_of, pair_of, comes, clean, ack_lost_poll, reply_lost}
 use Rattle.hid_stack.proofs.StallLemmas.{stalled, stall_clean, stall_ack_lost, stall_lost}
@@ -72,18 +72,18 @@ keeps : (c : CoreState) → Keeps c (core_at_poll c)
 keeps c = keeps_at c c.current
 
 -- opening a round keeps all that the device was made with
-member_kept_if : (d : DeviceState) (home : HostEnd) (held : Option Bool) (c : CoreState) (due : Option ℕ)
+member_kept_if : (d : DeviceState) (home : HostDeviceState) (held : Option Bool) (c : CoreState) (due : Option ℕ)
     → ready_member d home (core_with_due_round c due) held ≡ ready_member d home c held
 member_kept_if d home held c None = refl
 member_kept_if d home held c (Some r) = refl
 
-member_kept_at : (d : DeviceState) (home : HostEnd) (held : Option Bool) (c : CoreState) (current : Option ℕ)
+member_kept_at : (d : DeviceState) (home : HostDeviceState) (held : Option Bool) (c : CoreState) (current : Option ℕ)
     → ready_member d home (core_at_poll (record c { current = current })) held ≡ ready_member d home c held
 member_kept_at d home held c None =
     member_kept_if d home held (record c { current = None }) (due_where (items_of c.layout) c.halted c.reports)
 member_kept_at d home held c (Some r) = refl
 
-member_kept : (d : DeviceState) (home : HostEnd) (held : Option Bool) (c : CoreState)
+member_kept : (d : DeviceState) (home : HostDeviceState) (held : Option Bool) (c : CoreState)
     → ready_member d home (core_at_poll c) held ≡ ready_member d home c held
 member_kept d home held c = member_kept_at d home held c c.current
 
@@ -101,7 +101,8 @@ even_at c expects None even = even_if c expects (due_where (items_of c.layout) c
 even_at c expects (Some r) even = tt
 
 -- the token of a host polls its device
-polls_it : (device : DeviceState) (known : Known) → ArePaired device known false → is_poll device (token_to known.pipe) ≡ true
+polls_it : (device : DeviceState) (known : ReadyHostState) → ArePaired device known false
+    → is_poll device (token_to known.pipe) ≡ true
 polls_it device known pair =
     let addr : eqb known.pipe.addr device.addr ≡ true = let same = pair.addr in grind (arith, nat_tests) in
     let endp : eqb known.pipe.endp ENDPOINT ≡ true = let same = pair.endp in grind (arith, nat_tests) in
@@ -110,7 +111,8 @@ polls_it device known pair =
     ∙ ap (λ (b : Bool). true && (true && b)) endp
 
 -- the bytes that a device sends in pieces show its part
-reads_at : (c : CoreState) (known : Known) → IsSound c → IsLayout c.layout → FitsView (items_of c.layout) known.view
+reads_at : (c : CoreState) (known : ReadyHostState) → IsSound c → IsLayout c.layout
+    → FitsView (items_of c.layout) known.view
     → (r : ℕ) → c.current ≡ Some r → Reads c.layout r c.reports.fixed (bytes_of c r) known.view
 reads_at c known sound laid fits r is =
     let shows = subst (SendsPart c.layout c.reports.fixed) is sound.sends in
@@ -130,28 +132,30 @@ reads_at c known sound laid fits r is =
     }
 
 -- what a poll comes to at the two ends
-pub record PollsAs (fate : Fate) (device : DeviceState) (home : HostEnd) (held : Option Bool) (s : LinkState)
-    (result : Result Told StackFault) (device_then : DeviceState) (host_then : HostEnd) (events : List Event) : Type 0 where
+pub record PollsAs (fate : Fate) (device : DeviceState) (home : HostDeviceState) (held : Option Bool) (s : LinkState)
+    (result : Result Told StackFault) (device_then : DeviceState) (host_then : HostDeviceState)
+    (events : List Event) : Type 0 where
   pub member : pair_member device_then host_then
       ≡ ready_member device home (core_of device) held
       (state_after_step (items_of (core_of device).layout) s (Polls fate))
   pub delivered : events ≡ events_of_step (items_of (core_of device).layout) s (Polls fate)
-  pub told : (told : Told) × (result ≡ Ok told) × TellsPoll (core_of device).layout s fate told
+  pub told : (told : Told) × (result ≡ Ok told) × PollReturns (core_of device).layout s fate told
   pub pair : IsPair device_then host_then.clearing host_then.phase
 
 -- a token that is lost changes nothing
-stays_closed : (layout : Contents) (c : CoreState) (known : Known) (current : Option ℕ)
+stays_closed : (layout : Contents) (c : CoreState) (known : ReadyHostState) (current : Option ℕ)
     → link_of_pair (record c { current = current }) known
     ≡ state_after_answer (items_of layout) (link_of_pair (record c { current = current }) known) TokenLost
 stays_closed layout c known None = refl
 stays_closed layout c known (Some r) = refl
 
-tells_none : (layout : Contents) (c : CoreState) (known : Known) (current : Option ℕ)
+tells_none : (layout : Contents) (c : CoreState) (known : ReadyHostState) (current : Option ℕ)
     → [] ≡ poll_events (items_of layout) (link_of_pair (record c { current = current }) known) TokenLost
 tells_none layout c known None = refl
 tells_none layout c known (Some r) = refl
 
-token_lost : (device : DeviceState) (known : Known) (home : HostEnd) (result : Result Told StackFault) (device_then : DeviceState) (host_then : HostEnd) (events : List Event)
+token_lost : (device : DeviceState) (known : ReadyHostState) (home : HostDeviceState)
+    (result : Result Told StackFault) (device_then : DeviceState) (host_then : HostDeviceState) (events : List Event)
     → ArePaired device known false → PollsOver (arrives_under TokenLost) device (unpending home) known result device_then host_then [] events
     → PollsAs TokenLost device home (held_toggle (core_of device) false (Ready known))
     (link_of_pair (core_of device) known) result device_then host_then events
@@ -190,14 +194,15 @@ pub record Answered (device : DeviceState) (answer : Option Packet) (between : D
   pub stands : between ≡ device_after_poll device (core_at_poll (core_of device))
   pub sound : IsSound (core_at_poll (core_of device))
 
-token_came : (fate : Fate) (device : DeviceState) (known : Known) (home : HostEnd) (result : Result Told StackFault) (device_then : DeviceState) (host_then : HostEnd) (events : List Event)
+token_came : (fate : Fate) (device : DeviceState) (known : ReadyHostState) (home : HostDeviceState)
+    (result : Result Told StackFault) (device_then : DeviceState) (host_then : HostDeviceState) (events : List Event)
     → ((bytes : List ℕ) → arrives_under fate Token bytes ≡ Some bytes) → ArePaired device known false
     → (t : PollsOver (arrives_under fate) device (unpending home) known result device_then host_then [] events) → Answered device t.answer t.between
 token_came fate device known home result device_then host_then events whole pair t =
     let c = core_at_poll (core_of device) in
     let token = token_to known.pipe in
     let polls = polls_it device known pair in
-    let came = read_whole (arrives_under fate) Token token t.token (whole (spelling token)) t.polled in
+    let came = read_whole (arrives_under fate) Token token t.token (whole (encoding token)) t.polled in
     let h : Receives device (Some token) t.answer t.between =
     subst (λ (o : Option Packet). Receives device o t.answer t.between) came t.receives in
     let answer : t.answer ≡ Some (poll_response c) =
@@ -211,7 +216,8 @@ token_came fate device known home result device_then host_then events whole pair
     }
 
 -- from there on
-arrives : (fate : Fate) (device : DeviceState) (known : Known) (home : HostEnd) (result : Result Told StackFault) (device_then : DeviceState) (host_then : HostEnd) (events : List Event)
+arrives : (fate : Fate) (device : DeviceState) (known : ReadyHostState) (home : HostDeviceState)
+    (result : Result Told StackFault) (device_then : DeviceState) (host_then : HostDeviceState) (events : List Event)
     → ArePaired device known false
     → (t : PollsOver (arrives_under fate) device (unpending home) known result device_then host_then [] events) → (a : Answered device t.answer t.between)
     → Arrives fate (core_at_poll (core_of device)) known device home
@@ -225,15 +231,16 @@ arrives fate device known home result device_then host_then events pair t a =
       reply = t.reply;
       replied = subst (λ (o : Option Packet). Replies (arrives_under fate) Reply o t.reply) a.is t.replied;
       told = t.told ∙ ap (λ (o : Option Packet). poll_outcome o (outcome_of known took)) a.is
-          ∙ ap (λ (k : Known). poll_outcome (Some (poll_response c)) (outcome_of k took)) shared;
-      host_moved = t.host_moved ∙ ap (λ (k : Known). host_after_reply (unpending home) k took) shared;
-      delivers = t.delivers ∙ ap (λ (k : Known). events_after k took) shared;
+          ∙ ap (λ (k : ReadyHostState). poll_outcome (Some (poll_response c)) (outcome_of k took)) shared;
+      host_moved = t.host_moved ∙ ap (λ (k : ReadyHostState). host_after_reply (unpending home) k took) shared;
+      delivers = t.delivers ∙ ap (λ (k : ReadyHostState). events_after k took) shared;
       ended = subst
           (λ (d : DeviceState). Ends (arrives_under fate) (outcome_of (sharing c known) took) d device_then) a.stands
-          (subst (λ (k : Known). Ends (arrives_under fate) (outcome_of k took) t.between device_then) shared t.ended);
+          (subst (λ (k : ReadyHostState). Ends (arrives_under fate)
+          (outcome_of k took) t.between device_then) shared t.ended);
     }
 
-meets : (device : DeviceState) (known : Known) → ArePaired device known false
+meets : (device : DeviceState) (known : ReadyHostState) → ArePaired device known false
     → IsSound (core_at_poll (core_of device)) → Meets device.addr (core_at_poll (core_of device)) known
 meets device known pair sound =
     let layout : known.layout ≡ (core_at_poll (core_of device)).layout =
@@ -248,7 +255,8 @@ meets device known pair sound =
     }
 
 -- the link state from before the token
-landed : (fate : Fate) (device : DeviceState) (known : Known) (home : HostEnd) (result : Result Told StackFault) (device_then : DeviceState) (host_then : HostEnd) (events : List Event)
+landed : (fate : Fate) (device : DeviceState) (known : ReadyHostState) (home : HostDeviceState)
+    (result : Result Told StackFault) (device_then : DeviceState) (host_then : HostDeviceState) (events : List Event)
     → TogglesAgree (core_of device).toggle known.pipe.expects (core_of device).current
     → Lands fate (ready_member device home (core_at_poll (core_of device)) None)
     (link_of_pair (core_at_poll (core_of device)) known) result device_then host_then events
@@ -275,8 +283,9 @@ tells_some layout s fate result is = (poll_result s fate (piece_shown layout s),
 -- ---- a poll of a device that isn't halted
 
 -- the two ends with a round that was opened where one is due
-record Going (fate : Fate) (device : DeviceState) (known : Known) (home : HostEnd)
-    (result : Result Told StackFault) (device_then : DeviceState) (host_then : HostEnd) (events : List Event) : Type 0 where
+record Going (fate : Fate) (device : DeviceState) (known : ReadyHostState) (home : HostDeviceState)
+    (result : Result Told StackFault) (device_then : DeviceState) (host_then : HostDeviceState)
+    (events : List Event) : Type 0 where
   even : TogglesAgree (core_of device).toggle known.pipe.expects (core_of device).current
   even_then : TogglesAgree (core_at_poll (core_of device)).toggle known.pipe.expects
       (core_at_poll (core_of device)).current
@@ -293,7 +302,8 @@ record Going (fate : Fate) (device : DeviceState) (known : Known) (home : HostEn
       → Reads (core_at_poll (core_of device)).layout r (core_at_poll (core_of device)).reports.fixed
       (bytes_of (core_at_poll (core_of device)) r) known.view
 
-goes : (fate : Fate) (device : DeviceState) (known : Known) (home : HostEnd) (result : Result Told StackFault) (device_then : DeviceState) (host_then : HostEnd) (events : List Event)
+goes : (fate : Fate) (device : DeviceState) (known : ReadyHostState) (home : HostDeviceState)
+    (result : Result Told StackFault) (device_then : DeviceState) (host_then : HostDeviceState) (events : List Event)
     → (core_of device).halted ≡ false → ArePaired device known false → (t : PollsOver (arrives_under fate) device (unpending home) known result device_then host_then [] events)
     → (a : Answered device t.answer t.between) → Going fate device known home result device_then host_then events
 goes fate device known home result device_then host_then events is pair t a =
@@ -323,7 +333,8 @@ goes fate device known home result device_then host_then events is pair t a =
     }
 
 -- what it comes to
-going_as : (fate : Fate) (device : DeviceState) (known : Known) (home : HostEnd) (result : Result Told StackFault) (device_then : DeviceState) (host_then : HostEnd) (events : List Event)
+going_as : (fate : Fate) (device : DeviceState) (known : ReadyHostState) (home : HostDeviceState)
+    (result : Result Told StackFault) (device_then : DeviceState) (host_then : HostDeviceState) (events : List Event)
     → (core_of device).halted ≡ false → Going fate device known home result device_then host_then events
     → Lands fate (ready_member device home (core_at_poll (core_of device)) None)
     (link_of_pair
@@ -342,7 +353,8 @@ going_as fate device known home result device_then host_then events is g lands =
     (link_of_pair (core_of device) known)) result device_then host_then events)
     (sym (ap (λ (b : Bool). toggle_if_held (b || false) known.pipe.expects) is)) here
 
-polls_going : (fate : Fate) (device : DeviceState) (known : Known) (home : HostEnd) (result : Result Told StackFault) (device_then : DeviceState) (host_then : HostEnd) (events : List Event)
+polls_going : (fate : Fate) (device : DeviceState) (known : ReadyHostState) (home : HostDeviceState)
+    (result : Result Told StackFault) (device_then : DeviceState) (host_then : HostDeviceState) (events : List Event)
     → (core_of device).halted ≡ false → ArePaired device known false → PollsOver (arrives_under fate) device (unpending home) known result device_then host_then [] events
     → PollsAs fate device home (held_toggle (core_of device) false (Ready known))
     (link_of_pair (core_of device) known) result device_then host_then events
@@ -400,7 +412,8 @@ polls_going AckLost device known home result device_then host_then events is pai
 
 -- ---- a poll of one that is
 
-no_round : (current : Option ℕ) (halted : Bool) → IsQuiet current halted → halted ≡ true → current ≡ None
+no_round : (current : Option ℕ) (halted : Bool) → HasNoRoundWhileHalted current halted → halted ≡ true
+    → current ≡ None
 no_round None halted quiet is = refl
 no_round (Some r) halted quiet is = let wrong : true ≡ false = sym is ∙ quiet in absurd (cc)
 
@@ -408,15 +421,17 @@ is_stalled : (c : CoreState) → IsSound c → c.halted ≡ true → c ≡ stall
 is_stalled c sound is = ap (λ (o : Option ℕ). record c { current = o }) (no_round c.current c.halted sound.quiet is) ∙ ap (λ (b : Bool). record c { current = None; halted = b }) is
 
 -- no round is opened for it
-record Stalling (fate : Fate) (device : DeviceState) (known : Known) (home : HostEnd)
-    (result : Result Told StackFault) (device_then : DeviceState) (host_then : HostEnd) (events : List Event) : Type 0 where
+record Stalling (fate : Fate) (device : DeviceState) (known : ReadyHostState) (home : HostDeviceState)
+    (result : Result Told StackFault) (device_then : DeviceState) (host_then : HostDeviceState)
+    (events : List Event) : Type 0 where
   same : core_of device ≡ stalled (core_of device)
   meets : Meets device.addr (stalled (core_of device)) known
   packet_is : poll_response (core_at_poll (core_of device)) ≡ packets.Stall
   arrives : Arrives fate (stalled (core_of device)) known device home
       (poll_response (core_at_poll (core_of device))) result device_then host_then events
 
-stalls : (fate : Fate) (device : DeviceState) (known : Known) (home : HostEnd) (result : Result Told StackFault) (device_then : DeviceState) (host_then : HostEnd) (events : List Event)
+stalls : (fate : Fate) (device : DeviceState) (known : ReadyHostState) (home : HostDeviceState)
+    (result : Result Told StackFault) (device_then : DeviceState) (host_then : HostDeviceState) (events : List Event)
     → (core_of device).halted ≡ true → ArePaired device known false → (t : PollsOver (arrives_under fate) device (unpending home) known result device_then host_then [] events)
     → (a : Answered device t.answer t.between) → Stalling fate device known home result device_then host_then events
 stalls fate device known home result device_then host_then events is pair t a =
@@ -434,7 +449,8 @@ stalls fate device known home result device_then host_then events is pair t a =
     }
 
 -- the link state stays
-stalled_as : (fate : Fate) (device : DeviceState) (known : Known) (home : HostEnd) (result : Result Told StackFault) (device_then : DeviceState) (host_then : HostEnd) (events : List Event)
+stalled_as : (fate : Fate) (device : DeviceState) (known : ReadyHostState) (home : HostDeviceState)
+    (result : Result Told StackFault) (device_then : DeviceState) (host_then : HostDeviceState) (events : List Event)
     → (core_of device).halted ≡ true → core_of device ≡ stalled (core_of device)
     → PollsAs fate device home (Some known.pipe.expects)
     (link_of_pair (stalled (core_of device)) known) result device_then host_then events
@@ -447,7 +463,8 @@ stalled_as fate device known home result device_then host_then events is same do
     (subst (λ (x : CoreState). PollsAs fate device home (Some known.pipe.expects)
     (link_of_pair x known) result device_then host_then events) (sym same) done)
 
-polls_stalled : (fate : Fate) (device : DeviceState) (known : Known) (home : HostEnd) (result : Result Told StackFault) (device_then : DeviceState) (host_then : HostEnd) (events : List Event)
+polls_stalled : (fate : Fate) (device : DeviceState) (known : ReadyHostState) (home : HostDeviceState)
+    (result : Result Told StackFault) (device_then : DeviceState) (host_then : HostDeviceState) (events : List Event)
     → (core_of device).halted ≡ true → ArePaired device known false → PollsOver (arrives_under fate) device (unpending home) known result device_then host_then [] events
     → PollsAs fate device home (held_toggle (core_of device) false (Ready known))
     (link_of_pair (core_of device) known) result device_then host_then events
@@ -500,7 +517,8 @@ polls_stalled AckLost device known home result device_then host_then events is p
     })
 
 -- of either
-pub polls : (fate : Fate) (device : DeviceState) (known : Known) (home : HostEnd) (result : Result Told StackFault) (device_then : DeviceState) (host_then : HostEnd) (events : List Event)
+pub polls : (fate : Fate) (device : DeviceState) (known : ReadyHostState) (home : HostDeviceState)
+    (result : Result Told StackFault) (device_then : DeviceState) (host_then : HostDeviceState) (events : List Event)
     → ArePaired device known false → PollsOver (arrives_under fate) device (unpending home) known result device_then host_then [] events
     → PollsAs fate device home (held_toggle (core_of device) false (Ready known))
     (link_of_pair (core_of device) known) result device_then host_then events
@@ -510,8 +528,12 @@ polls fate device known home result device_then host_then events pair t = elim (
 ]
 
 -- a poll of a host that is ready, packet by packet
-pub polls_at : (fate : Fate) (device : DeviceState) (host : HostEnd) (phase : HostPhase) (result : Result Told StackFault) (device_then : DeviceState) (host_then : HostEnd) (before events : List Event)
-    → IsPair device false phase → before ≡ [] → GoesByPackets (arrives_under fate) device (unpending host) false phase result device_then host_then before events
+pub polls_at : (fate : Fate) (device : DeviceState) (host : HostDeviceState) (phase : HostPhase)
+    (result : Result Told StackFault) (device_then : DeviceState) (host_then : HostDeviceState)
+    (before events : List Event)
+    → IsPair device false phase → before ≡ []
+    → IsPollByPackets (arrives_under fate) device
+    (unpending host) false phase result device_then host_then before events
     → PollsAs fate device host (held_toggle (core_of device) false phase)
     (link_of (core_of device) phase) result device_then host_then events
 polls_at fate device host Cold result device_then host_then before events pair none t = absurd pair
@@ -522,40 +544,58 @@ polls_at fate device host (Ready known) result device_then host_then before even
     (subst (λ (es : List Event). PollsOver (arrives_under fate) device (unpending host) known result device_then host_then es events) none t)
 
 -- a host without a clear that is pending
-no_clear : (host : HostEnd) → host.clearing ≡ false → host ≡ unpending host
+no_clear : (host : HostDeviceState) → host.clearing ≡ false → host ≡ unpending host
 no_clear host free = ap (λ (b : Bool). record host { clearing = b }) free
 
-pub polls_by : (fate : Fate) (device : DeviceState) (host : HostEnd) (result : Result Told StackFault) (device_then : DeviceState) (host_then : HostEnd) (before events : List Event)
-    → IsPair device false host.phase → host.clearing ≡ false → before ≡ [] → GoesByPackets (arrives_under fate) device host host.clearing host.phase result device_then host_then before events
+pub polls_by : (fate : Fate) (device : DeviceState) (host : HostDeviceState) (result : Result Told StackFault)
+    (device_then : DeviceState) (host_then : HostDeviceState) (before events : List Event)
+    → IsPair device false host.phase → host.clearing ≡ false → before ≡ []
+    → IsPollByPackets
+    (arrives_under fate) device host host.clearing host.phase result device_then host_then before events
     → PollsAs fate device host (held_toggle (core_of device) false host.phase)
     (link_of (core_of device) host.phase) result device_then host_then events
 polls_by fate device host result device_then host_then before events pair free none t =
     polls_at fate device host host.phase result device_then host_then before events pair none
-    (subst (λ (h : HostEnd). GoesByPackets (arrives_under fate) device h h.clearing h.phase result device_then host_then before events) (no_clear host free) t)
+    (subst (λ (h : HostDeviceState). IsPollByPackets
+    (arrives_under fate) device h h.clearing h.phase result device_then host_then before events)
+    (no_clear host free) t)
 
 -- what is reported is what was returned
 pub told_is : (layout : Contents) (s : LinkState) (fate : Fate) (result : Result Told StackFault) (told : Told)
-    → result ≡ Ok told → ((other : Told) × (result ≡ Ok other) × TellsPoll layout s fate other) → TellsPoll layout s fate told
+    → result ≡ Ok told → ((other : Told) × (result ≡ Ok other) × PollReturns layout s fate other)
+    → PollReturns layout s fate told
 told_is layout s fate result told is (other, other_is, tells) =
     let both : Ok told ≡ Ok other = sym is ∙ other_is in
     let same : told ≡ other = cc in
-    subst (TellsPoll layout s fate) (sym same) tells
+    subst (PollReturns layout s fate) (sym same) tells
 
 -- the host keeps its device's address
-pub home_stays : (arrivals : Arrivals) (device : DeviceState) (host : HostEnd) (clearing : Bool) (phase : HostPhase) (result : Result Told StackFault) (device_then : DeviceState) (host_then : HostEnd) (before events : List Event)
-    → GoesByPackets arrivals device host clearing phase result device_then host_then before events → host_then.addr ≡ host.addr
-home_stays arrivals device host true Cold result device_then host_then before events t = ap (λ (h : HostEnd). h.addr) t.host_stays
-home_stays arrivals device host false Cold result device_then host_then before events t = ap (λ (h : HostEnd). h.addr) t.host_stays
-home_stays arrivals device host true (Described info) result device_then host_then before events t = ap (λ (h : HostEnd). h.addr) t.host_stays
-home_stays arrivals device host false (Described info) result device_then host_then before events t = ap (λ (h : HostEnd). h.addr) t.host_stays
-home_stays arrivals device host true (Parsed info layout) result device_then host_then before events t = ap (λ (h : HostEnd). h.addr) t.host_stays
-home_stays arrivals device host false (Parsed info layout) result device_then host_then before events t = ap (λ (h : HostEnd). h.addr) t.host_stays
-home_stays arrivals device host true (Ready known) result device_then host_then before events t = ap (λ (h : HostEnd). h.addr) t.host_stays
-home_stays arrivals device host false (Ready known) result device_then host_then before events t = ap (λ (h : HostEnd). h.addr) t.host_moved
+pub home_stays : (arrivals : Arrivals) (device : DeviceState) (host : HostDeviceState) (clearing : Bool)
+    (phase : HostPhase) (result : Result Told StackFault) (device_then : DeviceState) (host_then : HostDeviceState)
+    (before events : List Event)
+    → IsPollByPackets arrivals device host clearing phase result device_then host_then before events
+    → host_then.addr ≡ host.addr
+home_stays arrivals device host true Cold result device_then host_then before events t =
+    ap (λ (h : HostDeviceState). h.addr) t.host_stays
+home_stays arrivals device host false Cold result device_then host_then before events t =
+    ap (λ (h : HostDeviceState). h.addr) t.host_stays
+home_stays arrivals device host true (Described info) result device_then host_then before events t =
+    ap (λ (h : HostDeviceState). h.addr) t.host_stays
+home_stays arrivals device host false (Described info) result device_then host_then before events t =
+    ap (λ (h : HostDeviceState). h.addr) t.host_stays
+home_stays arrivals device host true (Parsed info layout) result device_then host_then before events t =
+    ap (λ (h : HostDeviceState). h.addr) t.host_stays
+home_stays arrivals device host false (Parsed info layout) result device_then host_then before events t =
+    ap (λ (h : HostDeviceState). h.addr) t.host_stays
+home_stays arrivals device host true (Ready known) result device_then host_then before events t =
+    ap (λ (h : HostDeviceState). h.addr) t.host_stays
+home_stays arrivals device host false (Ready known) result device_then host_then before events t =
+    ap (λ (h : HostDeviceState). h.addr) t.host_moved
 
 -- no more is delivered than a report of the device's layout can tell
 pub few_of : (device : DeviceState) (phase : HostPhase) (before events : List Event) → IsPair device false phase → before ≡ []
-    → IfReady phase (λ (known : Known). length events ≤ length before + max_events (items_of known.layout)) → length events ≤ max_events (items_of (core_of device).layout)
+    → IfReady phase (λ (known : ReadyHostState). length events ≤ length before + max_events (items_of known.layout))
+    → length events ≤ max_events (items_of (core_of device).layout)
 few_of device Cold before events pair none few = absurd pair
 few_of device (Described info) before events pair none few = absurd pair
 few_of device (Parsed info layout) before events pair none few = absurd pair
@@ -565,7 +605,8 @@ few_of device (Ready known) before events pair none few =
     omega (arith, same, zero, few)
 
 -- the member of a pair after a poll
-polled_member : (fate : Fate) (device : DeviceState) (host : HostEnd) (phase : HostPhase) → IsPair device false phase
+polled_member : (fate : Fate) (device : DeviceState) (host : HostDeviceState) (phase : HostPhase)
+    → IsPair device false phase
     → ready_member device host (core_of device) (held_toggle (core_of device) false phase)
     (state_after_step (items_of (core_of device).layout) (link_of (core_of device) phase) (Polls fate))
     ≡ member_after
@@ -576,13 +617,16 @@ polled_member fate device host (Described info) pair = absurd pair
 polled_member fate device host (Parsed info layout) pair = absurd pair
 polled_member fate device host (Ready known) pair = refl
 
-pub polled_to : (fate : Fate) (device : DeviceState) (host : HostEnd) (result : Result Told StackFault) (device_then : DeviceState) (host_then : HostEnd) (events : List Event) → IsPair device false host.phase → host.clearing ≡ false
+pub polled_to : (fate : Fate) (device : DeviceState) (host : HostDeviceState) (result : Result Told StackFault)
+    (device_then : DeviceState) (host_then : HostDeviceState) (events : List Event) → IsPair device false host.phase
+    → host.clearing ≡ false
     → PollsAs fate device host (held_toggle (core_of device) false host.phase)
     (link_of (core_of device) host.phase) result device_then host_then events
     → pair_member device_then host_then ≡ member_after (pair_member device host) (Scheduled (Polls fate))
 polled_to fate device host result device_then host_then events pair free done =
     done.member ∙ polled_member fate device host host.phase pair
-    ∙ ap (λ (h : HostEnd). member_after (pair_member device h) (Scheduled (Polls fate))) (sym (no_clear host free))
+    ∙ ap (λ (h : HostDeviceState). member_after (pair_member device h) (Scheduled (Polls fate)))
+    (sym (no_clear host free))
 
 -- a poll of a pair, by its packets
 pub packets_make_polls : PacketsMakePolls
@@ -593,7 +637,7 @@ packets_make_polls fate device host result device_then host_then events pair fre
 -- ---- what a host knows after a poll
 
 -- what a poll leaves of a device's transfers
-leaves : (device device_then : DeviceState) (host host_then : HostEnd) (held : Option Bool) (s : LinkState)
+leaves : (device device_then : DeviceState) (host host_then : HostDeviceState) (held : Option Bool) (s : LinkState)
     → pair_member device_then host_then ≡ ready_member device host (core_of device) held s
     → LeavesTransfers false device.control device_then.control
 leaves device device_then host host_then held s same = record {
@@ -610,36 +654,45 @@ leaves device device_then host host_then held s same = record {
 -- laws of hosts that know their devices
 abbrev RepliesLeave : Type 0
 RepliesLeave =
-    (host : HostEnd) (control : DevControlState CoreState) (took : Took) → IsConsistent host control
+    (host : HostDeviceState) (control : DevControlState CoreState) (took : Took) → IsConsistent host control
     → IfReady host.phase (λ known. IsConsistent (host_after_reply host known took) control)
 
 abbrev OthersLeave : Type 0
 OthersLeave =
-    (host : HostEnd) (old new : DevControlState CoreState) → LeavesTransfers host.clearing old new
+    (host : HostDeviceState) (old new : DevControlState CoreState) → LeavesTransfers host.clearing old new
     → IsConsistent host old → IsConsistent host new
 
 -- with the host's layout, pipe and view as they are then
 known_then : (arrivals : Arrivals) (device device_then : DeviceState) (addr : ℕ) (transfer : Option Transfer)
-    (known : Known) (host_then : HostEnd) (result : Result Told StackFault) (before events : List Event)
+    (known : ReadyHostState) (host_then : HostDeviceState) (result : Result Told StackFault)
+    (before events : List Event)
     (held : Option Bool) (s : LinkState)
-    → (let host : HostEnd = record { addr = addr; phase = Ready known; transfer = transfer; clearing = false } in
+    → (let host : HostDeviceState =
+    record { addr = addr; phase = Ready known; transfer = transfer; clearing = false } in
     RepliesLeave → OthersLeave → PollsOver arrivals device host known result device_then host_then before events
     → pair_member device_then host_then ≡ ready_member device host (core_of device) held s
     → IsConsistent host device.control → IsConsistent host_then device_then.control)
 known_then arrivals device device_then addr transfer known host_then result before events held s replies others t same knows =
-    let host : HostEnd = record { addr = addr; phase = Ready known; transfer = transfer; clearing = false } in
+    let host : HostDeviceState = record { addr = addr; phase = Ready known; transfer = transfer; clearing = false } in
     let took = reply_outcome known.pipe.expects t.reply in
-    let still : host_then.clearing ≡ false = ap (λ (h : HostEnd). h.clearing) t.host_moved in
+    let still : host_then.clearing ≡ false = ap (λ (h : HostDeviceState). h.clearing) t.host_moved in
     others host_then device.control device_then.control
     (subst (λ (b : Bool). LeavesTransfers b device.control device_then.control) (sym still) (leaves device device_then host host_then held s same))
-    (subst (λ (h : HostEnd). IsConsistent h device.control) (sym t.host_moved)
+    (subst (λ (h : HostDeviceState). IsConsistent h device.control) (sym t.host_moved)
     (replies host device.control took knows))
 
 knows_by : (arrivals : Arrivals) (device device_then : DeviceState) (addr : ℕ) (transfer : Option Transfer)
-    (phase : HostPhase) (host_then : HostEnd) (result : Result Told StackFault) (before events : List Event)
+    (phase : HostPhase) (host_then : HostDeviceState) (result : Result Told StackFault) (before events : List Event)
     (held : Option Bool) (s : LinkState)
     → RepliesLeave → OthersLeave → IsPair device false phase
-    → GoesByPackets arrivals device (record { addr = addr; phase = phase; transfer = transfer; clearing = false }) false phase result device_then host_then before events
+    → IsPollByPackets arrivals device
+    (record {
+      addr = addr;
+      phase = phase;
+      transfer = transfer;
+      clearing =
+          false;
+    }) false phase result device_then host_then before events
     → pair_member device_then host_then
     ≡ ready_member device (record { addr = addr; phase = phase; transfer = transfer; clearing = false })
     (core_of device) held s
@@ -651,13 +704,15 @@ knows_by arrivals device device_then addr transfer (Parsed info layout) host_the
 knows_by arrivals device device_then addr transfer (Ready known) host_then result before events held s replies others pair t same knows =
     known_then arrivals device device_then addr transfer known host_then result before events held s replies others t same knows
 
-pub polls_know : (arrivals : Arrivals) (device device_then : DeviceState) (host host_then : HostEnd)
+pub polls_know : (arrivals : Arrivals) (device device_then : DeviceState) (host host_then : HostDeviceState)
     (result : Result Told StackFault) (before events : List Event) (held : Option Bool) (s : LinkState)
-    → RepliesLeave → OthersLeave → IsPair device false host.phase → host.clearing ≡ false → GoesByPackets arrivals device host host.clearing host.phase result device_then host_then before events
+    → RepliesLeave → OthersLeave → IsPair device false host.phase → host.clearing ≡ false
+    → IsPollByPackets arrivals device host host.clearing host.phase result device_then host_then before events
     → pair_member device_then host_then ≡ ready_member device host (core_of device) held s
     → IsConsistent host device.control → IsConsistent host_then device_then.control
 polls_know arrivals device device_then host host_then result before events held s replies others pair free t same knows =
     let is = no_clear host free in
     knows_by arrivals device device_then host.addr host.transfer host.phase host_then result before events held s replies others pair
-    (subst (λ (h : HostEnd). GoesByPackets arrivals device h h.clearing h.phase result device_then host_then before events) is t) same
-    (subst (λ (h : HostEnd). IsConsistent h device.control) is knows)
+    (subst (λ
+    (h : HostDeviceState). IsPollByPackets arrivals device h h.clearing h.phase result device_then host_then before events) is t) same
+    (subst (λ (h : HostDeviceState). IsConsistent h device.control) is knows)

@@ -8,7 +8,7 @@ use Rattle.hid_device.specs.Inputs.{AreInputsFirst, input_count}
 use Rattle.hid_device.specs.Core.{CoreState, IsBelow, IsSound, round_of}
 use Rattle.hid_host.specs.declared.phase.HostPhase.{HostPhase}
 use Rattle.hid_host.specs.declared.phase.HostPhase.TheVariants.{Cold, Described, Parsed, Ready}
-use Rattle.hid_host.specs.Host.{HostEnd}
+use Rattle.hid_host.specs.Host.{HostDeviceState}
 use Rattle.hid_stack.specs.HostInvariant.{IsConsistent, IsConsistentAt}
 use Rattle.hid_host.specs.Phase.{IfReady}
 use Rattle.hid_host.specs.ResetEvents.{SuitsRound}
@@ -30,7 +30,7 @@ at_phase (Ready known) addr core sound knows =
     subst (λ (layout : Contents). SuitsRound layout (round_of core) core.reports.fixed) (sym knows.0)
     (suits_so core sound)
 
-pub rounds_suit : (host : HostEnd) (control : DevControlState CoreState) → IsSound control.requests
+pub rounds_suit : (host : HostDeviceState) (control : DevControlState CoreState) → IsSound control.requests
     → IsConsistent host control
     → IfReady host.phase (λ known. SuitsRound known.layout (round_of control.requests) control.requests.reports.fixed)
 rounds_suit host control sound knows = at_phase host.phase host.addr control.requests sound knows.by.phase

@@ -12,7 +12,7 @@ use Rattle.hid_layout.specs.Layout.{Contents}
 use Rattle.usb_transact.specs.declared.transaction.Fate.{Fate}
 use Rattle.hid_layout.specs.declared.control.ControlId.{ControlId}
 use Rattle.hid_bus.specs.DeviceHistory.{BusEvent, Own, Idles, Configures, state_after, state_after_all, events_of_history}
-use Rattle.hid_bus.specs.DeviceHistory as lives
+use Rattle.hid_bus.specs.DeviceHistory as bus
 use Rattle.hid_bus.specs.Motion.{AreBetweenRounds, motion_of_events, Conserves, link_motion, accepted_steps_of_events, HasMotions}
 use Rattle.hid_bus.specs.Rounds.{Changes, Polls}
 use Rattle.hid_bus.specs.Rounds as own_steps
@@ -27,12 +27,12 @@ use Rattle.hid_bus.specs.declared.step.Step.TheVariants.{Change, Frame, Poll, Be
 use Rattle.hid_bus.specs.declared.step.Delivered.{Delivered}
 use Rattle.hid_bus.specs.Delivered.{from_device}
 use Rattle.hid_stack.specs.Members.{Member, MemberStep, Scheduled, Begins, Controls, Halts, Resets, state_after_event_if, try_bus_event_of, control_of_member, bus_event_of_step, bus_events_of_steps, halt_bus_event_of, member_after, member_after_all, polls_it, step_bus_event, try_bus_event, out_of_memory_bus_event, member_out_of_memory}
-use Rattle.hid_stack.specs.Rig.{member_at, with_member, one_after, one_unconcluded, bus_after_refusal, bus_after, bus_after_all, deliveries_of_steps, member_step, member_steps}
-use Rattle.hid_stack.specs.Sums.{AbortsByRequest, AbortsNone, AllHaveMotions, ConfiguresBetweenRounds, IsBetween, OnlyHaltsAbort, RefusedKeepMotion, SumsUp}
+use Rattle.hid_stack.specs.Rig.{member_at, with_member, bus_after_member_step, bus_after_try_out_of_memory, bus_after_refusal, bus_after, bus_after_all, deliveries_of_steps, member_step, member_steps}
+use Rattle.hid_stack.specs.Sums.{AbortsByRequest, AbortsNone, AllHaveMotions, ConfiguresBetweenRounds, ConservesMotion, IsBetween, OnlyHaltsAbort, RefusedKeepMotion}
 use Rattle.hid_stack.proofs.Isolation.{isolated, same_or_not, states as states_of, with_other, with_same}
 use Rattle.hid_stack.proofs.MemberLemmas.{IsEffect, between_append, between_one, brings_effect, layout_stays, layouts_stay, link_is, links, unconcluded_layout, unconcluded_link}
 use Rattle.hid_bus.proofs.ItemMotionLemmas.{given_append}
-use Rattle.hid_bus.proofs.MotionLemmas.{lived_has, lives_keep}
+use Rattle.hid_bus.proofs.MotionLemmas.{lived_has, histories_keep_motion}
 
 abbrev pub HasItsMotions : Member → Type 0
 HasItsMotions m = HasMotions (items_of m.layout) m.link
@@ -71,7 +71,7 @@ after_unconcluded fate m o has =
     has_with m (member_out_of_memory fate m o) (out_of_memory_bus_event fate m o) (unconcluded_layout fate m o)
     (unconcluded_link fate m o) has
 
-one_has : (members : List Member) (device : ℕ) (x : MemberStep) → AllHaveMotions members → AllHaveMotions (one_after members device x)
+one_has : (members : List Member) (device : ℕ) (x : MemberStep) → AllHaveMotions members → AllHaveMotions (bus_after_member_step members device x)
 one_has members device x all = by_member (member_at members device) refl
   where
     by_member : (o : Option Member) → member_at members device ≡ o → AllHaveMotions (elim o as (λ _. List Member) [ None ↦ members | Some m ↦ with_member members device (member_after m x) ])
@@ -100,7 +100,7 @@ attached_has members m all has = All-push HasItsMotions members m all has
 -- The sum over steps of the bus.
 pub sums_up : (before behind : List Member) (steps : List Step) (old new : List Delivered) → AllHaveMotions before → ConfiguresBetweenRounds before steps
     → behind ≡ bus_after_all before steps → new ≡ old ++ deliveries_of_steps before steps
-    → SumsUp before behind steps old new
+    → ConservesMotion before behind steps old new
 sums_up before behind steps old new all between states_are told_are device m n h k c =
     let apart = isolated before behind steps old new states_are told_are in
     let items = items_of m.layout in
@@ -108,7 +108,7 @@ sums_up before behind steps old new all between states_are told_are device m n h
     let bus_events = bus_events_of_steps m xs in
     let sum : Conserves c (accepted_steps_of_events items m.link bus_events) (link_motion items m.link c)
     (events_of_history items m.link bus_events) (link_motion items (state_after_all items m.link bus_events) c)
-    = lives_keep items m.link (member_has before device m all h) bus_events (between device m h) c in
+    = histories_keep_motion items m.link (member_has before device m all h) bus_events (between device m h) c in
     let told : motion_of_events c (from_device device new)
     ≡ motion_of_events c (from_device device old) +ℤ motion_of_events c
     (events_of_history items m.link bus_events)
@@ -206,16 +206,16 @@ effect_keeps : (items : List Item) (s : LinkState) (o : Option BusEvent) (c : Co
     → link_motion items (state_after_event_if items s o) c ≡ link_motion items s c
 effect_keeps items s None c has is between none = refl
 effect_keeps items s (Some (Own x)) c has is between none = absurd is
-effect_keeps items s (Some lives.Halts) c has is between none = absurd none
-effect_keeps items s (Some lives.Clears) c has is between none = absurd none
-effect_keeps items s (Some lives.Resets) c has is between none = absurd is
+effect_keeps items s (Some bus.Halts) c has is between none = absurd none
+effect_keeps items s (Some bus.Clears) c has is between none = absurd none
+effect_keeps items s (Some bus.Resets) c has is between none = absurd is
 effect_keeps items s (Some (Idles idle)) c has is between none =
     let sum : Conserves c [] (link_motion items s c) [] (link_motion items (state_after items s (Idles idle)) c) =
-    lives_keep items s has (Idles idle ∷ []) (between, tt) c in
+    histories_keep_motion items s has (Idles idle ∷ []) (between, tt) c in
     omega (arith, ints, sum)
 effect_keeps items s (Some Configures) c has is between none =
     let sum : Conserves c [] (link_motion items s c) [] (link_motion items (state_after items s Configures) c) =
-    lives_keep items s has (Configures ∷ []) (between, tt) c in
+    histories_keep_motion items s has (Configures ∷ []) (between, tt) c in
     omega (arith, ints, sum)
 
 tried_keeps : (fate : Fate) (m : Member) (o : Option Transfer) (c : ControlId) → HasItsMotions m
@@ -267,7 +267,7 @@ between_at members dev fate m between h =
 one_keeps : (members : List Member) (dev device : ℕ) (fate : Fate) (k n : Member) (c : ControlId)
     → AllHaveMotions members → ConfiguresBetweenRounds members (Control dev fate ∷ [])
     → OnlyHaltsAbort members (Control dev fate)
-    → member_at members device ≡ Some k → member_at (one_unconcluded members dev fate) device ≡ Some n → motion_at n c ≡ motion_at k c
+    → member_at members device ≡ Some k → member_at (bus_after_try_out_of_memory members dev fate) device ≡ Some n → motion_at n c ≡ motion_at k c
 one_keeps members dev device fate k n c all between aborts h stands = by_found (member_at members dev) refl stands
   where
     by_found : (found : Option Member) → member_at members dev ≡ found
@@ -311,7 +311,7 @@ pub sums_stop : (before mid new : List Member) (steps : List Step) (x : Step) (e
     (old out : List Delivered) → AllHaveMotions before → ConfiguresBetweenRounds before steps
     → ConfiguresBetweenRounds mid (x ∷ []) → OnlyHaltsAbort mid x
     → mid ≡ bus_after_all before steps → out ≡ old ++ deliveries_of_steps before steps
-    → new ≡ bus_after_refusal mid x e → SumsUp before new steps old out
+    → new ≡ bus_after_refusal mid x e → ConservesMotion before new steps old out
 sums_stop before mid new steps x e old out all between between_here aborts mid_is told_is new_is device m n h there c =
     let k = member_after_all m (member_steps device steps) in
     let at_mid : member_at mid device ≡ Some k = ap (λ (ms : List Member). member_at ms device) mid_is ∙ states_of steps before device m h in

@@ -12,7 +12,7 @@ use Rattle.usb_control.specs.TryFunctions.{control_tried, effect_reached, is_app
 use Rattle.usb_control.specs.Device.{Answers, Applies, Decides as Decides', DevControlState, Effect}
 use Rattle.usb_control.specs.Host.{HostTransferState, IsRunning}
 use Rattle.usb_control.specs.Interleaving.{decision_now, is_effect}
-use Rattle.usb_control.specs.Transfer.{Accepted, Decision, Nothing, Past, Piece, Place, Position, Refused, Setup, Shape, Status, TakesEffect, act_at, applies, data_pieces, place_after_decision, place_after_piece, place_after_setup, place_after_try_at, shape_of}
+use Rattle.usb_control.specs.Transfer.{Accepted, Decision, Nothing, Past, Piece, Place, Position, Refused, Setup, Shape, Status, TakesEffect, act_at, applies, data_pieces, place_after_decision, place_after_piece, place_after_setup, place_after_try_at, transfer_shape}
 use Rattle.usb_control.proofs.LawLemmas.{begins, done_is}
 use Rattle.usb_control.proofs.InterleavingLemmas.{goes_by}
 use Rattle.hid_layout.specs.Controls.{Item, items_of}
@@ -20,13 +20,13 @@ use Rattle.hid_layout.specs.Layout.{Contents}
 use Rattle.hid_requests.specs.declared.request.Request.{Request}
 use Rattle.hid_requests.specs.declared.request.Request.TheVariants as requests
 use Rattle.hid_requests.specs.RequestSetup.{sends_of}
-use Rattle.hid_requests.proofs.AskedLemmas.{sends_so, spelled_so}
+use Rattle.hid_requests.proofs.RequestKindLemmas.{sends_so, encoded_so}
 use Rattle.hid_bus.specs.Rounds.{Changes, Frame, Polls, Round, RoundHistory, open_rounds, pieces_crossed}
-use Rattle.hid_bus.specs.LinkState.{LinkState, Open, expected_toggle, state_after_step}
+use Rattle.hid_bus.specs.LinkState.{LinkState, OpenRound, expected_toggle, state_after_step}
 use Rattle.hid_bus.specs.DeviceHistory.{Configures, BusEvent, RoundEnded, LinkConfigured, RoundAborted, TogglesReset, BusReset, LinkOutcome, Idles, Own, state_after_all, history_after, history_after_all, rounds_as_outcomes, flipped_toggle, outcomes_of_events, outcomes_of_event, toggle_after_outcomes, toggle_after_round}
-use Rattle.hid_bus.specs.DeviceHistory as lives
+use Rattle.hid_bus.specs.DeviceHistory as bus
 use Rattle.hid_bus.specs.HistoryState.{history_from}
-use Rattle.hid_bus.proofs.HistoryEventLemmas.{lives_on}
+use Rattle.hid_bus.proofs.HistoryEventLemmas.{history_goes_on}
 use Rattle.hid_requests.specs.declared.codes.TheConstants.{REPORT_ENDPOINT as ENDPOINT}
 use Rattle.hid_device.specs.declared.decisions.PendingWrite.TheVariants as pendings
 use Rattle.hid_device.specs.Core.{CoreState}
@@ -41,7 +41,7 @@ use Rattle.hid_host.specs.Phase.{may_begin, may_poll}
 use Rattle.hid_bus.specs.declared.step.Step.{Step}
 use Rattle.hid_stack.specs.ExpectedToggles.{AllHoldToggles, ExpectsParity, HoldsToggle, HostsExpectParity, parity_after}
 use Rattle.hid_stack.specs.HostInvariant.{IsAfterSetup, IsDecided, asking_of}
-use Rattle.hid_stack.specs.Members.{Begins, Controls, Halts, Member, MemberStep, Resets, Scheduled, begin_refusal_at, bus_event_of_step, bus_events_of_steps, control_of_member, core_of_member, effect_bus_event, expected_toggle_of, expects_after, halt_bus_event_of, host_state_after, host_state_after_try, member_after, member_after_all, member_after_begin, member_after_halt, member_after_try, member_after_try_in, member_held_toggle, member_transfer_after, poll_bus_event, polls_it, state_after_event_if, try_bus_event, try_bus_event_of, write_bus_event}
+use Rattle.hid_stack.specs.Members.{Begins, Controls, Halts, Member, MemberStep, Resets, Scheduled, begin_refusal_at, bus_event_of_step, bus_events_of_steps, control_of_member, core_of_member, effect_bus_event, expected_toggle_after_try, expected_toggle_of, halt_bus_event_of, host_state_after, host_state_after_try, member_after, member_after_all, member_after_begin, member_after_halt, member_after_try, member_after_try_in, member_held_toggle, member_transfer_after, poll_bus_event, polls_it, state_after_event_if, try_bus_event, try_bus_event_of, write_bus_event}
 use Rattle.hid_stack.specs.Rig.{bus_after_all, member_at, member_steps}
 use Rattle.hid_stack.specs.Trails.{Trail, trail_from}
 use Rattle.hid_stack.specs.Transfers.{ends_at, setup_at}
@@ -110,9 +110,9 @@ effect_parity items c base None is even = even
 effect_parity items c base (Some (Own x)) is even = absurd is
 effect_parity items c base (Some (Idles idle)) is even = even
 effect_parity items c base (Some Configures) is even = begins_so c.current base
-effect_parity items c base (Some lives.Halts) is even = even
-effect_parity items c base (Some lives.Clears) is even = refl
-effect_parity items c base (Some lives.Resets) is even = absurd is
+effect_parity items c base (Some bus.Halts) is even = even
+effect_parity items c base (Some bus.Clears) is even = refl
+effect_parity items c base (Some bus.Resets) is even = absurd is
 
 -- where a halt stands after it, it leaves it
 halted_parity : (items : List Item) (s : LinkState) (c : RoundHistory) (base : Bool) (o : Option BusEvent)
@@ -121,11 +121,11 @@ halted_parity items s c base None is halted = refl
 halted_parity items s c base (Some (Own x)) is halted = absurd is
 halted_parity items s c base (Some (Idles idle)) is halted = refl
 halted_parity items s c base (Some Configures) is halted = absurd (cc)
-halted_parity items s c base (Some lives.Halts) is halted = refl
-halted_parity items s c base (Some lives.Clears) is halted = absurd (cc)
-halted_parity items s c base (Some lives.Resets) is halted = absurd is
+halted_parity items s c base (Some bus.Halts) is halted = refl
+halted_parity items s c base (Some bus.Clears) is halted = absurd (cc)
+halted_parity items s c base (Some bus.Resets) is halted = absurd is
 
-clears_parity : (items : List Item) (c : RoundHistory) (base : Bool) (o : Option BusEvent) → o ≡ Some lives.Clears
+clears_parity : (items : List Item) (c : RoundHistory) (base : Bool) (o : Option BusEvent) → o ≡ Some bus.Clears
     → parity_by items c base o ≡ false
 clears_parity items c base o is = ap (parity_by items c base) is
 
@@ -140,9 +140,9 @@ effect_quiet items s c None is quiet = quiet
 effect_quiet items s c (Some (Own x)) is quiet = absurd is
 effect_quiet items s c (Some (Idles idle)) is quiet = quiet
 effect_quiet items s c (Some Configures) is quiet = λ halted. absurd (cc)
-effect_quiet items s c (Some lives.Halts) is quiet = λ halted. (refl, refl)
-effect_quiet items s c (Some lives.Clears) is quiet = λ halted. absurd (cc)
-effect_quiet items s c (Some lives.Resets) is quiet = absurd is
+effect_quiet items s c (Some bus.Halts) is quiet = λ halted. (refl, refl)
+effect_quiet items s c (Some bus.Clears) is quiet = λ halted. absurd (cc)
+effect_quiet items s c (Some bus.Resets) is quiet = absurd is
 
 -- a poll of it opens no round, and closes none
 abbrev StaysAtPoll : List Item → Bool → Fate → RoundHistory → Type 0
@@ -267,7 +267,7 @@ cleared (stages.Failed fault) request clearing was is = absurd (cc)
 
 -- a request that neither configures nor clears leaves the toggle
 kept_done : (request : Request) (e : Bool) → request ≢ requests.Configure → request ≢ requests.Clear
-    → expects_after stages.Done request e ≡ e
+    → expected_toggle_after_try stages.Done request e ≡ e
 kept_done requests.Configure e apart other = absurd (apart refl)
 kept_done requests.Clear e apart other = absurd (other refl)
 kept_done requests.Device e apart other = refl
@@ -285,7 +285,7 @@ kept_done requests.Halt e apart other = refl
 kept_done requests.EndpointStatus e apart other = refl
 
 keeps_toggle : (stage : HostStage) (request : Request) (e : Bool) → request ≢ requests.Configure
-    → request ≢ requests.Clear → expects_after stage request e ≡ e
+    → request ≢ requests.Clear → expected_toggle_after_try stage request e ≡ e
 keeps_toggle stages.Done request e apart other = kept_done request e apart other
 keeps_toggle stages.Setup request e apart other = refl
 keeps_toggle (stages.DataIn one) request e apart other = refl
@@ -295,14 +295,16 @@ keeps_toggle stages.StatusOut request e apart other = refl
 keeps_toggle (stages.Failed fault) request e apart other = refl
 
 done_configure : (stage : HostStage) (request : Request) (e : Bool)
-    → (stage ≡ stages.Done) × (request ≡ requests.Configure) → expects_after stage request e ≡ false
+    → (stage ≡ stages.Done) × (request ≡ requests.Configure) → expected_toggle_after_try stage request e ≡ false
 done_configure stage request e is =
-    ap (λ (s : HostStage). expects_after s request e) is.0 ∙ ap (λ (q : Request). expects_after stages.Done q e) is.1
+    ap (λ (s : HostStage). expected_toggle_after_try s request e) is.0
+    ∙ ap (λ (q : Request). expected_toggle_after_try stages.Done q e) is.1
 
 done_clear : (stage : HostStage) (request : Request) (e : Bool) → (stage ≡ stages.Done) × (request ≡ requests.Clear)
-    → expects_after stage request e ≡ false
+    → expected_toggle_after_try stage request e ≡ false
 done_clear stage request e is =
-    ap (λ (s : HostStage). expects_after s request e) is.0 ∙ ap (λ (q : Request). expects_after stages.Done q e) is.1
+    ap (λ (s : HostStage). expected_toggle_after_try s request e) is.0
+    ∙ ap (λ (q : Request). expected_toggle_after_try stages.Done q e) is.1
 
 -- ---- a Clear takes effect
 
@@ -390,13 +392,13 @@ effect_accepts shape ReplyLost decision Status (Accepted answer) a h = (tt, tt)
 effect_accepts shape AckLost decision Status (Accepted answer) a h = (tt, tt)
 
 effect_clears : (e : Effect) (core : CoreState) → is_applied e ≡ true → core.pending ≡ pendings.Clear
-    → effect_bus_event e core ≡ Some lives.Clears
+    → effect_bus_event e core ≡ Some bus.Clears
 effect_clears (Answers answer stage last_packet) core h pends = absurd (cc)
 effect_clears (Decides' bytes) core h pends = absurd (cc)
 effect_clears (Applies bytes) core h pends = ap (write_bus_event core) pends
 
 brought_clears : (fate : Fate) (ends : HostTransferState) (control : DevControlState CoreState) → takes_effect core_table fate ends control ≡ true → control.requests.pending ≡ pendings.Clear
-    → try_bus_event_of fate ends control ≡ Some lives.Clears
+    → try_bus_event_of fate ends control ≡ Some bus.Clears
 brought_clears TokenLost ends control h pends = absurd (cc)
 brought_clears Clean ends control h pends = effect_clears (effect_reached core_table ends control) control.requests h pends
 brought_clears ReplyLost ends control h pends = effect_clears (effect_reached core_table ends control) control.requests h pends
@@ -502,7 +504,7 @@ begins_tracks None m request c base is k =
             trail = trail_from (core_of_member m);
             stood = record {
               asked = refl;
-              spelled = spelled_so requests.Clear (record { report_length = 0; endpoint = ENDPOINT }) tt (omega arith) (omega arith);
+              encoded = encoded_so requests.Clear (record { report_length = 0; endpoint = ENDPOINT }) tt (omega arith) (omega arith);
               fits = tt;
               stands = begins core_table.answer_of m.addr (setup_at m requests.Clear) (sends_of requests.Clear)
                   (control_of_member (member_after_begin None m requests.Clear))
@@ -525,7 +527,7 @@ halts_tracks : (b : Bool) (m : Member) (c : RoundHistory) (base : Bool) → Trac
 halts_tracks false m c base k = k
 halts_tracks true m c base k = record {
   holds = halts_holds true m k.holds;
-  follows = follows_by (items_of m.layout) m.link c base (Some lives.Halts) k.follows;
+  follows = follows_by (items_of m.layout) m.link c base (Some bus.Halts) k.follows;
   quiet = λ h. (refl, refl);
   ready = λ polls. shows_held m.host true m.clearing (expected_toggle_of m) m.link.toggle (parity base c) polls
       (λ h. k.ready polls) (λ going. absurd (cc));
@@ -546,11 +548,11 @@ clear_tried : (fate : Fate) (m : Member) (t : Transfer) (host : HostState) (c : 
 clear_tried fate m t host c base runs clear e =
     let items = items_of m.layout in
     let o = try_bus_event fate m (Some t) in
-    let shape = shape_of t.ends.setup in
+    let shape = transfer_shape t.ends.setup in
     let decision = decision_now core_table (ends_at m t) in
     let trail = e.trail in
     let place = trail.place in
-    let g = goes_by core_table (sends_of t.request) place fate (ends_at m t) e.stood.spelled runs e.stood.stands in
+    let g = goes_by core_table (sends_of t.request) place fate (ends_at m t) e.stood.encoded runs e.stood.stands in
     let behind = trail_on fate m t trail in
     let even : behind.place.applied ≡ true → parity_by items c base o ≡ false
     = λ h. elim (applied_by shape fate decision place.host place.decision place.applied place refl refl refl h) [
@@ -563,7 +565,9 @@ clear_tried fate m t host c base runs clear e =
           (subst (λ (q : Request). IsDecided q trail.decider (core_of_member m) place.decision) clear
           (e.stood.decided says.0))))
     ] in
-    let writes : shape.reads ≡ false = ap (λ (s : SetupOf). (shape_of s).reads) e.stood.asked ∙ ap (λ (q : Request). (shape_of (setup_at m q)).reads) clear in
+    let writes : shape.reads ≡ false =
+    ap (λ (s : SetupOf). (transfer_shape s).reads) e.stood.asked
+    ∙ ap (λ (q : Request). (transfer_shape (setup_at m q)).reads) clear in
     let apart =
     open_place core_table.answer_of shape (sends_of t.request) place t.ends
     (control_of_member m) e.stood.stands runs in
@@ -571,7 +575,7 @@ clear_tried fate m t host c base runs clear e =
       once = record { trail = behind; stood = stood_tried fate m t trail host e.stood g; even = even };
       done = λ is.
           let there =
-          (done_is core_table.answer_of (shape_of (member_transfer_after fate m t).setup)
+          (done_is core_table.answer_of (transfer_shape (member_transfer_after fate m t).setup)
           (sends_of t.request) behind.place (member_transfer_after fate m t)
           (control_tried core_table fate t.ends (control_of_member m)) g.stands).0 is in
           even (past_applied shape fate decision place.host place.decision place writes refl apart there.1);
@@ -589,7 +593,7 @@ tried_tracks fate m t c base runs k =
     let clearing = clearing_after ends.stage t.request m.clearing in
     let effect = tried_effect fate m t in
     let wanted = parity_by items c base o in
-    let e = expects_after ends.stage t.request (expected_toggle_of m) in
+    let e = expected_toggle_after_try ends.stage t.request (expected_toggle_of m) in
     let is_running : IsRunning t.ends.stage = (runs_so m.transfer t runs).1 in
     let needs : may_begin t.request m.host ≡ true = subst (λ (x : Option Transfer). IfSome x (λ u. may_begin u.request m.host ≡ true)) runs k.holds.needs in
     let pends : t.request ≡ requests.Clear → m.clearing ≡ true = subst (λ (x : Option Transfer). IfSome x (λ u. u.request ≡ requests.Clear → m.clearing ≡ true)) runs k.holds.pends in
@@ -645,7 +649,7 @@ step_tracks (Controls fate) m c base k = controls_tracks fate (running m.transfe
 step_tracks Halts m c base k = halts_tracks m.endpoint.is_configured m c base k
 step_tracks Resets m c base k = record {
   holds = after_holds Resets m k.holds;
-  follows = follows_by (items_of m.layout) m.link c base (Some lives.Resets) k.follows;
+  follows = follows_by (items_of m.layout) m.link c base (Some bus.Resets) k.follows;
   quiet = λ halted. absurd (cc);
   ready = λ polls. absurd (cc);
   unready = λ apart. refl;
@@ -703,20 +707,20 @@ restarts items (Configures ∷ bus_events) c a b halted none going =
     ∙ ap (λ (x : Bool). toggle_after_outcomes pieces_crossed x later)
     (begins_so c.current a ∙ sym (begins_so c.current b))
     ∙ sym (toggle_append (outcomes_of_event items c Configures) later b)
-restarts items (lives.Halts ∷ bus_events) c a b halted none going =
-    let next = history_after items c lives.Halts in
+restarts items (bus.Halts ∷ bus_events) c a b halted none going =
+    let next = history_after items c bus.Halts in
     ap (λ (o : Option Round). toggle_after_outcomes pieces_crossed (toggle_after_round pieces_crossed a o)
     (outcomes_of_events items bus_events next)) none
     ∙ restarts items bus_events next a b refl refl going
     ∙ sym (ap
     (λ (o : Option Round). toggle_after_outcomes pieces_crossed (toggle_after_round pieces_crossed b o)
     (outcomes_of_events items bus_events next)) none)
-restarts items (lives.Clears ∷ bus_events) c a b halted none going = refl
-restarts items (lives.Resets ∷ bus_events) c a b halted none going = refl
+restarts items (bus.Clears ∷ bus_events) c a b halted none going = refl
+restarts items (bus.Resets ∷ bus_events) c a b halted none going = refl
 
 quiet_expects : (s : LinkState) → s.current ≡ None → expected_toggle s ≡ s.toggle
 quiet_expects s none =
-    ap (λ (o : Option Open). elim o as
+    ap (λ (o : Option OpenRound). elim o as
     (λ _. Bool) [ None ↦ s.toggle | Some round ↦ (if round.crossed then not s.toggle else s.toggle) ]) none
 
 -- of an endpoint that isn't halted the toggle is the device's
@@ -737,7 +741,7 @@ starts_follow : (m : Member) → HoldsToggle m → m.link.current ≡ None → m
 starts_follow m h none clear bus_events going =
     let items = items_of m.layout in
     let c = history_from m.link in
-    let lived = lives_on items m.link bus_events none in
+    let lived = history_goes_on items m.link bus_events none in
     lived.expects going ∙ elim (cases_Bool m.link.halted) [
       | inl halted ↦
           restarts items bus_events c m.link.toggle (expected_toggle_of m) halted refl (sym lived.halted ∙ going)

@@ -1,7 +1,7 @@
 -- Worked toggles of a device with two keys, by what its host expects: each is worked out by hand, and a wrong one fails the check.
 use Rattle.std.specs.Prelude.{◌≡◌, true, false, List, [], ◌∷◌, ◌++◌, pos, refl}
-use Rattle.hid_descriptor.specs.declared.shape.Shape.TheVariants.{Variable}
-use Rattle.hid_descriptor.specs.declared.report.ReportKind.TheVariants.{Input}
+use Rattle.hid_report_descriptor.specs.declared.shape.Shape.TheVariants.{Variable}
+use Rattle.hid_report_descriptor.specs.declared.report.ReportKind.TheVariants.{Input}
 use Rattle.hid_layout.specs.Layout.{Contents}
 use Rattle.hid_layout.specs.Controls.{items_from, spread_usages}
 use Rattle.hid_snapshots.specs.Samples.{usage}
@@ -9,7 +9,7 @@ use Rattle.usb_transact.specs.declared.transaction.Fate.TheVariants.{Clean, Repl
 use Rattle.hid_requests.specs.declared.request.Request.TheVariants.{Clear}
 use Rattle.hid_requests.specs.RequestKinds.{request_kind_of}
 use Rattle.hid_bus.specs.Rounds.{Polls}
-use Rattle.hid_bus.specs.HistoryRows.{press}
+use Rattle.hid_bus.specs.WorkedHistories.{press}
 use Rattle.hid_device.specs.declared.config.Config.{Config}
 use Rattle.hid_requests.specs.declared.boot.Boot.TheVariants as boots
 use Rattle.hid_device.specs.RequestTable.{decide}

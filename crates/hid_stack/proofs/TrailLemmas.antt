@@ -12,13 +12,14 @@ use Rattle.hid_device.specs.RequestTable.{core_table}
 use Rattle.hid_host.specs.declared.fault.StackFault.{StackFault}
 use Rattle.hid_host.specs.declared.phase.HostPhase.{HostPhase}
 use Rattle.hid_host.specs.declared.phase.HostPhase.TheVariants.{Cold, Described, Parsed, Ready}
-use Rattle.hid_host.specs.Host.{ControlSteps, HostEnd, begin_refusal, cold_host, host_after_begin, host_after_reply, ready_host, running}
+use Rattle.hid_host.specs.Host.{ControlSteps, HostDeviceState, begin_refusal, cold_host, host_after_begin, host_after_reply, ready_host, running}
 use Rattle.hid_host.specs.Phase.{IfReady}
-use Rattle.hid_host.specs.Ready.{Known}
+use Rattle.hid_host.specs.Ready.{ReadyHostState}
 use Rattle.hid_stack.specs.HostInvariant.{IsConsistent, IsConsistentBy, IsNoRefusal, LeavesTransfers}
 use Rattle.hid_stack.specs.Trails.{Trail, trail_after, trail_from}
 
-abbrev ControlStep : Fate → HostEnd → DevControlState CoreState → Result Progress StackFault → HostEnd → DevControlState CoreState → Type 0
+abbrev ControlStep : Fate → HostDeviceState → DevControlState CoreState → Result Progress StackFault → HostDeviceState
+    → DevControlState CoreState → Type 0
 ControlStep fate host old result after new = ControlSteps (PreparesBy core_table) (AppliesBy core_table) core_table.answer_of fate host old result after new
 
 pub some_cold :
@@ -34,20 +35,22 @@ pub some_ready :
 some_ready law addr control configured = let trail : Trail = trail_from control.requests in record { trail = trail; by = law trail addr control configured }
 
 pub some_begun :
-    ((trail : Trail) (host : HostEnd) (request : Request) (control : DevControlState CoreState) → FitsRequest request
+    ((trail : Trail) (host : HostDeviceState) (request : Request) (control : DevControlState CoreState)
+    → FitsRequest request
     → begin_refusal host request ≡ None → IsConsistentBy trail host control
     → IsConsistentBy (trail_from control.requests) (host_after_begin host request) control)
-    → (host : HostEnd) (request : Request) (control : DevControlState CoreState) → FitsRequest request
+    → (host : HostDeviceState) (request : Request) (control : DevControlState CoreState) → FitsRequest request
     → begin_refusal host request ≡ None → IsConsistent host control
     → IsConsistent (host_after_begin host request) control
 some_begun law host request control fits none knows = record { trail = trail_from control.requests; by = law knows.trail host request control fits none knows.by }
 
 pub some_steps :
-    ((trail : Trail) (fate : Fate) (host after : HostEnd) (old new : DevControlState CoreState)
+    ((trail : Trail) (fate : Fate) (host after : HostDeviceState) (old new : DevControlState CoreState)
     (result : Result Progress StackFault) → IsSound old.requests → IsConsistentBy trail host old
     → ControlStep fate host old result after new
     → IsConsistentBy (trail_after fate (running host.transfer) old trail) after new × IsNoRefusal result)
-    → (fate : Fate) (host after : HostEnd) (old new : DevControlState CoreState) (result : Result Progress StackFault)
+    → (fate : Fate) (host after : HostDeviceState) (old new : DevControlState CoreState)
+    (result : Result Progress StackFault)
     → IsSound old.requests → IsConsistent host old
     → ControlStep fate host old result after new → IsConsistent after new × IsNoRefusal result
 some_steps law fate host after old new result sound knows steps =
@@ -55,7 +58,8 @@ some_steps law fate host after old new result sound knows steps =
     (record { trail = trail_after fate (running host.transfer) old knows.trail; by = behind.0 }, behind.1)
 
 -- the answer to a poll
-some_at : (trail : Trail) (phase : HostPhase) (after : Known → HostEnd) (control : DevControlState CoreState)
+some_at : (trail : Trail) (phase : HostPhase) (after : ReadyHostState → HostDeviceState)
+    (control : DevControlState CoreState)
     → IfReady phase (λ known. IsConsistentBy trail (after known) control)
     → IfReady phase (λ known. IsConsistent (after known) control)
 some_at trail Cold after control h = tt
@@ -64,18 +68,19 @@ some_at trail (Parsed info layout) after control h = tt
 some_at trail (Ready known) after control h = record { trail = trail; by = h }
 
 pub some_replies :
-    ((trail : Trail) (host : HostEnd) (control : DevControlState CoreState) (took : Took)
+    ((trail : Trail) (host : HostDeviceState) (control : DevControlState CoreState) (took : Took)
     → IsConsistentBy trail host control
     → IfReady host.phase (λ known. IsConsistentBy trail (host_after_reply host known took) control))
-    → (host : HostEnd) (control : DevControlState CoreState) (took : Took) → IsConsistent host control
+    → (host : HostDeviceState) (control : DevControlState CoreState) (took : Took) → IsConsistent host control
     → IfReady host.phase (λ known. IsConsistent (host_after_reply host known took) control)
 some_replies law host control took knows =
     some_at knows.trail host.phase (λ known. host_after_reply host known took) control
     (law knows.trail host control took knows.by)
 
 pub some_meanwhile :
-    ((trail : Trail) (host : HostEnd) (old new : DevControlState CoreState) → LeavesTransfers host.clearing old new
+    ((trail : Trail) (host : HostDeviceState) (old new : DevControlState CoreState)
+    → LeavesTransfers host.clearing old new
     → IsConsistentBy trail host old → IsConsistentBy trail host new)
-    → (host : HostEnd) (old new : DevControlState CoreState) → LeavesTransfers host.clearing old new
+    → (host : HostDeviceState) (old new : DevControlState CoreState) → LeavesTransfers host.clearing old new
     → IsConsistent host old → IsConsistent host new
 some_meanwhile law host old new leaves knows = record { trail = knows.trail; by = law knows.trail host old new leaves knows.by }

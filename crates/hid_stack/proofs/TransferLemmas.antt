@@ -20,11 +20,11 @@ use Rattle.usb_control.specs.Device.{Answers, Applies, Decides, DevControlState,
 use Rattle.usb_control.specs.Host.{HostTransferState}
 use Rattle.hid_requests.specs.declared.request.Request.{Request}
 use Rattle.hid_requests.specs.declared.request.Request.TheVariants as requests
-use Rattle.hid_bus.specs.LinkState.{LinkState, Open}
+use Rattle.hid_bus.specs.LinkState.{LinkState, OpenRound}
 use Rattle.hid_requests.specs.declared.codes.TheConstants.{REPORT_ENDPOINT as ENDPOINT}
 use Rattle.hid_requests.specs.declared.class.Protocol.{Protocol}
 use Rattle.hid_bus.specs.DeviceHistory.{BusEvent, Idles, Configures, state_after}
-use Rattle.hid_bus.specs.DeviceHistory as lives
+use Rattle.hid_bus.specs.DeviceHistory as bus
 use Rattle.hid_bus.specs.ReportState.{with_abort, with_idle}
 use Rattle.hid_device.specs.declared.decisions.PendingWrite.{PendingWrite}
 use Rattle.hid_device.specs.declared.decisions.PendingWrite.TheVariants as pendings
@@ -39,21 +39,22 @@ use Rattle.hid_host.specs.declared.phase.HostPhase.{HostPhase}
 use Rattle.hid_host.specs.declared.phase.HostPhase.TheVariants.{Cold, Described, Parsed, Ready}
 use Rattle.hid_host.specs.declared.phase.HostState.TheVariants as states
 use Rattle.hid_stack.specs.ControlSteps.{TakesMemory, core_after_effect, core_after_try, effect_ends_halt, phase_after, phase_after_try, transfer_after_try, try_aborts_round, try_clears, try_configures, with_answer_of}
-use Rattle.hid_host.specs.Host.{HostEnd, clearing_after, is_clear}
+use Rattle.hid_host.specs.Host.{HostDeviceState, clearing_after, is_clear}
 use Rattle.hid_stack.specs.HostInvariant.{IsConsistentAt, StartsAtData0}
 use Rattle.hid_host.specs.Phase.{may_begin, state_of}
-use Rattle.hid_host.specs.Ready.{Known, known_at_start, known_cleared}
+use Rattle.hid_host.specs.Ready.{ReadyHostState, ready_host_after_clear, ready_host_at_start}
 use Rattle.hid_stack.specs.Members.{control_of_member, core_of_member, effect_bus_event, endpoint_of, host_state_after, host_state_after_try, member_transfer_after, partial_report_of, piece_open, state_after_event_if, try_bus_event_of, write_bus_event}
-use Rattle.hid_stack.specs.Slot.{ArePaired, HasReceivedUnless, IsUntouched, StandTogether, TogglesAgree, TogglesAgreeUnless, link_of, link_of_pair, pair_member, round_between}
+use Rattle.hid_stack.specs.Slot.{AreConsistentEnds, ArePaired, HasReceivedUnless, IsUntouched, TogglesAgree, TogglesAgreeUnless, link_of, link_of_pair, pair_member, round_between}
 use Rattle.hid_stack.specs.Sums.{AbortsNone}
 
 -- ---- the device of a member is its device, but for what it heard last
 
 -- the open round of a link state with this inside, by the toggles
-abbrev between : CoreState → Bool → Bool → Option Open
+abbrev between : CoreState → Bool → Bool → Option OpenRound
 between core t e = round_between (items_of core.layout) t e core.current core.piece
 
-round_report : (items : List Item) (t e : Bool) (current : Option ℕ) (piece : ℕ) → option_map (λ (round : Open). round.report) (round_between items t e current piece) ≡ current
+round_report : (items : List Item) (t e : Bool) (current : Option ℕ) (piece : ℕ)
+    → option_map (λ (round : OpenRound). round.report) (round_between items t e current piece) ≡ current
 round_report items t e None piece = refl
 round_report items t e (Some r) piece = refl
 
@@ -62,7 +63,11 @@ round_piece items t e None piece is = sym is
 round_piece items t e (Some r) piece is = refl
 
 core_by : (core : CoreState) (t e : Bool) → IsSound core
-    → record core { current = option_map (λ (round : Open). round.report) (between core t e); piece = piece_open (between core t e) } ≡ core
+    → record core {
+      current = option_map (λ (round : OpenRound). round.report) (between core t e);
+      piece =
+          piece_open (between core t e);
+    } ≡ core
 core_by core t e sound =
     ap (λ (o : Option ℕ). record core { current = o; piece = piece_open (between core t e) }) (round_report (items_of core.layout) t e core.current core.piece)
     ∙ ap (λ (n : ℕ). record core { piece = n }) (round_piece (items_of core.layout) t e core.current core.piece sound.piece)
@@ -76,7 +81,7 @@ core_with device addr transfer clearing (Described info) sound = core_by (core_o
 core_with device addr transfer clearing (Parsed info layout) sound = core_by (core_of device) (core_of device).toggle (core_of device).toggle sound
 core_with device addr transfer clearing (Ready known) sound = core_by (core_of device) (core_of device).toggle known.pipe.expects sound
 
-core_is : (device : DeviceState) (host : HostEnd) → IsSound (core_of device)
+core_is : (device : DeviceState) (host : HostDeviceState) → IsSound (core_of device)
     → core_of_member (pair_member device host) ≡ core_of device
 core_is device host sound = core_with device host.addr host.transfer host.clearing host.phase sound
 
@@ -107,14 +112,15 @@ bus_event_apart ReplyLost ends core stage last_packet = refl
 bus_event_apart AckLost ends core stage last_packet = refl
 
 -- so both sides of a try are those of the member
-pub record SameTry (fate : Fate) (device : DeviceState) (host : HostEnd) (t : Transfer) : Type 0 where
+pub record SameTry (fate : Fate) (device : DeviceState) (host : HostDeviceState) (t : Transfer) : Type 0 where
   pub endpoint : endpoint_of (control_tried core_table fate t.ends device.control)
       ≡ endpoint_of (control_tried core_table fate t.ends (control_of_member (pair_member device host)))
   pub ends : transfer_after_try fate t device.control ≡ member_transfer_after fate (pair_member device host) t
   pub bus_event : try_bus_event_of fate t.ends device.control
       ≡ try_bus_event_of fate t.ends (control_of_member (pair_member device host))
 
-pub same_try : (fate : Fate) (device : DeviceState) (host : HostEnd) (t : Transfer) → IsSound (core_of device) → SameTry fate device host t
+pub same_try : (fate : Fate) (device : DeviceState) (host : HostDeviceState) (t : Transfer) → IsSound (core_of device)
+    → SameTry fate device host t
 same_try fate device host t sound =
     let c = device.control in
     let back : heard_as (core_of device) c.stage last_packets.Nothing ≡ control_of_member (pair_member device host) =
@@ -143,12 +149,12 @@ pub record Leaves (core then : CoreState) (bus_event : Option BusEvent) : Type 0
   pub link : (phase : HostPhase) → (bus_event ≡ Some Configures → state_of phase ≡ states.Parsed)
       → link_of then phase ≡ state_after_event_if (items_of core.layout) (link_of core phase) bus_event
   pub configured : (bus_event ≡ Some Configures → ⊥) → then.is_configured ≡ core.is_configured
-  pub even : (known : Known) (clearing : Bool) → (bus_event ≡ Some Configures → ⊥)
-      → (bus_event ≡ Some lives.Clears → clearing ≡ true)
+  pub even : (known : ReadyHostState) (clearing : Bool) → (bus_event ≡ Some Configures → ⊥)
+      → (bus_event ≡ Some bus.Clears → clearing ≡ true)
       → TogglesAgreeUnless (core.halted || clearing) core.toggle known.pipe.expects core.current
       → TogglesAgreeUnless (then.halted || clearing) then.toggle known.pipe.expects then.current
-  pub got : (known : Known) (clearing : Bool) → (bus_event ≡ Some Configures → ⊥)
-      → (bus_event ≡ Some lives.Clears → clearing ≡ true)
+  pub got : (known : ReadyHostState) (clearing : Bool) → (bus_event ≡ Some Configures → ⊥)
+      → (bus_event ≡ Some bus.Clears → clearing ≡ true)
       → HasReceivedUnless (core.halted || clearing) core.layout core.reports.fixed
       (link_of_pair core known).current known.collected
       → HasReceivedUnless (then.halted || clearing) then.layout then.reports.fixed
@@ -189,7 +195,7 @@ view_at core phase = (link_of core phase).view
 
 pub halted_with : (core other : CoreState) (phase : HostPhase)
     → link_of (with_answer_of (halted_core core) other) phase
-    ≡ state_after (items_of core.layout) (link_of core phase) lives.Halts
+    ≡ state_after (items_of core.layout) (link_of core phase) bus.Halts
 halted_with core other Cold = ap (cut_to core.toggle true core (view_at core Cold)) (sym (round_report (items_of core.layout) core.toggle core.toggle core.current core.piece))
 halted_with core other (Described info) = ap (cut_to core.toggle true core (view_at core Cold)) (sym (round_report (items_of core.layout) core.toggle core.toggle core.current core.piece))
 halted_with core other (Parsed info layout) = ap (cut_to core.toggle true core (view_at core Cold)) (sym (round_report (items_of core.layout) core.toggle core.toggle core.current core.piece))
@@ -197,7 +203,7 @@ halted_with core other (Ready known) = ap (cut_to core.toggle true core known.vi
 
 cleared_with : (core other : CoreState) (phase : HostPhase)
     → link_of (with_answer_of (cleared_core core) other) phase
-    ≡ state_after (items_of core.layout) (link_of core phase) lives.Clears
+    ≡ state_after (items_of core.layout) (link_of core phase) bus.Clears
 cleared_with core other Cold = ap (cut_to false false core (view_at core Cold)) (sym (round_report (items_of core.layout) core.toggle core.toggle core.current core.piece))
 cleared_with core other (Described info) = ap (cut_to false false core (view_at core Cold)) (sym (round_report (items_of core.layout) core.toggle core.toggle core.current core.piece))
 cleared_with core other (Parsed info layout) = ap (cut_to false false core (view_at core Cold)) (sym (round_report (items_of core.layout) core.toggle core.toggle core.current core.piece))
@@ -217,7 +223,7 @@ nothing_leaves core other protocol outputs = record {
 }
 
 -- where a clear is pending nothing is said of toggles
-clearing_even : (core : CoreState) (known : Known) (clearing : Bool) → clearing ≡ true
+clearing_even : (core : CoreState) (known : ReadyHostState) (clearing : Bool) → clearing ≡ true
     → TogglesAgreeUnless (false || clearing) false known.pipe.expects None
 clearing_even core known clearing is =
     subst (λ (b : Bool). TogglesAgreeUnless (false || b) false known.pipe.expects None) (sym is) tt
@@ -323,7 +329,7 @@ brought_configures AckLost ends control h = effect_configures (effect_reached co
 
 -- the end of a halt is brought about where this is told
 written_clears : (bytes : List ℕ) (core : CoreState) (pending : PendingWrite)
-    → write_bus_event core pending ≡ Some lives.Clears → effect_ends_halt (Applies bytes) pending ≡ true
+    → write_bus_event core pending ≡ Some bus.Clears → effect_ends_halt (Applies bytes) pending ≡ true
 written_clears bytes core pendings.Nothing h = absurd (cc)
 written_clears bytes core pendings.Configure h = absurd (cc)
 written_clears bytes core (pendings.Keep i) h = absurd (cc)
@@ -332,14 +338,14 @@ written_clears bytes core (pendings.Protocol protocol) h = absurd (cc)
 written_clears bytes core pendings.Halt h = absurd (cc)
 written_clears bytes core pendings.Clear h = refl
 
-effect_clears : (effect : Effect) (core : CoreState) → effect_bus_event effect core ≡ Some lives.Clears
+effect_clears : (effect : Effect) (core : CoreState) → effect_bus_event effect core ≡ Some bus.Clears
     → effect_ends_halt effect core.pending ≡ true
 effect_clears (Answers answer stage last_packet) core h = absurd (cc)
 effect_clears (Decides bytes) core h = absurd (cc)
 effect_clears (Applies bytes) core h = written_clears bytes core core.pending h
 
 pub brought_clears : (fate : Fate) (ends : HostTransferState) (control : DevControlState CoreState)
-    → try_bus_event_of fate ends control ≡ Some lives.Clears → try_clears fate ends control ≡ true
+    → try_bus_event_of fate ends control ≡ Some bus.Clears → try_clears fate ends control ≡ true
 brought_clears TokenLost ends control h = absurd (cc)
 brought_clears Clean ends control h = effect_clears (effect_reached core_table ends control) control.requests h
 brought_clears ReplyLost ends control h = effect_clears (effect_reached core_table ends control) control.requests h
@@ -371,7 +377,7 @@ brought_cuts AckLost ends control none = effect_cuts (effect_reached core_table 
 
 -- where the host goes on, the link state stays: it becomes ready with its initial view, and no round is open
 configured_at : (core : CoreState) (addr : ℕ) (phase : HostPhase) → core.current ≡ None
-    → link_of core (Ready (known_at_start addr ENDPOINT core.layout)) ≡ link_of core Cold
+    → link_of core (Ready (ready_host_at_start addr ENDPOINT core.layout)) ≡ link_of core Cold
 configured_at core addr phase none =
     let expecting : Bool → Option ℕ → LinkState =
     λ expects current. record
@@ -470,22 +476,24 @@ state_brought_at (stages.Failed fault) request addr core phase = refl
 -- ---- the two stay together
 
 -- where the host isn't ready no round was opened
-pub unready_none : (device : DeviceState) (clearing : Bool) (phase : HostPhase) → StandTogether device clearing phase → state_of phase ≡ states.Parsed → NoRounds (core_of device)
+pub unready_none : (device : DeviceState) (clearing : Bool) (phase : HostPhase)
+    → AreConsistentEnds device clearing phase → state_of phase ≡ states.Parsed → NoRounds (core_of device)
 unready_none device clearing Cold together is = absurd (cc)
 unready_none device clearing (Described info) together is = absurd (cc)
 unready_none device clearing (Parsed info layout) together is = record { no_round = together.no_round; even = together.even }
 unready_none device clearing (Ready known) together is = absurd (cc)
 
-ready_apart : (bus_event : Option BusEvent) (known : Known)
+ready_apart : (bus_event : Option BusEvent) (known : ReadyHostState)
     → (bus_event ≡ Some Configures → state_of (Ready known) ≡ states.Parsed) → bus_event ≡ Some Configures → ⊥
 ready_apart bus_event known parsed is = let wrong = parsed is in absurd (cc)
 
 -- with the host where it was
 pub still_together : (device device_then : DeviceState) (clearing : Bool) (phase : HostPhase)
     (bus_event : Option BusEvent) → (bus_event ≡ Some Configures → state_of phase ≡ states.Parsed)
-    → (bus_event ≡ Some lives.Clears → clearing ≡ true)
+    → (bus_event ≡ Some bus.Clears → clearing ≡ true)
     → Leaves (core_of device) (core_of device_then) bus_event
-    → device_then.addr ≡ device.addr → IsSound (core_of device_then) → StandTogether device clearing phase → StandTogether device_then clearing phase
+    → device_then.addr ≡ device.addr → IsSound (core_of device_then) → AreConsistentEnds device clearing phase
+    → AreConsistentEnds device_then clearing phase
 still_together device device_then clearing phase bus_event parsed effect_ends_halt l home sound together =
     by_phase phase parsed together
   where
@@ -494,7 +502,7 @@ still_together device device_then clearing phase bus_event parsed effect_ends_ha
         let none = l.none (record { no_round = u.no_round; even = u.even }) in
         record { sound = sound; no_round = none.no_round; even = none.even }
 
-    paired : (known : Known) → (bus_event ≡ Some Configures → ⊥) → ArePaired device known clearing
+    paired : (known : ReadyHostState) → (bus_event ≡ Some Configures → ⊥) → ArePaired device known clearing
         → ArePaired device_then known clearing
     paired known apart pair = record {
       configured = l.configured apart ∙ pair.configured;
@@ -509,7 +517,7 @@ still_together device device_then clearing phase bus_event parsed effect_ends_ha
     }
 
     by_phase : (p : HostPhase) → (bus_event ≡ Some Configures → state_of p ≡ states.Parsed)
-        → StandTogether device clearing p → StandTogether device_then clearing p
+        → AreConsistentEnds device clearing p → AreConsistentEnds device_then clearing p
     by_phase Cold needs t = untouched t
     by_phase (Described info) needs t = untouched t
     by_phase (Parsed info layout) needs t = untouched t
@@ -526,7 +534,7 @@ even_anew true toggle current even none = tt
 even_anew false toggle current even none = subst (λ (o : Option ℕ). TogglesAgree toggle false o) (sym none) even
 
 -- nothing has come where no round is open
-got_anew : (b : Bool) (core : CoreState) (known : Known) → known.collected ≡ [] → core.current ≡ None
+got_anew : (b : Bool) (core : CoreState) (known : ReadyHostState) → known.collected ≡ [] → core.current ≡ None
     → HasReceivedUnless b core.layout core.reports.fixed (link_of_pair core known).current known.collected
 got_anew true core known nothing none = tt
 got_anew false core known nothing none =
@@ -535,9 +543,9 @@ got_anew false core known nothing none =
     (round_between (items_of core.layout) core.toggle known.pipe.expects o core.piece)) none)
 
 starts_together : (device : DeviceState) (clearing : Bool) (addr : ℕ) → IsSound (core_of device)
-    → IsConsistentAt (Ready (known_at_start addr ENDPOINT (core_of device).layout)) device.addr (core_of device)
+    → IsConsistentAt (Ready (ready_host_at_start addr ENDPOINT (core_of device).layout)) device.addr (core_of device)
     → NoRounds (core_of device)
-    → StandTogether device clearing (Ready (known_at_start addr ENDPOINT (core_of device).layout))
+    → AreConsistentEnds device clearing (Ready (ready_host_at_start addr ENDPOINT (core_of device).layout))
 starts_together device clearing addr sound knows none =
     let laid : IsLayout (core_of device).layout = laid_by (core_of device).descriptor (core_of device).layout sound.lays in
     record {
@@ -546,21 +554,23 @@ starts_together device clearing addr sound knows none =
       addr = knows.2;
       endp = refl;
       even = even_anew ((core_of device).halted || clearing) (core_of device).toggle (core_of device).current none.even none.no_round;
-      got = got_anew ((core_of device).halted || clearing) (core_of device) (known_at_start addr ENDPOINT (core_of device).layout) refl none.no_round;
+      got = got_anew ((core_of device).halted || clearing) (core_of device)
+          (ready_host_at_start addr ENDPOINT (core_of device).layout) refl none.no_round;
       sound = sound;
       laid = laid;
       fits = initial_fits (core_of device).layout laid;
     }
 
-clears_together : (device : DeviceState) (clearing : Bool) (known : Known) → StartsAtData0 (core_of device)
-    → ArePaired device known clearing → ArePaired device (known_cleared known) false
+clears_together : (device : DeviceState) (clearing : Bool) (known : ReadyHostState) → StartsAtData0 (core_of device)
+    → ArePaired device known clearing → ArePaired device (ready_host_after_clear known) false
 clears_together device clearing known restarts pair = record {
   configured = pair.configured;
   layout = pair.layout;
   addr = pair.addr;
   endp = pair.endp;
   even = even_anew ((core_of device).halted || false) (core_of device).toggle (core_of device).current restarts.toggle restarts.current;
-  got = got_anew ((core_of device).halted || false) (core_of device) (known_cleared known) refl restarts.current;
+  got = got_anew ((core_of device).halted || false) (core_of device)
+      (ready_host_after_clear known) refl restarts.current;
   sound = pair.sound;
   laid = pair.laid;
   fits = pair.fits;
@@ -570,8 +580,8 @@ goes_together : (request : Request) (addr : ℕ) (device : DeviceState) (clearin
     → (state_of phase ≡ states.Parsed → NoRounds (core_of device))
     → (is_clear request ≡ true → StartsAtData0 (core_of device))
     → IsConsistentAt (phase_after request addr (core_of device) phase) device.addr (core_of device)
-    → StandTogether device clearing phase
-    → StandTogether device (clearing_after stages.Done request clearing)
+    → AreConsistentEnds device clearing phase
+    → AreConsistentEnds device (clearing_after stages.Done request clearing)
     (phase_after request addr (core_of device) phase)
 goes_together requests.Device addr device clearing phase needs sound none restarts knows t = t
 goes_together requests.Status addr device clearing phase needs sound none restarts knows t = t
@@ -605,8 +615,8 @@ pub goes_together_at : (stage : HostStage) (request : Request) (addr : ℕ) (dev
     → (state_of phase ≡ states.Parsed → NoRounds (core_of device))
     → (is_clear request ≡ true → stage ≡ stages.Done → StartsAtData0 (core_of device))
     → IsConsistentAt (phase_after_try stage request addr (core_of device) phase) device.addr (core_of device)
-    → StandTogether device clearing phase
-    → StandTogether device (clearing_after stage request clearing)
+    → AreConsistentEnds device clearing phase
+    → AreConsistentEnds device (clearing_after stage request clearing)
     (phase_after_try stage request addr (core_of device) phase)
 goes_together_at stages.Done request addr device clearing phase needs sound none restarts knows t = goes_together request addr device clearing phase needs sound none (λ is. restarts is refl) knows t
 goes_together_at stages.Setup request addr device clearing phase needs sound none restarts knows t = t

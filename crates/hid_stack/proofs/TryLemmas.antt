@@ -17,7 +17,7 @@ use Rattle.hid_requests.specs.declared.request.Request.{Request}
 use Rattle.hid_requests.specs.declared.request.Request.TheVariants as requests
 use Rattle.hid_bus.specs.LinkState.{LinkState, expected_toggle}
 use Rattle.hid_bus.specs.DeviceHistory.{BusEvent, Own, Idles, Configures}
-use Rattle.hid_bus.specs.DeviceHistory as lives
+use Rattle.hid_bus.specs.DeviceHistory as bus
 use Rattle.hid_device.specs.declared.decisions.PendingWrite.{PendingWrite}
 use Rattle.hid_device.specs.declared.decisions.PendingWrite.TheVariants as pendings
 use Rattle.hid_device.specs.Core.{CoreState, IsSound}
@@ -31,13 +31,13 @@ use Rattle.hid_host.specs.declared.phase.HostPhase.TheVariants.{Cold, Described,
 use Rattle.hid_host.specs.declared.phase.HostState.{HostState}
 use Rattle.hid_host.specs.declared.phase.HostState.TheVariants as states
 use Rattle.hid_stack.specs.ControlSteps.{StepsAsFunction, TakesMemory, core_after_effect, core_after_try, host_after_try, phase_after, phase_after_try, transfer_after_try, try_aborts_round, try_configures, with_answer_of}
-use Rattle.hid_host.specs.Host.{ControlSteps, HostEnd, TriesOnce, clearing_after, is_clear, request_aborts_round, running, running_at}
+use Rattle.hid_host.specs.Host.{ControlSteps, HostDeviceState, TriesOnce, clearing_after, is_clear, request_aborts_round, running, running_at}
 use Rattle.hid_stack.specs.HostInvariant.{IsConsistent, IsConsistentAt, IsNoRefusal, IsPending}
 use Rattle.hid_host.specs.Phase.{may_begin, state_of}
-use Rattle.hid_host.specs.Ready.{Known}
+use Rattle.hid_host.specs.Ready.{ReadyHostState}
 use Rattle.hid_device.specs.declared.config.Config.{Config}
-use Rattle.hid_stack.specs.Members.{Endpoint, Member, control_of_member, effect_bus_event, endpoint_of, expected_toggle_of, expects_after, host_state_after_try, member_after_try_in, member_held_toggle, member_transfer_after, state_after_event_if, toggle_if_held, try_bus_event, try_bus_event_of, write_bus_event}
-use Rattle.hid_stack.specs.Slot.{ArePaired, StandTogether, TogglesAgree, TogglesAgreeUnless, TriesOnPair, held_toggle, link_of, link_of_pair, pair_member, round_between}
+use Rattle.hid_stack.specs.Members.{Endpoint, Member, control_of_member, effect_bus_event, endpoint_of, expected_toggle_after_try, expected_toggle_of, host_state_after_try, member_after_try_in, member_held_toggle, member_transfer_after, state_after_event_if, toggle_if_held, try_bus_event, try_bus_event_of, write_bus_event}
+use Rattle.hid_stack.specs.Slot.{AreConsistentEnds, ArePaired, TogglesAgree, TogglesAgreeUnless, TriesOnPair, held_toggle, link_of, link_of_pair, pair_member, round_between}
 use Rattle.hid_stack.specs.Sums.{AbortsByRequest, AbortsNone, IsBetween}
 use Rattle.hid_stack.proofs.TransferLemmas.{Leaves, NoRounds, brought_at_link, brought_clears, brought_configures, brought_cuts, goes_together_at, leaves_by, same_try, state_brought_at, still_together, takes_no_clear, unready_none}
 
@@ -51,7 +51,7 @@ one_toggle items true false (Some r) piece even = refl
 one_toggle items false true (Some r) piece even = refl
 one_toggle items false false (Some r) piece even = refl
 
-expects_if : (b : Bool) (core : CoreState) (known : Known)
+expects_if : (b : Bool) (core : CoreState) (known : ReadyHostState)
     → TogglesAgreeUnless b core.toggle known.pipe.expects core.current
     → (elim (toggle_if_held b known.pipe.expects) as
     (λ _. Bool) [ Some expects ↦ expects | None ↦ expected_toggle (link_of_pair core known) ]) ≡ known.pipe.expects
@@ -59,7 +59,8 @@ expects_if true core known even = refl
 expects_if false core known even = one_toggle (items_of core.layout) core.toggle known.pipe.expects core.current core.piece even
 
 -- of a member that is a device and its ready host
-pub expects_so : (device : DeviceState) (addr : ℕ) (transfer : Option Transfer) (clearing : Bool) (known : Known) → ArePaired device known clearing
+pub expects_so : (device : DeviceState) (addr : ℕ) (transfer : Option Transfer) (clearing : Bool)
+    (known : ReadyHostState) → ArePaired device known clearing
     → expected_toggle_of
     (pair_member device (record { addr = addr; phase = Ready known; transfer = transfer; clearing = clearing }))
     ≡ known.pipe.expects
@@ -73,10 +74,11 @@ halts_so core (Parsed info layout) = refl
 halts_so core (Ready known) = refl
 
 -- with the host where it was
-abbrev pub host_by : ℕ → Option Transfer → Bool → HostPhase → HostEnd
+abbrev pub host_by : ℕ → Option Transfer → Bool → HostPhase → HostDeviceState
 host_by addr transfer clearing phase = record { addr = addr; phase = phase; transfer = transfer; clearing = clearing }
 
-pub holds_still : (device : DeviceState) (core : CoreState) (addr : ℕ) (transfer : Option Transfer) (before now : Bool) (phase : HostPhase) → StandTogether device before phase
+pub holds_still : (device : DeviceState) (core : CoreState) (addr : ℕ) (transfer : Option Transfer)
+    (before now : Bool) (phase : HostPhase) → AreConsistentEnds device before phase
     → held_toggle core now phase
     ≡ member_held_toggle (state_of phase) (core.halted || now)
     (expected_toggle_of (pair_member device (host_by addr transfer before phase)))
@@ -87,10 +89,13 @@ holds_still device core addr transfer before now (Ready known) together =
     ap (toggle_if_held (core.halted || now)) (sym (expects_so device addr transfer before known together))
 
 -- the host where it went on after a request
-holds_on : (request : Request) (device : DeviceState) (core : CoreState) (home addr : ℕ) (transfer : Option Transfer) (before now : Bool) (phase : HostPhase) → may_begin request (state_of phase) ≡ true → StandTogether device before phase
+holds_on : (request : Request) (device : DeviceState) (core : CoreState) (home addr : ℕ) (transfer : Option Transfer)
+    (before now : Bool) (phase : HostPhase) → may_begin request (state_of phase) ≡ true
+    → AreConsistentEnds device before phase
     → held_toggle core now (phase_after request home core phase)
     ≡ member_held_toggle (state_of (phase_after request home core phase)) (core.halted || now)
-    (expects_after stages.Done request (expected_toggle_of (pair_member device (host_by addr transfer before phase))))
+    (expected_toggle_after_try stages.Done request
+    (expected_toggle_of (pair_member device (host_by addr transfer before phase))))
 holds_on requests.Device device core home addr transfer before now phase needs together = holds_still device core addr transfer before now phase together
 holds_on requests.Status device core home addr transfer before now phase needs together = holds_still device core addr transfer before now phase together
 holds_on requests.GetConfiguration device core home addr transfer before now phase needs together = holds_still device core addr transfer before now phase together
@@ -110,10 +115,13 @@ holds_on requests.Clear device core home addr transfer before now (Described inf
 holds_on requests.Clear device core home addr transfer before now (Parsed info layout) needs together = refl
 holds_on requests.Clear device core home addr transfer before now (Ready known) needs together = refl
 
-holds_at : (stage : HostStage) (request : Request) (device : DeviceState) (core : CoreState) (home addr : ℕ) (transfer : Option Transfer) (before now : Bool) (phase : HostPhase) → may_begin request (state_of phase) ≡ true → StandTogether device before phase
+holds_at : (stage : HostStage) (request : Request) (device : DeviceState) (core : CoreState) (home addr : ℕ)
+    (transfer : Option Transfer) (before now : Bool) (phase : HostPhase) → may_begin request (state_of phase) ≡ true
+    → AreConsistentEnds device before phase
     → held_toggle core now (phase_after_try stage request home core phase)
     ≡ member_held_toggle (state_of (phase_after_try stage request home core phase)) (core.halted || now)
-    (expects_after stage request (expected_toggle_of (pair_member device (host_by addr transfer before phase))))
+    (expected_toggle_after_try stage request
+    (expected_toggle_of (pair_member device (host_by addr transfer before phase))))
 holds_at stages.Done request device core home addr transfer before now phase needs together = holds_on request device core home addr transfer before now phase needs together
 holds_at stages.Setup request device core home addr transfer before now phase needs together = holds_still device core addr transfer before now phase together
 holds_at (stages.DataIn one) request device core home addr transfer before now phase needs together = holds_still device core addr transfer before now phase together
@@ -149,7 +157,8 @@ holds_none request device core addr transfer before now expects (Ready known) ne
 
 -- ---- a try
 
-pub sound_of : (device : DeviceState) (clearing : Bool) (phase : HostPhase) → StandTogether device clearing phase → IsSound (core_of device)
+pub sound_of : (device : DeviceState) (clearing : Bool) (phase : HostPhase) → AreConsistentEnds device clearing phase
+    → IsSound (core_of device)
 sound_of device clearing Cold together = together.sound
 sound_of device clearing (Described info) together = together.sound
 sound_of device clearing (Parsed info layout) together = together.sound
@@ -202,7 +211,9 @@ parts_same m t addr config descriptor layout s s' e e' h h' ends ends' c c' held
     ∙ ap (λ (x : Option Bool). of_parts t m.addr m.config m.descriptor m.layout s' e' h' ends' c' x) p.holds
 
 -- the member after a try, where the host's phase leaves the link state
-joint_tried : (fate : Fate) (device device_then : DeviceState) (host : HostEnd) (t : Transfer) (phase : HostPhase) (next : HostState) → IsSound (core_of device) → device_then.control ≡ control_tried core_table fate t.ends device.control
+joint_tried : (fate : Fate) (device device_then : DeviceState) (host : HostDeviceState) (t : Transfer)
+    (phase : HostPhase) (next : HostState) → IsSound (core_of device)
+    → device_then.control ≡ control_tried core_table fate t.ends device.control
     → Leaves (core_of device) (core_of device_then) (try_bus_event_of fate t.ends device.control)
     → (try_bus_event_of fate t.ends device.control ≡ Some Configures → state_of host.phase ≡ states.Parsed)
     → device_then.addr ≡ device.addr
@@ -211,7 +222,7 @@ joint_tried : (fate : Fate) (device device_then : DeviceState) (host : HostEnd) 
     clearing_after stage t.request host.clearing in
     held_toggle (core_of device_then) now phase
     ≡ member_held_toggle (state_of phase) ((core_of device_then).halted || now)
-    (expects_after stage t.request (expected_toggle_of (pair_member device host))))
+    (expected_toggle_after_try stage t.request (expected_toggle_of (pair_member device host))))
     → pair_member device_then (host_after_try fate host t device.control phase)
     ≡ member_after_try_in fate (pair_member device host) t next
 joint_tried fate device device_then host t phase next sound control_is l parsed home stays state holds =
@@ -224,7 +235,8 @@ joint_tried fate device device_then host t phase next sound control_is l parsed 
     ∙ ap (λ (x : Option BusEvent). state_after_event_if (items_of m.layout) m.link x) same.bus_event in
     let halts : core.halted ≡ s'.halted = sym (halts_so core phase) ∙ ap (λ (s : LinkState). s.halted) link in
     let now : HostTransferState → Bool = λ ends. clearing_after ends.stage t.request host.clearing in
-    let expects : HostTransferState → Bool = λ ends. expects_after ends.stage t.request (expected_toggle_of m) in
+    let expects : HostTransferState → Bool =
+    λ ends. expected_toggle_after_try ends.stage t.request (expected_toggle_of m) in
     parts_same m t device_then.addr core.config core.descriptor core.layout
     (link_of core phase) s'
     (endpoint_of device_then.control) (endpoint_of (control_tried core_table fate t.ends (control_of_member m)))
@@ -270,15 +282,16 @@ clear_is requests.Halt is = absurd (cc)
 clear_is requests.EndpointStatus is = absurd (cc)
 
 -- what holds after a try
-record Tried (fate : Fate) (device device_then : DeviceState) (host host_then : HostEnd) (t : Transfer) (result : Result Progress StackFault) : Type 0 where
+record Tried (fate : Fate) (device device_then : DeviceState) (host host_then : HostDeviceState) (t : Transfer)
+    (result : Result Progress StackFault) : Type 0 where
   tries : TriesOnPair fate (pair_member device host) (Some t) result (pair_member device_then host_then)
-  together : StandTogether device_then host_then.clearing host_then.phase
+  together : AreConsistentEnds device_then host_then.clearing host_then.phase
 
 -- what a try needs of its host: a clear that takes effect is pending
-abbrev Pends : Fate → DeviceState → HostEnd → Transfer → Type 0
-Pends fate device host t = try_bus_event_of fate t.ends device.control ≡ Some lives.Clears → host.clearing ≡ true
+abbrev Pends : Fate → DeviceState → HostDeviceState → Transfer → Type 0
+Pends fate device host t = try_bus_event_of fate t.ends device.control ≡ Some bus.Clears → host.clearing ≡ true
 
-goes_on : (fate : Fate) (device device_then : DeviceState) (host host_then : HostEnd) (t : Transfer)
+goes_on : (fate : Fate) (device device_then : DeviceState) (host host_then : HostDeviceState) (t : Transfer)
     (progress : Progress) → StepsAsFunction fate host t device.control (Ok progress) host_then device_then.control
     → progress ≡ progress_of (transfer_after_try fate t device.control).stage
     → host_then
@@ -286,7 +299,7 @@ goes_on : (fate : Fate) (device device_then : DeviceState) (host host_then : Hos
     (phase_after_try (transfer_after_try fate t device.control).stage t.request host.addr
     (core_of device_then) host.phase)
     → Pends fate device host t → IsConsistent host_then device_then.control
-    → StandTogether device host.clearing host.phase → host.addr ≡ device.addr → device_then.addr ≡ device.addr
+    → AreConsistentEnds device host.clearing host.phase → host.addr ≡ device.addr → device_then.addr ≡ device.addr
     → IsSound (core_of device_then)
     → Tried fate device device_then host host_then t (Ok progress)
 goes_on fate device device_then host host_then t progress c told moved pends knows together home stays sound =
@@ -304,7 +317,7 @@ goes_on fate device device_then host host_then t progress c told moved pends kno
     let none : state_of host.phase ≡ states.Parsed → NoRounds core = λ is. l.none (unready_none device host.clearing host.phase together is) in
     let known : IsConsistentAt phase device_then.addr core =
     subst (λ (a : ℕ). IsConsistentAt phase a core) (home ∙ sym stays)
-    (subst (λ (h : HostEnd). IsConsistentAt h.phase h.addr core) moved knows.by.phase) in
+    (subst (λ (h : HostDeviceState). IsConsistentAt h.phase h.addr core) moved knows.by.phase) in
     let here =
     still_together device device_then host.clearing host.phase
     (try_bus_event_of fate t.ends device.control) parsed pends l stays sound together in
@@ -321,14 +334,18 @@ goes_on fate device device_then host host_then t progress c told moved pends kno
             ∙ ap (λ (x : HostStage). member_after_try_in fate (pair_member device host) t
             (host_state_after_try x t.request (state_of host.phase))) stage_is,
       );
-      together = subst (λ (h : HostEnd). StandTogether device_then h.clearing h.phase) (sym moved) (goes_together_at stage t.request host.addr device_then host.clearing host.phase c.needs sound none (λ is. c.cleared (clear_is t.request is)) known here);
+      together =
+          subst (λ (h : HostDeviceState). AreConsistentEnds device_then h.clearing h.phase) (sym moved)
+          (goes_together_at stage t.request host.addr device_then host.clearing host.phase c.needs sound none
+          (λ is. c.cleared (clear_is t.request is)) known here);
     }
 
-finds_none : (fate : Fate) (device device_then : DeviceState) (host host_then : HostEnd) (t : Transfer)
+finds_none : (fate : Fate) (device device_then : DeviceState) (host host_then : HostDeviceState) (t : Transfer)
     (fault : StackFault) → StepsAsFunction fate host t device.control (Err fault) host_then device_then.control
     → fault ≡ Memory → (transfer_after_try fate t device.control).stage ≡ stages.Done → TakesMemory t.request
     → host_then ≡ host_after_try fate host t device.control host.phase
-    → Pends fate device host t → StandTogether device host.clearing host.phase → device_then.addr ≡ device.addr → IsSound (core_of device_then) → Tried fate device device_then host host_then t (Err fault)
+    → Pends fate device host t → AreConsistentEnds device host.clearing host.phase → device_then.addr ≡ device.addr
+    → IsSound (core_of device_then) → Tried fate device device_then host host_then t (Err fault)
 finds_none fate device device_then host host_then t fault c memory done takes moved pends together stays sound =
     let before = sound_of device host.clearing host.phase together in
     let same = same_try fate device host t before in
@@ -348,20 +365,20 @@ finds_none fate device device_then host host_then t fault c memory done takes mo
         ap (pair_member device_then) moved
             ∙ joint_tried fate device device_then host t host.phase (state_of host.phase) before c.device_then l parsed stays refl refl
             (holds_none t.request device core host.addr host.transfer host.clearing now
-            (expects_after stage t.request
+            (expected_toggle_after_try stage t.request
             (expected_toggle_of (pair_member device host))) host.phase c.needs takes),
       );
-      together = subst (λ (h : HostEnd). StandTogether device_then h.clearing h.phase) (sym moved)
-          (subst (λ (b : Bool). StandTogether device_then b host.phase) (sym no_clear)
+      together = subst (λ (h : HostDeviceState). AreConsistentEnds device_then h.clearing h.phase) (sym moved)
+          (subst (λ (b : Bool). AreConsistentEnds device_then b host.phase) (sym no_clear)
           (still_together device device_then host.clearing host.phase
           (try_bus_event_of fate t.ends device.control) parsed pends l stays sound together));
     }
 
-tried_by : (fate : Fate) (device device_then : DeviceState) (host host_then : HostEnd) (t : Transfer)
+tried_by : (fate : Fate) (device device_then : DeviceState) (host host_then : HostDeviceState) (t : Transfer)
     (result : Result Progress StackFault)
     → StepsAsFunction fate host t device.control result host_then device_then.control
     → Pends fate device host t → IsConsistent host_then device_then.control
-    → StandTogether device host.clearing host.phase → host.addr ≡ device.addr → device_then.addr ≡ device.addr
+    → AreConsistentEnds device host.clearing host.phase → host.addr ≡ device.addr → device_then.addr ≡ device.addr
     → IsSound (core_of device_then)
     → Tried fate device device_then host host_then t result
 tried_by fate device device_then host host_then t (Ok progress) c pends knows together home stays sound = elim c.host_then [
@@ -374,7 +391,8 @@ tried_by fate device device_then host host_then t (Err fault) c pends knows toge
 ]
 
 -- a configuration takes effect where no round is open
-unready_current : (device : DeviceState) (clearing : Bool) (phase : HostPhase) → StandTogether device clearing phase
+unready_current : (device : DeviceState) (clearing : Bool) (phase : HostPhase)
+    → AreConsistentEnds device clearing phase
     → state_of phase ≡ states.Parsed → (link_of (core_of device) phase).current ≡ None
 unready_current device clearing Cold together is = absurd (cc)
 unready_current device clearing (Described info) together is = absurd (cc)
@@ -387,14 +405,14 @@ bus_event_between : (s : LinkState) (bus_event : Option BusEvent) → (bus_event
 bus_event_between s None none = tt
 bus_event_between s (Some (Own x)) none = tt
 bus_event_between s (Some (Idles idle)) none = tt
-bus_event_between s (Some lives.Halts) none = tt
-bus_event_between s (Some lives.Clears) none = tt
-bus_event_between s (Some lives.Resets) none = tt
+bus_event_between s (Some bus.Halts) none = tt
+bus_event_between s (Some bus.Clears) none = tt
+bus_event_between s (Some bus.Resets) none = tt
 bus_event_between s (Some Configures) none = none refl
 
-between_rounds : (fate : Fate) (device : DeviceState) (host : HostEnd) (t : Transfer)
+between_rounds : (fate : Fate) (device : DeviceState) (host : HostDeviceState) (t : Transfer)
     → (try_configures fate t.ends device.control ≡ true → state_of host.phase ≡ states.Parsed)
-    → StandTogether device host.clearing host.phase
+    → AreConsistentEnds device host.clearing host.phase
     → IsBetween (pair_member device host).link
     (try_bus_event_of fate t.ends (control_of_member (pair_member device host)))
 between_rounds fate device host t parsed together =
@@ -412,9 +430,9 @@ IsOpenBehind before None now = now ≡ before
 IsOpenBehind before (Some (Own x)) now = Unit {0}
 IsOpenBehind before (Some (Idles idle)) now = now ≡ before
 IsOpenBehind before (Some Configures) now = now ≡ None
-IsOpenBehind before (Some lives.Halts) now = now ≡ None
-IsOpenBehind before (Some lives.Clears) now = now ≡ None
-IsOpenBehind before (Some lives.Resets) now = Unit {0}
+IsOpenBehind before (Some bus.Halts) now = now ≡ None
+IsOpenBehind before (Some bus.Clears) now = now ≡ None
+IsOpenBehind before (Some bus.Resets) now = Unit {0}
 
 written_opens : (core other : CoreState) (bytes : List ℕ) (pending : PendingWrite)
     → IsOpenBehind core.current (write_bus_event core pending)
@@ -456,11 +474,12 @@ abbrev controlled : DeviceState → DevControlState CoreState → DeviceState
 controlled device control = record { addr = device.addr; control = control; awaits_ack = false }
 
 -- what holds after a control step
-pub record Steps (fate : Fate) (device : DeviceState) (control : DevControlState CoreState) (host host_then : HostEnd) (o : Option Transfer) (result : Result Progress StackFault) : Type 0 where
+pub record Steps (fate : Fate) (device : DeviceState) (control : DevControlState CoreState)
+    (host host_then : HostDeviceState) (o : Option Transfer) (result : Result Progress StackFault) : Type 0 where
   pub tries : TriesOnPair fate (pair_member device host) o result (pair_member (controlled device control) host_then)
   pub between : IsBetween (pair_member device host).link (try_bus_event fate (pair_member device host) o)
   pub aborts : AbortsByRequest fate (pair_member device host) o
-  pub together : StandTogether (controlled device control) host_then.clearing host_then.phase
+  pub together : AreConsistentEnds (controlled device control) host_then.clearing host_then.phase
   pub home : host_then.addr ≡ host.addr
   pub layout : control.requests.layout ≡ (core_of device).layout
   -- the open round after it, by what befell the device
@@ -468,23 +487,26 @@ pub record Steps (fate : Fate) (device : DeviceState) (control : DevControlState
       (try_bus_event fate (pair_member device host) o) control.requests.current
 
 -- laws of hosts that know their devices
-abbrev ControlStep : Fate → HostEnd → DevControlState CoreState → Result Progress StackFault → HostEnd → DevControlState CoreState → Type 0
+abbrev ControlStep : Fate → HostDeviceState → DevControlState CoreState → Result Progress StackFault → HostDeviceState
+    → DevControlState CoreState → Type 0
 ControlStep fate host old result after new = ControlSteps (PreparesBy core_table) (AppliesBy core_table) core_table.answer_of fate host old result after new
 
 abbrev StepsKnow : Type 0
 StepsKnow =
-    (fate : Fate) (host after : HostEnd) (old new : DevControlState CoreState) (result : Result Progress StackFault)
+    (fate : Fate) (host after : HostDeviceState) (old new : DevControlState CoreState)
+    (result : Result Progress StackFault)
     → IsSound old.requests → IsConsistent host old
     → ControlStep fate host old result after new → IsConsistent after new × IsNoRefusal result
 
 abbrev StepsCompute : Type 0
 StepsCompute =
-    (fate : Fate) (host after : HostEnd) (transfer : Transfer) (old new : DevControlState CoreState)
+    (fate : Fate) (host after : HostDeviceState) (transfer : Transfer) (old new : DevControlState CoreState)
     (result : Result Progress StackFault) → IsSound old.requests → IsConsistent host old
     → running host.transfer ≡ Some transfer → ControlStep fate host old result after new
     → StepsAsFunction fate host transfer old result after new
 
-waits_not : (device : DeviceState) (clearing : Bool) (phase : HostPhase) → StandTogether device clearing phase → StandTogether (controlled device device.control) clearing phase
+waits_not : (device : DeviceState) (clearing : Bool) (phase : HostPhase) → AreConsistentEnds device clearing phase
+    → AreConsistentEnds (controlled device device.control) clearing phase
 waits_not device clearing Cold together = record { sound = together.sound; no_round = together.no_round; even = together.even }
 waits_not device clearing (Described info) together = record { sound = together.sound; no_round = together.no_round; even = together.even }
 waits_not device clearing (Parsed info layout) together = record { sound = together.sound; no_round = together.no_round; even = together.even }
@@ -500,16 +522,18 @@ waits_not device clearing (Ready known) pair = record {
   fits = pair.fits;
 }
 
-host_stays_at : (fate : Fate) (device : DeviceState) (control : DevControlState CoreState) (host host_then : HostEnd)
+host_stays_at : (fate : Fate) (device : DeviceState) (control : DevControlState CoreState)
+    (host host_then : HostDeviceState)
     (t : Transfer) (result : Result Progress StackFault)
     → StepsAsFunction fate host t device.control result host_then control → host_then.addr ≡ host.addr
 host_stays_at fate device control host host_then t result c = elim c.host_then [
-  | inl (told, moved) ↦ ap (λ (h : HostEnd). h.addr) moved
-  | inr (told, done, takes, moved) ↦ ap (λ (h : HostEnd). h.addr) moved
+  | inl (told, moved) ↦ ap (λ (h : HostDeviceState). h.addr) moved
+  | inr (told, done, takes, moved) ↦ ap (λ (h : HostDeviceState). h.addr) moved
 ]
 
 -- a clear that runs is pending
-pends_at : (host : HostEnd) (t : Transfer) (o : Option Transfer) → o ≡ host.transfer → running o ≡ Some t → IfSome o (IsPending host.clearing) → t.request ≡ requests.Clear → host.clearing ≡ true
+pends_at : (host : HostDeviceState) (t : Transfer) (o : Option Transfer) → o ≡ host.transfer → running o ≡ Some t
+    → IfSome o (IsPending host.clearing) → t.request ≡ requests.Clear → host.clearing ≡ true
 pends_at host t None same runs pending is = absurd (cc)
 pends_at host t (Some u) same runs pending is = by_stage u.ends.stage refl runs
   where
@@ -526,9 +550,11 @@ pends_at host t (Some u) same runs pending is = by_stage u.ends.stage refl runs
 cuts_so : (cuts_it asks : Bool) → (cuts_it ≡ true → asks ≡ true) → asks ≡ false → cuts_it ≡ true → ⊥
 cuts_so cuts_it asks only none is = let wrong : true ≡ false = sym (only is) ∙ none in absurd (cc)
 
-steps_by : (fate : Fate) (device : DeviceState) (control : DevControlState CoreState) (host host_then : HostEnd) (o : Option Transfer) (result : Result Progress StackFault) → StepsKnow → StepsCompute → running host.transfer ≡ o
+steps_by : (fate : Fate) (device : DeviceState) (control : DevControlState CoreState)
+    (host host_then : HostDeviceState) (o : Option Transfer) (result : Result Progress StackFault) → StepsKnow
+    → StepsCompute → running host.transfer ≡ o
     → ControlStep fate host device.control result host_then control
-    → StandTogether device host.clearing host.phase → IsConsistent host device.control → host.addr ≡ device.addr
+    → AreConsistentEnds device host.clearing host.phase → IsConsistent host device.control → host.addr ≡ device.addr
     → IsSound control.requests → Steps fate device control host host_then o result
 steps_by fate device control host host_then None result know compute is steps together knows home sound =
     let stays : (result ≡ Err (Control NoTransfer)) × (host_then ≡ host) × (control ≡ device.control)
@@ -544,9 +570,12 @@ steps_by fate device control host host_then None result know compute is steps to
       );
       between = tt;
       aborts = tt;
-      together = subst (λ (h : HostEnd). StandTogether (controlled device control) h.clearing h.phase) (sym stays.1)
-          (subst (λ (x : DevControlState CoreState). StandTogether (controlled device x) host.clearing host.phase) (sym stays.2) (waits_not device host.clearing host.phase together));
-      home = ap (λ (h : HostEnd). h.addr) stays.1;
+      together =
+          subst (λ (h : HostDeviceState). AreConsistentEnds (controlled device control) h.clearing h.phase)
+          (sym stays.1)
+          (subst (λ (x : DevControlState CoreState). AreConsistentEnds (controlled device x) host.clearing host.phase)
+          (sym stays.2) (waits_not device host.clearing host.phase together));
+      home = ap (λ (h : HostDeviceState). h.addr) stays.1;
       layout = ap (λ (x : DevControlState CoreState). x.requests.layout) stays.2;
       open_then = ap (λ (x : DevControlState CoreState). x.requests.current) stays.2;
     }
@@ -572,18 +601,20 @@ steps_by fate device control host host_then (Some t) result know compute is step
           (opens_behind fate t.ends device.control control.requests c.brings);
     }
 
-pub steps_so : (fate : Fate) (device : DeviceState) (old control : DevControlState CoreState) (host host_then : HostEnd) (result : Result Progress StackFault) → StepsKnow → StepsCompute
+pub steps_so : (fate : Fate) (device : DeviceState) (old control : DevControlState CoreState)
+    (host host_then : HostDeviceState) (result : Result Progress StackFault) → StepsKnow → StepsCompute
     → old ≡ device.control → ControlStep fate host old result host_then control
-    → StandTogether device host.clearing host.phase → IsConsistent host device.control → host.addr ≡ device.addr
+    → AreConsistentEnds device host.clearing host.phase → IsConsistent host device.control → host.addr ≡ device.addr
     → IsSound control.requests → Steps fate device control host host_then (running host.transfer) result
 steps_so fate device old control host host_then result know compute same steps together knows home sound =
     steps_by fate device control host host_then (running host.transfer) result know compute refl
     (subst (λ (x : DevControlState CoreState). ControlStep fate host x result host_then control) same steps) together knows home sound
 
 -- after a try the host knows its device
-pub knows_so : (fate : Fate) (device : DeviceState) (old control : DevControlState CoreState) (host host_then : HostEnd) (result : Result Progress StackFault) → StepsKnow
+pub knows_so : (fate : Fate) (device : DeviceState) (old control : DevControlState CoreState)
+    (host host_then : HostDeviceState) (result : Result Progress StackFault) → StepsKnow
     → old ≡ device.control → ControlStep fate host old result host_then control
-    → StandTogether device host.clearing host.phase → IsConsistent host device.control
+    → AreConsistentEnds device host.clearing host.phase → IsConsistent host device.control
     → IsConsistent host_then control
 knows_so fate device old control host host_then result know same steps together knows =
     (know fate host host_then device.control control result (sound_of device host.clearing host.phase together) knows (subst (λ (x : DevControlState CoreState). ControlStep fate host x result host_then control) same steps)).0

@@ -8,7 +8,7 @@ use Rattle.hid_bus.specs.Rounds.{OwnStep, Polls}
 use Rattle.hid_bus.specs.declared.step.Told.{Told}
 use Rattle.hid_bus.specs.declared.step.Told.TheVariants.{Polled}
 use Rattle.hid_stack.specs.declared.rig.TheConstants.{MAX_DEVICES}
-use Rattle.hid_bus.specs.HistoryRows.{open_at, press, state_after_own_steps}
+use Rattle.hid_bus.specs.WorkedHistories.{open_at, press, state_after_own_steps}
 use Rattle.hid_bus.specs.LinkState.{state_at_token}
 use Rattle.hid_layout.specs.Layout.{Contents}
 use Rattle.hid_requests.specs.declared.request.Request.TheVariants.{Clear, Status}
@@ -51,7 +51,7 @@ nothing_due = refl
 token_lost : poll_after (press 4 4 ∷ []) TokenLost one_key ≡ Polled None Silent
 token_lost = refl
 
--- a reply that is lost was sent, and the host hears nothing
+-- a reply that is lost was sent, and the host receives nothing
 reply_lost : poll_after (press 4 4 ∷ []) ReplyLost one_key ≡ Polled (Some (record { items = 0xC3 ∷ one_key })) Silent
 reply_lost = refl
 

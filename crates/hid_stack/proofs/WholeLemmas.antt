@@ -3,11 +3,11 @@ use Rattle.std.proofs.Common.{◌≡◌, ◌++◌, ◌∙◌, ◌+◌, ◌<◌, 
 use Rattle.std.specs.Prelude.{if◌then◌else◌}
 use Rattle.usb_transact.specs.declared.transaction.Fate.{Fate}
 use Rattle.usb_control.specs.declared.device.LastPacket.TheVariants as last_packets
-use Rattle.usb_control.specs.Interleaving.{Ends, LeaveAnswers, Meanwhile, StandAt, Tries, Turn, decision_now, ends_after_turn, ends_after_turns, ends_tried, is_running, tries_in}
+use Rattle.usb_control.specs.Interleaving.{BothEnds, EndsAreAt, LeaveAnswers, Meanwhile, Tries, Turn, decision_now, ends_after_turn, ends_after_turns, ends_tried, is_running, tries_in}
 use Rattle.usb_control.specs.declared.setup.Setup.{Setup}
 use Rattle.usb_control.specs.Runs.{acts, effects, place_after_tries}
-use Rattle.usb_control.specs.Positions.{Stands}
-use Rattle.usb_control.specs.Transfer.{Decision, answered_bytes, shape_of, start}
+use Rattle.usb_control.specs.Positions.{TransferIsAt}
+use Rattle.usb_control.specs.Transfer.{Decision, answered_bytes, start, transfer_shape}
 use Rattle.usb_control.proofs.LawLemmas.{begins, done_is, read_is}
 use Rattle.usb_control.proofs.InterleavingLemmas.{places_are_run, setup_stays}
 use Rattle.usb_control.proofs.RunLemmas.{is_once}
@@ -15,7 +15,7 @@ use Rattle.hid_requests.specs.declared.request.Asking.{Asking}
 use Rattle.hid_layout.specs.Parsing.{ParsesTo}
 use Rattle.hid_host.specs.declared.fault.StackFault.{StackFault}
 use Rattle.hid_requests.specs.RequestSetup.{FitsRequest, sends_of}
-use Rattle.hid_requests.proofs.AskedLemmas.{sends_so, spelled_so}
+use Rattle.hid_requests.proofs.RequestKindLemmas.{sends_so, encoded_so}
 use Rattle.hid_stack.proofs.LawLemmas.{short_so}
 use Rattle.hid_requests.specs.declared.request.Request.{Request}
 use Rattle.hid_device.specs.Core.{CoreState}
@@ -29,7 +29,7 @@ use Rattle.hid_host.specs.Host.{may_abort_round, request_aborts_round, running, 
 use Rattle.hid_stack.specs.HostInvariant.{asking_of}
 use Rattle.hid_stack.specs.Trails.{trail_from}
 use Rattle.hid_stack.specs.Members.{Member, MemberStep, Scheduled, Begins, Controls, Halts, Resets, begin_refusal_at, member_after_begin, control_of_member, core_of_member, member_transfer_after, member_after_halt, member_after, member_after_all, member_after_try, member_after_try_in, member_out_of_memory}
-use Rattle.hid_stack.specs.Transfers.{BeginsNone, IsEndedByReset, IsUnconcludedOnce, IsWhole, IsWholeFrom, effects_in, ends_at, more_if, takes_effect_at, setup_at, tries_of, try_at}
+use Rattle.hid_stack.specs.Transfers.{BeginsNone, IsEndedByReset, IsUnconcludedOnce, IsWhole, IsWholeFrom, effects_in, ends_at, count_if, takes_effect_at, setup_at, tries_of, try_at}
 use Rattle.hid_stack.proofs.CountLemmas.{Stood, counted, halted_transfer, runs_as}
 use Rattle.hid_stack.proofs.EffectLemmas.{has_effects}
 
@@ -56,14 +56,14 @@ leave_answers (Halts ∷ steps) m = (λ core. refl, leave_answers steps (member_
 leave_answers (Resets ∷ steps) m = leave_answers steps m
 
 -- the two ends after turns
-pub record Behind (n : Member) (t : Transfer) (ends : Ends CoreState) : Type 0 where
+pub record Behind (n : Member) (t : Transfer) (ends : BothEnds CoreState) : Type 0 where
   pub transfer : Transfer
   pub is : n.transfer ≡ Some transfer
   pub of : transfer.request ≡ t.request
   pub ends_are : ends ≡ ends_at n transfer
 
 -- a try, of a transfer that runs or not
-abbrev tried_if : Fate → Member → Transfer → Member → Bool → Ends CoreState
+abbrev tried_if : Fate → Member → Transfer → Member → Bool → BothEnds CoreState
 tried_if fate m t n b =
     ends_after_turn core_table (if b then ends_tried core_table fate (ends_at m t) else ends_at m t) (standing_as n)
 
@@ -115,9 +115,10 @@ follows (Halts ∷ steps) m t has none =
         is = b.is;
         of = b.of ∙ here.of;
         ends_are =
-            ap (λ (e : Ends CoreState). ends_after_turns core_table e (turns_by n steps)) here.ends_are ∙ b.ends_are;
+            ap (λ (e : BothEnds CoreState). ends_after_turns core_table e (turns_by n steps)) here.ends_are
+            ∙ b.ends_are;
       };
-      tries = ap (λ (e : Ends CoreState). tries_in core_table e (turns_by n steps)) here.ends_are ∙ later.tries;
+      tries = ap (λ (e : BothEnds CoreState). tries_in core_table e (turns_by n steps)) here.ends_are ∙ later.tries;
     }
 follows (Resets ∷ steps) m t has none = absurd none
 follows (Controls fate ∷ steps) m t has none =
@@ -132,10 +133,11 @@ follows (Controls fate ∷ steps) m t has none =
         is = b.is;
         of = b.of ∙ here.of;
         ends_are =
-            ap (λ (e : Ends CoreState). ends_after_turns core_table e (turns_by n steps)) here.ends_are ∙ b.ends_are;
+            ap (λ (e : BothEnds CoreState). ends_after_turns core_table e (turns_by n steps)) here.ends_are
+            ∙ b.ends_are;
       };
       tries = ap (λ (xs : List (Fate × Decision)). (fate, decision_now core_table (ends_at m t)) ∷ xs)
-          (ap (λ (e : Ends CoreState). tries_in core_table e (turns_by n steps)) here.ends_are ∙ later.tries)
+          (ap (λ (e : BothEnds CoreState). tries_in core_table e (turns_by n steps)) here.ends_are ∙ later.tries)
           ∙ sym (ap (λ (o : Option Transfer). try_at fate m o ++ tries_of n steps) has);
     }
 
@@ -156,25 +158,28 @@ whole m request steps lays fits allowed none =
     ap (λ (o : Option StackFault). member_after_begin o m request) allowed in
     let f = follows steps begun t refl none in
     let b = f.behind in
-    let shape = shape_of (setup_at m request) in
+    let shape = transfer_shape (setup_at m request) in
     let turns = turns_by begun steps in
-    let first : StandAt core_table (sends_of request) start (ends_at begun t) =
+    let first : EndsAreAt core_table (sends_of request) start (ends_at begun t) =
     begins core_table.answer_of m.addr (setup_at m request) (sends_of request) (control_of_member begun)
     (sends_so request asking) in
-    let stands = places_are_run core_table (sends_of request) start (ends_at begun t) turns (spelled_so request asking fits (short_so m.descriptor m.layout lays) of_one) (leave_answers steps begun) first in
-    let asked : b.transfer.ends.setup ≡ setup_at m request = sym (ap (λ (e : Ends CoreState). e.host.setup) b.ends_are) ∙ setup_stays core_table (ends_at begun t) turns in
-    let there : StandAt core_table (sends_of request) (place_after_tries shape (tries_of begun steps) start)
+    let stands = places_are_run core_table (sends_of request) start (ends_at begun t) turns (encoded_so request asking fits (short_so m.descriptor m.layout lays) of_one) (leave_answers steps begun) first in
+    let asked : b.transfer.ends.setup ≡ setup_at m request =
+    sym (ap (λ (e : BothEnds CoreState). e.host.setup) b.ends_are)
+    ∙ setup_stays core_table (ends_at begun t) turns in
+    let there : EndsAreAt core_table (sends_of request) (place_after_tries shape (tries_of begun steps) start)
     (ends_at (member_after_all begun steps) b.transfer)
-    = subst (λ (xs : List (Fate × Decision)). StandAt core_table (sends_of request) (place_after_tries shape xs start)
+    = subst (λ (xs : List (Fate × Decision)). EndsAreAt core_table (sends_of request)
+    (place_after_tries shape xs start)
     (ends_at (member_after_all begun steps) b.transfer)) f.tries
-    (subst (λ (e : Ends CoreState). StandAt core_table (sends_of request)
+    (subst (λ (e : BothEnds CoreState). EndsAreAt core_table (sends_of request)
     (place_after_tries shape (tries_in core_table (ends_at begun t) turns) start) e) b.ends_are stands) in
     let once = is_once shape (tries_of begun steps) in
     let none_yet : Stood begun t (trail_from (core_of_member m)) =
     record {
       asked = refl;
-      spelled =
-          spelled_so request asking fits (short_so m.descriptor m.layout lays) of_one;
+      encoded =
+          encoded_so request asking fits (short_so m.descriptor m.layout lays) of_one;
       fits = fits;
       stands =
           first;
@@ -185,7 +190,7 @@ whole m request steps lays fits allowed none =
     let took : effects_in begun steps ≡ effects 0 all
     = let zero : effects_in begun steps + 0 ≡ effects_in begun steps = omega arith in sym zero ∙ sym count.took in
     let stands_there =
-    subst (λ (s : Setup). Stands core_table.answer_of (shape_of s) (sends_of request)
+    subst (λ (s : Setup). TransferIsAt core_table.answer_of (transfer_shape s) (sends_of request)
     (place_after_tries shape (tries_of begun steps) start) b.transfer.ends
     (control_of_member (member_after_all begun steps))) asked there in
     let is_done =
@@ -194,22 +199,23 @@ whole m request steps lays fits allowed none =
     (control_of_member (member_after_all begun steps)) stands_there).0 in
     subst (λ (k : Member). IsWholeFrom m request steps k) (sym is_begun) (record {
       transfer = b.transfer;
-      is = b.is;
-      of = b.of;
-      asked = asked;
-      once = once;
-      stands = there;
+      current = b.is;
+      of_request = b.of;
+      setup = asked;
+      tries_once = once;
+      ends = there;
       read = λ done is_read.
           read_is core_table.answer_of shape (sends_of request)
           (place_after_tries shape (tries_of begun steps) start) b.transfer.ends
           (control_of_member (member_after_all begun steps)) stands_there (is_done done) is_read
           ∙ ap (answered_bytes shape) once.decided;
-      took = took;
+      effect_count = took;
       effect = has_effects steps begun t (trail_from (core_of_member m)) refl none none_yet;
       written = λ done writes. took ∙ once.once (is_done done) writes;
       configures = count.configures;
       configured = λ is_configured done.
-          let writes : shape.reads ≡ false = ap (λ (q : Request). (shape_of (setup_at m q)).reads) is_configured in
+          let writes : shape.reads ≡ false =
+          ap (λ (q : Request). (transfer_shape (setup_at m q)).reads) is_configured in
           count.configures ∙ ap (λ (q : Request). if is_configure q then effects_in begun steps else 0) is_configured
           ∙ took ∙ once.once (is_done done) writes;
     })
@@ -269,14 +275,14 @@ unconcluded_once m request steps lays fits allowed none fate ended is_configure 
     let n = member_after_all begun steps in
     let w = whole m request (steps ++ Controls fate ∷ []) lays fits allowed (begins_none fate steps none) in
     let before = whole m request steps lays fits allowed none in
-    let apart = no_cut n.transfer before.transfer before.is (before.of ∙ is_configure) in
+    let apart = no_cut n.transfer before.transfer before.current (before.of_request ∙ is_configure) in
     let there : Some w.transfer ≡ Some ended
-    = sym w.is ∙ ap (λ (k : Member). k.transfer) (behind_one steps begun (Controls fate)) ∙ same_transfer fate n (running n.transfer) apart ∙ is in
+    = sym w.current ∙ ap (λ (k : Member). k.transfer) (behind_one steps begun (Controls fate)) ∙ same_transfer fate n (running n.transfer) apart ∙ is in
     (w.configured is_configure (ap (λ (t : Transfer). t.ends.stage) (one_transfer w.transfer ended there) ∙ done), same_core fate n (running n.transfer) apart)
 
 -- ---- a reset ends a transfer
 
-more_of_both : (b : Bool) (all first later : ℕ) → all ≡ first + later → more_if b all ≡ more_if b first + later
+more_of_both : (b : Bool) (all first later : ℕ) → all ≡ first + later → count_if b all ≡ count_if b first + later
 more_of_both true all first later same = omega (arith, same)
 more_of_both false all first later same = same
 
@@ -305,7 +311,7 @@ none_take (Halts ∷ xs) m none begins = none_take xs (member_after m Halts) (ha
 none_take (Resets ∷ xs) m none begins = absurd begins
 none_take (Controls fate ∷ xs) m none begins =
     let idle = idle_try fate m none in
-    ap (λ (b : Bool). more_if b (effects_in (member_after m (Controls fate)) xs)) idle.1
+    ap (λ (b : Bool). count_if b (effects_in (member_after m (Controls fate)) xs)) idle.1
     ∙ ap (λ (n : Member). effects_in n xs) idle.0
     ∙ none_take xs m none begins
 
@@ -318,8 +324,8 @@ ended_by_reset m request steps later lays fits allowed none none_later =
     let w = whole m request steps lays fits allowed none in
     let rest : effects_in n (Resets ∷ later) ≡ 0 = none_take later (member_after n Resets) refl none_later in
     let all : effects_in begun (steps ++ Resets ∷ later) ≡ effects_in begun steps + effects_in n (Resets ∷ later) = effects_append steps (Resets ∷ later) begun in
-    let most = w.once.at_most_once in
+    let most = w.tries_once.at_most_once in
     record {
-      at_most_once = omega (arith, w.took, most);
-      none_behind = omega (arith, rest, all);
+      at_most_once = omega (arith, w.effect_count, most);
+      none_after = omega (arith, rest, all);
     }

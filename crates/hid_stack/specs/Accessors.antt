@@ -7,11 +7,11 @@ use Rattle.hid_device.specs.Device.{DeviceState, core_of}
 use Rattle.usb_control.specs.declared.host.Outcome.{Outcome}
 use Rattle.hid_host.specs.declared.fault.StackFault.{StackFault}
 use Rattle.hid_host.specs.declared.fault.StackFault.TheVariants.{NoDevice}
-use Rattle.hid_host.specs.Host.{HostEnd, ShowsLast}
+use Rattle.hid_host.specs.Host.{HostDeviceState, ShowsLast}
 use Rattle.hid_host.specs.declared.phase.HostPhase.{HostPhase}
 use Rattle.hid_host.specs.declared.phase.HostPhase.TheVariants.{Cold, Described, Parsed, Ready}
 use Rattle.hid_host.specs.Phase.{IsReady, state_of}
-use Rattle.hid_host.specs.Ready.{Known}
+use Rattle.hid_host.specs.Ready.{ReadyHostState}
 use Rattle.hid_device.specs.RequestTable.{config_info}
 use Rattle.hid_stack.specs.Members.{Member, endpoint_of, expected_toggle_of, partial_report_of}
 use Rattle.hid_stack.specs.Rig.{member_at}
@@ -33,7 +33,7 @@ pub record ShowsDevice (m : Member) (d : DeviceState) : Type 0 where
 -- What the ready host of a member keeps: the toggle that it expects is the device's other one exactly while the current
 -- piece has crossed, or the one that is held. Where none is held it has got of the open round the pieces that crossed,
 -- while not all have, and nothing of any other.
-pub record ShowsKnown (m : Member) (known : Known) : Type 0 where
+pub record ShowsKnown (m : Member) (known : ReadyHostState) : Type 0 where
   pub layout : known.layout ≡ m.layout
   pub polls : known.pipe ≡ record { addr = m.addr; endp = ENDPOINT; expects = expected_toggle_of m }
   pub view : known.view ≡ m.link.view
@@ -48,7 +48,7 @@ ShowsPhase m (Ready known) = ShowsKnown m known
 
 -- The host of a member: it is the one of the device at the member's address, is in the member's state, and knows what
 -- is so of the device. It is ready only while the device is configured, and then has its layout.
-pub record ShowsHost (m : Member) (h : HostEnd) : Type 0 where
+pub record ShowsHost (m : Member) (h : HostDeviceState) : Type 0 where
   pub home : h.addr ≡ m.addr
   pub state : state_of h.phase ≡ m.host
   pub knows : ShowsPhase m h.phase
@@ -57,8 +57,8 @@ pub record ShowsHost (m : Member) (h : HostEnd) : Type 0 where
   pub clearing : h.clearing ≡ m.clearing
 
 -- what the member with a number gives, if one has it
-abbrev pub GivesOf : {A : Type 0} → (Member → A → Type 0) → List Member → ℕ → A → Type 0
-GivesOf shows members dev given = (m : Member) × (member_at members dev ≡ Some m) × shows m given
+abbrev pub MemberGives : {A : Type 0} → (Member → A → Type 0) → List Member → ℕ → A → Type 0
+MemberGives shows members dev given = (m : Member) × (member_at members dev ≡ Some m) × shows m given
 
 -- what is shown of the transfer that a device's host began last
 abbrev pub ShowsTransfer : Option Member → Result Outcome StackFault → Type 0

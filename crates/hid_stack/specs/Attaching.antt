@@ -1,18 +1,18 @@
 -- Which devices can be attached, and what is found of those that are (our choice).
 use Rattle.std.specs.Prelude.{◌≡◌, ◌⊎◌, ℕ, ◌<◌, ◌≤◌, ◌+◌, Bool, true, false, if◌then◌else◌, List, [], ◌∷◌, ◌++◌, length, Some, None, Result, Ok, Err}
 use Rattle.hid_layout.specs.declared.control.ControlId.{ControlId}
-use Rattle.hid_descriptor.specs.declared.limits.TheConstants.{MAX_DESCRIPTOR}
-use Rattle.hid_descriptor.specs.declared.usage.Usage.{Usage}
+use Rattle.hid_report_descriptor.specs.declared.limits.TheConstants.{MAX_DESCRIPTOR}
+use Rattle.hid_report_descriptor.specs.declared.usage.Usage.{Usage}
+use Rattle.hid_report_descriptor.specs.Faults.{is_memory}
 use Rattle.hid_layout.specs.Controls.{items_of}
 use Rattle.hid_layout.specs.Finding.{control_usage}
 use Rattle.hid_layout.specs.Layout.{Contents}
-use Rattle.hid_snapshots.specs.declared.change.ChangeFault.TheVariants.{NoSuchControl}
+use Rattle.hid_snapshots.specs.declared.fault.ChangeFault.TheVariants.{NoSuchControl}
 use Rattle.hid_device.specs.declared.config.Config.{Config}
 use Rattle.hid_requests.specs.declared.fault.DeviceCause.{DeviceCause}
 use Rattle.hid_requests.specs.declared.fault.DeviceCause.TheVariants as causes
 use Rattle.hid_requests.specs.declared.fault.DeviceFault.{DeviceFault}
 use Rattle.hid_device.specs.Config.{is_config}
-use Rattle.hid_requests.specs.Fault.{is_memory}
 use Rattle.hid_device.specs.Creation.{CanServe}
 use Rattle.hid_device.specs.Creation as making
 use Rattle.hid_host.specs.declared.fault.StackFault.{StackFault}
@@ -24,7 +24,7 @@ use Rattle.hid_stack.specs.Members.{Member, cold_member, fresh_member}
 use Rattle.hid_stack.specs.Rig.{member_at}
 
 -- a device of this configuration can have this address and this layout
-pub record Suits (addr : ℕ) (config : Config) (descriptor : List ℕ) (layout : Contents) : Type 0 where
+pub record CanAttach (addr : ℕ) (config : Config) (descriptor : List ℕ) (layout : Contents) : Type 0 where
   pub config_fits : is_config addr config descriptor ≡ true
   pub serves : CanServe descriptor layout
 
@@ -42,12 +42,12 @@ device_refusal fault = if is_out_of_memory fault.cause then Memory else BadDescr
 
 -- why there is no device, and no host for it: the device is refused, or its address and configuration fit, its
 -- descriptor isn't too long, and memory ran out
-abbrev pub IsNoPair : ℕ → Config → List ℕ → StackFault → Type 0
-IsNoPair addr config descriptor (BadDescriptor (Device fault)) =
+abbrev pub IsAttachFault : ℕ → Config → List ℕ → StackFault → Type 0
+IsAttachFault addr config descriptor (BadDescriptor (Device fault)) =
     making.Refuses addr config descriptor fault.cause fault.at × (is_out_of_memory fault.cause ≡ false)
-IsNoPair addr config descriptor Memory =
+IsAttachFault addr config descriptor Memory =
     (is_config addr config descriptor ≡ true) × (length descriptor ≤ MAX_DESCRIPTOR)
-IsNoPair addr config descriptor _ = ⊥
+IsAttachFault addr config descriptor _ = ⊥
 
 -- how a device and its host begin: freshly configured, or cold
 abbrev pub member_at_start : Start → ℕ → Config → List ℕ → Contents → Member
@@ -58,11 +58,11 @@ member_at_start starts.Cold addr config descriptor layout = cold_member addr con
 abbrev pub Attaches : ℕ → Config → List ℕ → Start → List Member → Result ℕ StackFault → List Member → Type 0
 Attaches room config descriptor start old (Ok dev) new =
     (length old < room) × (dev ≡ length old + 1)
-    × ((layout : Contents) × Suits dev config descriptor layout
+    × ((layout : Contents) × CanAttach dev config descriptor layout
     × (new ≡ old ++ member_at_start start dev config descriptor layout ∷ []))
 Attaches room config descriptor start old (Err TooManyDevices) new = (room ≤ length old) × (new ≡ old)
 Attaches room config descriptor start old (Err fault) new =
-    (length old < room) × IsNoPair (length old + 1) config descriptor fault × (new ≡ old)
+    (length old < room) × IsAttachFault (length old + 1) config descriptor fault × (new ≡ old)
 
 -- A device that was attached has the next number, begins under it with a layout that suits it, and the others stand as
 -- they did. Example: the first is number 1
@@ -70,7 +70,7 @@ pub record IsAttached (config : Config) (descriptor : List ℕ) (start : Start) 
     (new : List Member) : Type 0 where
   pub number : dev ≡ length old + 1
   pub layout : Contents
-  pub suits : Suits dev config descriptor layout
+  pub suits : CanAttach dev config descriptor layout
   pub begins : member_at new dev ≡ Some (member_at_start start dev config descriptor layout)
   pub others : (d : ℕ) (m : Member) → member_at old d ≡ Some m → member_at new d ≡ Some m
 

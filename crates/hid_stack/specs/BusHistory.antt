@@ -13,7 +13,7 @@ use Rattle.hid_bus.specs.declared.step.Step.{Step}
 use Rattle.hid_bus.specs.declared.step.Step.TheVariants.{Control}
 use Rattle.hid_bus.specs.declared.step.Delivered.{Delivered}
 use Rattle.hid_bus.specs.Delivered.{from_device}
-use Rattle.hid_stack.specs.Headline.{LivesThrough}
+use Rattle.hid_stack.specs.Headline.{MemberFollowsHistory}
 use Rattle.hid_stack.specs.Members.{Member, MemberStep, Begins, bus_event_of_step, member_after, out_of_memory_bus_event, member_out_of_memory}
 use Rattle.hid_stack.specs.Rig.{bus_after, bus_after_refusal, deliveries_of_step, member_at, member_step}
 use Rattle.hid_stack.specs.Sums.{AbortsByRequest}
@@ -102,27 +102,26 @@ abbrev pub FitsAction : DeviceAction → Type 0
 FitsAction (Takes (Begins request)) = FitsRequest request
 FitsAction _ = Unit {0}
 
--- the act is no try of this device at which memory is missing; an attach and a step never are
+-- the act is no try of this device at which memory runs out; an attach and a step never are
 abbrev pub HasMemoryFor : ℕ → Action → Type 0
 HasMemoryFor device (Attached m) = Unit {0}
 HasMemoryFor device (Taken step) = Unit {0}
 HasMemoryFor device (Unconcluded dev fate) = dev ≢ device
 
--- what is delivered under the number of the device that is attached next is what its history tells
+-- what is delivered under the number of the device that is attached next: the events of its history
 abbrev pub DeliversHistory : List Action → Member → List Action → Type 0
 DeliversHistory before m since =
     from_device (next_number before) (deliveries_of_actions [] (before ++ Attached m ∷ since))
     ≡ events_of_history (items_of m.layout) m.link (bus_events_of_actions m (device_actions before since))
 
--- A device is a function of its attach and of what is done to it alone, whatever came before it and comes between: how
--- it stands with its host, and all that is delivered under its number. That is what its history tells, also where memory
--- is missing at tries of it, if these end no round.
+-- The state and the events of a device depend on its attach and its own steps alone. This also holds if memory runs out at
+-- its tries, unless such a try ends a round.
 pub record IsItsOwn (before : List Action) (m : Member) (since : List Action) : Type 0 where
   pub state : member_at (bus_after_actions [] (before ++ Attached m ∷ since)) (next_number before)
       ≡ Some (member_after_actions m (device_actions before since))
   pub events_of_steps : All (HasMemoryFor (next_number before)) since → DeliversHistory before m since
   pub events : EndNoRounds m (device_actions before since) → DeliversHistory before m since
-  pub lives : m.link.current ≡ None
-      → LivesThrough m (bus_events_of_actions m (device_actions before since))
+  pub history : m.link.current ≡ None
+      → MemberFollowsHistory m (bus_events_of_actions m (device_actions before since))
       (member_after_actions m (device_actions before since))
       (events_of_history (items_of m.layout) m.link (bus_events_of_actions m (device_actions before since)))

@@ -22,17 +22,17 @@ use Rattle.hid_host.specs.declared.host.Transfer.{Transfer}
 use Rattle.hid_host.specs.declared.phase.HostPhase.{HostPhase}
 use Rattle.hid_host.specs.declared.phase.HostPhase.TheVariants.{Described, Parsed, Ready}
 use Rattle.hid_host.specs.declared.phase.HostState.TheVariants as states
-use Rattle.hid_host.specs.Host.{HostEnd, clearing_after, request_aborts_round}
-use Rattle.hid_stack.specs.HostInvariant.{StartsAtData0, info_of}
+use Rattle.hid_host.specs.Host.{HostDeviceState, clearing_after, request_aborts_round}
+use Rattle.hid_stack.specs.HostInvariant.{StartsAtData0, phase_info}
 use Rattle.hid_host.specs.Phase.{cleared_phase, may_begin, state_of}
-use Rattle.hid_host.specs.Ready.{known_at_start}
+use Rattle.hid_host.specs.Ready.{ready_host_at_start}
 
 -- The phase to which a request that is done leads with this device: what its configuration says, its layout, polls from
 -- DATA0 and the initial view on, or after a Clear the pipe at DATA0.
 abbrev pub phase_after : Request → ℕ → CoreState → HostPhase → HostPhase
-phase_after Config addr core phase = Described (info_of core)
-phase_after Report addr core phase = Parsed (info_of core) core.layout
-phase_after Configure addr core phase = Ready (known_at_start addr ENDPOINT core.layout)
+phase_after Config addr core phase = Described (phase_info core)
+phase_after Report addr core phase = Parsed (phase_info core) core.layout
+phase_after Configure addr core phase = Ready (ready_host_at_start addr ENDPOINT core.layout)
 phase_after Clear addr core phase = cleared_phase phase
 phase_after _ addr core phase = phase
 
@@ -52,7 +52,8 @@ abbrev pub transfer_after_try : Fate → Transfer → DevControlState CoreState 
 transfer_after_try fate transfer control = host_tried core_table fate transfer.ends control
 
 -- the host after a try, in this phase
-abbrev pub host_after_try : Fate → HostEnd → Transfer → DevControlState CoreState → HostPhase → HostEnd
+abbrev pub host_after_try : Fate → HostDeviceState → Transfer → DevControlState CoreState → HostPhase
+    → HostDeviceState
 host_after_try fate host transfer control phase = record host {
   phase = phase;
   transfer = Some (record transfer { ends = transfer_after_try fate transfer control });
@@ -105,9 +106,10 @@ core_after_try fate ends control = core_after_effect (effect_reached core_table 
 -- unless memory runs out. At the device only a write that is carried out changes more than what it answers; a
 -- configuration takes effect for a host that is `Parsed`, an open round is aborted by a Halt or a Clear alone, and a
 -- halt is ended by a Clear, with which the device's pipe starts again.
-pub record StepsAsFunction (fate : Fate) (host : HostEnd) (transfer : Transfer)
+pub record StepsAsFunction (fate : Fate) (host : HostDeviceState) (transfer : Transfer)
     (old : DevControlState CoreState)
-    (result : Result Progress StackFault) (after : HostEnd) (new : DevControlState CoreState) : Type 0 where
+    (result : Result Progress StackFault) (after : HostDeviceState)
+    (new : DevControlState CoreState) : Type 0 where
   pub device_then : new ≡ control_tried core_table fate transfer.ends old
   pub host_then :
       ((result ≡ Ok (progress_of (transfer_after_try fate transfer old).stage))

@@ -20,9 +20,9 @@ pub record AreFresh (m : Member) (snapshot : List ControlState) (idle : List ℕ
   pub clear : m.clearing ≡ false
   pub link : m.link ≡ initial_link (items_of m.layout) snapshot idle
 
--- The headline: of each device that was just configured the events delivered are exactly the changes between the
--- successive parts that crossed, in order, none twice. (No request of it is begun or tried meanwhile, and it is neither
--- halted nor reset: these end rounds.)
+-- The headline. Of each device that was just configured, while no request of it is begun or tried and it is neither
+-- halted nor reset, the events delivered are exactly the changes between the successive parts that crossed, in order,
+-- none twice.
 abbrev pub DeliversChanges : List Member → List Step → List Delivered → List Delivered → Type 0
 DeliversChanges before steps old new =
     (device : ℕ) (m : Member) (snapshot : List ControlState) (idle : List ℕ)
@@ -41,21 +41,20 @@ KeepsToRounds before steps after =
     → (s : LinkState) × (member_at after device ≡ Some (record m { link = s }))
     × StandsByRounds (items_of m.layout) m.link (device_steps device steps) s
 
--- The history of a device, whatever happens to it: from any state without an open round on, the events delivered of it
--- are those of its rounds that crossed, of its halts and clears, and of its resets, and its link state stands as they
--- say; toggles and views are counted since a configuration took effect last, or the bus was reset, and toggles since a
--- clear.
-abbrev pub LivesThrough : Member → List BusEvent → Member → List Event → Type 0
-LivesThrough m bus_events n told =
+-- The history of a device from a state without an open round: its events are those of its crossed rounds, halts, clears
+-- and resets, and its link state follows from them. Views and toggles restart at a configuration and a reset, toggles also
+-- at a clear.
+abbrev pub MemberFollowsHistory : Member → List BusEvent → Member → List Event → Type 0
+MemberFollowsHistory m bus_events n told =
     FollowsHistory (items_of m.layout) m.link.view m.link.toggle
     (outcomes_of_events (items_of m.layout) bus_events (history_from m.link))
     (history_after_all (items_of m.layout) bus_events (history_from m.link)) told n.link
 
 -- Each device of a bus follows its history: from any state without an open round on, its events and its link state are
 -- what its history says.
-abbrev pub DevicesLive : List Member → List Step → List Member → List Delivered → List Delivered → Type 0
-DevicesLive before steps after old new =
+abbrev pub DevicesFollowHistories : List Member → List Step → List Member → List Delivered → List Delivered → Type 0
+DevicesFollowHistories before steps after old new =
     (device : ℕ) (m : Member) → member_at before device ≡ Some m → m.link.current ≡ None
     → (n : Member) × (told : List Event) × (member_at after device ≡ Some n)
     × (from_device device new ≡ from_device device old ++ told)
-    × LivesThrough m (bus_events_of_steps m (member_steps device steps)) n told
+    × MemberFollowsHistory m (bus_events_of_steps m (member_steps device steps)) n told

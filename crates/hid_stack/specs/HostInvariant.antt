@@ -6,8 +6,8 @@ use Rattle.usb_control.specs.declared.host.Progress.{Progress}
 use Rattle.usb_control.specs.Device.{DevControlState}
 use Rattle.usb_control.specs.Host.{IsRunning}
 use Rattle.usb_control.specs.Runs.{IsDone}
-use Rattle.usb_control.specs.Positions.{Stands}
-use Rattle.usb_control.specs.Transfer.{Decision, Accepted, Refused, Position, Setup, shape_of}
+use Rattle.usb_control.specs.Positions.{TransferIsAt}
+use Rattle.usb_control.specs.Transfer.{Decision, Accepted, Refused, Position, Setup, transfer_shape}
 use Rattle.hid_requests.specs.declared.request.Asking.{Asking}
 use Rattle.hid_requests.specs.declared.request.Request.{Request}
 use Rattle.hid_requests.specs.declared.request.Request.TheVariants as requests
@@ -23,20 +23,20 @@ use Rattle.hid_host.specs.declared.fault.StackFault.TheVariants.{BadDescriptor}
 use Rattle.hid_host.specs.declared.host.Transfer.{Transfer}
 use Rattle.hid_host.specs.declared.phase.HostPhase.{HostPhase}
 use Rattle.hid_host.specs.declared.phase.HostPhase.TheVariants.{Cold, Described, Parsed, Ready}
-use Rattle.hid_host.specs.Host.{HostEnd}
+use Rattle.hid_host.specs.Host.{HostDeviceState}
 use Rattle.hid_host.specs.Phase.{may_begin, state_of}
 use Rattle.hid_stack.specs.Trails.{Trail}
 
 -- what a host reads of a device's configuration
-abbrev pub info_of : CoreState → ConfigInfo
-info_of core = config_info core.config (length core.descriptor)
+abbrev pub phase_info : CoreState → ConfigInfo
+phase_info core = config_info core.config (length core.descriptor)
 
 -- What the host knows is so: the configuration says it, the layout is the device's, and a device that is polled is
 -- configured.
 abbrev pub IsConsistentAt : HostPhase → ℕ → CoreState → Type 0
 IsConsistentAt Cold addr core = Unit {0}
-IsConsistentAt (Described info) addr core = info ≡ info_of core
-IsConsistentAt (Parsed info layout) addr core = (info ≡ info_of core) × (layout ≡ core.layout)
+IsConsistentAt (Described info) addr core = info ≡ phase_info core
+IsConsistentAt (Parsed info layout) addr core = (info ≡ phase_info core) × (layout ≡ core.layout)
 IsConsistentAt (Ready known) addr core =
     (known.layout ≡ core.layout) × (core.is_configured ≡ true) × (known.pipe.addr ≡ addr) × (known.pipe.endp ≡ ENDPOINT)
 
@@ -81,33 +81,35 @@ asking_of core = record { report_length = length core.descriptor; endpoint = END
 -- A transfer is the one of its request, and both ends stand where its trail leads.
 pub record FollowsTrail (trail : Trail) (phase : HostPhase) (transfer : Transfer)
     (control : DevControlState CoreState) : Type 0 where
-  pub stands : Stands core_table.answer_of (shape_of transfer.ends.setup) (sends_of transfer.request) trail.place
+  pub stands : TransferIsAt core_table.answer_of (transfer_shape transfer.ends.setup)
+      (sends_of transfer.request) trail.place
       transfer.ends control
   pub asked : transfer.ends.setup ≡ setup_for transfer.request (asking_of control.requests)
   pub fits : FitsRequest transfer.request
   -- it began in the state that its request needs
   pub needs : IsRunning transfer.ends.stage → may_begin transfer.request (state_of phase) ≡ true
-  -- what the device decided at the last SETUP that arrived, as it stood then, and has done while it runs where it took
-  -- effect, as it has where the write is done
+  -- the decision at the last SETUP that arrived is that of the device as it stood then; a write that took effect did so
+  -- while the transfer ran
   pub decided : IsAfterSetup trail.place.host
       → IsDecided transfer.request trail.decider control.requests trail.place.decision
   pub effect : IsRunning transfer.ends.stage → trail.place.applied ≡ true
       → HasEffect transfer.request control.requests
-  pub applied : IsDone trail.place → (shape_of transfer.ends.setup).reads ≡ false → trail.place.applied ≡ true
+  pub applied : IsDone trail.place → (transfer_shape transfer.ends.setup).reads ≡ false
+      → trail.place.applied ≡ true
 
 -- a Clear that runs is pending
 abbrev pub IsPending : Bool → Transfer → Type 0
 IsPending clearing transfer = transfer.request ≡ requests.Clear → IsRunning transfer.ends.stage → clearing ≡ true
 
 -- A host knows its device, with which its transfer came by this trail, and holds its polls back while it ends a halt.
-pub record IsConsistentBy (trail : Trail) (host : HostEnd)
+pub record IsConsistentBy (trail : Trail) (host : HostDeviceState)
     (control : DevControlState CoreState) : Type 0 where
   pub phase : IsConsistentAt host.phase host.addr control.requests
   pub transfer : IfSome host.transfer (λ transfer. FollowsTrail trail host.phase transfer control)
   pub clears : IfSome host.transfer (IsPending host.clearing)
 
 -- a host knows its device by some trail of its transfer
-pub record IsConsistent (host : HostEnd) (control : DevControlState CoreState) : Type 0 where
+pub record IsConsistent (host : HostDeviceState) (control : DevControlState CoreState) : Type 0 where
   pub trail : Trail
   pub by : IsConsistentBy trail host control
 
@@ -129,5 +131,6 @@ pub record LeavesTransfers (clearing : Bool) (old new : DevControlState CoreStat
   pub restarts : clearing ≡ true → StartsAtData0 old.requests → StartsAtData0 new.requests
 
 -- endpoint 0 of a device with another core
-abbrev pub with_core : DevControlState CoreState → CoreState → DevControlState CoreState
-with_core control core = record { requests = core; stage = control.stage; last_packet = control.last_packet }
+abbrev pub host_with_core : DevControlState CoreState → CoreState → DevControlState CoreState
+host_with_core control core =
+    record { requests = core; stage = control.stage; last_packet = control.last_packet }

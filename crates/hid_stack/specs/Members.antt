@@ -7,7 +7,7 @@ use Rattle.hid_layout.specs.Layout.{Contents}
 use Rattle.hid_layout.specs.Controls.{Item, items_of}
 use Rattle.hid_snapshots.specs.declared.control_state.ControlState.{ControlState}
 use Rattle.hid_snapshots.specs.declared.event.Event.{Event}
-use Rattle.hid_snapshots.specs.Encoded.{part_bytes}
+use Rattle.hid_snapshots.specs.PartBytes.{part_bytes}
 use Rattle.hid_snapshots.specs.ControlStates.{blank}
 use Rattle.usb_transact.specs.declared.transaction.Fate.{Fate}
 use Rattle.usb_transact.specs.declared.transaction.Fate.TheVariants.{TokenLost}
@@ -25,7 +25,7 @@ use Rattle.hid_requests.specs.declared.class.Protocol.{Protocol}
 use Rattle.hid_bus.specs.DeviceHistory.{BusEvent, Own, Idles, Configures, state_after, delivered_events}
 use Rattle.hid_bus.specs.DeviceHistory as bus_events
 use Rattle.hid_bus.specs.Rounds.{OwnStep, Changes, Frame, Polls, crossed_count}
-use Rattle.hid_bus.specs.LinkState.{LinkState, Open, expected_toggle, initial_link, is_whole}
+use Rattle.hid_bus.specs.LinkState.{LinkState, OpenRound, expected_toggle, has_all_pieces, initial_link}
 use Rattle.hid_device.specs.declared.config.Config.{Config}
 use Rattle.hid_device.specs.declared.decisions.PendingWrite.{PendingWrite}
 use Rattle.hid_device.specs.declared.decisions.PendingWrite.TheVariants as pendings
@@ -42,31 +42,42 @@ use Rattle.hid_host.specs.Host.{begin_refusal_in, clearing_after, clearing_with,
 use Rattle.hid_stack.specs.HostInvariant.{asking_of}
 use Rattle.hid_host.specs.Phase.{may_poll}
 
--- What endpoint 0 of a device keeps: whether SET_CONFIGURATION took effect; its protocol, and the Output and Feature
--- reports that were set last; of the last request the answer, where it has one, and what is carried out when its status
--- is asked for; and how far its transfer has come.
+-- What endpoint 0 of a device keeps.
 pub record Endpoint : Type 0 where
+  -- whether SET_CONFIGURATION took effect
   pub is_configured : Bool
+  -- the protocol, boot or report
   pub protocol : Protocol
+  -- the Output and Feature reports as they were set last
   pub outputs : List (List ℕ)
+  -- the answer to the last request, if it has one
   pub answer : Option (List ℕ)
+  -- what is carried out when the status of the last request is asked for
   pub pending : PendingWrite
+  -- how far the transfer of the last request has come
   pub stage : Stage
 
--- A device with its host: its address, the configuration and the descriptor that it was made with, its layout, the link
--- state of the two, the device's endpoint 0, the state of the host, the transfer that the host began last, whether a
--- clear is pending, and as `held` the toggle that the host expects while the endpoint is halted or a clear is pending.
--- (Otherwise it follows from the open round.)
+-- A device with its host, as the bus has them.
 pub record Member : Type 0 where
+  -- the address of the device
   pub addr : ℕ
+  -- the configuration that the device was made with
   pub config : Config
+  -- the report descriptor that the device was made with
   pub descriptor : List ℕ
+  -- the layout of the reports
   pub layout : Contents
+  -- the link state of the device and its host
   pub link : LinkState
+  -- endpoint 0 of the device
   pub endpoint : Endpoint
+  -- the state of the host
   pub host : HostState
+  -- the transfer that the host began last
   pub transfer : Option Transfer
+  -- whether a clear is pending
   pub clearing : Bool
+  -- The toggle that the host expects while the endpoint is halted or a clear is pending. (Otherwise the open round gives it.)
   pub held : Option Bool
 
 -- A step of the bus for one device: a step of its schedule, a request of its host, a try of the transfer that runs, a
@@ -130,18 +141,18 @@ cold_member addr config descriptor layout = record {
 -- ---- the open round
 
 -- the place of the open round's current piece, from 0, if a round is open
-abbrev pub piece_open : Option Open → ℕ
+abbrev pub piece_open : Option OpenRound → ℕ
 piece_open None = 0
 piece_open (Some round) = round.piece
 
 -- of the bytes of a report the pieces that crossed, until the last one has
-abbrev pub crossed_bytes : List ℕ → Open → List ℕ
+abbrev pub crossed_bytes : List ℕ → OpenRound → List ℕ
 crossed_bytes bytes round =
-    if is_whole round then [] else take (64 * crossed_count round.piece round.crossed) bytes
+    if has_all_pieces round then [] else take (64 * crossed_count round.piece round.crossed) bytes
 
 -- What a host has of a report that isn't whole yet: of the parts that were fixed as its round opened, the pieces that
 -- crossed. Example: 64 bytes of 100 after the first piece
-abbrev pub partial_report_of : Contents → List ControlState → Option Open → List ℕ
+abbrev pub partial_report_of : Contents → List ControlState → Option OpenRound → List ℕ
 partial_report_of layout parts None = []
 partial_report_of layout parts (Some round) = crossed_bytes (part_bytes layout round.report parts) round
 
@@ -267,10 +278,10 @@ with_held_toggle expects m =
     record m { held = member_held_toggle m.host (m.link.halted || m.clearing) expects }
 
 -- the toggle that a host expects after a try: DATA0 once a configuration or a clear is done
-abbrev pub expects_after : HostStage → Request → Bool → Bool
-expects_after Done requests.Configure expects = false
-expects_after Done requests.Clear expects = false
-expects_after stage request expects = expects
+abbrev pub expected_toggle_after_try : HostStage → Request → Bool → Bool
+expected_toggle_after_try Done requests.Configure expects = false
+expected_toggle_after_try Done requests.Clear expects = false
+expected_toggle_after_try stage request expects = expects
 
 -- ---- the member after a step
 
@@ -307,7 +318,8 @@ member_transfer_after fate m t = transfer_after_try fate t (control_of_member m)
 -- the member after a try of a transfer, by the state of its host: both ends go on by the functions of a try
 abbrev pub member_after_try_in : Fate → Member → Transfer → HostState → Member
 member_after_try_in fate m t host =
-    with_held_toggle (expects_after (member_transfer_after fate m t).stage t.request (expected_toggle_of m))
+    with_held_toggle
+    (expected_toggle_after_try (member_transfer_after fate m t).stage t.request (expected_toggle_of m))
     (record {
       addr = m.addr;
       config = m.config;

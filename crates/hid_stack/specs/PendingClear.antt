@@ -5,7 +5,7 @@ use Rattle.usb_control.specs.declared.host.HostStage.TheVariants.{Done}
 use Rattle.hid_requests.specs.declared.request.Request.TheVariants.{Clear}
 use Rattle.hid_host.specs.declared.host.Transfer.{Transfer}
 use Rattle.hid_stack.specs.Members.{Member, MemberStep, Begins, Controls, Resets, member_after, member_after_all, polls_it}
-use Rattle.hid_stack.specs.Transfers.{IsEvenAgain}
+use Rattle.hid_stack.specs.Transfers.{IsCleared}
 
 -- the transfer that was begun last is a Clear, and it is done
 abbrev pub IsClearDone : Option Transfer → Type 0
@@ -30,4 +30,4 @@ IsPendingUntilDone m steps =
     let begun = member_after m (Begins Clear) in let n = member_after_all begun steps in LeavePending begun steps
     → (polls_it n ≡ false)
     × ((fate : Fate) → IsClearDone (member_after n (Controls fate)).transfer
-    → IsEvenAgain (member_after n (Controls fate)))
+    → IsCleared (member_after n (Controls fate)))

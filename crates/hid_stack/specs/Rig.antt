@@ -4,7 +4,7 @@ use Rattle.std.specs.List.{All, filter_map}
 use Rattle.hid_layout.specs.Controls.{items_of, max_events}
 use Rattle.hid_layout.specs.Layout.{Contents}
 use Rattle.hid_snapshots.specs.declared.control_state.ControlState.{ControlState}
-use Rattle.hid_snapshots.specs.declared.change.ChangeFault.{ChangeFault}
+use Rattle.hid_snapshots.specs.declared.fault.ChangeFault.{ChangeFault}
 use Rattle.hid_snapshots.specs.declared.event.Event.{Event}
 use Rattle.hid_snapshots.specs.Snapshots.{snapshot_after}
 use Rattle.usb_transact.specs.declared.transaction.Fate.{Fate}
@@ -36,19 +36,19 @@ abbrev pub with_member : List Member → ℕ → Member → List Member
 with_member members dev m = slice_set members (dev - 1) m
 
 -- the bus after a step of one device
-abbrev pub one_after : List Member → ℕ → MemberStep → List Member
-one_after members dev x =
+abbrev pub bus_after_member_step : List Member → ℕ → MemberStep → List Member
+bus_after_member_step members dev x =
     elim (member_at members dev) [ None ↦ members | Some m ↦ with_member members dev (member_after m x) ]
 
 -- The bus after a step.
 abbrev pub bus_after : List Member → Step → List Member
-bus_after members (Change dev change) = one_after members dev (Scheduled (Changes change))
+bus_after members (Change dev change) = bus_after_member_step members dev (Scheduled (Changes change))
 bus_after members Frame = map (λ m. member_after m (Scheduled own_steps.Frame)) members
-bus_after members (Poll dev fate) = one_after members dev (Scheduled (Polls fate))
-bus_after members (Begin dev request) = one_after members dev (Begins request)
-bus_after members (Control dev fate) = one_after members dev (Controls fate)
-bus_after members (Halt dev) = one_after members dev Halts
-bus_after members (Reset dev) = one_after members dev Resets
+bus_after members (Poll dev fate) = bus_after_member_step members dev (Scheduled (Polls fate))
+bus_after members (Begin dev request) = bus_after_member_step members dev (Begins request)
+bus_after members (Control dev fate) = bus_after_member_step members dev (Controls fate)
+bus_after members (Halt dev) = bus_after_member_step members dev Halts
+bus_after members (Reset dev) = bus_after_member_step members dev Resets
 
 -- an event, with the number of the device that it came from
 abbrev pub with_device_number : ℕ → Event → Delivered
@@ -148,14 +148,14 @@ TakesMemory members (Control dev fate) =
     (m : Member) × (member_at members dev ≡ Some m) × TriesWithMemory fate m (running m.transfer)
 
 -- a step for which no room is made: it delivers nothing and begins nothing
-abbrev pub MakesNoRoom : Step → Type 0
-MakesNoRoom (Change dev change) = Unit {0}
-MakesNoRoom Frame = Unit {0}
-MakesNoRoom (Poll dev fate) = ⊥
-MakesNoRoom (Begin dev request) = ⊥
-MakesNoRoom (Control dev fate) = ⊥
-MakesNoRoom (Halt dev) = ⊥
-MakesNoRoom (Reset dev) = ⊥
+abbrev pub NeedsNoRoom : Step → Type 0
+NeedsNoRoom (Change dev change) = Unit {0}
+NeedsNoRoom Frame = Unit {0}
+NeedsNoRoom (Poll dev fate) = ⊥
+NeedsNoRoom (Begin dev request) = ⊥
+NeedsNoRoom (Control dev fate) = ⊥
+NeedsNoRoom (Halt dev) = ⊥
+NeedsNoRoom (Reset dev) = ⊥
 
 -- Why a step may be refused: its cause stands, or none does and memory ran out where it is taken.
 abbrev pub IsRefusal : List Member → Step → StackFault → Type 0
@@ -163,8 +163,8 @@ IsRefusal members x e =
     (refusal members x ≡ Some e) ⊎ ((refusal members x ≡ None) × (e ≡ Memory) × TakesMemory members x)
 
 -- the bus after a try of one device at which memory runs out for what its request gives
-abbrev pub one_unconcluded : List Member → ℕ → Fate → List Member
-one_unconcluded members dev fate = elim (member_at members dev) [
+abbrev pub bus_after_try_out_of_memory : List Member → ℕ → Fate → List Member
+bus_after_try_out_of_memory members dev fate = elim (member_at members dev) [
   | None ↦ members
   | Some m ↦ with_member members dev (member_out_of_memory fate m (running m.transfer))
 ]
@@ -172,7 +172,7 @@ one_unconcluded members dev fate = elim (member_at members dev) [
 -- The bus after a step that is refused: nothing has changed, but that a try was made at which memory ran out for what
 -- its request gives. (A try of a halt or a clear is made once there is room for what it drops.)
 abbrev pub bus_after_refusal : List Member → Step → StackFault → List Member
-bus_after_refusal members (Control dev fate) Memory = one_unconcluded members dev fate
+bus_after_refusal members (Control dev fate) Memory = bus_after_try_out_of_memory members dev fate
 bus_after_refusal members x e = members
 
 -- room for the events that a try may drop is reserved, and the try takes no other memory

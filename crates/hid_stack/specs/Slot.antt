@@ -12,9 +12,9 @@ use Rattle.hid_device.specs.Core.{CoreState, IsSound}
 use Rattle.hid_device.specs.Device.{DeviceState, core_of}
 use Rattle.hid_host.specs.declared.phase.HostPhase.{HostPhase}
 use Rattle.hid_host.specs.declared.phase.HostPhase.TheVariants.{Ready}
-use Rattle.hid_host.specs.Host.{HostEnd}
-use Rattle.hid_host.specs.Ready.{Known}
-use Rattle.hid_bus.specs.LinkState.{LinkState, Open}
+use Rattle.hid_host.specs.Host.{HostDeviceState}
+use Rattle.hid_host.specs.Ready.{ReadyHostState}
+use Rattle.hid_bus.specs.LinkState.{LinkState, OpenRound}
 use Rattle.hid_host.specs.Phase.{state_of}
 use Rattle.usb_transact.specs.declared.transaction.Fate.{Fate}
 use Rattle.usb_control.specs.declared.fault.ControlFault.TheVariants.{NoTransfer}
@@ -27,13 +27,13 @@ use Rattle.hid_stack.specs.Members.{Member, endpoint_of, member_after_try, membe
 use Rattle.hid_stack.specs.Rig.{AllocatesResult, TriesWithMemory}
 
 -- the open round of a device and its host: its current piece has crossed exactly where the two toggles differ
-abbrev pub round_between : List Item → Bool → Bool → Option ℕ → ℕ → Option Open
+abbrev pub round_between : List Item → Bool → Bool → Option ℕ → ℕ → Option OpenRound
 round_between items toggle expects None piece = None
 round_between items toggle expects (Some r) piece =
     Some (record { report = r; pieces = pieces_of items r; piece = piece; crossed = not (beq toggle expects) })
 
 -- the link state of a device and its ready host
-abbrev pub link_of_pair : CoreState → Known → LinkState
+abbrev pub link_of_pair : CoreState → ReadyHostState → LinkState
 link_of_pair core known = record {
   reports = core.reports;
   current = round_between (items_of core.layout) core.toggle known.pipe.expects core.current core.piece;
@@ -59,7 +59,7 @@ held_toggle core clearing (Ready known) = toggle_if_held (core.halted || clearin
 held_toggle core clearing _ = None
 
 -- The member that a device and its host are.
-abbrev pub pair_member : DeviceState → HostEnd → Member
+abbrev pub pair_member : DeviceState → HostDeviceState → Member
 pair_member device host = record {
   addr = device.addr;
   config = (core_of device).config;
@@ -85,14 +85,14 @@ TogglesAgreeUnless false toggle expects current = TogglesAgree toggle expects cu
 
 -- The host has got the pieces of the open round that crossed, unless the endpoint is halted or its clear is pending: a
 -- halt may have ended the round that its bytes are of.
-abbrev pub HasReceivedUnless : Bool → Contents → List ControlState → Option Open → List ℕ → Type 0
+abbrev pub HasReceivedUnless : Bool → Contents → List ControlState → Option OpenRound → List ℕ → Type 0
 HasReceivedUnless true layout parts current bytes = Unit {0}
 HasReceivedUnless false layout parts current bytes = bytes ≡ partial_report_of layout parts current
 
 -- A device that is configured, and what its ready host keeps, with a clear that is pending or not: the host polls the
 -- device, has its layout, expects the device's toggle where no round is open, and has got the pieces that crossed of
 -- the one that is open, and nothing else.
-pub record ArePaired (device : DeviceState) (known : Known) (clearing : Bool) : Type 0 where
+pub record ArePaired (device : DeviceState) (known : ReadyHostState) (clearing : Bool) : Type 0 where
   pub configured : (core_of device).is_configured ≡ true
   pub layout : known.layout ≡ (core_of device).layout
   pub addr : known.pipe.addr ≡ device.addr
@@ -117,9 +117,9 @@ pub record IsUntouched (core : CoreState) : Type 0 where
   pub even : core.toggle ≡ false
 
 -- a device and its host stand together: they are paired where the host is ready, and before that no round opens
-abbrev pub StandTogether : DeviceState → Bool → HostPhase → Type 0
-StandTogether device clearing (Ready known) = ArePaired device known clearing
-StandTogether device clearing _ = IsUntouched (core_of device)
+abbrev pub AreConsistentEnds : DeviceState → Bool → HostPhase → Type 0
+AreConsistentEnds device clearing (Ready known) = ArePaired device known clearing
+AreConsistentEnds device clearing _ = IsUntouched (core_of device)
 
 -- A try of the transfer that runs, at the two ends: both go on, but that the host stays where memory runs out for
 -- what its request gives.

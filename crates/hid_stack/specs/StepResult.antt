@@ -6,24 +6,24 @@ use Rattle.hid_snapshots.specs.declared.control_state.ControlState.{ControlState
 use Rattle.hid_snapshots.specs.declared.event.Event.{Event}
 use Rattle.usb_packet.specs.declared.packet.Packet.{Packet}
 use Rattle.usb_packet.specs.declared.packet.Packet.TheVariants as packets
-use Rattle.usb_packet.specs.Spelling.{spelling}
+use Rattle.usb_packet.specs.PacketEncoding.{encoding}
 use Rattle.usb_transact.specs.declared.host.Took.{Took}
 use Rattle.usb_transact.specs.declared.host.Took.TheVariants.{Fresh, Again, Nak, Stall, Silent}
 use Rattle.usb_transact.specs.declared.transaction.Fate.{Fate}
 use Rattle.usb_transact.specs.declared.transaction.Fate.TheVariants.{Clean, TokenLost, ReplyLost, AckLost}
 use Rattle.hid_snapshots.specs.Pieces.{piece_of}
-use Rattle.hid_snapshots.specs.Encoded.{part_bytes}
+use Rattle.hid_snapshots.specs.PartBytes.{part_bytes}
 use Rattle.hid_bus.specs.declared.step.Step.{Step}
 use Rattle.hid_bus.specs.declared.step.Step.TheVariants.{Change, Frame, Poll, Begin, Control, Halt, Reset}
 use Rattle.hid_bus.specs.declared.step.Told.{Told}
 use Rattle.hid_bus.specs.declared.step.Told.TheVariants.{Quiet, Polled}
 use Rattle.hid_bus.specs.declared.step.Told.TheVariants as tellings
-use Rattle.hid_bus.specs.LinkState.{LinkState, is_whole, state_at_token}
+use Rattle.hid_bus.specs.LinkState.{LinkState, has_all_pieces, state_at_token}
 use Rattle.usb_control.specs.Host.{progress_of}
 use Rattle.hid_host.specs.declared.host.Transfer.{Transfer}
 use Rattle.hid_host.specs.declared.phase.HostPhase.{HostPhase}
 use Rattle.hid_host.specs.Host.{running}
-use Rattle.hid_host.specs.ResetEvents.{drops_told}
+use Rattle.hid_host.specs.ResetEvents.{reported_drops}
 use Rattle.hid_stack.specs.Members.{Member, member_transfer_after}
 use Rattle.hid_stack.specs.Rig.{member_at}
 
@@ -58,54 +58,56 @@ took_at_poll s piece =
 abbrev pub poll_result : LinkState → Fate → List ℕ → Told
 poll_result s TokenLost piece = Polled None Silent
 poll_result s ReplyLost piece =
-    Polled (Some (record { items = spelling (sent_packet s piece) })) Silent
+    Polled (Some (record { items = encoding (sent_packet s piece) })) Silent
 poll_result s Clean piece =
-    Polled (Some (record { items = spelling (sent_packet s piece) })) (took_at_poll s piece)
+    Polled (Some (record { items = encoding (sent_packet s piece) })) (took_at_poll s piece)
 poll_result s AckLost piece =
-    Polled (Some (record { items = spelling (sent_packet s piece) })) (took_at_poll s piece)
+    Polled (Some (record { items = encoding (sent_packet s piece) })) (took_at_poll s piece)
 
 -- what a poll returns whose token arrived, by the current piece of the open round
-abbrev pub TellsOpened : Contents → LinkState → Fate → Told → Type 0
-TellsOpened layout s fate told = told ≡ poll_result s fate (piece_shown layout s)
+abbrev pub OpenRoundReturns : Contents → LinkState → Fate → Told → Type 0
+OpenRoundReturns layout s fate told = told ≡ poll_result s fate (piece_shown layout s)
 
 -- What a poll returns: nothing is sent where its token is lost.
-abbrev pub TellsPoll : Contents → LinkState → Fate → Told → Type 0
-TellsPoll layout s TokenLost told = told ≡ Polled None Silent
-TellsPoll layout s ReplyLost told = TellsOpened layout (state_at_token (items_of layout) s) ReplyLost told
-TellsPoll layout s Clean told = TellsOpened layout (state_at_token (items_of layout) s) Clean told
-TellsPoll layout s AckLost told = TellsOpened layout (state_at_token (items_of layout) s) AckLost told
+abbrev pub PollReturns : Contents → LinkState → Fate → Told → Type 0
+PollReturns layout s TokenLost told = told ≡ Polled None Silent
+PollReturns layout s ReplyLost told =
+    OpenRoundReturns layout (state_at_token (items_of layout) s) ReplyLost told
+PollReturns layout s Clean told = OpenRoundReturns layout (state_at_token (items_of layout) s) Clean told
+PollReturns layout s AckLost told = OpenRoundReturns layout (state_at_token (items_of layout) s) AckLost told
 
 -- what a try of the transfer that runs returns: how far it has come then
-abbrev pub TellsTry : Fate → Member → Option Transfer → Told → Type 0
-TellsTry fate m None told = ⊥
-TellsTry fate m (Some t) told = told ≡ tellings.Transfer (progress_of (member_transfer_after fate m t).stage)
+abbrev pub TryReturns : Fate → Member → Option Transfer → Told → Type 0
+TryReturns fate m None told = ⊥
+TryReturns fate m (Some t) told =
+    told ≡ tellings.Transfer (progress_of (member_transfer_after fate m t).stage)
 
 -- What a step of the bus returns.
-abbrev pub Tells : List Member → Step → Told → Type 0
-Tells members (Change dev change) told = told ≡ Quiet
-Tells members Frame told = told ≡ Quiet
-Tells members (Poll dev fate) told = elim (member_at members dev) [
+abbrev pub StepReturns : List Member → Step → Told → Type 0
+StepReturns members (Change dev change) told = told ≡ Quiet
+StepReturns members Frame told = told ≡ Quiet
+StepReturns members (Poll dev fate) told = elim (member_at members dev) [
   | None ↦ ⊥
-  | Some m ↦ TellsPoll m.layout m.link fate told
+  | Some m ↦ PollReturns m.layout m.link fate told
 ]
-Tells members (Begin dev request) told = told ≡ Quiet
-Tells members (Halt dev) told = told ≡ Quiet
-Tells members (Reset dev) told = told ≡ Quiet
-Tells members (Control dev fate) told = elim (member_at members dev) [
+StepReturns members (Begin dev request) told = told ≡ Quiet
+StepReturns members (Halt dev) told = told ≡ Quiet
+StepReturns members (Reset dev) told = told ≡ Quiet
+StepReturns members (Control dev fate) told = elim (member_at members dev) [
   | None ↦ ⊥
-  | Some m ↦ TellsTry fate m (running m.transfer) told
+  | Some m ↦ TryReturns fate m (running m.transfer) told
 ]
 
 -- the report of an open round that hasn't crossed whole
 abbrev pub awaited_of : LinkState → Option ℕ
 awaited_of s = elim s.current [
   | None ↦ None
-  | Some round ↦ (if is_whole round then None else Some round.report)
+  | Some round ↦ (if has_all_pieces round then None else Some round.report)
 ]
 
 -- The events of a try, by the report that was awaited before and the round that is open after it: where none is open,
 -- the motion of that report's part is dropped.
 abbrev pub drops_after_try : Option ℕ → Option (ℕ × Bool) → HostPhase → List ControlState → List Event
 drops_after_try None round phase parts = []
-drops_after_try (Some report) None phase parts = drops_told phase report parts
+drops_after_try (Some report) None phase parts = reported_drops phase report parts
 drops_after_try (Some report) (Some round) phase parts = []

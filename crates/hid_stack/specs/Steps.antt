@@ -13,7 +13,7 @@ use Rattle.hid_bus.specs.declared.step.Delivered.{Delivered}
 use Rattle.hid_stack.specs.Members.{Member}
 use Rattle.hid_stack.specs.Rig.{FitsStep, HasRoomFor, IsRefusal, bus_after, bus_after_refusal, deliveries_of_step, max_events_of_step, member_at, refusal}
 use Rattle.hid_stack.specs.Sums.{ConfiguresBetweenRounds, OnlyHaltsAbort}
-use Rattle.hid_stack.specs.StepResult.{Tells}
+use Rattle.hid_stack.specs.StepResult.{StepReturns}
 
 -- the device that a step names: a frame names none
 abbrev pub device_of_step : Step → Option ℕ
@@ -26,20 +26,20 @@ device_of_step (Halt dev) = Some dev
 device_of_step (Reset dev) = Some dev
 
 -- nothing was reported of a device: its host's view is the initial one, and no round is open
-pub record IsUntold (m : Member) : Type 0 where
+pub record HasReportedNothing (m : Member) : Type 0 where
   pub view : m.link.view ≡ blank (items_of m.layout)
   pub quiet : m.link.current ≡ None
 
 -- A step of a device whose host isn't ready delivers nothing, not even a reset. Example: device cold, reset 1: no line
-abbrev pub TellsNothingUnready : List Member → Step → List Delivered → List Delivered → Type 0
-TellsNothingUnready members x old new =
+abbrev pub UnreadyDeliversNothing : List Member → Step → List Delivered → List Delivered → Type 0
+UnreadyDeliversNothing members x old new =
     (dev : ℕ) (m : Member) → device_of_step x ≡ Some dev → member_at members dev ≡ Some m → m.host ≢ Ready
     → new ≡ old
 
 -- The step leads from these members to those, and its list of events, so long and with such room, to that one.
 pub record StepsTo (members after_it : List Member) (x : Step) (result : Result Told StackFault)
     (old new : List Delivered) (len len_then capacity_before capacity_then : ℕ) : Type 0 where
-  pub told : IfOk result (λ told. Tells members x told)
+  pub told : IfOk result (λ told. StepReturns members x told)
   pub after : OnOk result (after_it ≡ bus_after members x)
   pub events : OnOk result (new ≡ old ++ deliveries_of_step members x)
   pub fits : IfOk result (λ _. FitsStep x)

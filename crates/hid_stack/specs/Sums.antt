@@ -6,7 +6,7 @@ use Rattle.hid_layout.specs.declared.control.ControlId.{ControlId}
 use Rattle.hid_layout.specs.Controls.{items_of}
 use Rattle.hid_bus.specs.Motion.{AreBetweenRounds, IsBetweenRounds, motion_of_events, Conserves, link_motion, accepted_steps_of_events, HasMotions}
 use Rattle.hid_bus.specs.DeviceHistory.{BusEvent}
-use Rattle.hid_bus.specs.DeviceHistory as lives
+use Rattle.hid_bus.specs.DeviceHistory as bus
 use Rattle.hid_host.specs.declared.host.Transfer.{Transfer}
 use Rattle.hid_host.specs.Host.{request_aborts_round, running}
 use Rattle.usb_transact.specs.declared.transaction.Fate.{Fate}
@@ -36,8 +36,8 @@ ConfiguresBetweenRounds members steps =
 
 -- a bus event, if there is one, is neither a halt nor a clear, and so aborts no round
 abbrev pub AbortsNone : Option BusEvent → Type 0
-AbortsNone (Some lives.Halts) = ⊥
-AbortsNone (Some lives.Clears) = ⊥
+AbortsNone (Some bus.Halts) = ⊥
+AbortsNone (Some bus.Clears) = ⊥
 AbortsNone _ = Unit {0}
 
 -- a try aborts no round of the device unless its request halts or clears
@@ -54,8 +54,8 @@ OnlyHaltsAbort members _ = Unit {0}
 
 -- Of each device and control: what was delivered before, what the device had and what accepted moves
 -- added is what is delivered now and what the device still has.
-abbrev pub SumsUp : List Member → List Member → List Step → List Delivered → List Delivered → Type 0
-SumsUp before after steps old new =
+abbrev pub ConservesMotion : List Member → List Member → List Step → List Delivered → List Delivered → Type 0
+ConservesMotion before after steps old new =
     (device : ℕ) (m n : Member)
     → member_at before device ≡ Some m → member_at after device ≡ Some n
     → (c : ControlId)

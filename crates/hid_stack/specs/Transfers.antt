@@ -4,14 +4,14 @@ use Rattle.usb_transact.specs.declared.transaction.Fate.{Fate}
 use Rattle.usb_control.specs.declared.host.HostStage.TheVariants.{Done}
 use Rattle.usb_control.specs.declared.setup.Setup.{Setup}
 use Rattle.usb_control.specs.TryFunctions.{takes_effect}
-use Rattle.usb_control.specs.Interleaving.{Ends, StandAt, decision_now}
+use Rattle.usb_control.specs.Interleaving.{BothEnds, EndsAreAt, decision_now}
 use Rattle.usb_control.specs.Runs.{IsOnce, acts, effects, last_decision, place_after_tries}
-use Rattle.usb_control.specs.Transfer.{Decision, Refused, answered_bytes, shape_of, start}
+use Rattle.usb_control.specs.Transfer.{Decision, Refused, answered_bytes, start, transfer_shape}
 use Rattle.hid_requests.specs.declared.request.Request.{Request}
 use Rattle.hid_requests.specs.declared.request.Request.TheVariants.{Configure, Clear}
 use Rattle.hid_requests.specs.RequestSetup.{row_of, sends_of, setup_for}
 use Rattle.hid_bus.specs.DeviceHistory.{BusEvent, Own, Idles, Configures}
-use Rattle.hid_bus.specs.DeviceHistory as lives
+use Rattle.hid_bus.specs.DeviceHistory as bus
 use Rattle.hid_device.specs.Core.{CoreState}
 use Rattle.hid_device.specs.declared.decisions.PendingWrite.{PendingWrite}
 use Rattle.hid_device.specs.RequestTable.{core_after_write, core_table, row_decision}
@@ -28,7 +28,7 @@ abbrev pub setup_at : Member → Request → Setup
 setup_at m request = setup_for request (asking_of (core_of_member m))
 
 -- both ends of a transfer of a member
-abbrev pub ends_at : Member → Transfer → Ends CoreState
+abbrev pub ends_at : Member → Transfer → BothEnds CoreState
 ends_at m t = record { host = t.ends; control = control_of_member m }
 
 -- a try, with what a SETUP that arrives in it is decided
@@ -60,14 +60,14 @@ configurations [] = 0
 configurations (Own x ∷ bus_events) = configurations bus_events
 configurations (Idles idle ∷ bus_events) = configurations bus_events
 configurations (Configures ∷ bus_events) = suc (configurations bus_events)
-configurations (lives.Halts ∷ bus_events) = configurations bus_events
-configurations (lives.Clears ∷ bus_events) = configurations bus_events
-configurations (lives.Resets ∷ bus_events) = configurations bus_events
+configurations (bus.Halts ∷ bus_events) = configurations bus_events
+configurations (bus.Clears ∷ bus_events) = configurations bus_events
+configurations (bus.Resets ∷ bus_events) = configurations bus_events
 
 -- the next number where a condition holds, else the number
-abbrev pub more_if : Bool → ℕ → ℕ
-more_if true n = suc n
-more_if false n = n
+abbrev pub count_if : Bool → ℕ → ℕ
+count_if true n = suc n
+count_if false n = n
 
 -- whether a write takes effect in a try
 abbrev pub takes_effect_at : Fate → Member → Option Transfer → Bool
@@ -78,7 +78,7 @@ takes_effect_at fate m (Some t) = takes_effect core_table fate t.ends (control_o
 abbrev pub effects_in : Member → List MemberStep → ℕ
 effects_in m [] = 0
 effects_in m (Controls fate ∷ steps) =
-    more_if (takes_effect_at fate m (running m.transfer)) (effects_in (member_after m (Controls fate)) steps)
+    count_if (takes_effect_at fate m (running m.transfer)) (effects_in (member_after m (Controls fate)) steps)
 effects_in m (Scheduled x ∷ steps) = effects_in (member_after m (Scheduled x)) steps
 effects_in m (Begins request ∷ steps) = effects_in (member_after m (Begins request)) steps
 effects_in m (Halts ∷ steps) = effects_in (member_after m Halts) steps
@@ -105,30 +105,32 @@ HasEffects request trail m (Begins other ∷ steps) = HasEffects request trail (
 HasEffects request trail m (Halts ∷ steps) = HasEffects request trail (member_after m Halts) steps
 HasEffects request trail m (Resets ∷ steps) = HasEffects request trail (member_after m Resets) steps
 
--- Both ends of a request that began at this member stand where its tries lead, whatever came between them. A read that
--- is done gave the device's answer as it was fixed at the last SETUP that arrived, no longer than what was asked for. A
--- write took effect at the device as often as the places of its tries say, which is `IsOnce`: exactly once where it is
--- done, else once at most, and never where it was refused. The one try in which it took effect did at the device what
--- the row of the request says, with the bytes that were sent. A configuration took effect at the device as often as a
--- request for it did, and never by another request.
+-- What holds of a request that began at this member, whatever came between its tries.
 pub record IsWholeFrom (m : Member) (request : Request) (steps : List MemberStep) (begun : Member) : Type 0 where
   pub transfer : Transfer
-  pub is : (member_after_all begun steps).transfer ≡ Some transfer
-  pub of : transfer.request ≡ request
-  pub asked : transfer.ends.setup ≡ setup_at m request
-  pub once : IsOnce (shape_of (setup_at m request)) (tries_of begun steps)
-  pub stands : StandAt core_table (sends_of request)
-      (place_after_tries (shape_of (setup_at m request)) (tries_of begun steps) start)
+  pub current : (member_after_all begun steps).transfer ≡ Some transfer
+  pub of_request : transfer.request ≡ request
+  pub setup : transfer.ends.setup ≡ setup_at m request
+  -- the tries give one effect where the transfer is done, else one at most, and none where it was refused
+  pub tries_once : IsOnce (transfer_shape (setup_at m request)) (tries_of begun steps)
+  -- both ends are where the tries lead
+  pub ends : EndsAreAt core_table (sends_of request)
+      (place_after_tries (transfer_shape (setup_at m request)) (tries_of begun steps) start)
       (ends_at (member_after_all begun steps) transfer)
-  pub read : transfer.ends.stage ≡ Done → (shape_of (setup_at m request)).reads ≡ true
-      → transfer.ends.bytes ≡ answered_bytes (shape_of (setup_at m request))
-      (last_decision Refused (acts (shape_of (setup_at m request)) (tries_of begun steps) start))
-  pub took : effects_in begun steps
-      ≡ effects 0 (acts (shape_of (setup_at m request)) (tries_of begun steps) start)
-  -- the effect is that of the request
+  -- a read that is done gave the device's answer as it was fixed at the last SETUP that arrived, no longer than what was
+  -- asked for
+  pub read : transfer.ends.stage ≡ Done → (transfer_shape (setup_at m request)).reads ≡ true
+      → transfer.ends.bytes ≡ answered_bytes (transfer_shape (setup_at m request))
+      (last_decision Refused (acts (transfer_shape (setup_at m request)) (tries_of begun steps) start))
+  -- a write took effect at the device as often as the places of its tries say
+  pub effect_count : effects_in begun steps
+      ≡ effects 0 (acts (transfer_shape (setup_at m request)) (tries_of begun steps) start)
+  -- the try in which it took effect did what the row of the request says, with the bytes that were sent
   pub effect : HasEffects request (trail_from (core_of_member m)) begun steps
   -- a write that is done took effect once
-  pub written : transfer.ends.stage ≡ Done → (shape_of (setup_at m request)).reads ≡ false → effects_in begun steps ≡ 1
+  pub written : transfer.ends.stage ≡ Done → (transfer_shape (setup_at m request)).reads ≡ false
+      → effects_in begun steps ≡ 1
+  -- a configuration took effect as often as a request for it did, and never by another request
   pub configures : configurations (bus_events_of_steps begun steps)
       ≡ (if is_configure request then effects_in begun steps else 0)
   -- a device is configured once by a Configure that is done
@@ -156,7 +158,7 @@ IsWhole m request steps = IsWholeFrom m request steps (member_after m (Begins re
 -- begins.
 pub record IsEndedByReset (m : Member) (request : Request) (steps later : List MemberStep) : Type 0 where
   pub at_most_once : effects_in (member_after m (Begins request)) steps ≤ 1
-  pub none_behind : effects_in (member_after m (Begins request)) (steps ++ Resets ∷ later)
+  pub none_after : effects_in (member_after m (Begins request)) (steps ++ Resets ∷ later)
       ≡ effects_in (member_after m (Begins request)) steps
 
 -- a transfer that isn't done: it runs, or it failed
@@ -169,7 +171,7 @@ IsOver None = ⊥
 IsOver (Some t) = t.ends.stage ≡ Done
 
 -- No round is open, both ends begin with DATA0 (8.6), and nothing holds polls back.
-pub record IsEvenAgain (m : Member) : Type 0 where
+pub record IsCleared (m : Member) : Type 0 where
   pub quiet : m.link.current ≡ None
   pub sends : m.link.toggle ≡ false
   pub expects : expected_toggle_of m ≡ false
@@ -182,4 +184,4 @@ abbrev pub IsClearing : Member → List MemberStep → Type 0
 IsClearing m steps =
     let n = member_after_all (member_after m (Begins Clear)) steps in IsUndone n.transfer
     → (polls_it n ≡ false)
-    × ((fate : Fate) → IsOver (member_after n (Controls fate)).transfer → IsEvenAgain (member_after n (Controls fate)))
+    × ((fate : Fate) → IsOver (member_after n (Controls fate)).transfer → IsCleared (member_after n (Controls fate)))

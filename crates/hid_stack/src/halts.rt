@@ -5,7 +5,7 @@ ghost use Rattle.hid_bus.specs.DeviceHistory.{abort_events};
 ghost use Rattle.hid_device.specs.Device.{core_of};
 ghost use Rattle.hid_stack.specs.HostInvariant.{IsConsistent};
 ghost use Rattle.hid_stack.specs.Members.{Halts, events_of_event_if, halt_bus_event_of, member_after};
-ghost use Rattle.hid_stack.specs.Slot.{StandTogether, link_of, pair_member};
+ghost use Rattle.hid_stack.specs.Slot.{AreConsistentEnds, link_of, pair_member};
 
 use crate::laws::{devices_leave_transfers, hosts_know_their_devices, rounds_suit_their_hosts};
 use crate::slot::is_sound;
@@ -13,9 +13,9 @@ use hid_device::Device;
 use hid_host::HostDevice;
 use hid_snapshots::Event;
 
-/// Tells what goes with the open round of a device if it is ended: the motion of its part, where it hasn't crossed.
+/// Appends what is lost when the open round of a device is ended: the motion of its part as dropped, if it hasn't crossed.
 fn drop_aborted_motion(device: &Device, host: &HostDevice, events: &mut Vec<Event>)
-    requires together { StandTogether device.now host.now.clearing host.now.phase }
+    requires together { AreConsistentEnds device.now host.now.clearing host.now.phase }
     requires knows { IsConsistent host.now device.now.control }
     requires room { max_events (items_of (core_of device.now).layout) ≤ vec_capacity events.old }
     ensures events { events.new.items ≡ abort_events (items_of (core_of device.now).layout)
@@ -33,12 +33,12 @@ fn drop_aborted_motion(device: &Device, host: &HostDevice, events: &mut Vec<Even
 
 /// A device halts its endpoint by itself. The motion of an open round that hasn't crossed is dropped.
 pub(crate) fn halt_pair(device: &mut Device, host: &HostDevice, events: &mut Vec<Event>)
-    requires together { StandTogether device.old host.now.clearing host.now.phase }
+    requires together { AreConsistentEnds device.old host.now.clearing host.now.phase }
     requires knows { IsConsistent host.now device.old.control }
     requires room { max_events (items_of (core_of device.old).layout) ≤ vec_capacity events.old }
     ensures after { pair_member device.new host.now
         ≡ member_after (pair_member device.old host.now) Halts }
-    ensures together { StandTogether device.new host.now.clearing host.now.phase }
+    ensures together { AreConsistentEnds device.new host.now.clearing host.now.phase }
     ensures knows { IsConsistent host.now device.new.control }
     ensures home { device.new.addr ≡ device.old.addr }
     ensures layout { (core_of device.new).layout ≡ (core_of device.old).layout }

@@ -8,34 +8,34 @@ ghost use Rattle.hid_requests.specs.declared.request.Request.TheVariants.{Clear}
 ghost use Rattle.hid_layout.specs.Parsing.{ParsesTo};
 ghost use Rattle.hid_snapshots.specs.declared.change.Change.{Change};
 ghost use Rattle.hid_device.specs.Core.{CoreState, IsSound, changed_core, configured_core, core_after_ack, core_at_poll, framed_core, halted_core, round_of};
-ghost use Rattle.hid_host.specs.Host.{HostEnd, cold_host, ready_host};
+ghost use Rattle.hid_host.specs.Host.{HostDeviceState, cold_host, ready_host};
 ghost use Rattle.hid_host.specs.Phase.{IfReady};
 ghost use Rattle.hid_host.specs.ResetEvents.{SuitsRound};
 ghost use Rattle.hid_bus.specs.declared.step.Step.{Step as BusStep};
 ghost use Rattle.hid_bus.specs.declared.step.Delivered.{Delivered};
-ghost use Rattle.hid_stack.specs.Laws.{IsMadeAs, TellsOneThing, FindsOneControl, AttachesOneDevice, PacketsMakePolls, OverSteps, OfRequests, BeginsKeepConsistent, TriesKeepConsistent, RepliesKeepConsistent, OthersKeepConsistent, TriesAreFunctions};
+ghost use Rattle.hid_stack.specs.Laws.{HasSameOrigin, ResultIsUnique, FindsOneControl, AttachesOneDevice, PacketsMakePolls, ForAllRuns, ForAllTransfers, BeginsKeepConsistent, TriesKeepConsistent, RepliesKeepConsistent, OthersKeepConsistent, TriesAreFunctions};
 ghost use Rattle.hid_bus.specs.declared.start.Start.{Start};
 ghost use Rattle.hid_layout.specs.Layout.{Contents};
 ghost use Rattle.hid_device.specs.declared.config.Config.{Config};
 ghost use Rattle.hid_stack.specs.Attaching.{member_at_start};
 ghost use Rattle.hid_stack.specs.ExpectedToggles.{AllHoldToggles, ExpectsParity, HoldsToggle, HostsExpectParity};
-ghost use Rattle.hid_stack.specs.Headline.{DeliversChanges, DevicesLive, KeepsToRounds};
+ghost use Rattle.hid_stack.specs.Headline.{DeliversChanges, DevicesFollowHistories, KeepsToRounds};
 ghost use Rattle.hid_stack.specs.Members.{Member, MemberStep, begin_refusal_at, member_after_all};
 ghost use Rattle.hid_stack.specs.PendingClear.{IsPendingUntilDone};
 ghost use Rattle.hid_stack.specs.Transfers.{BeginsNone, IsClearing, IsEndedByReset, IsUnconcludedOnce, IsWhole};
 ghost use Rattle.hid_stack.specs.Reports.{IsWholeOrNothing, KeepsToRound};
 ghost use Rattle.hid_stack.specs.Rig.{bus_after_all, deliveries_of_steps, IsIsolated};
 ghost use Rattle.hid_stack.specs.BusHistory.{Action, DeviceAction, EndNoRounds, FitsAction, IsItsOwn};
-ghost use Rattle.hid_stack.specs.Sums.{AllHaveMotions, ConfiguresBetweenRounds, RefusedKeepMotion, SumsUp};
-ghost use Rattle.hid_stack.specs.HostInvariant.{IsConsistent, IsConsistentBy, LeavesTransfers, with_core};
+ghost use Rattle.hid_stack.specs.Sums.{AllHaveMotions, ConfiguresBetweenRounds, ConservesMotion, RefusedKeepMotion};
+ghost use Rattle.hid_stack.specs.HostInvariant.{IsConsistent, IsConsistentBy, LeavesTransfers, host_with_core};
 ghost use Rattle.hid_stack.specs.Trails.{Trail};
 
 pub use hid_bus::laws::{halts_lose_nothing, motion_is_kept, rounds_say_all};
 use hid_layout::laws::{accepted_or_refused, one_reading, one_refusal};
 
-/// A step tells one thing at most.
+/// A step has at most one result.
 pub fn one_telling()
-    ensures { TellsOneThing }
+    ensures { ResultIsUnique }
 {}
 
 /// A usage names one control of a device at most, or none for one cause.
@@ -52,28 +52,29 @@ pub fn one_attaching()
     one_refusal();
 }
 
-/// The packets of a poll, as a fate lets them arrive, come to the table of polls: where a device and its ready host stand
-/// together after it, what it tells, and what it delivers.
+/// The packets of a poll, as a fate lets them arrive, agree with the table of polls: how a device and its ready host stand
+/// after the poll, its result, and the events that it delivers.
 pub fn packets_make_polls()
     ensures { PacketsMakePolls }
 {}
 
-/// Each device goes its own way over any steps, from any state of the bus; one that was just configured delivers the
-/// changes between the successive parts that crossed, one without an open round stands as its rounds say, and so
-/// whatever happens to it.
+/// Each device is independent of the others, over any steps from any state of the bus. One that was just configured delivers
+/// the changes between the successive parts that crossed. One without an open round stands as its rounds say, and follows its
+/// history.
 pub fn devices_go_their_own_way()
-    ensures isolated { OverSteps IsIsolated }
+    ensures isolated { ForAllRuns IsIsolated }
     ensures headline { (before : List Member) (steps : List BusStep) (old new : List Delivered)
         → new ≡ old ++ deliveries_of_steps before steps → DeliversChanges before steps old new }
     ensures rounds { (before after : List Member) (steps : List BusStep)
         → after ≡ bus_after_all before steps → KeepsToRounds before steps after }
-    ensures lives { OverSteps (λ before after steps old new. DevicesLive before steps after old new) }
+    ensures history { ForAllRuns
+        (λ before after steps old new. DevicesFollowHistories before steps after old new) }
 {}
 
 /// A device is a function of its attach and its own steps alone, in any list of attaches and steps from an empty bus on,
-/// whatever comes before and between: how it stands with its host, and the events under its number, which are what
-/// its history tells. A try at which memory is missing is one of its steps too: it tells nothing where it ends no round,
-/// and of a device that begins without a transfer it never ends one.
+/// whatever comes before and between: how it stands with its host, and the events under its number, which are those of
+/// its history. A try at which memory runs out is one of its steps too: such a try delivers nothing if it ends no round,
+/// and it never ends a round of a device that begins without a transfer.
 pub fn devices_are_their_own()
     ensures own { (before : List Action) (m : Member) (since : List Action)
         → IsItsOwn before m since }
@@ -101,7 +102,7 @@ pub fn motion_sums_up()
     ensures sums { (before later : List Member) (steps : List BusStep) (old new : List Delivered)
         → AllHaveMotions before → ConfiguresBetweenRounds before steps
         → later ≡ bus_after_all before steps → new ≡ old ++ deliveries_of_steps before steps
-        → SumsUp before later steps old new }
+        → ConservesMotion before later steps old new }
     ensures after { (members : List Member) (steps : List BusStep) → AllHaveMotions members
         → AllHaveMotions (bus_after_all members steps) }
     ensures refused { RefusedKeepMotion }
@@ -117,9 +118,9 @@ pub fn motion_sums_up()
 /// with DATA0, whatever was lost of it; so too where the Clear failed, and other requests begin and end before one is
 /// done.
 pub fn transfers_are_whole()
-    ensures whole { OfRequests IsWhole }
-    ensures unconcluded { OfRequests IsUnconcludedOnce }
-    ensures reset { OfRequests (λ m request steps.
+    ensures whole { ForAllTransfers IsWhole }
+    ensures unconcluded { ForAllTransfers IsUnconcludedOnce }
+    ensures reset { ForAllTransfers (λ m request steps.
         (later : List MemberStep) → BeginsNone later → IsEndedByReset m request steps later) }
     ensures clears { (m : Member) (steps : List MemberStep)
         → ParsesTo m.descriptor m.layout → begin_refusal_at m Clear ≡ None → BeginsNone steps
@@ -140,7 +141,7 @@ pub fn reports_are_delivered_whole()
 
 /// No step changes what a device was made with.
 pub fn devices_stay_as_made()
-    ensures { (m : Member) (steps : List MemberStep) → IsMadeAs m (member_after_all m steps) }
+    ensures { (m : Member) (steps : List MemberStep) → HasSameOrigin m (member_after_all m steps) }
 {}
 
 /// A host knows its virtual device: what it read of the configuration is what the device was made with, its layout is the
@@ -179,7 +180,7 @@ pub fn control_steps_are_computed()
 /// What a device shows of its open round, and of the parts that were fixed last, suits a ready host that knows it: at a reset
 /// of the bus, and where a round is aborted, it may be given them.
 pub fn rounds_suit_their_hosts()
-    ensures { (host : HostEnd) (control : DevControlState CoreState)
+    ensures { (host : HostDeviceState) (control : DevControlState CoreState)
         → IsSound control.requests → IsConsistent host control → IfReady host.phase (λ known.
         SuitsRound known.layout (round_of control.requests) control.requests.reports.fixed) }
 {}
@@ -188,15 +189,17 @@ pub fn rounds_suit_their_hosts()
 /// configuration and a halt without a transfer, and, while no Clear is pending, polls and their acknowledgements.
 pub fn devices_leave_transfers()
     ensures changes { (clearing : Bool) (control : DevControlState CoreState) (change : Change)
-        → LeavesTransfers clearing control (with_core control (changed_core control.requests change)) }
+        → LeavesTransfers clearing control
+        (host_with_core control (changed_core control.requests change)) }
     ensures frames { (clearing : Bool) (control : DevControlState CoreState)
-        → LeavesTransfers clearing control (with_core control (framed_core control.requests)) }
+        → LeavesTransfers clearing control (host_with_core control (framed_core control.requests)) }
     ensures configured { (clearing : Bool) (control : DevControlState CoreState)
-        → LeavesTransfers clearing control (with_core control (configured_core control.requests)) }
+        → LeavesTransfers clearing control
+        (host_with_core control (configured_core control.requests)) }
     ensures halted { (clearing : Bool) (control : DevControlState CoreState)
-        → LeavesTransfers clearing control (with_core control (halted_core control.requests)) }
+        → LeavesTransfers clearing control (host_with_core control (halted_core control.requests)) }
     ensures polls { (control : DevControlState CoreState)
-        → LeavesTransfers false control (with_core control (core_at_poll control.requests)) }
+        → LeavesTransfers false control (host_with_core control (core_at_poll control.requests)) }
     ensures acknowledged { (control : DevControlState CoreState)
-        → LeavesTransfers false control (with_core control (core_after_ack control.requests)) }
+        → LeavesTransfers false control (host_with_core control (core_after_ack control.requests)) }
 {}

@@ -1,4 +1,5 @@
-//! The rig that joins devices and hosts on one bus (USB 2.0, 8.5.4 and 8.6; HID 1.11, 5 to 8).
+//! The rig that joins devices and hosts on one bus (USB 2.0, 8.5.4 and 8.6; HID 1.11, 5 to 8). (The C library is the crate
+//! `hidstack`.)
 //! ```text
 //!   Rig                     bus                              Device                    HostDevice
 //!   Step::Change ---------------------------------------->   change
@@ -9,8 +10,8 @@
 //!   Step::Poll              <---- IN 69 81 00 ----------------------------------------- token
 //!                           ---------------------------->    receive_poll: a round opens if a report is due
 //!                           <---- DATA0 C3 00 00 04 .. ---   poll_response: armed until it is acknowledged
-//!                           ------------------------------------------------------->   reply_ref
-//!                           ---- ACK 0xD2 --------------->   on_packet                 Down 07:04
+//!                           ------------------------------------------------------->   reply_ref: Down 07:04
+//!                           ---- ACK 0xD2 --------------->   on_packet
 //!   Step::Halt   ---------------------------------------->   halt: STALL from then on  drop_aborted_motion: Dropped 01:30 5
 //!   Step::Reset  ---------------------------------------->   reset                     reset: Up 07:04
 //! ```
@@ -24,7 +25,7 @@
 //! The promise, for every report descriptor that both ends accept:
 //! - Over every list of changes, frames and polls the events delivered are exactly the changes between the successive parts
 //!   that crossed, in order, none twice: `headline` on [`Rig::run`]. With transfers, halts and resets between the polls this
-//!   holds from each configuration on: `lives`.
+//!   holds from each configuration on: `history`.
 //! - Each step has the result of its definition: `told`, `after` and `events` on [`Rig::step`].
 //! - Each device is independent of the others: `isolated`, and over lists of attaches and steps
 //!   [`laws::devices_are_their_own`].

@@ -4,8 +4,8 @@ ghost use Rattle.std.specs.Prelude.{◌≡◌, ◌≤◌, ◌+◌, true, false, 
 ghost use Rattle.std.specs.Option.{option_map};
 ghost use Rattle.hid_layout.specs.Controls.{items_of, max_events};
 ghost use Rattle.hid_snapshots.specs.Encoding.{AreBytes};
-ghost use Rattle.usb_packet.specs.PacketRef.{to_owned, IsShort};
-ghost use Rattle.usb_packet.specs.Spelling.{Fits};
+ghost use Rattle.usb_packet.specs.PacketRef.{to_owned, PayloadFits};
+ghost use Rattle.usb_packet.specs.PacketEncoding.{Fits};
 ghost use Rattle.usb_transact.specs.Bus.{received_bytes};
 ghost use Rattle.usb_transact.specs.declared.bus.Phase.TheVariants.{Reply};
 ghost use Rattle.hid_bus.specs.Rounds.{Polls};
@@ -13,9 +13,9 @@ ghost use Rattle.hid_host.specs.Phase.{IfReady};
 ghost use Rattle.hid_stack.specs.Slot.{IsPair, link_of, pair_member};
 ghost use Rattle.hid_stack.specs.HostInvariant.{IsConsistent};
 ghost use Rattle.hid_stack.specs.Members.{Scheduled, member_after};
-ghost use Rattle.hid_stack.specs.Polls.{Receives, ReceivesAck, HasBytes, Acknowledges, GoesByPackets, Asks, Responds};
+ghost use Rattle.hid_stack.specs.Polls.{Receives, ReceivesAck, HasBytes, Acknowledges, IsPollByPackets, TokenIsAnswered, Responds};
 ghost use Rattle.hid_bus.specs.LinkState.{events_of_step};
-ghost use Rattle.hid_stack.specs.StepResult.{TellsPoll};
+ghost use Rattle.hid_stack.specs.StepResult.{PollReturns};
 
 use crate::laws::hosts_know_their_devices;
 use arrayvec::ArrayVec;
@@ -33,10 +33,10 @@ fn are_bytes(bytes: &[u8])
     let _bytes = bytes;
 }
 
-// Gives the device a packet, where one came, and returns its answer.
+/// Gives the device a packet, where one came, and returns its answer.
 fn receive_packet(device: &mut Device, packet: Option<PacketRef>) -> Option<Packet>
-    requires { IfSome packet IsShort }
-    ensures hears { Receives device.old (option_map to_owned packet.entry) result device.new }
+    requires { IfSome packet PayloadFits }
+    ensures receives { Receives device.old (option_map to_owned packet.entry) result device.new }
     ensures fits { IfSome result Fits }
     ensures bytes { IfSome result HasBytes }
 {
@@ -59,7 +59,7 @@ fn has_bytes(packet: PacketRef)
     }
 }
 
-// Gives the device a poll, and writes the bytes of its answer.
+/// Gives the device a poll, and writes the bytes of its answer.
 #[tactic(auto, using(hid_device::proofs::DeviceLemmas::polled_configured, hid_device::proofs::DeviceLemmas::opening_configured))]
 fn answer_poll(device: &mut Device, packet: PacketRef, bytes: &mut ArrayVec<u8, 65>)
     requires polls { is_poll device.old (to_owned packet) ≡ true }
@@ -73,14 +73,14 @@ fn answer_poll(device: &mut Device, packet: PacketRef, bytes: &mut ArrayVec<u8, 
     encode_ref_into(answer, bytes);
 }
 
-// Gives the device a packet, where one came, and writes the bytes of its answer, where it gives one.
+/// Gives the device a packet, where one came, and writes the bytes of its answer, where it gives one.
 #[inline(never)] // it makes room for packets that polls don't need
 fn answer_packet(
     device: &mut Device,
     packet: Option<PacketRef>,
     bytes: &mut ArrayVec<u8, 65>,
 ) -> bool
-    requires short { IfSome packet IsShort }
+    requires short { IfSome packet PayloadFits }
     requires empty { bytes.old.items ≡ [] }
     ensures { Responds device.old
         (option_map to_owned packet.entry) result bytes.new.items device.new }
@@ -94,9 +94,9 @@ fn answer_packet(
     }
 }
 
-// Gives the device a packet, by whether it is a poll, and writes the bytes of its answer.
+/// Gives the device a packet, by whether it is a poll, and writes the bytes of its answer.
 fn respond(device: &mut Device, packet: Option<PacketRef>, bytes: &mut ArrayVec<u8, 65>) -> bool
-    requires short { IfSome packet IsShort }
+    requires short { IfSome packet PayloadFits }
     requires empty { bytes.old.items ≡ [] }
     ensures { Responds device.old
         (option_map to_owned packet.entry) result bytes.new.items device.new }
@@ -110,7 +110,7 @@ fn respond(device: &mut Device, packet: Option<PacketRef>, bytes: &mut ArrayVec<
     answer_packet(device, packet, bytes)
 }
 
-// Sends a token, gives the device what arrives of it, and writes the bytes of its answer, where it gives one.
+/// Sends a token, gives the device what arrives of it, and writes the bytes of its answer, where it gives one.
 fn send_token<B: Bus>(
     bus: &B,
     token: &Packet,
@@ -119,7 +119,8 @@ fn send_token<B: Bus>(
 ) -> bool
     requires fits { Fits token.now }
     requires empty { bytes.old.items ≡ [] }
-    ensures { Asks (B.arrives bus.now) token.now device.old result bytes.new.items device.new }
+    ensures { TokenIsAnswered
+        (B.arrives bus.now) token.now device.old result bytes.new.items device.new }
 {
     let mut sent = ArrayVec::new();
     encode_into(token, &mut sent);
@@ -128,7 +129,7 @@ fn send_token<B: Bus>(
     respond(device, came, bytes)
 }
 
-// Hands the bytes of an answer on, where there is one.
+/// Transmits the bytes of an answer, where there is one.
 fn transmit_answer<B: Bus>(bus: &B, answers: bool, bytes: &mut ArrayVec<u8, 65>) -> bool
     ensures { received_bytes result bytes.new.items
         ≡ (if answers then B.arrives bus.now Reply bytes.old.items else None) }
@@ -136,7 +137,7 @@ fn transmit_answer<B: Bus>(bus: &B, answers: bool, bytes: &mut ArrayVec<u8, 65>)
     answers && bus.transmit(Phase::Reply, bytes)
 }
 
-// Sends ACK for data, fresh or not, and gives the device what arrives of it.
+/// Sends ACK for data, fresh or not, and gives the device what arrives of it.
 fn acknowledge<B: Bus>(bus: &B, took: &Took, device: &mut Device)
     ensures { Acknowledges (B.arrives bus.now) took.now device.old device.new }
 {
@@ -146,7 +147,7 @@ fn acknowledge<B: Bus>(bus: &B, took: &Took, device: &mut Device)
     }
 }
 
-// Sends ACK, and gives the device what arrives of it.
+/// Sends ACK, and gives the device what arrives of it.
 fn send_ack<B: Bus>(bus: &B, device: &mut Device)
     ensures { ReceivesAck (B.arrives bus.now) device.old device.new }
 {
@@ -172,7 +173,7 @@ pub fn poll<B: Bus>(
     requires room { IfReady host.old.phase (λ known. vec_len out.old
         + max_events (items_of known.layout) ≤ vec_capacity out.old) }
     // Each packet is the one that is due, and each end acts on the bytes that arrive of it.
-    ensures packets { GoesByPackets (B.arrives bus.now) device.old host.old host.old.clearing
+    ensures packets { IsPollByPackets (B.arrives bus.now) device.old host.old host.old.clearing
         host.old.phase result device.new host.new out.old.items out.new.items }
 
     ensures few { IfReady host.old.phase (λ known. length out.new.items
@@ -203,7 +204,7 @@ pub(crate) fn poll_pair(
     requires pair { IsPair device.old false host.old.phase }
     requires free { host.old.clearing ≡ false }
     requires room { max_events (items_of (core_of device.old).layout) ≤ vec_capacity events.old }
-    ensures told { TellsPoll (core_of device.old).layout
+    ensures told { PollReturns (core_of device.old).layout
         (link_of (core_of device.old) host.old.phase) fate result }
     ensures after { pair_member device.new host.new
         ≡ member_after (pair_member device.old host.old) (Scheduled (Polls fate)) }

@@ -5,22 +5,22 @@ ghost use Rattle.hid_bus.specs.DeviceHistory.{reset_events};
 ghost use Rattle.hid_device.specs.Device.{core_of};
 ghost use Rattle.hid_stack.specs.HostInvariant.{IsConsistent};
 ghost use Rattle.hid_stack.specs.Members.{Resets, member_after};
-ghost use Rattle.hid_stack.specs.Slot.{StandTogether, link_of, pair_member};
+ghost use Rattle.hid_stack.specs.Slot.{AreConsistentEnds, link_of, pair_member};
 
 use crate::slot::is_sound;
 use hid_device::Device;
 use hid_host::HostDevice;
 use hid_snapshots::Event;
 
-/// Resets a device and its own host. What changes for the host is told, until its view is the initial one again, and the
-/// motion of an open round that hasn't crossed, which is dropped.
+/// Resets a device and its own host. The events that lead back to the initial view are appended, and the motion of an open
+/// round that hasn't crossed as dropped.
 pub(crate) fn reset_pair(device: &mut Device, host: &mut HostDevice, events: &mut Vec<Event>)
-    requires together { StandTogether device.old host.old.clearing host.old.phase }
+    requires together { AreConsistentEnds device.old host.old.clearing host.old.phase }
     requires knows { IsConsistent host.old device.old.control }
     requires room { max_events (items_of (core_of device.old).layout) ≤ vec_capacity events.old }
     ensures after { pair_member device.new host.new
         ≡ member_after (pair_member device.old host.old) Resets }
-    ensures together { StandTogether device.new host.new.clearing host.new.phase }
+    ensures together { AreConsistentEnds device.new host.new.clearing host.new.phase }
     ensures knows { IsConsistent host.new device.new.control }
     ensures home { (host.new.addr ≡ host.old.addr) × (device.new.addr ≡ device.old.addr) }
     ensures layout { (core_of device.new).layout ≡ (core_of device.old).layout }

@@ -5,13 +5,13 @@ ghost use Rattle.hid_bus.specs.Rounds.{Frame as FrameStep};
 ghost use Rattle.hid_host.specs.declared.fault.StackFault.{StackFault};
 ghost use Rattle.hid_stack.specs.Attaching.{Attaches, IsAttached, Finds};
 ghost use Rattle.hid_stack.specs.ExpectedToggles.{HostsExpectParity};
-ghost use Rattle.hid_stack.specs.Headline.{DeliversChanges, DevicesLive, KeepsToRounds};
+ghost use Rattle.hid_stack.specs.Headline.{DeliversChanges, DevicesFollowHistories, KeepsToRounds};
 ghost use Rattle.hid_stack.specs.Members.{Scheduled, member_after};
-ghost use Rattle.hid_stack.specs.Rig.{AreScheduled, FitsStep, NoneIsRefused, member_at, bus_after, deliveries_of_step, bus_after_all, bus_after_done, deliveries_of_steps, steps_done, refusal, bus_after_refusal, bus_after_stop, IsRefusal, StopsAt, HasRoomAt, HasRoomFor, MakesNoRoom, max_events_of_step, max_events_of_steps, IsIsolated};
-ghost use Rattle.hid_stack.specs.Accessors.{GivesOf, ShowsDevice, ShowsHost, ShowsTransfer};
-ghost use Rattle.hid_stack.specs.Steps.{TellsNothingUnready, device_of_step};
-ghost use Rattle.hid_stack.specs.Sums.{ConfiguresBetweenRounds, OnlyHaltsAbort, SumsUp};
-ghost use Rattle.hid_stack.specs.StepResult.{Tells};
+ghost use Rattle.hid_stack.specs.Rig.{AreScheduled, FitsStep, NoneIsRefused, member_at, bus_after, deliveries_of_step, bus_after_all, bus_after_done, deliveries_of_steps, steps_done, refusal, bus_after_refusal, bus_after_stop, IsRefusal, StopsAt, HasRoomAt, HasRoomFor, NeedsNoRoom, max_events_of_step, max_events_of_steps, IsIsolated};
+ghost use Rattle.hid_stack.specs.Accessors.{MemberGives, ShowsDevice, ShowsHost, ShowsTransfer};
+ghost use Rattle.hid_stack.specs.Steps.{UnreadyDeliversNothing, device_of_step};
+ghost use Rattle.hid_stack.specs.Sums.{ConfiguresBetweenRounds, ConservesMotion, OnlyHaltsAbort};
+ghost use Rattle.hid_stack.specs.StepResult.{StepReturns};
 
 use crate::fault::RunFault;
 use crate::slot::Slot;
@@ -123,7 +123,7 @@ impl Rig {
     /// # Errors
     /// [`StackFault::NoDevice`] where no device has this number.
     pub fn device(&self, dev: u8) -> Result<&Device, StackFault>
-        ensures shows { IfOk result (λ device. GivesOf ShowsDevice self.now dev device.now) }
+        ensures shows { IfOk result (λ device. MemberGives ShowsDevice self.now dev device.now) }
         ensures none { IfErr result (λ fault. (fault ≡ StackFault.NoDevice)
             × (member_at self.now dev ≡ None)) }
     {
@@ -136,7 +136,7 @@ impl Rig {
     /// # Errors
     /// [`StackFault::NoDevice`] where no device has this number.
     pub fn host(&self, dev: u8) -> Result<&HostDevice, StackFault>
-        ensures shows { IfOk result (λ host. GivesOf ShowsHost self.now dev host.now) }
+        ensures shows { IfOk result (λ host. MemberGives ShowsHost self.now dev host.now) }
         ensures none { IfErr result (λ fault. (fault ≡ StackFault.NoDevice)
             × (member_at self.now dev ≡ None)) }
     {
@@ -167,16 +167,17 @@ impl Rig {
     /// [`StackFault::Memory`]. Of a try [`StackFault::Control`] where no transfer runs; then [`StackFault::Memory`], where a
     /// request to halt or to clear runs and there is no room for what it may drop: nothing is sent, and the transfer goes on;
     /// else where a layout or a view finds none.
-    #[inline(always)] // a caller that knows the sort of its step pays for no other
+    #[inline(always)] // so that a caller with a known kind of step compiles only that kind
     pub fn step(&mut self, step: &Step, out: &mut Vec<Delivered>) -> Result<Told, StackFault>
-        // What a step tells, where the bus stands after it, and what it delivers.
-        ensures told { IfOk result (λ told. Tells self.old step.now told) }
+        // What a step returns, the bus after it, and what it delivers.
+        ensures told { IfOk result (λ told. StepReturns self.old step.now told) }
         ensures after { OnOk result (self.new ≡ bus_after self.old step.now) }
         ensures events { OnOk result (out.new.items
             ≡ out.old.items ++ deliveries_of_step self.old step.now) }
 
-        // A host that isn't ready has told nothing, so a reset takes nothing back, and no other step of its device tells.
-        ensures unready { TellsNothingUnready self.old step.now out.old.items out.new.items }
+        // A host that isn't ready has reported nothing, so a reset takes nothing back, and no other step of its device
+        // delivers anything.
+        ensures unready { UnreadyDeliversNothing self.old step.now out.old.items out.new.items }
 
         // The ID, the time and the report of a request that begins fit its setup.
         ensures fits { IfOk result (λ _. FitsStep step.now) }
@@ -187,7 +188,8 @@ impl Rig {
         ensures err { IfErr result (λ e. self.new ≡ bus_after_refusal self.old step.now e) }
         ensures err_events { OnErr result (out.new.items ≡ out.old.items) }
 
-        // A configuration takes effect between the rounds of its device, and only a request to halt or to clear ends one.
+        // A configuration takes effect between the rounds of its device. Of all tries, only those of a request to halt or to
+        // clear end a round.
         ensures between { ConfiguresBetweenRounds self.old (step.now ∷ []) }
         ensures aborts { OnlyHaltsAbort self.old step.now }
 
@@ -198,7 +200,7 @@ impl Rig {
         ensures few { vec_len out.new ≤ vec_len out.old + max_events_of_step self.old step.now }
         ensures capacity { vec_capacity out.old ≤ vec_capacity out.new }
         // A change and a frame take no memory: the room for what is delivered stays, and so does all that a rig keeps.
-        ensures keeps { MakesNoRoom step.now → vec_capacity out.new ≡ vec_capacity out.old }
+        ensures keeps { NeedsNoRoom step.now → vec_capacity out.new ≡ vec_capacity out.old }
     {
         match device_of(step) {
             None => {
@@ -207,7 +209,7 @@ impl Rig {
             }
             Some(dev) => {
                 let i = self.place(dev)?;
-                // For the prover: a host that isn't ready has told nothing.
+                // For the prover: a host that isn't ready has reported nothing.
                 let _ = self.slots[i].host();
 
                 self.slots[i].step(step, out)
@@ -231,10 +233,10 @@ impl Rig {
         ensures rounds { KeepsToRounds self.old (steps_done result steps.now)
             (bus_after_done self.old result steps.now) }
 
-        // A device without an open round delivers what its history says, whatever happens to it: a configuration that
-        // takes effect begins its rounds, its toggles and its view again, and so does a reset, which tells what changes
-        // with it; a halt and a clear end the open round, whose report is due then, and a clear begins the toggles again.
-        ensures lives { DevicesLive self.old (steps_done result steps.now)
+        // A device without an open round delivers what its history says, whatever happens to it. A configuration that takes
+        // effect restarts its rounds, its toggles and its view, and so does a reset, which delivers the changes of the view.
+        // A halt and a clear end the open round, whose report is due then, and a clear restarts the toggles.
+        ensures history { DevicesFollowHistories self.old (steps_done result steps.now)
             (bus_after_done self.old result steps.now) out.old.items out.new.items }
 
         // The toggle of each host: while it may poll, also while the endpoint is halted, it expects the parity of the
@@ -245,7 +247,7 @@ impl Rig {
         // Each device and what is delivered of it is a function of its own steps. Motion is neither lost nor doubled.
         ensures isolated { IsIsolated self.old (bus_after_done self.old result steps.now)
             (steps_done result steps.now) out.old.items out.new.items }
-        ensures conserves { SumsUp self.old self.new (steps_done result steps.now)
+        ensures conserves { ConservesMotion self.old self.new (steps_done result steps.now)
             out.old.items out.new.items }
 
         // What the steps that were done delivered. Each request that began fits its setup.

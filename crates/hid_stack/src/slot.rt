@@ -8,23 +8,22 @@ ghost use Rattle.hid_bus.specs.Motion.{HasMotions};
 ghost use Rattle.hid_bus.specs.Rounds.{Polls, Changes as ChangeStep, Frame as FrameStep};
 ghost use Rattle.hid_device.specs.declared.config.Config.{Config as ConfigValue};
 ghost use Rattle.hid_device.specs.Core.{IsSound};
-ghost use Rattle.hid_requests.specs.Fault.{is_memory};
 ghost use Rattle.hid_device.specs.Creation.{MakesDevice, Refuses};
 ghost use Rattle.usb_packet.specs.declared.packet.TheConstants.{MAX_ADDRESS as GREATEST};
 ghost use Rattle.hid_requests.specs.RequestSetup.{FitsRequest};
-ghost use Rattle.hid_stack.specs.Attaching.{Suits, IsNoPair, device_refusal, member_at_start};
+ghost use Rattle.hid_stack.specs.Attaching.{CanAttach, IsAttachFault, device_refusal, member_at_start};
 ghost use Rattle.hid_host.specs.declared.fault.StackFault.{StackFault as Refusal};
 ghost use Rattle.hid_host.specs.Host.{may_abort_round, running};
 ghost use Rattle.hid_host.specs.declared.phase.HostState.TheVariants.{Ready as ReadyState};
 ghost use Rattle.hid_stack.specs.Members.{Member, Scheduled, Begins, Controls, Halts, Resets, begin_refusal_at, cold_member, bus_event_of_step, events_of_event_if, fresh_member, member_after, polls_it};
 ghost use Rattle.hid_stack.specs.HostInvariant.{IsConsistent};
-ghost use Rattle.hid_stack.specs.Slot.{StandTogether, TriesTransfer, pair_member};
+ghost use Rattle.hid_stack.specs.Slot.{AreConsistentEnds, TriesTransfer, pair_member};
 ghost use Rattle.hid_bus.specs.declared.step.Told.TheVariants as Tellings;
-ghost use Rattle.hid_stack.specs.Rig.{HasRoomToTry, MakesNoRoom, max_events_of_try, member_at, poll_refusal, with_device_number, with_member};
-ghost use Rattle.hid_stack.specs.Steps.{IsUntold, StepsTo, device_of_step};
+ghost use Rattle.hid_stack.specs.Rig.{HasRoomToTry, NeedsNoRoom, max_events_of_try, member_at, poll_refusal, with_device_number, with_member};
+ghost use Rattle.hid_stack.specs.Steps.{HasReportedNothing, StepsTo, device_of_step};
 ghost use Rattle.hid_stack.specs.Sums.{AbortsByRequest, IsBetween};
 ghost use Rattle.hid_stack.specs.Accessors.{ShowsDevice, ShowsHost};
-ghost use Rattle.hid_stack.specs.StepResult.{TellsPoll};
+ghost use Rattle.hid_stack.specs.StepResult.{PollReturns};
 
 use crate::halts::halt_pair;
 use crate::polls::poll_pair;
@@ -33,8 +32,8 @@ use crate::transfers::control_pair;
 use hid_bus::{Delivered, Start, Step, Told};
 use hid_device::{Config, Device, DeviceCause, DeviceFault};
 use hid_host::{DescriptorFault, HostDevice, StackFault};
+use hid_layout::Layout;
 use hid_layout::laws::{accepted_or_refused, one_reading};
-use hid_layout::{Cause, Layout};
 use hid_requests::Request;
 use hid_snapshots::{Change, ChangeFault, Event};
 use std::alloc::Global;
@@ -58,13 +57,13 @@ impl Model for Slot {
     ghost use Rattle.hid_layout.specs.Controls.{items_of, max_events};
     ghost use Rattle.hid_stack.specs.HostInvariant.{IsConsistent};
     ghost use Rattle.hid_stack.specs.Members.{Member};
-    ghost use Rattle.hid_stack.specs.Slot.{StandTogether, pair_member};
+    ghost use Rattle.hid_stack.specs.Slot.{AreConsistentEnds, pair_member};
 
     ghost Value = { Member };
 
     ghost view = { λ s. pair_member s.device s.host };
 
-    ghost invariant = { λ s. StandTogether s.device s.host.clearing s.host.phase
+    ghost invariant = { λ s. AreConsistentEnds s.device s.host.clearing s.host.phase
         × IsConsistent s.host s.device.control
         × (s.host.addr ≡ s.device.addr)
         × (vec_capacity s.events ≡ max_events (items_of s.device.control.requests.layout))
@@ -72,14 +71,14 @@ impl Model for Slot {
 }
 
 /// The fault of a rig that can't make a device.
-fn no_device(fault: DeviceFault) -> StackFault
+fn attach_fault(fault: DeviceFault) -> StackFault
     ensures told { result ≡ device_refusal fault }
     ensures explained { (addr : ℕ) (config : ConfigValue) (bytes : List ℕ)
-        → Refuses addr config bytes fault.cause fault.at → IsNoPair addr config bytes result }
+        → Refuses addr config bytes fault.cause fault.at → IsAttachFault addr config bytes result }
 {
     let is_memory = match fault.cause {
         DeviceCause::Memory => true,
-        DeviceCause::Layout(cause) => is_out_of_memory(cause),
+        DeviceCause::Layout(cause) => cause.is_memory(),
         DeviceCause::BadConfig | DeviceCause::NoEmptyCode | DeviceCause::RelativeWithoutZero =>
             false,
     };
@@ -87,15 +86,6 @@ fn no_device(fault: DeviceFault) -> StackFault
         StackFault::Memory
     } else {
         StackFault::BadDescriptor(DescriptorFault::Device(fault))
-    }
-}
-
-fn is_out_of_memory(cause: Cause) -> bool
-    ensures { result ≡ is_memory cause }
-{
-    match cause {
-        Cause::Memory => true,
-        _ => false,
     }
 }
 
@@ -109,7 +99,7 @@ fn new_device(
     ensures made { IfOk result (λ device. MakesDevice addr config.now descriptor.now (Ok device)) }
     ensures sound { IfOk result (λ device. IsSound (core_of device)) }
     ensures address { IfOk result (λ _. (0 < addr) × (addr ≤ GREATEST)) }
-    ensures refused { IfErr result (λ fault. IsNoPair addr config.now descriptor.now fault) }
+    ensures refused { IfErr result (λ fault. IsAttachFault addr config.now descriptor.now fault) }
 {
     match Device::new(alloc, addr, config, descriptor) {
         Ok(device) => {
@@ -118,7 +108,7 @@ fn new_device(
 
             Ok(device)
         }
-        Err(fault) => Err(no_device(fault)),
+        Err(fault) => Err(attach_fault(fault)),
     }
 }
 
@@ -139,9 +129,9 @@ impl Slot {
         start: Start,
     ) -> Result<Slot, StackFault>
         ensures begins { IfOk result (λ slot. (layout : Contents)
-            × Suits addr config.now descriptor.now layout
+            × CanAttach addr config.now descriptor.now layout
             × (slot ≡ member_at_start start addr config.now descriptor.now layout)) }
-        ensures refused { IfErr result (λ fault. IsNoPair addr config.now descriptor.now fault) }
+        ensures refused { IfErr result (λ fault. IsAttachFault addr config.now descriptor.now fault) }
     {
         match start {
             Start::Ready => Slot::ready(alloc, addr, config, descriptor),
@@ -157,9 +147,9 @@ impl Slot {
         descriptor: &[u8],
     ) -> Result<Slot, StackFault>
         ensures ready { IfOk result (λ slot. (layout : Contents)
-            × Suits addr config.now descriptor.now layout
+            × CanAttach addr config.now descriptor.now layout
             × (slot ≡ fresh_member addr config.now descriptor.now layout)) }
-        ensures refused { IfErr result (λ fault. IsNoPair addr config.now descriptor.now fault) }
+        ensures refused { IfErr result (λ fault. IsAttachFault addr config.now descriptor.now fault) }
     {
         // For the prover: both ends read the descriptor in one way.
         one_reading();
@@ -183,9 +173,9 @@ impl Slot {
     /// A new device at this address, and a host that knows nothing of it yet.
     fn cold(alloc: Global, addr: u8, config: &Config, descriptor: &[u8]) -> Result<Slot, StackFault>
         ensures cold { IfOk result (λ slot. (layout : Contents)
-            × Suits addr config.now descriptor.now layout
+            × CanAttach addr config.now descriptor.now layout
             × (slot ≡ cold_member addr config.now descriptor.now layout)) }
-        ensures refused { IfErr result (λ fault. IsNoPair addr config.now descriptor.now fault) }
+        ensures refused { IfErr result (λ fault. IsAttachFault addr config.now descriptor.now fault) }
     {
         let device = new_device(alloc, addr, config, descriptor)?;
         Slot::of(alloc, device, HostDevice::cold(alloc, addr))
@@ -193,7 +183,7 @@ impl Slot {
 
     /// A device and its host, with room for what a step of the two gives.
     fn of(alloc: Global, device: Device, host: HostDevice) -> Result<Slot, StackFault>
-        requires together { StandTogether device host.clearing host.phase }
+        requires together { AreConsistentEnds device host.clearing host.phase }
         requires knows { IsConsistent host device.control }
         requires home { host.addr ≡ device.addr }
         ensures joins { IfOk result (λ slot. slot ≡ pair_member device host) }
@@ -250,8 +240,8 @@ impl Slot {
     #[inline(always)] // as `Rig::step`
     pub(crate) fn host(&self) -> &HostDevice
         ensures shows { ShowsHost self.now result.now }
-        // A host that isn't ready has told nothing.
-        ensures unready { self.now.host ≢ ReadyState → IsUntold self.now }
+        // A host that isn't ready has reported nothing.
+        ensures unready { self.now.host ≢ ReadyState → HasReportedNothing self.now }
     {
         &self.host
     }
@@ -264,7 +254,7 @@ impl Slot {
             → StepsTo members (with_member members dev self.new) step.now result
             out.old.items out.new.items (vec_len out.old) (vec_len out.new)
             (vec_capacity out.old) (vec_capacity out.new) }
-        ensures keeps { MakesNoRoom step.now → vec_capacity out.new ≡ vec_capacity out.old }
+        ensures keeps { NeedsNoRoom step.now → vec_capacity out.new ≡ vec_capacity out.old }
         ensures motions { HasMotions (items_of self.old.layout) self.old.link
             → HasMotions (items_of self.new.layout) self.new.link }
     {
@@ -301,7 +291,7 @@ impl Slot {
         fate: Fate,
         out: &mut Vec<Delivered>,
     ) -> Result<Told, StackFault>
-        ensures told { IfOk result (λ told. TellsPoll self.old.layout self.old.link fate told) }
+        ensures told { IfOk result (λ told. PollReturns self.old.layout self.old.link fate told) }
         ensures after { OnOk result (self.new ≡ member_after self.old (Scheduled (Polls fate))) }
         ensures events { OnOk result (out.new.items
             ≡ out.old.items
@@ -328,7 +318,7 @@ impl Slot {
         Ok(told)
     }
 
-    /// The bus of the device is reset. The room for what this tells is reserved first.
+    /// The bus of the device is reset. The room for the events is reserved first.
     #[inline(never)]
     pub(crate) fn reset(&mut self, dev: u8, out: &mut Vec<Delivered>) -> Result<Told, StackFault>
         ensures told { IfOk result (λ told. told ≡ Tellings.Quiet) }

@@ -10,7 +10,7 @@ ghost use Rattle.hid_device.specs.Device.{core_of};
 ghost use Rattle.hid_host.specs.Host.{may_abort_round, running};
 ghost use Rattle.hid_stack.specs.HostInvariant.{IsConsistent};
 ghost use Rattle.hid_stack.specs.Members.{events_of_event_if, try_bus_event};
-ghost use Rattle.hid_stack.specs.Slot.{StandTogether, TriesOnPair, link_of, pair_member};
+ghost use Rattle.hid_stack.specs.Slot.{AreConsistentEnds, TriesOnPair, link_of, pair_member};
 ghost use Rattle.hid_stack.specs.StepResult.{awaited_of, drops_after_try};
 ghost use Rattle.hid_stack.specs.Sums.{AbortsByRequest, IsBetween};
 
@@ -22,15 +22,15 @@ use hid_snapshots::Event;
 use usb_control::Progress;
 use usb_transact::Fate;
 
-/// A try of the transfer of a host. Where it ends the open round of the device, the motion of it that the host hasn't got is
-/// told as dropped.
+/// A try of the transfer of a host. If it ends the open round of the device, the motion that the host hasn't got is appended
+/// as dropped.
 pub(crate) fn control_pair(
     fate: Fate,
     device: &mut Device,
     host: &mut HostDevice,
     events: &mut Vec<Event>,
 ) -> Result<Progress, StackFault>
-    requires together { StandTogether device.old host.old.clearing host.old.phase }
+    requires together { AreConsistentEnds device.old host.old.clearing host.old.phase }
     requires knows { IsConsistent host.old device.old.control }
     requires home { host.old.addr ≡ device.old.addr }
     requires room { max_events (items_of (core_of device.old).layout) ≤ vec_capacity events.old }
@@ -41,7 +41,7 @@ pub(crate) fn control_pair(
         (try_bus_event fate (pair_member device.old host.old) (running host.old.transfer)) }
     ensures aborts { AbortsByRequest fate (pair_member device.old host.old)
         (running host.old.transfer) }
-    ensures together { StandTogether device.new host.new.clearing host.new.phase }
+    ensures together { AreConsistentEnds device.new host.new.clearing host.new.phase }
     ensures knows { IsConsistent host.new device.new.control }
     ensures home { (host.new.addr ≡ host.old.addr) × (device.new.addr ≡ device.old.addr) }
     ensures layout { (core_of device.new).layout ≡ (core_of device.old).layout }
@@ -62,13 +62,13 @@ pub(crate) fn control_pair(
     // For the prover: what holds of every device.
     is_sound(device);
 
-    tell_dropped(awaited, device, host, events);
+    push_dropped_motion(awaited, device, host, events);
     result
 }
 
 /// The report of the open round of a device, where its host hasn't got all of its data.
 fn awaited_round(device: &Device, host: &HostDevice) -> Option<usize>
-    requires together { StandTogether device.now host.now.clearing host.now.phase }
+    requires together { AreConsistentEnds device.now host.now.clearing host.now.phase }
     requires knows { IsConsistent host.now device.now.control }
     ensures awaited { result ≡ awaited_of (link_of (core_of device.now) host.now.phase) }
     ensures input { IfSome result (λ report. IsInput (core_of device.now).layout report) }
@@ -80,9 +80,14 @@ fn awaited_round(device: &Device, host: &HostDevice) -> Option<usize>
     host.awaited_report(device.open_round(), device.piece())
 }
 
-/// Tells what a try dropped: the motion of the round that was awaited before it, where none is open any more.
-fn tell_dropped(awaited: Option<usize>, device: &Device, host: &HostDevice, events: &mut Vec<Event>)
-    requires together { StandTogether device.now host.now.clearing host.now.phase }
+/// Appends what a try dropped: the motion of the round that was awaited before it, if no round is open any more.
+fn push_dropped_motion(
+    awaited: Option<usize>,
+    device: &Device,
+    host: &HostDevice,
+    events: &mut Vec<Event>,
+)
+    requires together { AreConsistentEnds device.now host.now.clearing host.now.phase }
     requires input { IfSome awaited (λ report. IsInput (core_of device.now).layout report) }
     requires room { max_events (items_of (core_of device.now).layout) ≤ vec_capacity events.old }
     ensures events { events.new.items ≡ drops_after_try awaited (round_of (core_of device.now))
@@ -92,7 +97,7 @@ fn tell_dropped(awaited: Option<usize>, device: &Device, host: &HostDevice, even
 {
     events.clear();
     match (awaited, device.open_round()) {
-        (Some(report), None) => host.tell_drops(report, device.fixed(), events),
+        (Some(report), None) => host.report_drops(report, device.fixed(), events),
         (Some(_), Some(_)) | (None, _) => {}
     }
 }

@@ -4,14 +4,14 @@ use Rattle.std.specs.Prelude.{◌==◌, slice_get, codes}
 use Rattle.std.specs.List.{flat_map}
 use Rattle.std.proofs.lemmas.List.{flat_map_more, take_more, take_all}
 use Rattle.std.specs.declared.alloc.AllocError.{AllocError}
-use Rattle.hid_descriptor.specs.declared.collection.Collection.{Collection}
-use Rattle.hid_descriptor.specs.declared.report.Report.{Report}
-use Rattle.hid_descriptor.specs.Usages.{Entry}
+use Rattle.hid_report_descriptor.specs.declared.collection.Collection.{Collection}
+use Rattle.hid_report_descriptor.specs.declared.report.Report.{Report}
+use Rattle.hid_report_descriptor.specs.Usages.{Entry}
 use Rattle.hid_layout.specs.declared.main_item.MainItem.{MainItem}
 use Rattle.hid_layout.specs.Layout.{Contents}
 use Rattle.hid_layout.specs.Reports.{IsLayout, report_bytes}
 use Rattle.hid_notation.specs.Text.{concat_below}
-use Rattle.hid_text.specs.LayoutText.{report_line, report_at, item_line, item_at, collection_text, path_text, layout_lines}
+use Rattle.hid_text.specs.LayoutText.{report_line, report_text_at, item_line, item_text_at, collection_text, path_text, layout_lines}
 use Rattle.hid_text.proofs.ValueLemmas.{same_stands}
 
 -- one line more after those that stand
@@ -36,15 +36,16 @@ path_whole (collection ∷ inner) i old new some all is =
 
 -- a layout's lines are those of its reports and of its items
 pub lines_whole : (layout : Contents) (n : ℕ) (old new : List ℕ) → n ≡ length layout.items
-    → new ≡ (old ++ concat_below (length layout.reports) (λ r. report_at layout r (slice_get layout.reports r)))
-    ++ concat_below n (λ i. item_at layout i (slice_get layout.items i))
+    → new ≡ (old ++ concat_below (length layout.reports) (λ r. report_text_at layout r (slice_get layout.reports r)))
+    ++ concat_below n (λ i. item_text_at layout i (slice_get layout.items i))
     → new ≡ old ++ layout_lines layout
 unfolding layout_lines
 lines_whole layout n old new all is = is ∙ rw all (append_assoc old _ _)
 
 -- what was added is the report's line
 pub report_printed : (layout : Contents) (i size : ℕ) (reports : List Report) (e : Report) (r : Result (Unit {0}) AllocError) (old new : List ℕ) → reports ≡ layout.reports → i < length layout.reports → size ≡ report_bytes layout i
-    → OnOk r (new ≡ old ++ report_line (get_or reports i e) size) → OnOk r (new ≡ old ++ report_at layout i (slice_get layout.reports i))
+    → OnOk r (new ≡ old ++ report_line (get_or reports i e) size)
+    → OnOk r (new ≡ old ++ report_text_at layout i (slice_get layout.reports i))
 report_printed layout i size reports e r old new same below is h = rw (same_stands layout.reports reports i e same below, ← is) h
 
 -- an item's report is there
@@ -55,7 +56,7 @@ report_of_item layout i items d laid is below = laid.report_there i (get_or item
 pub item_printed : (layout : Contents) (i : ℕ) (items : List MainItem) (d : MainItem) (reports : List Report) (e : Report) (entries : List Entry) (path : List Collection) (r : Result (Unit {0}) AllocError) (old new : List ℕ)
     → IsLayout layout → items ≡ layout.items → reports ≡ layout.reports → i < length layout.items → slice_get layout.entries i ≡ Some entries → slice_get layout.paths i ≡ Some path
     → OnOk r (new ≡ old ++ item_line i (get_or reports (get_or items i d).report e) (get_or items i d) entries path)
-    → OnOk r (new ≡ old ++ item_at layout i (slice_get layout.items i))
+    → OnOk r (new ≡ old ++ item_text_at layout i (slice_get layout.items i))
 item_printed layout i items d reports e entries path r old new laid is same below stands ends h =
     let at = same_stands layout.items items i d is below in
     let in_report = same_stands layout.reports reports (get_or items i d).report e same (report_of_item layout i items d laid is below) in

@@ -1,7 +1,7 @@
 -- Worked values of words, each by hand.
 use Rattle.std.proofs.Common.{◌≡◌, [], ◌∷◌, ◌++◌, Ok, Err, refl}
 use Rattle.std.specs.Prelude.{codes, replicate}
-use Rattle.hid_descriptor.specs.declared.report.ReportKind.TheVariants.{Output}
+use Rattle.hid_report_descriptor.specs.declared.report.ReportKind.TheVariants.{Output}
 use Rattle.hex.specs.Hex.{decode_pairs}
 use Rattle.hid_requests.specs.declared.request.Request.TheVariants.{Clear, Configure, EndpointStatus, Idle, SetReport}
 use Rattle.hid_text.specs.declared.fault.LineFault.TheVariants.{Syntax}

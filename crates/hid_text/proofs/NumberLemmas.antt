@@ -13,7 +13,7 @@ use Rattle.std.proofs.lemmas.List.{take_all, length-drop}
 use Rattle.std.proofs.lemmas.Int.{to_z_pos, to_z-of_z}
 use Rattle.std.proofs.lemmas.Bool.{cases_lt, and_from, and_parts, lt-ltb, ltb-true, cond-true, cond-false, eq-eqb, ne_eqb}
 use native.Mathlib.Nat.{mul-suc}
-use Rattle.hid_text.specs.Numbers.{number_of, hex_number_of, is_colon, usage_from, usage_at, usage_of, short_number_of, signed_of}
+use Rattle.hid_text.specs.Numbers.{number_of, hex_number_of, is_colon, usage_from, usage_at, usage_of_word, short_number_of, signed_of_word}
 
 grows : (n b : ℕ) → 1 ≤ b → n ≤ n * b
 grows n zero some = absurd (omega arith)
@@ -39,14 +39,14 @@ all_digits : (base : ℕ) (word : List ℕ) → list_all (λ c. nat_lt (digit_va
 all_digits base [] all = tt
 all_digits base (c ∷ word) all = let parts = and_parts _ _ all in (ltb-true _ _ parts.0, all_digits base word parts.1)
 
-spelled : (b : Bool) (v n : ℕ) → cond b (Some v) None ≡ Some n → (b ≡ true) × (v ≡ n)
-spelled true v n e = (refl, cc)
-spelled false v n e = cc
+encoded : (b : Bool) (v n : ℕ) → cond b (Some v) None ≡ Some n → (b ≡ true) × (v ≡ n)
+encoded true v n e = (refl, cc)
+encoded false v n e = cc
 
 number_below : (base : ℕ) (word : List ℕ) (n : ℕ) → number_of base word ≡ Some n → n < base ^ length word
 unfolding number_of
 number_below base word n e =
-    let found = spelled _ _ _ e in
+    let found = encoded _ _ _ e in
     subst (λ m. m < base ^ length word) found.1 (digits_value-lt base word (all_digits base word (and_parts _ _ found.0).1))
 
 cut_number : (o : Option ℕ) (m bound value : ℕ) → ((n : ℕ) → o ≡ Some n → n < bound) → bound ≤ m → option_map (λ n. min n m) o ≡ Some value → (o ≡ Some value) × (value < bound)
@@ -82,15 +82,18 @@ short_minus n small =
     ap (λ z. to_z w64 (of_z w64 z)) is ∙ to_z-of_z w64 (neg_ℤ (pos n)) (minus_fits n small)
 
 -- the digits after a minus
-pub minus_number : (word : List ℕ) (digits : Option ℕ) → 1 ≤ length word → get_or word 0 0 ≡ 45 → digits ≡ short_number_of (take (length word - 1) (drop 1 word)) → option_map (λ n. neg_ℤ (pos n)) digits ≡ signed_of word
-unfolding signed_of
+pub minus_number : (word : List ℕ) (digits : Option ℕ) → 1 ≤ length word → get_or word 0 0 ≡ 45
+    → digits ≡ short_number_of (take (length word - 1) (drop 1 word))
+    → option_map (λ n. neg_ℤ (pos n)) digits ≡ signed_of_word word
+unfolding signed_of_word
 minus_number [] digits some first is = absurd (omega arith)
 minus_number (c ∷ word) digits some first is =
     ap (option_map (λ n. neg_ℤ (pos n))) (is ∙ ap short_number_of (take_all (length (c ∷ word) - 1) word (omega arith))) ∙ sym (cond-true (nat_eq c 45) _ _ (eq-eqb c 45 first))
 
 -- digits without one
-pub plain_number : (word : List ℕ) (digits : Option ℕ) → 1 ≤ length word → (get_or word 0 0 ≡ 45 → ⊥) → digits ≡ short_number_of word → option_map pos digits ≡ signed_of word
-unfolding signed_of
+pub plain_number : (word : List ℕ) (digits : Option ℕ) → 1 ≤ length word → (get_or word 0 0 ≡ 45 → ⊥)
+    → digits ≡ short_number_of word → option_map pos digits ≡ signed_of_word word
+unfolding signed_of_word
 plain_number [] digits some other is = absurd (omega arith)
 plain_number (c ∷ word) digits some other is = ap (option_map pos) is ∙ sym (cond-false (nat_eq c 45) _ _ (ne_eqb c 45 other))
 
@@ -98,13 +101,15 @@ plain_number (c ∷ word) digits some other is = ap (option_map pos) is ∙ sym 
 
 -- what stands on the two sides of a colon
 pub usage_parts : (word : List ℕ) (colon : ℕ) (page id : Option ℕ) → position is_colon word ≡ Some colon → page ≡ hex_number_of (take colon word)
-    → id ≡ hex_number_of (take (length word - (colon + 1)) (drop (colon + 1) word)) → usage_from page id ≡ usage_of word
-unfolding usage_of
+    → id ≡ hex_number_of (take (length word - (colon + 1)) (drop (colon + 1) word))
+    → usage_from page id ≡ usage_of_word word
+unfolding usage_of_word
 usage_parts word colon page id at before behind =
     ap (usage_from page) (behind ∙ ap hex_number_of (take_all (length word - (colon + 1)) (drop (colon + 1) word) (omega (arith, length-drop (colon + 1) word))))
     ∙ ap (λ p. usage_from p (hex_number_of (drop (colon + 1) word))) before ∙ sym (ap (usage_at word) at)
 
 -- no number before it
-pub no_page : (word : List ℕ) (colon : ℕ) → position is_colon word ≡ Some colon → None ≡ hex_number_of (take colon word) → None ≡ usage_of word
-unfolding usage_of
+pub no_page : (word : List ℕ) (colon : ℕ) → position is_colon word ≡ Some colon
+    → None ≡ hex_number_of (take colon word) → None ≡ usage_of_word word
+unfolding usage_of_word
 no_page word colon at none = ap (λ p. usage_from p (hex_number_of (drop (colon + 1) word))) none ∙ sym (ap (usage_at word) at)

@@ -6,15 +6,15 @@ use Rattle.std.specs.Option.{option_map}
 use Rattle.std.specs.Fmt.{decimal, signed_decimal}
 use Rattle.std.proofs.lemmas.List.{map-append}
 use Rattle.std.proofs.lemmas.Bool.{cond_both, eqb-true}
-use Rattle.hid_descriptor.specs.declared.collection.Collection.{Collection}
-use Rattle.hid_descriptor.specs.declared.report.Report.{Report}
-use Rattle.hid_descriptor.specs.declared.report.ReportKind.{ReportKind}
-use Rattle.hid_descriptor.specs.declared.report.ReportKind.TheVariants.{Input, Output, Feature}
-use Rattle.hid_descriptor.specs.declared.shape.Shape.{Shape}
-use Rattle.hid_descriptor.specs.declared.shape.Shape.TheVariants.{Padding, Variable, Array}
-use Rattle.hid_descriptor.specs.declared.usage.Usage.{Usage}
-use Rattle.hid_descriptor.specs.Flags.{has_flag, RELATIVE, NULL_STATE}
-use Rattle.hid_descriptor.specs.Usages.{Entry, usage_list}
+use Rattle.hid_report_descriptor.specs.declared.collection.Collection.{Collection}
+use Rattle.hid_report_descriptor.specs.declared.report.Report.{Report}
+use Rattle.hid_report_descriptor.specs.declared.report.ReportKind.{ReportKind}
+use Rattle.hid_report_descriptor.specs.declared.report.ReportKind.TheVariants.{Input, Output, Feature}
+use Rattle.hid_report_descriptor.specs.declared.shape.Shape.{Shape}
+use Rattle.hid_report_descriptor.specs.declared.shape.Shape.TheVariants.{Padding, Variable, Array}
+use Rattle.hid_report_descriptor.specs.declared.usage.Usage.{Usage}
+use Rattle.hid_report_descriptor.specs.Flags.{has_flag, RELATIVE, NULL_STATE}
+use Rattle.hid_report_descriptor.specs.Usages.{Entry, usage_list}
 use Rattle.hid_layout.specs.declared.main_item.Element.{Element}
 use Rattle.hid_layout.specs.declared.main_item.MainItem.{MainItem}
 use Rattle.hid_layout.specs.Layout.{Contents}
@@ -28,7 +28,7 @@ use Rattle.usb_control.specs.declared.host.Progress.{Progress}
 use Rattle.usb_control.specs.declared.host.Progress.TheVariants.{Running, Done, Failed}
 use Rattle.usb_packet.specs.declared.packet.TheConstants.{MAX_PAYLOAD}
 use Rattle.usb_packet.specs.declared.packet.Packet.TheVariants as packets
-use Rattle.usb_packet.specs.Spelling.{data_pid, pid_of}
+use Rattle.usb_packet.specs.PacketEncoding.{data_pid, pid_of}
 use Rattle.usb_transact.specs.declared.host.Took.{Took}
 use Rattle.usb_transact.specs.declared.host.Took.TheVariants as host
 use Rattle.hid_bus.specs.declared.step.Step.{Step}
@@ -39,13 +39,13 @@ use Rattle.hid_bus.specs.declared.step.Delivered.{Delivered}
 use Rattle.hid_bus.specs.Delivered.{from_device}
 use Rattle.hid_bus.proofs.DeliveredLemmas.{from_append}
 use Rattle.hid_notation.specs.Text.{bytes_text, usage_or_dash, range_text, concat_below}
-use Rattle.hid_text.specs.EventLines.{AreFew, ShowsEvents, is_event_line, event_lines}
+use Rattle.hid_text.specs.EventLines.{HaveOneDigit, ShowsEvents, is_event_line, event_lines}
 use Rattle.hid_text.specs.EventText.{event_text}
-use Rattle.hid_text.specs.LayoutText.{kind_word, report_name, report_line, shape_word, range_words, entries_text, details_text, collection_text, path_text, item_head, item_line, report_at, item_in, item_at, layout_lines, layout_text}
+use Rattle.hid_text.specs.LayoutText.{kind_word, report_name, report_line, shape_word, range_words, entries_text, details_text, collection_text, path_text, item_head, item_line, report_text_at, item_in, item_text_at, layout_lines, layout_text}
 use Rattle.hid_text.specs.PollText.{reply_at, reply_words, reply_text, verdict_word, poll_text}
-use Rattle.hid_text.specs.StepText.{told_text, events_text, step_text}
+use Rattle.hid_text.specs.StepText.{result_text, events_text, step_text}
 use Rattle.hid_text.specs.TransferText.{progress_words, progress_text, transfer_text}
-use Rattle.hid_text.specs.ValuesText.{usage_shown, value_line, element_line, value_in, value_at, values_in, values_at, values_text}
+use Rattle.hid_text.specs.ValuesText.{usage_shown, value_line, element_line, value_text_in, value_at, values_in, values_at, values_text}
 use Rattle.hid_text.proofs.EventLineLemmas.{event_is_of, has_word, other_start, other_word}
 use Rattle.hid_text.proofs.LineLemmas.{plain_first}
 use Rattle.hid_text.proofs.PlainLemmas.{is_plain, plain_both, plain_flat, plain_decimal, plain_signed, plain_bytes, plain_usage_or_dash, plain_range, plain_event}
@@ -93,7 +93,7 @@ shows_event d few dev rest =
     ∙ ap (λ b. cond b (event_text d.dev d.event ∷ event_lines dev rest) (event_lines dev rest)) (event_is_of dev d.dev d.event few)
     ∙ by_number dev d.dev d.event (event_lines dev rest) (nat_eq d.dev dev) refl
 
-shows_events : (ds : List Delivered) → AreFew ds → ShowsEvents (events_text ds) ds
+shows_events : (ds : List Delivered) → HaveOneDigit ds → ShowsEvents (events_text ds) ds
 shows_events [] few = shows_nothing
 shows_events (d ∷ ds) few = shows_both (event_text d.dev d.event ++ 10 ∷ []) (events_text ds) (d ∷ []) ds (shows_event d few.0) (shows_events ds few.1)
 
@@ -182,7 +182,7 @@ shows_item i report item entries path =
     (plain_both (head ++ details) (path_text path) (plain_both head details (plain_head i report item) (plain_details item.shape item entries)) (plain_path path))
     (λ dev. starts_as_item dev i report item details (path_text path))
 
-shows_report_at : (layout : Contents) (r : ℕ) (o : Option Report) → ShowsEvents (report_at layout r o) []
+shows_report_at : (layout : Contents) (r : ℕ) (o : Option Report) → ShowsEvents (report_text_at layout r o) []
 shows_report_at layout r None = shows_nothing
 shows_report_at layout r (Some report) = shows_report report (report_bytes layout r)
 
@@ -192,17 +192,19 @@ shows_item_in layout i item None entries path = shows_nothing
 shows_item_in layout i item (Some report) None path = shows_nothing
 shows_item_in layout i item (Some report) (Some entries) None = shows_nothing
 
-shows_item_at : (layout : Contents) (i : ℕ) (o : Option MainItem) → ShowsEvents (item_at layout i o) []
+shows_item_at : (layout : Contents) (i : ℕ) (o : Option MainItem) → ShowsEvents (item_text_at layout i o) []
 shows_item_at layout i None = shows_nothing
 shows_item_at layout i (Some item) = shows_item_in layout i item (slice_get layout.reports item.report) (slice_get layout.entries i) (slice_get layout.paths i)
 
 shows_lines : (layout : Contents) → ShowsEvents (layout_lines layout) []
 unfolding layout_lines
 shows_lines layout =
-    shows_both (concat_below (length layout.reports) (λ r. report_at layout r (slice_get layout.reports r)))
-    (concat_below (length layout.items) (λ i. item_at layout i (slice_get layout.items i))) [] []
-    (shows_joined (length layout.reports) (λ r. report_at layout r (slice_get layout.reports r)) (λ r. shows_report_at layout r (slice_get layout.reports r)))
-    (shows_joined (length layout.items) (λ i. item_at layout i (slice_get layout.items i)) (λ i. shows_item_at layout i (slice_get layout.items i)))
+    shows_both (concat_below (length layout.reports) (λ r. report_text_at layout r (slice_get layout.reports r)))
+    (concat_below (length layout.items) (λ i. item_text_at layout i (slice_get layout.items i))) [] []
+    (shows_joined (length layout.reports) (λ r. report_text_at layout r (slice_get layout.reports r))
+    (λ r. shows_report_at layout r (slice_get layout.reports r)))
+    (shows_joined (length layout.items) (λ i. item_text_at layout i (slice_get layout.items i))
+    (λ i. shows_item_at layout i (slice_get layout.items i)))
 
 pub shows_layout : (layout : Contents) → ShowsEvents (layout_text layout) []
 unfolding layout_text
@@ -226,7 +228,8 @@ shows_element layout bytes i j item usages None = shows_nothing
 shows_element layout bytes i j item usages (Some element) =
     let number = element_number layout bytes element in shows_value i j number (usage_shown item.shape item usages j number)
 
-shows_value_in : (layout : Contents) (bytes : List ℕ) (i j : ℕ) (o : Option MainItem) (entries : Option (List Entry)) → ShowsEvents (value_in layout bytes i j o entries) []
+shows_value_in : (layout : Contents) (bytes : List ℕ) (i j : ℕ) (o : Option MainItem) (entries : Option (List Entry))
+    → ShowsEvents (value_text_in layout bytes i j o entries) []
 shows_value_in layout bytes i j (Some item) (Some entries) = shows_element layout bytes i j item (usage_list entries) (element_in item j)
 shows_value_in layout bytes i j None entries = shows_nothing
 shows_value_in layout bytes i j (Some item) None = shows_nothing
@@ -314,7 +317,8 @@ shows_transfer false dev Running got = shows_nothing
 shows_transfer trace dev Done got = shows_progress dev Done got
 shows_transfer trace dev (Failed fault) got = shows_progress dev (Failed fault) got
 
-shows_told : (trace : Bool) (step : Step) (told : Told) (got : List ℕ) → ShowsEvents (told_text trace step told got) []
+shows_told : (trace : Bool) (step : Step) (told : Told) (got : List ℕ)
+    → ShowsEvents (result_text trace step told got) []
 shows_told true (Poll dev fate) (Polled reply took) got = shows_poll dev (option_map (λ bytes. bytes.items) reply) took
 shows_told false (Poll dev fate) (Polled reply took) got = shows_nothing
 shows_told trace (Poll dev fate) Quiet got = shows_nothing
@@ -328,7 +332,8 @@ shows_told trace (Begin dev request) told got = shows_nothing
 shows_told trace (Reset dev) told got = shows_nothing
 shows_told trace (Halt dev) told got = shows_nothing
 
-pub shows_step : (trace : Bool) (step : Step) (told : Told) (got : List ℕ) (delivered : List Delivered) → AreFew delivered → ShowsEvents (step_text trace step told got delivered) delivered
+pub shows_step : (trace : Bool) (step : Step) (told : Told) (got : List ℕ) (delivered : List Delivered) → HaveOneDigit delivered → ShowsEvents (step_text trace step told got delivered) delivered
 unfolding step_text
 shows_step trace step told got delivered few =
-    shows_both (told_text trace step told got) (events_text delivered) [] delivered (shows_told trace step told got) (shows_events delivered few)
+    shows_both (result_text trace step told got) (events_text delivered) [] delivered (shows_told trace step told got)
+    (shows_events delivered few)

@@ -2,9 +2,9 @@
 use Rattle.std.proofs.Common.{◌≡◌, [], ◌∷◌, ◌++◌, None, Some, true, false, refl, pos, negsuc}
 use Rattle.std.specs.Prelude.{codes}
 use Rattle.std.specs.Fmt.{digits}
-use Rattle.hid_descriptor.specs.declared.report.ReportKind.TheVariants.{Input}
+use Rattle.hid_report_descriptor.specs.declared.report.ReportKind.TheVariants.{Input}
 use Rattle.hid_layout.specs.declared.main_item.MainItem.{MainItem}
-use Rattle.hid_descriptor.specs.declared.shape.Shape.TheVariants.{Variable}
+use Rattle.hid_report_descriptor.specs.declared.shape.Shape.TheVariants.{Variable}
 use Rattle.hid_notation.specs.Text.{hex_text, range_text}
 use Rattle.hid_text.specs.LayoutText.{item_head, item_line}
 use Rattle.hid_text.specs.ValuesText.{value_line}

@@ -1,4 +1,4 @@
--- The bytes that words of hex spell, pair by pair of a text.
+-- The bytes that words of hex encode, pair by pair of a text.
 use Rattle.std.proofs.Common.{◌≡◌, ℕ, ◌+◌, ◌*◌, ◌/◌, ◌%◌, Bool, true, false, ◌&&◌, List, [], ◌∷◌, ◌++◌, length, refl, sym, ap, arith, ◌∙◌, append_assoc, append-nil, length-append, take, drop, get_or, ◌-◌, ◌<◌, ◌≤◌, Option, None, Some, Result, Ok, Err, cond, nat_eq, not, ⊎_elim}
 use Rattle.std.proofs.lemmas.Bool.{cases_Bool, eqb-true}
 use Rattle.std.proofs.lemmas.List.{take_all}
@@ -13,12 +13,12 @@ use Rattle.hex.specs.declared.error.FromHexError.TheVariants.{OddLength}
 use Rattle.hid_text.specs.Words.{Word, is_blank, words_of, hex_of, pair_of, byte_from, byte_count}
 use Rattle.hid_text.proofs.PartLemmas.{first_part, some_byte}
 
--- what is spelled, whatever the error is where nothing is
-abbrev spelled : Result (List ℕ) FromHexError → Option (List ℕ)
-spelled (Ok bytes) = Some bytes
-spelled (Err cause) = None
+-- what is encoded, whatever the error is where nothing is
+abbrev encoded : Result (List ℕ) FromHexError → Option (List ℕ)
+encoded (Ok bytes) = Some bytes
+encoded (Err cause) = None
 
--- bytes before those that other words spell
+-- bytes before those that other words encode
 abbrev pub before : List ℕ → Option (List ℕ) → Option (List ℕ)
 before bytes more = option_map (λ m. bytes ++ m) more
 
@@ -45,18 +45,18 @@ joined_onto (Some byte) (Some bytes) (Some more) = refl
 
 -- ---- a word of hex
 
-one_more : (byte : ℕ) (r : Result (List ℕ) FromHexError) → spelled (r >>= (λ bytes. Ok (byte ∷ bytes))) ≡ onto (Some byte) (spelled r)
+one_more : (byte : ℕ) (r : Result (List ℕ) FromHexError) → encoded (r >>= (λ bytes. Ok (byte ∷ bytes))) ≡ onto (Some byte) (encoded r)
 one_more byte (Ok bytes) = refl
 one_more byte (Err cause) = refl
 
-pair_spelled : (i high low : ℕ) (r : Result (List ℕ) FromHexError) → spelled (pair_value high low i >>= (λ byte. r >>= (λ bytes. Ok (byte ∷ bytes)))) ≡ onto (pair_of high low) (spelled r)
-pair_spelled i high low r = elim (hex_digit_value high) as (λ o. spelled ((digit_or_error high i o >>= (λ h. value_at low (i + 1) >>= (λ l. Ok (h * 16 + l)))) >>= (λ byte. r >>= (λ bytes. Ok (byte ∷ bytes)))) ≡ onto (byte_from o (hex_digit_value low)) (spelled r)) [
-  | None ↦ sym (no_byte (spelled r))
-  | Some h ↦ elim (hex_digit_value low) as (λ o. spelled ((digit_or_error low (i + 1) o >>= (λ l. Ok (h * 16 + l))) >>= (λ byte. r >>= (λ bytes. Ok (byte ∷ bytes)))) ≡ onto (byte_from (Some h) o) (spelled r)) [ None ↦ sym (no_byte (spelled r)) | Some l ↦ one_more (h * 16 + l) r ]
+pair_spelled : (i high low : ℕ) (r : Result (List ℕ) FromHexError) → encoded (pair_value high low i >>= (λ byte. r >>= (λ bytes. Ok (byte ∷ bytes)))) ≡ onto (pair_of high low) (encoded r)
+pair_spelled i high low r = elim (hex_digit_value high) as (λ o. encoded ((digit_or_error high i o >>= (λ h. value_at low (i + 1) >>= (λ l. Ok (h * 16 + l)))) >>= (λ byte. r >>= (λ bytes. Ok (byte ∷ bytes)))) ≡ onto (byte_from o (hex_digit_value low)) (encoded r)) [
+  | None ↦ sym (no_byte (encoded r))
+  | Some h ↦ elim (hex_digit_value low) as (λ o. encoded ((digit_or_error low (i + 1) o >>= (λ l. Ok (h * 16 + l))) >>= (λ byte. r >>= (λ bytes. Ok (byte ∷ bytes)))) ≡ onto (byte_from (Some h) o) (encoded r)) [ None ↦ sym (no_byte (encoded r)) | Some l ↦ one_more (h * 16 + l) r ]
 ]
 
--- what digits spell doesn't depend on the place that an error tells
-same_pairs : (i j : ℕ) (word : Word) → spelled (decode_pairs i word) ≡ spelled (decode_pairs j word)
+-- what digits encode doesn't depend on the place that an error tells
+same_pairs : (i j : ℕ) (word : Word) → encoded (decode_pairs i word) ≡ encoded (decode_pairs j word)
 unfolding decode_pairs
 same_pairs i j [] = refl
 same_pairs i j (digit ∷ []) = refl
@@ -64,7 +64,7 @@ same_pairs i j (high ∷ low ∷ word) =
     pair_spelled i high low (decode_pairs (i + 2) word) ∙ ap (onto (pair_of high low)) (same_pairs (i + 2) (j + 2) word)
     ∙ sym (pair_spelled j high low (decode_pairs (j + 2) word))
 
-spelled_either : (odd : Bool) (r : Result (List ℕ) FromHexError) → spelled (cond odd (Err OddLength) r) ≡ cond odd None (spelled r)
+spelled_either : (odd : Bool) (r : Result (List ℕ) FromHexError) → encoded (cond odd (Err OddLength) r) ≡ cond odd None (encoded r)
 spelled_either true r = refl
 spelled_either false r = refl
 
@@ -73,15 +73,15 @@ onto_either true byte more = refl
 onto_either false byte more = refl
 
 -- a pair of digits before a word
-pair_word : (high low : ℕ) (word : Word) → spelled (decode_of (high ∷ low ∷ word)) ≡ onto (pair_of high low) (spelled (decode_of word))
+pair_word : (high low : ℕ) (word : Word) → encoded (decode_of (high ∷ low ∷ word)) ≡ onto (pair_of high low) (encoded (decode_of word))
 unfolding decode_pairs
 pair_word high low word =
     let odd = nat_eq (length word % 2) 1 in
     let same : length (high ∷ low ∷ word) % 2 ≡ length word % 2 = omega arith in
-    ap (λ n. spelled (cond (nat_eq n 1) (Err OddLength) (decode_pairs 0 (high ∷ low ∷ word)))) same
+    ap (λ n. encoded (cond (nat_eq n 1) (Err OddLength) (decode_pairs 0 (high ∷ low ∷ word)))) same
     ∙ spelled_either odd (decode_pairs 0 (high ∷ low ∷ word))
     ∙ ap (cond odd None) (pair_spelled 0 high low (decode_pairs 2 word) ∙ ap (onto (pair_of high low)) (same_pairs 2 0 word))
-    ∙ onto_either odd (pair_of high low) (spelled (decode_pairs 0 word))
+    ∙ onto_either odd (pair_of high low) (encoded (decode_pairs 0 word))
     ∙ ap (onto (pair_of high low)) (sym (spelled_either odd (decode_pairs 0 word)))
 
 -- ---- the words of a text
@@ -93,7 +93,7 @@ some_of parts = filter (λ word. not (nat_eq (length word) 0)) parts
 some_first : (b : ℕ) (word : Word) (parts : List Word) → some_of ((b ∷ word) ∷ parts) ≡ (b ∷ word) ∷ some_of parts
 some_first b word parts = rw (some_byte (b ∷ word) (omega arith)) refl
 
-with_word : (r : Result (List ℕ) FromHexError) (all : Bool) (more : List ℕ) → cond (is_ok r && all) (Some (result_unwrap_or r [] ++ more)) None ≡ joined (spelled r) (cond all (Some more) None)
+with_word : (r : Result (List ℕ) FromHexError) (all : Bool) (more : List ℕ) → cond (is_ok r && all) (Some (result_unwrap_or r [] ++ more)) None ≡ joined (encoded r) (cond all (Some more) None)
 with_word (Ok bytes) true more = refl
 with_word (Ok bytes) false more = refl
 with_word (Err cause) all more = refl
@@ -102,7 +102,7 @@ nothing_before : (more : Option (List ℕ)) → more ≡ before [] more
 nothing_before None = refl
 nothing_before (Some more) = refl
 
-first_hex : (part : Word) (parts : List Word) → hex_of (some_of (part ∷ parts)) ≡ joined (spelled (decode_of part)) (hex_of (some_of parts))
+first_hex : (part : Word) (parts : List Word) → hex_of (some_of (part ∷ parts)) ≡ joined (encoded (decode_of part)) (hex_of (some_of parts))
 unfolding hex_of decode_pairs
 first_hex [] parts = nothing_before (hex_of (some_of parts))
 first_hex (b ∷ word) parts = ap hex_of (some_first b word parts) ∙ with_word (decode_of (b ∷ word)) (list_all (λ w. is_ok (decode_of w)) (some_of parts)) (flat_map (λ w. result_unwrap_or (decode_of w) []) (some_of parts))
@@ -128,7 +128,7 @@ pair_text high low text first second =
     let word : Word = _ in
     let here : words_of text ≡ some_of (word ∷ parts) = ap some_of rest.1 in
     let whole : words_of (high ∷ low ∷ text) ≡ some_of ((high ∷ low ∷ word) ∷ parts) = ap some_of (two_split high low text word parts first second rest.1) in (
-      ap hex_of whole ∙ first_hex (high ∷ low ∷ word) parts ∙ ap (λ w. joined w (hex_of (some_of parts))) (pair_word high low word) ∙ joined_onto (pair_of high low) (spelled (decode_of word)) (hex_of (some_of parts))
+      ap hex_of whole ∙ first_hex (high ∷ low ∷ word) parts ∙ ap (λ w. joined w (hex_of (some_of parts))) (pair_word high low word) ∙ joined_onto (pair_of high low) (encoded (decode_of word)) (hex_of (some_of parts))
           ∙ ap (onto (pair_of high low)) (sym (first_hex word parts) ∙ sym (ap hex_of here)),
       omega (arith, ap byte_count whole, ap byte_count here, first_count (high ∷ low ∷ word) parts, first_count word parts),
     )

@@ -3,7 +3,7 @@
 -- lost acknowledgement, twice; halt 8 is X1
 use Rattle.std.specs.Prelude.{ℕ, List, [], ◌∷◌, Option, None, Some, Result, Ok, Err, codes, ℤ}
 use Rattle.arrayvec.specs.ArrayVec.{ArrayVec}
-use Rattle.hid_descriptor.specs.declared.usage.Usage.{Usage}
+use Rattle.hid_report_descriptor.specs.declared.usage.Usage.{Usage}
 use Rattle.usb_transact.specs.declared.transaction.Fate.{Fate}
 use Rattle.usb_transact.specs.declared.transaction.Fate.TheVariants.{Clean, TokenLost, ReplyLost, AckLost}
 use Rattle.hid_requests.specs.declared.boot.Boot.{Boot}
@@ -13,7 +13,7 @@ use Rattle.hid_bus.specs.declared.start.Start.TheVariants.{Ready, Cold}
 use Rattle.hid_text.specs.declared.fault.LineFault.{LineFault}
 use Rattle.hid_text.specs.declared.fault.LineFault.TheVariants.{Syntax, BadHex}
 use Rattle.hid_text.specs.Words.{Word, look_up}
-use Rattle.hid_text.specs.Numbers.{device_of, usage_of, count_of, signed_of, amount_of}
+use Rattle.hid_text.specs.Numbers.{device_of, usage_of_word, count_of, signed_of_word, amount_of}
 
 -- START
 abbrev pub start_of : Word → Option Start
@@ -40,31 +40,32 @@ with_bytes make None = Err BadHex
 with_bytes make (Some bytes) = Ok (make (record { items = bytes }))
 
 -- two words that are both understood
-abbrev pub two : {A B : Type 0} → Option A → Option B → Option (A × B)
-two (Some a) (Some b) = Some (a, b)
-two (Some a) None = None
-two None b = None
+abbrev pub both : {A B : Type 0} → Option A → Option B → Option (A × B)
+both (Some a) (Some b) = Some (a, b)
+both (Some a) None = None
+both None b = None
 
 -- three values, if each is there
-abbrev pub three : {A B C : Type 0} → Option A → Option B → Option C → Option (A × B × C)
-three (Some a) (Some b) (Some c) = Some (a, b, c)
-three (Some a) (Some b) None = None
-three (Some a) None c = None
-three None b c = None
+abbrev pub all_three : {A B C : Type 0} → Option A → Option B → Option C → Option (A × B × C)
+all_three (Some a) (Some b) (Some c) = Some (a, b, c)
+all_three (Some a) (Some b) None = None
+all_three (Some a) None c = None
+all_three None b c = None
 
 -- D U
 unfoldable pub control_meaning : List Word → Option (ℕ × Usage)
-control_meaning (dev ∷ usage ∷ []) = two (device_of dev) (usage_of usage)
+control_meaning (dev ∷ usage ∷ []) = both (device_of dev) (usage_of_word usage)
 control_meaning _ = None
 
 -- D U N, of a value
 unfoldable pub set_meaning : List Word → Option (ℕ × Usage × ℤ)
-set_meaning (dev ∷ usage ∷ value ∷ []) = three (device_of dev) (usage_of usage) (signed_of value)
+set_meaning (dev ∷ usage ∷ value ∷ []) =
+    all_three (device_of dev) (usage_of_word usage) (signed_of_word value)
 set_meaning _ = None
 
 -- D U N, of a motion
 unfoldable pub move_meaning : List Word → Option (ℕ × Usage × ℤ)
-move_meaning (dev ∷ usage ∷ by ∷ []) = three (device_of dev) (usage_of usage) (amount_of by)
+move_meaning (dev ∷ usage ∷ by ∷ []) = all_three (device_of dev) (usage_of_word usage) (amount_of by)
 move_meaning _ = None
 
 -- [COUNT]
@@ -76,15 +77,15 @@ frame_meaning _ = None
 -- [FATE [COUNT]]
 unfoldable pub tries_meaning : List Word → Option (Fate × ℕ)
 tries_meaning [] = Some (Clean, 1)
-tries_meaning (fate ∷ []) = two (fate_of fate) (Some 1)
-tries_meaning (fate ∷ count ∷ []) = two (fate_of fate) (count_of count)
+tries_meaning (fate ∷ []) = both (fate_of fate) (Some 1)
+tries_meaning (fate ∷ count ∷ []) = both (fate_of fate) (count_of count)
 tries_meaning _ = None
 
 -- D [FATE [COUNT]]
 unfoldable pub poll_meaning : List Word → Option (ℕ × Fate × ℕ)
-poll_meaning (dev ∷ []) = three (device_of dev) (Some Clean) (Some 1)
-poll_meaning (dev ∷ fate ∷ []) = three (device_of dev) (fate_of fate) (Some 1)
-poll_meaning (dev ∷ fate ∷ count ∷ []) = three (device_of dev) (fate_of fate) (count_of count)
+poll_meaning (dev ∷ []) = all_three (device_of dev) (Some Clean) (Some 1)
+poll_meaning (dev ∷ fate ∷ []) = all_three (device_of dev) (fate_of fate) (Some 1)
+poll_meaning (dev ∷ fate ∷ count ∷ []) = all_three (device_of dev) (fate_of fate) (count_of count)
 poll_meaning _ = None
 
 -- D

@@ -34,6 +34,6 @@ ShowsEvents text delivered = (dev : ℕ) (rest : List ℕ)
     → event_lines dev (text ++ rest) ≡ map (event_text dev) (from_device dev delivered) ++ event_lines dev rest
 
 -- the devices have numbers of one digit
-abbrev pub AreFew : List Delivered → Type 0
-AreFew [] = Unit {0}
-AreFew (d ∷ delivered) = (d.dev < 10) × AreFew delivered
+abbrev pub HaveOneDigit : List Delivered → Type 0
+HaveOneDigit [] = Unit {0}
+HaveOneDigit (d ∷ delivered) = (d.dev < 10) × HaveOneDigit delivered

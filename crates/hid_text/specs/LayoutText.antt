@@ -2,17 +2,17 @@
 use Rattle.std.specs.Prelude.{ℕ, Bool, List, [], ◌∷◌, ◌++◌, ◌==◌, length, if◌then◌else◌, Option, None, Some, slice_get, codes}
 use Rattle.std.specs.List.{flat_map}
 use Rattle.std.specs.Fmt.{decimal, signed_decimal}
-use Rattle.hid_descriptor.specs.declared.report.ReportKind.{ReportKind}
-use Rattle.hid_descriptor.specs.declared.report.ReportKind.TheVariants.{Input, Output, Feature}
-use Rattle.hid_descriptor.specs.declared.report.Report.{Report}
+use Rattle.hid_report_descriptor.specs.declared.report.ReportKind.{ReportKind}
+use Rattle.hid_report_descriptor.specs.declared.report.ReportKind.TheVariants.{Input, Output, Feature}
+use Rattle.hid_report_descriptor.specs.declared.report.Report.{Report}
 use Rattle.hid_layout.specs.declared.main_item.MainItem.{MainItem}
-use Rattle.hid_descriptor.specs.declared.shape.Shape.{Shape}
-use Rattle.hid_descriptor.specs.declared.shape.Shape.TheVariants.{Padding, Variable, Array}
-use Rattle.hid_descriptor.specs.declared.collection.Collection.{Collection}
+use Rattle.hid_report_descriptor.specs.declared.shape.Shape.{Shape}
+use Rattle.hid_report_descriptor.specs.declared.shape.Shape.TheVariants.{Padding, Variable, Array}
+use Rattle.hid_report_descriptor.specs.declared.collection.Collection.{Collection}
 use Rattle.hid_layout.specs.Layout.{Contents}
-use Rattle.hid_descriptor.specs.Flags.{has_flag, RELATIVE, NULL_STATE}
+use Rattle.hid_report_descriptor.specs.Flags.{has_flag, RELATIVE, NULL_STATE}
 use Rattle.hid_layout.specs.Reports.{report_bytes}
-use Rattle.hid_descriptor.specs.Usages.{Entry}
+use Rattle.hid_report_descriptor.specs.Usages.{Entry}
 use Rattle.hid_notation.specs.Text.{usage_or_dash, range_text, concat_below}
 
 -- the name of a kind of reports
@@ -73,9 +73,9 @@ item_line i report item entries path =
     item_head i report item ++ details_text item.shape item entries ++ path_text path ++ 10 ∷ []
 
 -- the line of a report, by its number
-abbrev pub report_at : Contents → ℕ → Option Report → List ℕ
-report_at layout r None = []
-report_at layout r (Some report) = report_line report (report_bytes layout r)
+abbrev pub report_text_at : Contents → ℕ → Option Report → List ℕ
+report_text_at layout r None = []
+report_text_at layout r (Some report) = report_line report (report_bytes layout r)
 
 -- the line of an item that stands in a report, by its number
 abbrev pub item_in : Contents → ℕ → MainItem
@@ -84,16 +84,16 @@ item_in layout i item (Some report) (Some entries) (Some path) = item_line i rep
 item_in layout i item _ _ _ = []
 
 -- the line of the listed item at a place, if there is one
-abbrev pub item_at : Contents → ℕ → Option MainItem → List ℕ
-item_at layout i None = []
-item_at layout i (Some item) =
+abbrev pub item_text_at : Contents → ℕ → Option MainItem → List ℕ
+item_text_at layout i None = []
+item_text_at layout i (Some item) =
     item_in layout i item (slice_get layout.reports item.report) (slice_get layout.entries i) (slice_get layout.paths i)
 
 -- a line for each report, and then one for each item
 unfoldable pub layout_lines : Contents → List ℕ
 layout_lines layout =
-    concat_below (length layout.reports) (λ r. report_at layout r (slice_get layout.reports r))
-    ++ concat_below (length layout.items) (λ i. item_at layout i (slice_get layout.items i))
+    concat_below (length layout.reports) (λ r. report_text_at layout r (slice_get layout.reports r))
+    ++ concat_below (length layout.items) (λ i. item_text_at layout i (slice_get layout.items i))
 
 -- the text of a layout: a line for each report, then a line for each item; no reports if there is none. Example: item 0
 -- input 0 at 0 1x3 variable 0..1 09:01-09:03 in 1/01:02 0/-

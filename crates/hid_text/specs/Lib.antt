@@ -1,3 +1,4 @@
+pub mod Output
 pub mod Lines
 pub mod Words
 pub mod Numbers

@@ -9,7 +9,7 @@ use Rattle.hid_text.specs.declared.line.Line.TheVariants.{Nothing, Layout, Value
 use Rattle.hid_text.specs.declared.fault.LineFault.{LineFault}
 use Rattle.hid_text.specs.declared.fault.LineFault.TheVariants.{Syntax, LineTooLong}
 use Rattle.hid_text.specs.Words.{Word, words_of, look_up, hex_of}
-use Rattle.hid_text.specs.Arguments.{or_syntax, with_bytes, two, start_of, boot_of}
+use Rattle.hid_text.specs.Arguments.{or_syntax, with_bytes, both, start_of, boot_of}
 use Rattle.hid_text.specs.Requests.{begin_meaning}
 use Rattle.hid_text.specs.Short.{short_meaning}
 
@@ -29,7 +29,7 @@ attachment (Some said) hex = with_bytes (Device said.0 said.1) (hex_of hex)
 
 -- START KIND HEX
 unfoldable pub device_meaning : List Word → Result Line LineFault
-device_meaning (start ∷ kind ∷ hex) = attachment (two (start_of start) (boot_of kind)) hex
+device_meaning (start ∷ kind ∷ hex) = attachment (both (start_of start) (boot_of kind)) hex
 device_meaning _ = Err Syntax
 
 -- what the words after the first one say

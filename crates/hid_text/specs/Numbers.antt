@@ -4,7 +4,7 @@ use Rattle.std.specs.List.{list_all}
 use Rattle.std.specs.Option.{option_map}
 use Rattle.std.specs.Str.Parse.{digits_value}
 use Rattle.std.specs.Char.{digit_value}
-use Rattle.hid_descriptor.specs.declared.usage.Usage.{Usage}
+use Rattle.hid_report_descriptor.specs.declared.usage.Usage.{Usage}
 use Rattle.hid_text.specs.Words.{Word}
 
 -- D: one digit, 1 to 7
@@ -12,7 +12,7 @@ abbrev pub device_of : Word → Option ℕ
 device_of (c ∷ []) = if nat_le 49 c && nat_le c 55 then Some (c - 48) else None
 device_of _ = None
 
--- The number that digits spell in a base, of either case and with zeros in front.
+-- The number that digits encode in a base, of either case and with zeros in front.
 unfoldable pub number_of : ℕ → Word → Option ℕ
 number_of base word =
     if not (length word == 0) && list_all (λ c. nat_lt (digit_value c) base) word
@@ -38,8 +38,8 @@ usage_at word None = None
 usage_at word (Some colon) = usage_from (hex_number_of (take colon word)) (hex_number_of (drop (colon + 1) word))
 
 -- U: page:id
-unfoldable pub usage_of : Word → Option Usage
-usage_of word = usage_at word (position is_colon word)
+unfoldable pub usage_of_word : Word → Option Usage
+usage_of_word word = usage_at word (position is_colon word)
 
 -- a number that is a count
 abbrev pub in_count : Option ℕ → Option ℕ
@@ -64,9 +64,9 @@ abbrev pub short_number_of : Word → Option ℕ
 short_number_of word = if nat_le (length word) 18 then number_of 10 word else None
 
 -- N: at most 18 digits, and a minus before them or none
-unfoldable pub signed_of : Word → Option ℤ
-signed_of [] = None
-signed_of (c ∷ digits) =
+unfoldable pub signed_of_word : Word → Option ℤ
+signed_of_word [] = None
+signed_of_word (c ∷ digits) =
     if c == 45 then option_map (λ n. neg_ℤ (pos n)) (short_number_of digits)
     else option_map pos (short_number_of (c ∷ digits))
 
@@ -77,4 +77,4 @@ in_amount (Some v) = if int_le (neg_ℤ (pos (2 ^ 31))) v && int_lt v (pos (2 ^ 
 
 -- N of a motion: from -2,147,483,648 to 2,147,483,647
 unfoldable pub amount_of : Word → Option ℤ
-amount_of word = in_amount (signed_of word)
+amount_of word = in_amount (signed_of_word word)

@@ -5,7 +5,7 @@ use Rattle.std.specs.Fmt.{decimal}
 use Rattle.usb_packet.specs.declared.packet.TheConstants.{MAX_PAYLOAD}
 use Rattle.usb_packet.specs.declared.packet.Packet.{Packet}
 use Rattle.usb_packet.specs.declared.packet.Packet.TheVariants.{Token, Data, Ack, Nak, Stall}
-use Rattle.usb_packet.specs.Spelling.{data_pid, pid_of}
+use Rattle.usb_packet.specs.PacketEncoding.{data_pid, pid_of}
 use Rattle.usb_transact.specs.declared.host.Took.{Took}
 use Rattle.usb_transact.specs.declared.host.Took.TheVariants as host
 use Rattle.hid_notation.specs.Text.{bytes_text}
@@ -19,7 +19,7 @@ packet_words Stall = codes "STALL"
 packet_words Ack = codes "none"
 packet_words (Token kind addr endp) = codes "none"
 
--- the packet that a PID and what follows it spell, of those that a device sends (USB 2.0, 8.4.4 and 8.4.5)
+-- the packet that a PID and what follows it encode, of those that a device sends (USB 2.0, 8.4.4 and 8.4.5)
 unfoldable pub reply_at : ℕ → List ℕ → List ℕ
 reply_at first body =
     if (first == data_pid false) && nat_le (length body) MAX_PAYLOAD then codes "DATA0" ++ bytes_text body
@@ -28,7 +28,7 @@ reply_at first body =
     else if (first == pid_of Stall) && (length body == 0) then codes "STALL"
     else codes "none"
 
--- what the bytes of a device spell; no byte spells nothing
+-- what the bytes of a device encode; no byte encodes nothing
 abbrev pub reply_words : List ℕ → List ℕ
 reply_words [] = codes "none"
 reply_words (first ∷ body) = reply_at first body

@@ -1,8 +1,8 @@
 -- What a line says of a request: its name, and after that an ID, an idle time, a protocol or a type of report (our
 -- choice: the script language of docs/SCRIPT.md; USB 2.0, 9.4; HID 1.11, 7.2 and 7.2.2).
 use Rattle.std.specs.Prelude.{ℕ, nat_lt, Bool, true, false, List, [], ◌∷◌, if◌then◌else◌, Option, None, Some, Result, Ok, Err, codes}
-use Rattle.hid_descriptor.specs.declared.report.ReportKind.{ReportKind}
-use Rattle.hid_descriptor.specs.declared.report.ReportKind.TheVariants as kinds
+use Rattle.hid_report_descriptor.specs.declared.report.ReportKind.{ReportKind}
+use Rattle.hid_report_descriptor.specs.declared.report.ReportKind.TheVariants as kinds
 use Rattle.hid_requests.specs.declared.request.Request.{Request}
 use Rattle.hid_requests.specs.declared.request.Request.TheVariants.{Device, Config, Report, Configure, Status, GetConfiguration, Idle, GetIdle, Protocol, GetProtocol, GetReport, SetReport, Halt, Clear, EndpointStatus}
 use Rattle.hid_text.specs.declared.fault.LineFault.{LineFault}
@@ -13,7 +13,7 @@ use Rattle.hid_text.specs.declared.requests.RequestWord.{RequestWord}
 use Rattle.hid_text.specs.declared.requests.RequestWord.TheVariants as words
 use Rattle.hid_text.specs.Words.{Word, look_up, hex_of, byte_count}
 use Rattle.hid_text.specs.Numbers.{device_of, byte_of}
-use Rattle.hid_text.specs.Arguments.{or_syntax, with_bytes, two}
+use Rattle.hid_text.specs.Arguments.{or_syntax, with_bytes, both}
 
 -- the first word of a request
 abbrev pub request_word_of : Word → Option RequestWord
@@ -27,8 +27,10 @@ request_word_of = look_up (
     ∷ (codes "endpoint-status", words.EndpointStatus) ∷ [])
 
 -- TYPE
-abbrev pub kind_of : Word → Option ReportKind
-kind_of = look_up ((codes "input", kinds.Input) ∷ (codes "output", kinds.Output) ∷ (codes "feature", kinds.Feature) ∷ [])
+abbrev pub report_type_of : Word → Option ReportKind
+report_type_of =
+    look_up ((codes "input", kinds.Input) ∷ (codes "output", kinds.Output) ∷ (codes "feature", kinds.Feature)
+    ∷ [])
 
 -- whether a protocol is the boot protocol
 abbrev pub boot_protocol_of : Word → Option Bool
@@ -41,7 +43,7 @@ bare_request request _ = Err Syntax
 
 -- ID TIME
 unfoldable pub idle_meaning : List Word → Option (ℕ × ℕ)
-idle_meaning (id ∷ time ∷ []) = two (byte_of id) (byte_of time)
+idle_meaning (id ∷ time ∷ []) = both (byte_of id) (byte_of time)
 idle_meaning _ = None
 
 -- ID
@@ -56,7 +58,7 @@ protocol_meaning _ = None
 
 -- TYPE ID
 unfoldable pub report_meaning : List Word → Option (ReportKind × ℕ)
-report_meaning (kind ∷ id ∷ []) = two (kind_of kind) (byte_of id)
+report_meaning (kind ∷ id ∷ []) = both (report_type_of kind) (byte_of id)
 report_meaning _ = None
 
 -- a report and its bytes, 256 at most: how many there are is looked at before their digits
@@ -68,7 +70,7 @@ set_report (Some said) hex =
 
 -- TYPE ID HEX
 unfoldable pub set_report_meaning : List Word → Result Request LineFault
-set_report_meaning (kind ∷ id ∷ hex) = set_report (two (kind_of kind) (byte_of id)) hex
+set_report_meaning (kind ∷ id ∷ hex) = set_report (both (report_type_of kind) (byte_of id)) hex
 set_report_meaning _ = Err Syntax
 
 -- what the words after the first one of a request say

@@ -12,11 +12,11 @@ use Rattle.hid_text.specs.PollText.{poll_text}
 use Rattle.hid_text.specs.TransferText.{transfer_text}
 
 -- the line of a poll, with --trace alone, or of a try of a transfer; other steps have none
-abbrev pub told_text : Bool → Step → Told → List ℕ → List ℕ
-told_text trace (Poll dev fate) (Polled reply took) got =
+abbrev pub result_text : Bool → Step → Told → List ℕ → List ℕ
+result_text trace (Poll dev fate) (Polled reply took) got =
     if trace then poll_text dev (option_map (λ bytes. bytes.items) reply) took else []
-told_text trace (Control dev fate) (Transfer progress) got = transfer_text trace dev progress got
-told_text trace step told got = []
+result_text trace (Control dev fate) (Transfer progress) got = transfer_text trace dev progress got
+result_text trace step told got = []
 
 -- a line for each event
 abbrev pub events_text : List Delivered → List ℕ
@@ -24,4 +24,4 @@ events_text delivered = flat_map (λ d. event_text d.dev d.event ++ 10 ∷ []) d
 
 -- what is printed of a step: its line, with the bytes that a transfer got, and its events
 unfoldable pub step_text : Bool → Step → Told → List ℕ → List Delivered → List ℕ
-step_text trace step told got delivered = told_text trace step told got ++ events_text delivered
+step_text trace step told got delivered = result_text trace step told got ++ events_text delivered

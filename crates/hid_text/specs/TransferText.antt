@@ -6,7 +6,7 @@ use Rattle.usb_control.specs.declared.host.Progress.{Progress}
 use Rattle.usb_control.specs.declared.host.Progress.TheVariants.{Running, Done, Failed}
 use Rattle.hid_notation.specs.Text.{bytes_text}
 
--- how far a transfer has come: where it is done with the bytes that it got, where it failed with the code
+-- how far a transfer has come; if it is done, its bytes; if it failed, the code
 abbrev pub progress_words : Progress → List ℕ → List ℕ
 progress_words Running got = codes "running"
 progress_words Done got = codes "done" ++ bytes_text got

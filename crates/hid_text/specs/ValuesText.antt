@@ -1,20 +1,17 @@
 -- The values of a report as they are printed (HID 1.11, 5.8 and 6.2.2.5; the text: our choice, docs/SCRIPT.md).
-use Rattle.std.specs.Prelude.{ℕ, ◌-◌, List, [], ◌∷◌, ◌++◌, ◌==◌, length, min, if◌then◌else◌, Option, None, Some, slice_get, codes, ℤ}
+use Rattle.std.specs.Prelude.{ℕ, List, [], ◌∷◌, ◌++◌, ◌==◌, length, if◌then◌else◌, Option, None, Some, slice_get, codes, ℤ}
 use Rattle.std.specs.Fmt.{decimal, signed_decimal}
-use Rattle.hid_descriptor.specs.declared.usage.Usage.{Usage}
+use Rattle.hid_report_descriptor.specs.declared.usage.Usage.{Usage}
 use Rattle.hid_layout.specs.declared.main_item.MainItem.{MainItem}
-use Rattle.hid_descriptor.specs.declared.shape.Shape.{Shape}
-use Rattle.hid_descriptor.specs.declared.shape.Shape.TheVariants.{Padding, Variable, Array}
+use Rattle.hid_report_descriptor.specs.declared.shape.Shape.{Shape}
+use Rattle.hid_report_descriptor.specs.declared.shape.Shape.TheVariants.{Padding, Variable, Array}
 use Rattle.hid_layout.specs.Layout.{Contents}
 use Rattle.hid_layout.specs.declared.main_item.Element.{Element}
+use Rattle.hid_layout.specs.Controls.{usage_of_element}
 use Rattle.hid_layout.specs.Reports.{element_in}
-use Rattle.hid_descriptor.specs.Usages.{Entry, usage_list}
+use Rattle.hid_report_descriptor.specs.Usages.{Entry, usage_list}
 use Rattle.hid_usages.specs.Reading.{usage_named, element_number}
 use Rattle.hid_notation.specs.Text.{usage_or_dash, concat_below}
-
--- a variable item has a usage for each element, and where it has fewer the last one is for the rest (HID 1.11, 6.2.2.8)
-unfoldable pub usage_of_element : List Usage → ℕ → Option Usage
-usage_of_element usages j = slice_get usages (min j (length usages - 1))
 
 -- the usage that stands beside a value: of a variable item that of its place, of an array the one that the number names,
 -- if it names one (HID 1.11, 6.2.2.5 and 6.2.2.8)
@@ -37,14 +34,15 @@ element_line layout bytes i j item usages (Some element) =
     value_line i j number (usage_shown item.shape item usages j number)
 
 -- the line of the element j of the item i, where it is a data element
-abbrev pub value_in : Contents → List ℕ → ℕ → ℕ → Option MainItem → Option (List Entry) → List ℕ
-value_in layout bytes i j (Some item) (Some entries) =
+abbrev pub value_text_in : Contents → List ℕ → ℕ → ℕ → Option MainItem → Option (List Entry) → List ℕ
+value_text_in layout bytes i j (Some item) (Some entries) =
     element_line layout bytes i j item (usage_list entries) (element_in item j)
-value_in layout bytes i j _ _ = []
+value_text_in layout bytes i j _ _ = []
 
 -- the line of an element, by the places of its item and of itself
 unfoldable pub value_at : Contents → List ℕ → ℕ → ℕ → List ℕ
-value_at layout bytes i j = value_in layout bytes i j (slice_get layout.items i) (slice_get layout.entries i)
+value_at layout bytes i j =
+    value_text_in layout bytes i j (slice_get layout.items i) (slice_get layout.entries i)
 
 -- a line for each data element of the item i, where it stands in the report r
 abbrev pub values_in : Contents → ℕ → List ℕ → ℕ → Option MainItem → List ℕ

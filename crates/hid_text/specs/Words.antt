@@ -1,4 +1,4 @@
--- The words of a line, and the bytes that words of hex spell (our choice: the script language of docs/SCRIPT.md).
+-- The words of a line, and the bytes that words of hex encode (our choice: the script language of docs/SCRIPT.md).
 use Rattle.std.specs.Prelude.{◌≡◌, ℕ, ◌≤◌, ◌+◌, ◌*◌, ◌/◌, ◌==◌, Bool, not, ◌||◌, List, [], ◌∷◌, length, filter, sum_by, if◌then◌else◌, Option, None, Some, Result, MatchResult, is_ok}
 use Rattle.std.specs.List.{slice_split, list_all, flat_map}
 use Rattle.std.specs.Result.{result_unwrap_or}
@@ -49,7 +49,7 @@ abbrev pub look_up : {X : Type 0} → List (Word × X) → Word → Option X
 look_up [] word = None
 look_up (entry ∷ more) word = if bytes_eq word entry.0 then Some entry.1 else look_up more word
 
--- the bytes that words of hex spell, joined: each word is pairs of digits, of either case. Example: 0a Ff10 is 0A FF 10
+-- the bytes that words of hex encode, joined: each word is pairs of digits, of either case. Example: 0a Ff10 is 0A FF 10
 unfoldable pub hex_of : List Word → Option (List ℕ)
 hex_of words =
     if list_all (λ word. is_ok (decode_of word)) words
@@ -61,16 +61,16 @@ byte_from (Some high) (Some low) = Some (high * 16 + low)
 byte_from (Some high) None = None
 byte_from None low = None
 
--- the byte that two hex digits spell, of either case
+-- the byte that two hex digits encode, of either case
 abbrev pub pair_of : ℕ → ℕ → Option ℕ
 pair_of high low = byte_from (hex_digit_value high) (hex_digit_value low)
 
--- How many bytes words of hex spell, one for two digits, whatever the digits are: over 256 are no line of a report that
+-- How many bytes words of hex encode, one for two digits, whatever the digits are: over 256 are no line of a report that
 -- is set. Example: 513 digits and a bad one is X1
 abbrev pub byte_count : List Word → ℕ
 byte_count words = sum_by (λ word. length word / 2) words
 
--- what was read is what the words spell
+-- what was read is what the words encode
 abbrev pub GivesHex : Result (ArrayVec ℕ) LineFault → Option (List ℕ) → Type 0
-GivesHex result spelled =
-    MatchResult result (λ bytes. spelled ≡ Some bytes.items) (λ cause. (cause ≡ BadHex) × (spelled ≡ None))
+GivesHex result encoded =
+    MatchResult result (λ bytes. encoded ≡ Some bytes.items) (λ cause. (cause ≡ BadHex) × (encoded ≡ None))

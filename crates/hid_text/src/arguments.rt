@@ -2,12 +2,12 @@
 
 ghost use Rattle.std.specs.Prelude.{◌≡◌};
 ghost use Rattle.hid_text.specs.Words.{words_of};
-ghost use Rattle.hid_text.specs.Arguments.{three, fate_of, boot_of, start_of, control_meaning, set_meaning, move_meaning, frame_meaning, tries_meaning, poll_meaning, one_device_meaning};
+ghost use Rattle.hid_text.specs.Arguments.{all_three, fate_of, boot_of, start_of, control_meaning, set_meaning, move_meaning, frame_meaning, tries_meaning, poll_meaning, one_device_meaning};
 
 use super::numbers::{read_amount, read_count, read_device, read_signed, read_usage};
 use super::words::{first_word, look_up, three_words, two_words};
 use hid_bus::Start;
-use hid_descriptor::Usage;
+use hid_report_descriptor::Usage;
 use hid_requests::Boot;
 use usb_transact::Fate;
 
@@ -48,12 +48,12 @@ fn read_fate(word: &[u8]) -> Option<Fate>
 }
 
 /// What three words say; nothing where one of them isn't understood.
-fn all_said<A: Copy, B: Copy, C: Copy>(
+fn all_three<A: Copy, B: Copy, C: Copy>(
     first: Option<A>,
     second: Option<B>,
     third: Option<C>,
 ) -> Option<(A, B, C)>
-    ensures { result ≡ three first second third }
+    ensures { result ≡ all_three first second third }
 {
     match (first, second, third) {
         (Some(first), Some(second), Some(third)) => Some((first, second, third)),
@@ -76,7 +76,7 @@ pub fn read_set(text: &[u8]) -> Option<(u8, Usage, i64)>
     ensures { result ≡ set_meaning (words_of text.now) }
 {
     let (dev, usage, value) = three_words(text)?;
-    all_said(read_device(dev), read_usage(usage), read_signed(value))
+    all_three(read_device(dev), read_usage(usage), read_signed(value))
 }
 
 /// `D U N`: a control, and by how much it moves.
@@ -85,7 +85,7 @@ pub fn read_move(text: &[u8]) -> Option<(u8, Usage, i32)>
     ensures { result ≡ move_meaning (words_of text.now) }
 {
     let (dev, usage, by) = three_words(text)?;
-    all_said(read_device(dev), read_usage(usage), read_amount(by))
+    all_three(read_device(dev), read_usage(usage), read_amount(by))
 }
 
 /// `[COUNT]`: how often; once where no count stands.

@@ -7,7 +7,7 @@ use hid_notation::UsageText;
 use hid_snapshots::Event;
 use std::fmt;
 
-/// What a device's number tells, as one line without its end: `1 down 07:04`.
+/// An event with the number of its device, as one line without its end: `1 down 07:04`.
 #[derive(Clone, Copy)]
 pub struct EventText {
     pub dev: u8,

@@ -1,6 +1,6 @@
 //! Why a line says nothing.
 
-/// Why a line says nothing. Of several causes the first that is looked for is told: its length, its words, its digits.
+/// Why a line says nothing. Of several causes the first is reported, in this order: its length, its words, its digits.
 #[derive(Clone, Copy, Debug, PartialEq, Eq)]
 pub enum LineFault {
     /// X2: over 1,024 bytes, without the line's end.

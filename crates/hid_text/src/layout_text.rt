@@ -2,13 +2,14 @@
 
 ghost use Rattle.std.specs.Prelude.{◌≡◌, ◌++◌, ◌∷◌, ◌<◌, length, OnOk, slice_get, string_bytes, codes};
 ghost use Rattle.std.specs.Fmt.{decimal, signed_decimal};
-ghost use Rattle.hid_descriptor.specs.Flags.{has_flag, RELATIVE};
-ghost use Rattle.hid_text.specs.LayoutText.{kind_word, report_name, collection_text, shape_word, range_words, entries_text, details_text, path_text, item_head, item_line, report_line, report_at, item_at, layout_lines, layout_text};
+ghost use Rattle.hid_report_descriptor.specs.Flags.{has_flag, RELATIVE};
+ghost use Rattle.hid_text.specs.LayoutText.{kind_word, report_name, collection_text, shape_word, range_words, entries_text, details_text, path_text, item_head, item_line, report_line, report_text_at, item_text_at, layout_lines, layout_text};
 
 use hid_layout::{Collection, Layout, MainItem, Report, ReportKind, Shape, Usage};
 use hid_notation::{print_number, print_signed, print_usage_or_dash, print_usages};
 use std::alloc::AllocError;
 
+/// The word for a kind of reports.
 fn kind_word(kind: ReportKind) -> &'static str
     ensures { result.now ≡ kind_word kind }
 {
@@ -39,6 +40,7 @@ fn print_collection(text: &mut String, collection: &Collection) -> Result<(), Al
     print_usage_or_dash(text, collection.usage)
 }
 
+/// The word for the shape of an item.
 fn shape_word(item: &MainItem) -> &'static str
     ensures { result.now ≡ shape_word item.now.shape (has_flag RELATIVE item.now.flags.0) }
 {
@@ -193,7 +195,7 @@ fn print_item(
 fn print_item_at(text: &mut String, layout: &Layout, i: usize) -> Result<(), AllocError>
     requires { i < length layout.now.items }
     ensures { OnOk result (string_bytes text.new
-        ≡ string_bytes text.old ++ item_at layout.now i (slice_get layout.now.items i)) }
+        ≡ string_bytes text.old ++ item_text_at layout.now i (slice_get layout.now.items i)) }
 {
     let item = &layout.items()[i];
     let report = &layout.reports()[item.report];
@@ -216,7 +218,7 @@ fn print_report(text: &mut String, report: &Report, size: usize) -> Result<(), A
 fn print_report_at(text: &mut String, layout: &Layout, r: usize) -> Result<(), AllocError>
     requires { r < length layout.now.reports }
     ensures { OnOk result (string_bytes text.new
-        ≡ string_bytes text.old ++ report_at layout.now r (slice_get layout.now.reports r)) }
+        ≡ string_bytes text.old ++ report_text_at layout.now r (slice_get layout.now.reports r)) }
 {
     print_report(text, &layout.reports()[r], layout.report_bytes(r))
 }

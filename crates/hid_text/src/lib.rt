@@ -1,4 +1,5 @@
-//! Scripts as text: what a line says (docs/SCRIPT.md), and what is printed of layouts, reports, polls and events.
+//! Scripts and recordings as text: lines that come in pieces, what a line says (docs/SCRIPT.md), and what is printed of
+//! layouts, reports, polls and events.
 //! ```text
 //!           words_of_line                   read_line
 //!   line ------------------> word by word ---------------> Line, or the first LineFault
@@ -24,8 +25,8 @@
 //! Bytes that come in pieces, of a script or a recording, are cut into lines by [`split_line`] and a [`LineBuffer`].
 //!
 //! The promise: [`read_line`] gives exactly what the definition `meaning_of` says (`exact`), and takes no memory. What is
-//! printed is the stated text, byte for byte: `layout_text`, `values_text` and `step_text` of `specs/`. The line of an event is
-//! told from other lines by how it begins: law [`laws::events_are_told_apart`].
+//! printed is the stated text, byte for byte: `layout_text`, `values_text` and `step_text` of `specs/`. How a line begins
+//! distinguishes lines of events from others: law [`laws::event_lines_are_recognized`].
 #![tactic(auto)]
 
 mod arguments;
@@ -34,7 +35,7 @@ mod fault;
 pub mod laws;
 mod layout_text;
 mod line;
-mod lines;
+mod line_buffer;
 mod numbers;
 mod poll_text;
 mod requests;
@@ -48,7 +49,7 @@ pub use event_text::EventText;
 pub use fault::LineFault;
 pub use layout_text::print_layout;
 pub use line::{Line, read_line, says_nothing};
-pub use lines::{LineBuffer, TooLong, split_line};
+pub use line_buffer::{LineBuffer, TooLong, split_line};
 pub use numbers::read_number;
 pub use short::{ShortLine, read_short};
 pub use step_text::print_step;

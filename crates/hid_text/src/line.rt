@@ -15,9 +15,9 @@ use hid_bus::Start;
 use hid_requests::{Boot, Request};
 
 /// The most bytes of a line, without its end.
-pub(crate) const LINE_LIMIT: usize = 1024;
+pub(crate) const MAX_LINE: usize = 1024;
 
-/// The most bytes that the hex words of a line spell.
+/// The most bytes that the hex words of a line encode.
 pub(crate) const HEX_LIMIT: usize = 512;
 
 /// What a line says, with its words as values.
@@ -73,6 +73,7 @@ pub(crate) enum Keyword {
     Halt,
 }
 
+/// The keyword that is this word.
 pub(crate) fn read_keyword(word: &[u8]) -> Option<Keyword>
     ensures { result ≡ keyword_of word.now }
 {
@@ -120,7 +121,7 @@ pub(crate) fn read_keyword(word: &[u8]) -> Option<Keyword>
 pub fn says_nothing(line: &[u8]) -> bool
     ensures { IsTrue result → meaning_of line.now ≡ Ok Line.Nothing }
 {
-    if LINE_LIMIT < line.len() {
+    if MAX_LINE < line.len() {
         return false;
     }
     match no_blank(line) {
@@ -138,12 +139,13 @@ pub fn says_nothing(line: &[u8]) -> bool
 pub fn read_line(line: &[u8]) -> Result<Line, LineFault>
     ensures exact { result ≡ meaning_of line.now }
 {
-    if line.len() > LINE_LIMIT {
+    if line.len() > MAX_LINE {
         return Err(LineFault::LineTooLong);
     }
     read_words(line)
 }
 
+/// The meaning of a line's words.
 #[tactic(auto, unfolding(crate::specs::Line::line_meaning))]
 fn read_words(text: &[u8]) -> Result<Line, LineFault>
     requires { length text.now ≤ 1024 }
@@ -161,6 +163,7 @@ fn read_words(text: &[u8]) -> Result<Line, LineFault>
     }
 }
 
+/// The meaning of the words after a keyword.
 #[tactic(auto, unfolding(crate::specs::Line::words_meaning))]
 fn read_arguments(keyword: Keyword, text: &[u8]) -> Result<Line, LineFault>
     requires { length text.now ≤ 1024 }

@@ -2,9 +2,9 @@
 
 ghost use Rattle.std.specs.Prelude.{◌≡◌, ◌+◌, ◌-◌, ◌*◌, ◌^◌, ◌<◌, ◌≤◌, min, position, IfSome};
 ghost use Rattle.std.specs.Option.{option_map};
-ghost use Rattle.hid_text.specs.Numbers.{device_of, number_of, hex_number_of, is_colon, usage_of, count_of, byte_of, short_number_of, signed_of, amount_of};
+ghost use Rattle.hid_text.specs.Numbers.{device_of, number_of, hex_number_of, is_colon, usage_of_word, count_of, byte_of, short_number_of, signed_of_word, amount_of};
 
-use hid_descriptor::Usage;
+use hid_report_descriptor::Usage;
 
 /// A device: one digit, 1 to 7.
 pub fn read_device(word: &[u8]) -> Option<u8>
@@ -16,7 +16,7 @@ pub fn read_device(word: &[u8]) -> Option<u8>
     }
 }
 
-/// The number that digits spell, cut at the greatest `u64`.
+/// The number that digits encode, cut at the greatest `u64`.
 #[tactic(auto, unfolding(crate::specs::Numbers::number_of))]
 pub fn read_number(base: u8, word: &[u8]) -> Option<u64>
     requires { (2 ≤ base) × (base ≤ 16) }
@@ -46,6 +46,7 @@ fn read_hex_number(word: &[u8]) -> Option<u16>
     Some(value as u16)
 }
 
+/// The place of the first colon.
 fn colon(word: &[u8]) -> Option<usize>
     ensures { result ≡ position is_colon word.now }
 {
@@ -53,9 +54,9 @@ fn colon(word: &[u8]) -> Option<usize>
 }
 
 /// A usage: page and ID in hex, joined by a colon.
-#[tactic(auto, unfolding(crate::specs::Numbers::usage_of))]
+#[tactic(auto, unfolding(crate::specs::Numbers::usage_of_word))]
 pub fn read_usage(word: &[u8]) -> Option<Usage>
-    ensures { result ≡ usage_of word.now }
+    ensures { result ≡ usage_of_word word.now }
 {
     let colon = colon(word)?;
     let page = read_hex_number(&word[..colon])?;
@@ -85,7 +86,7 @@ pub fn read_byte(word: &[u8]) -> Option<u8>
     }
 }
 
-// A number of at most 18 digits.
+/// A number of at most 18 digits.
 fn read_short_number(word: &[u8]) -> Option<u64>
     ensures value { result ≡ short_number_of word.now }
     ensures small { IfSome result (λ n. n < 10 ^ 18) }
@@ -98,9 +99,9 @@ fn read_short_number(word: &[u8]) -> Option<u64>
 }
 
 /// A number of at most 18 digits, which a minus may precede.
-#[tactic(auto, unfolding(crate::specs::Numbers::signed_of))]
+#[tactic(auto, unfolding(crate::specs::Numbers::signed_of_word))]
 pub fn read_signed(word: &[u8]) -> Option<i64>
-    ensures { result ≡ signed_of word.now }
+    ensures { result ≡ signed_of_word word.now }
 {
     match word {
         [] => None,

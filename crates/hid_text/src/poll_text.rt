@@ -25,7 +25,7 @@ fn print_packet(text: &mut String, packet: &Packet) -> Result<(), AllocError>
     }
 }
 
-/// Adds what the bytes spell that a device sent.
+/// Adds what the bytes encode that a device sent.
 fn print_reply(text: &mut String, bytes: &[u8]) -> Result<(), AllocError>
     ensures { OnOk result (string_bytes text.new ≡ string_bytes text.old ++ reply_words bytes.now) }
 {

@@ -2,14 +2,14 @@
 
 ghost use Rattle.std.specs.Prelude.{◌≡◌, ◌≤◌, length};
 ghost use Rattle.hid_text.specs.Words.{words_of};
-ghost use Rattle.hid_text.specs.Requests.{request_word_of, kind_of, boot_protocol_of, bare_request as alone_said, idle_meaning, id_meaning, protocol_meaning, report_meaning, set_report_meaning, request_of_words, request_meaning, begin_meaning};
+ghost use Rattle.hid_text.specs.Requests.{request_word_of, report_type_of, boot_protocol_of, bare_request as alone_said, idle_meaning, id_meaning, protocol_meaning, report_meaning, set_report_meaning, request_of_words, request_meaning, begin_meaning};
 
 use super::fault::LineFault;
 use super::line::Line;
 use super::numbers::{read_byte, read_device};
 use super::words::{count_bytes, first_two_words, first_word, look_up, read_hex, two_words};
 use arrayvec::ArrayVec;
-use hid_descriptor::ReportKind;
+use hid_report_descriptor::ReportKind;
 use hid_requests::Request;
 
 /// The most bytes of a report that is set.
@@ -34,6 +34,7 @@ enum RequestWord {
     EndpointStatus,
 }
 
+/// The request that a word names.
 fn read_request_word(word: &[u8]) -> Option<RequestWord>
     ensures { result ≡ request_word_of word.now }
 {
@@ -61,7 +62,7 @@ fn read_request_word(word: &[u8]) -> Option<RequestWord>
 
 /// TYPE: which of a device's reports are meant (HID 1.11, 7.2.1).
 fn read_kind(word: &[u8]) -> Option<ReportKind>
-    ensures { result ≡ kind_of word.now }
+    ensures { result ≡ report_type_of word.now }
 {
     look_up(
         &[
@@ -73,14 +74,14 @@ fn read_kind(word: &[u8]) -> Option<ReportKind>
     )
 }
 
-// Whether a protocol is the boot protocol (7.2.6).
+/// Whether a protocol is the boot protocol (7.2.6).
 fn read_boot_protocol(word: &[u8]) -> Option<bool>
     ensures { result ≡ boot_protocol_of word.now }
 {
     look_up(&[(b"boot", true), (b"report", false)], word)
 }
 
-// A request with no words after it.
+/// A request with no words after it.
 #[tactic(auto, unfolding(crate::specs::Requests::bare_request))]
 fn bare_request(request: Request, text: &[u8]) -> Result<Request, LineFault>
     ensures { result ≡ alone_said request (words_of text.now) }
@@ -154,7 +155,7 @@ fn read_set_report(text: &[u8]) -> Result<Request, LineFault>
     Ok(Request::SetReport { kind, id, bytes })
 }
 
-// What the words after the first one of a request say.
+/// What the words after the first one of a request say.
 #[tactic(auto, unfolding(crate::specs::Requests::request_of_words))]
 fn read_asked(word: RequestWord, text: &[u8]) -> Result<Request, LineFault>
     requires { length text.now ≤ 1024 }

@@ -7,13 +7,13 @@ ghost use Rattle.hid_text.specs.Short.{short_meaning};
 ghost use Rattle.hid_text.specs.Words.{words_of};
 
 use super::arguments::{read_control, read_move, read_one_device, read_poll, read_set, read_times};
-use super::line::{Keyword, LINE_LIMIT, read_keyword};
+use super::line::{Keyword, MAX_LINE, read_keyword};
 use super::words::first_word;
-use hid_descriptor::Usage;
+use hid_report_descriptor::Usage;
 use usb_transact::Fate;
 
 /// What a line says that has no hex words and begins no request, with its words as values. A usage names the least control
-/// that has it. A `Line` has room for the bytes of a descriptor too, and is dearer to hand on.
+/// that has it. A `Line` has room for the bytes of a descriptor too, and costs more to move.
 #[derive(Clone, Copy)]
 pub enum ShortLine {
     /// `press D U`
@@ -157,7 +157,7 @@ fn read_words(text: &[u8]) -> Option<ShortLine>
 pub fn read_short(line: &[u8]) -> Option<ShortLine>
     ensures { IfSome result (λ short. meaning_of line.now ≡ Ok (Step short)) }
 {
-    if LINE_LIMIT < line.len() {
+    if MAX_LINE < line.len() {
         return None;
     }
     read_words(line)

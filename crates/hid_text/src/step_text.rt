@@ -1,7 +1,7 @@
 //! What is printed of a step of the bus.
 
 ghost use Rattle.std.specs.Prelude.{◌≡◌, ◌++◌, OnOk, string_bytes};
-ghost use Rattle.hid_text.specs.StepText.{told_text, events_text, step_text};
+ghost use Rattle.hid_text.specs.StepText.{result_text, events_text, step_text};
 
 use super::event_text::EventText;
 use super::poll_text::print_poll;
@@ -32,7 +32,7 @@ fn print_result(
     got: &[u8],
 ) -> Result<(), AllocError>
     ensures { OnOk result (string_bytes text.new
-        ≡ string_bytes text.old ++ told_text trace step.now told.now got.now) }
+        ≡ string_bytes text.old ++ result_text trace step.now told.now got.now) }
 {
     match (step, told) {
         (Step::Poll { dev, .. }, Told::Polled { reply, took }) => {

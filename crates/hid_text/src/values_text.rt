@@ -2,27 +2,17 @@
 
 ghost use Rattle.std.specs.Prelude.{◌≡◌, ◌++◌, ◌∷◌, ◌<◌, ◌≤◌, length, IfSome, OnOk, slice_get, string_bytes, codes};
 ghost use Rattle.std.specs.Fmt.{decimal, signed_decimal};
-ghost use Rattle.hid_descriptor.specs.Usages.{usage_list};
+ghost use Rattle.hid_report_descriptor.specs.Usages.{usage_list};
 ghost use Rattle.hid_layout.specs.Reports.{report_bytes};
 ghost use Rattle.hid_notation.specs.Text.{concat_below, usage_or_dash};
 ghost use Rattle.hid_usages.specs.Reading.{usage_named};
-ghost use Rattle.hid_text.specs.ValuesText.{usage_of_element, usage_shown, value_line, value_at, values_at, values_text};
+ghost use Rattle.hid_text.specs.ValuesText.{usage_shown, value_line, value_at, values_at, values_text};
 
 use hid_fields::WordCodec;
-use hid_layout::{Layout, MainItem, Shape, Usage, usage_at, usage_count};
+use hid_layout::{Layout, MainItem, Shape, Usage, usage_at, usage_of_element};
 use hid_notation::{print_number, print_signed, print_usage_or_dash};
 use hid_usages::element_value;
 use std::alloc::AllocError;
-
-/// The usage of an element of a variable item.
-#[tactic(auto, unfolding(crate::specs::ValuesText::usage_of_element))]
-fn usage_of_element(entries: &[(Usage, Usage)], j: usize) -> Option<Usage>
-    requires { length entries.now ≤ 64 }
-    ensures { result ≡ usage_of_element (usage_list entries.now) j }
-{
-    let last = usage_count(entries).saturating_sub(1);
-    usage_at(entries, j.min(last))
-}
 
 /// The usage that a number names in an array.
 fn usage_named(entries: &[(Usage, Usage)], item: &MainItem, number: i64) -> Option<Usage>
@@ -35,6 +25,7 @@ fn usage_named(entries: &[(Usage, Usage)], item: &MainItem, number: i64) -> Opti
     }
 }
 
+/// The usage that is printed for an element with this number.
 fn usage_shown(item: &MainItem, entries: &[(Usage, Usage)], j: usize, number: i64) -> Option<Usage>
     requires { length entries.now ≤ 64 }
     ensures { result ≡ usage_shown item.now.shape item.now (usage_list entries.now) j number }

@@ -1,4 +1,4 @@
-//! The words of a line, and the bytes that words of hex spell.
+//! The words of a line, and the bytes that words of hex encode.
 
 ghost use Rattle.std.specs.Prelude.{◌≡◌, ◌+◌, ◌*◌, ◌/◌, ◌<◌, ◌≤◌, IfOk, OnOk, IfErr, IfSome, map, length, position, is_ok, [], ◌++◌};
 ghost use Rattle.std.specs.Option.{option_map};
@@ -119,7 +119,7 @@ fn hex_digit(byte: u8) -> Option<u8>
     }
 }
 
-/// The byte that two hex digits spell.
+/// The byte that two hex digits encode.
 fn hex_pair(high: u8, low: u8) -> Option<u8>
     ensures { result ≡ pair_of high low }
 {
@@ -128,7 +128,7 @@ fn hex_pair(high: u8, low: u8) -> Option<u8>
     Some(high * 16 + low)
 }
 
-/// How many bytes hex words spell, one for two digits, whatever the digits are.
+/// How many bytes hex words encode, one for two digits, whatever the digits are.
 pub fn count_bytes(text: &[u8]) -> usize
     ensures { result ≡ byte_count (words_of text.now) }
 {
@@ -141,7 +141,7 @@ pub fn count_bytes(text: &[u8]) -> usize
     count
 }
 
-/// The bytes that the hex words of a text spell, joined. No blank is a digit, so each pair of digits is read where it stands.
+/// The bytes that the hex words of a text encode, joined. No blank is a digit, so each pair of digits is read where it stands.
 ///
 /// # Errors
 /// [`LineFault::BadHex`] where a word has a bad digit, or an odd number of digits.

@@ -1,16 +1,16 @@
 -- What leads from a view back to the initial one.
 use Rattle.std.proofs.Common.{◌≡◌, ℕ, zero, suc, ◌+◌, ◌<◌, ◌≤◌, ℤ, Bool, true, false, List, [], ◌∷◌, ◌++◌, length, replicate, Option, Some, append-nil, refl, sym, ap, ◌∙◌, arith}
 use Rattle.std.specs.List.{slice_get, zip}
-use Rattle.hid_descriptor.specs.declared.usage.Usage.{Usage}
+use Rattle.hid_report_descriptor.specs.declared.usage.Usage.{Usage}
 use Rattle.hid_layout.specs.declared.control.Controls.TheVariants as head
 use Rattle.hid_layout.specs.declared.control.ControlKind.{ControlKind}
 use Rattle.hid_layout.specs.declared.control.ControlKind.TheVariants.{Switch, Value, NullValue, Relative}
-use Rattle.hid_layout.specs.Controls.{Form, NoControls, Elements, Keys, Item, form_at, head_of, max_events}
+use Rattle.hid_layout.specs.Controls.{Form, NoControls, Elements, Keys, Item, form_at, controls_of_form, max_events}
 use Rattle.hid_snapshots.specs.declared.control_state.ControlState.{ControlState}
 use Rattle.hid_snapshots.specs.declared.control_state.ControlState.TheVariants.{Absent, Switches, Values, Motions, RollOver}
 use Rattle.hid_snapshots.specs.declared.event.Event.{Event}
 use Rattle.hid_snapshots.specs.ControlStates.{blank, blank_state, first_value, FitsShown, FitsView, HasRoom, InView}
-use Rattle.hid_snapshots.specs.Events.{at, element_list_events, switch_event, up_event, down_event, ups, usages_of, key_usages, element_events, change_events}
+use Rattle.hid_snapshots.specs.Events.{control_at, element_list_events, switch_event, up_event, down_event, ups, usages_of, key_usages, element_events, change_events}
 use Rattle.hid_snapshots.specs.Views.{changes_between}
 use Rattle.hid_snapshots.proofs.BlankLemmas.{blank_in_view, blank_room, suits_all}
 use Rattle.hid_snapshots.proofs.ItemLemmas.{got, form_at-is}
@@ -29,12 +29,12 @@ zip_none (b ∷ bs) (suc m) (suc n) h k = ap (λ (t : List (Bool × Bool)). (b, 
 ups_none : (i : ℕ) (us : List Usage) (bs named : List Bool) (n : ℕ) → named ≡ replicate (length named) false → length bs ≤ length named → length bs ≡ n → ups i us bs (replicate n false) ≡ ups i us bs named
 ups_none i us bs named n none within same =
     ap (λ (ps : List (Bool × Bool)). element_list_events
-    (λ j u (p : Bool × Bool). up_event (at i j) u p.0 p.1) 0 us ps)
+    (λ j u (p : Bool × Bool). up_event (control_at i j) u p.0 p.1) 0 us ps)
     (zip_none bs n (length named) (omega arith) within)
     ∙ ap (ups i us bs) (sym none)
 
 downs_none : (i j : ℕ) (us : List Usage) (bs : List Bool) (n : ℕ)
-    → element_list_events (λ k u (p : Bool × Bool). down_event (at i k) u p.0 p.1) j us (zip bs (replicate n false))
+    → element_list_events (λ k u (p : Bool × Bool). down_event (control_at i k) u p.0 p.1) j us (zip bs (replicate n false))
     ≡ []
 downs_none i j [] bs n = refl
 downs_none i j (u ∷ us) [] n = refl
@@ -43,18 +43,18 @@ downs_none i j (u ∷ us) (true ∷ bs) (suc n) = downs_none i (j + 1) us bs n
 downs_none i j (u ∷ us) (false ∷ bs) (suc n) = downs_none i (j + 1) us bs n
 
 switches_none : (i j : ℕ) (us : List Usage) (bs : List Bool) (n : ℕ)
-    → element_list_events (λ k u (p : Bool × Bool). switch_event (at i k) u p.0 p.1) j us (zip bs (replicate n false))
-    ≡ element_list_events (λ k u (p : Bool × Bool). up_event (at i k) u p.0 p.1) j us (zip bs (replicate n false))
+    → element_list_events (λ k u (p : Bool × Bool). switch_event (control_at i k) u p.0 p.1) j us (zip bs (replicate n false))
+    ≡ element_list_events (λ k u (p : Bool × Bool). up_event (control_at i k) u p.0 p.1) j us (zip bs (replicate n false))
 switches_none i j [] bs n = refl
 switches_none i j (u ∷ us) [] n = refl
 switches_none i j (u ∷ us) (b ∷ bs) zero = refl
-switches_none i j (u ∷ us) (true ∷ bs) (suc n) = ap (λ (t : List Event). up_event (at i j) u true false ++ t) (switches_none i (j + 1) us bs n)
+switches_none i j (u ∷ us) (true ∷ bs) (suc n) = ap (λ (t : List Event). up_event (control_at i j) u true false ++ t) (switches_none i (j + 1) us bs n)
 switches_none i j (u ∷ us) (false ∷ bs) (suc n) = switches_none i (j + 1) us bs n
 
 -- pressed switches and keys are released
-pub pressed_back : (i : ℕ) (form : Form) (bs named : List Bool) → HasRoom (head_of form) (Switches bs)
+pub pressed_back : (i : ℕ) (form : Form) (bs named : List Bool) → HasRoom (controls_of_form form) (Switches bs)
     → named ≡ replicate (length named) false → length bs ≤ length named
-    → change_events i form (Switches bs) (blank_state (head_of form)) ≡ ups i (usages_of form) bs named
+    → change_events i form (Switches bs) (blank_state (controls_of_form form)) ≡ ups i (usages_of form) bs named
 pressed_back i NoControls bs named room none within = absurd room
 pressed_back i (Elements Switch least greatest us) bs named room none within = switches_none i 0 us bs (length us) ∙ ups_none i us bs named (length us) none within room
 pressed_back i (Elements Value least greatest us) bs named room none within = absurd room
@@ -66,9 +66,9 @@ pressed_back i (Keys elements rolls keys) bs named room none within =
     ∙ ups_none i (key_usages keys) bs named (length keys) none within room
 
 -- values become the first one
-pub holding_back : (i : ℕ) (form : Form) (bs : List (Option ℤ)) → HasRoom (head_of form) (Values bs)
-    → change_events i form (Values bs) (blank_state (head_of form))
-    ≡ element_events i (usages_of form) (Values bs) (blank_state (head_of form))
+pub holding_back : (i : ℕ) (form : Form) (bs : List (Option ℤ)) → HasRoom (controls_of_form form) (Values bs)
+    → change_events i form (Values bs) (blank_state (controls_of_form form))
+    ≡ element_events i (usages_of form) (Values bs) (blank_state (controls_of_form form))
 holding_back i NoControls bs room = absurd room
 holding_back i (Elements kind least greatest us) bs room = refl
 holding_back i (Keys elements rolls keys) bs room = absurd room
@@ -102,13 +102,17 @@ rolled_back i NoControls ps after = refl
 rolled_back i (Elements kind least greatest us) ps after = refl
 rolled_back i (Keys elements rolls keys) ps after = refl
 
-pub blank_there : (items : List Item) (i : ℕ) → i < length items → slice_get (blank items) i ≡ Some (blank_state (head_of (form_at items i)))
+pub blank_there : (items : List Item) (i : ℕ) → i < length items
+    → slice_get (blank items) i ≡ Some (blank_state (controls_of_form (form_at items i)))
 blank_there items i within =
     let item = got items i within in
-    map_at (λ (it : Item). blank_state (head_of it.form)) items i item.0 item.1 ∙ ap (λ (f : Form). Some (blank_state (head_of f))) (sym (form_at-is items i item.0 item.1))
+    map_at (λ (it : Item). blank_state (controls_of_form it.form)) items i item.0 item.1
+    ∙ ap (λ (f : Form). Some (blank_state (controls_of_form f))) (sym (form_at-is items i item.0 item.1))
 
 pub blank_view : (items : List Item) → FitsView items (blank items)
-blank_view items = suits_all InView (λ item. blank_state (head_of item.form)) items (λ i item h. (blank_room item.form, blank_in_view item.form))
+blank_view items =
+    suits_all InView (λ item. blank_state (controls_of_form item.form)) items
+    (λ i item h. (blank_room item.form, blank_in_view item.form))
 
 pub changes_back_few : (items : List Item) (states : List ControlState) → FitsView items states
     → length (changes_between items states (blank items)) ≤ max_events items

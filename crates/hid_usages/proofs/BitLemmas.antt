@@ -18,29 +18,29 @@ use Rattle.hid_snapshots.specs.Words.{bits_in, is_on, is_unlike, IsFirst}
 use Rattle.hid_snapshots.proofs.WordLemmas.{bits_in-at, bits_in-length}
 use Rattle.hid_snapshots.proofs.FillLemmas.{map_zip_at, length_map_zip}
 use Rattle.hid_snapshots.proofs.ItemLemmas.{got}
-use Rattle.hid_descriptor.specs.declared.usage.Usage.{Usage}
+use Rattle.hid_report_descriptor.specs.declared.usage.Usage.{Usage}
 use Rattle.hid_snapshots.specs.declared.event.Event.{Event}
 use Rattle.hid_snapshots.specs.declared.event.Event.TheVariants as event
-use Rattle.hid_snapshots.specs.Events.{at, switch_event, usages_of, usages_at, element_events, change_events}
+use Rattle.hid_snapshots.specs.Events.{control_at, switch_event, usages_of, usages_at, element_events, change_events}
 use Rattle.hid_usages.specs.Reading.{read_switch, read_state, motion_state, item_numbers}
 use Rattle.hid_usages.specs.Bits.{is_variable, are_bits, read_bits}
 use Rattle.hid_layout.specs.ControlKinds.{is_switch}
 use Rattle.hid_snapshots.specs.Views.{form_motions}
-use Rattle.hid_usages.specs.Taking.{list_at, IsFormOf, state_by_numbers, number_events}
+use Rattle.hid_usages.specs.Taking.{list_at, IsFormOf, state_after_numbers_at, events_of_numbers_at}
 use Rattle.hid_usages.proofs.TakeLemmas.{list_at-is}
 use Rattle.hid_snapshots.proofs.SendLemmas.{spread_usages-length}
 use Rattle.hid_fields.specs.Value.{is_negative}
-use Rattle.hid_descriptor.specs.Flags.{has_flag, RELATIVE, NULL_STATE}
+use Rattle.hid_report_descriptor.specs.Flags.{has_flag, RELATIVE, NULL_STATE}
 use Rattle.hid_layout.specs.declared.main_item.MainItem.{MainItem}
-use Rattle.hid_descriptor.specs.declared.shape.Shape.{Shape}
-use Rattle.hid_descriptor.specs.declared.shape.Shape.TheVariants.{Padding, Variable, Array}
+use Rattle.hid_report_descriptor.specs.declared.shape.Shape.{Shape}
+use Rattle.hid_report_descriptor.specs.declared.shape.Shape.TheVariants.{Padding, Variable, Array}
 use Rattle.hid_layout.specs.declared.control.ControlKind.{ControlKind}
 use Rattle.hid_layout.specs.declared.control.ControlKind.TheVariants.{Switch, Value, NullValue, Relative}
 use Rattle.hid_layout.specs.declared.control.Controls.TheVariants as head
 use Rattle.hid_layout.specs.Layout.{Contents}
-use Rattle.hid_descriptor.specs.Fields.{is_padding}
+use Rattle.hid_report_descriptor.specs.Fields.{is_padding}
 use Rattle.hid_layout.specs.Reports.{IsLayout, first_bit}
-use Rattle.hid_layout.specs.Controls.{Form, Elements, form_of, form_at, items_of, head_of, element_kind, has_outside, least_of, greatest_of, spread_usages}
+use Rattle.hid_layout.specs.Controls.{Form, Elements, form_of, form_at, items_of, controls_of_form, element_kind, has_outside, least_of, greatest_of, spread_usages}
 use Rattle.hid_snapshots.specs.declared.control_state.ControlState.{ControlState}
 use Rattle.hid_snapshots.specs.declared.control_state.ControlState.TheVariants.{Absent, Switches, Values, Motions, RollOver}
 use Rattle.hid_snapshots.specs.ControlStates.{HasRoom}
@@ -100,10 +100,10 @@ pair_is bs w j p here =
     let place : 64 * 0 + j ≡ j = omega arith in
     (bit, ap (λ (k : ℕ). not (beq (is_on bs k) (bit_at w j == 1))) place ∙ ap (λ (b : Bool). not (beq b (bit_at w j == 1))) q.0 ∙ ap (λ (b : Bool). not (beq p.0 b)) bit)
 
-pub turns_by : (i : ℕ) (bs : List Bool) (w : ℕ) → TellsBy (λ j u p. switch_event (at i j) u p.0 p.1) (is_unlike bs 0 w) bs (bits_in (length bs) w) (λ j u. turned (at i j) u (bit_at w j == 1))
+pub turns_by : (i : ℕ) (bs : List Bool) (w : ℕ) → TellsBy (λ j u p. switch_event (control_at i j) u p.0 p.1) (is_unlike bs 0 w) bs (bits_in (length bs) w) (λ j u. turned (control_at i j) u (bit_at w j == 1))
 turns_by i bs w = record {
-  none = λ j u p h e. no_turn (at i j) u p.0 p.1 (sym (pair_is bs w j p h).1 ∙ e);
-  one = λ j u p h e. one_turn (at i j) u p.0 p.1 (sym (pair_is bs w j p h).1 ∙ e) ∙ ap (λ (b : Bool). turned (at i j) u b ∷ []) (sym (pair_is bs w j p h).0);
+  none = λ j u p h e. no_turn (control_at i j) u p.0 p.1 (sym (pair_is bs w j p h).1 ∙ e);
+  one = λ j u p h e. one_turn (control_at i j) u p.0 p.1 (sym (pair_is bs w j p h).1 ∙ e) ∙ ap (λ (b : Bool). turned (control_at i j) u b ∷ []) (sym (pair_is bs w j p h).0);
 }
 
 -- the first bit of a word that isn't as it is held is that of a switch
@@ -172,7 +172,7 @@ has_bits m h =
 
 state_by_bits : (m : MainItem) (us : List Usage) (kind : ControlKind) (least greatest : ℤ) (uses : List Usage)
     (state : ControlState) (vs : List ℤ) (pattern : ℕ) → kind ≡ Switch
-    → HasRoom (head_of (Elements kind least greatest uses)) state
+    → HasRoom (controls_of_form (Elements kind least greatest uses)) state
     → ((bs : List Bool) → length bs ≡ length uses → map (λ p. read_switch p.0 p.1) (zip bs vs) ≡ bits_in (length bs) pattern)
     → read_bits pattern state ≡ read_state m us (Elements kind least greatest uses) state vs
 state_by_bits m us Switch least greatest uses (Switches bs) vs pattern k room read = ap Switches (sym (read bs room))
@@ -194,7 +194,7 @@ told_by_bits i NullValue least greatest uses b a vs k = absurd (cc)
 told_by_bits i Relative least greatest uses b a vs k = absurd (cc)
 
 room_of_bits : (kind : ControlKind) (least greatest : ℤ) (uses : List Usage) (state : ControlState) → kind ≡ Switch
-    → HasRoom (head_of (Elements kind least greatest uses)) state
+    → HasRoom (controls_of_form (Elements kind least greatest uses)) state
     → HasRoom (head.Elements Switch (pos 0) (pos 1) (length uses)) state
 room_of_bits Switch least greatest uses (Switches bs) k room = room
 room_of_bits Switch least greatest uses Absent k room = absurd room
@@ -211,14 +211,14 @@ pub record ReadsAsBits (layout : Contents) (bytes : List ℕ) (i : ℕ) (m : Mai
   pub places : length (usages_at layout i) ≡ m.count
   pub room : HasRoom (head.Elements Switch (pos 0) (pos 1) (length (usages_at layout i))) state
   pub read : read_bits (pattern_in layout bytes m) state
-      ≡ state_by_numbers layout i m state (item_numbers layout bytes m)
+      ≡ state_after_numbers_at layout i m state (item_numbers layout bytes m)
   pub told : (after : ControlState)
       → element_events i (usages_at layout i) state after
-      ≡ number_events layout i m state after (item_numbers layout bytes m)
+      ≡ events_of_numbers_at layout i m state after (item_numbers layout bytes m)
 
 pub reads_as_bits : (layout : Contents) (bytes : List ℕ) (i : ℕ) (m : MainItem) (state : ControlState)
     → IsLayout layout → slice_get layout.items i ≡ Some m → IsFormOf layout i m → HasBits m
-    → HasRoom (head_of (form_at (items_of layout) i)) state
+    → HasRoom (controls_of_form (form_at (items_of layout) i)) state
     → ReadsAsBits layout bytes i m state
 reads_as_bits layout bytes i m state laid listed form bits room =
     let us = list_at layout i in
@@ -229,8 +229,8 @@ reads_as_bits layout bytes i m state laid listed form bits room =
     ≡ Elements (element_kind m) (least_of m) (greatest_of m) (spread_usages m.count us) =
     form ∙ ap (form_of m us) bits.shape in
     let here : HasRoom
-    (head_of (Elements (element_kind m) (least_of m) (greatest_of m) (spread_usages m.count us))) state =
-    subst (λ (f : Form). HasRoom (head_of f) state) is room in
+    (controls_of_form (Elements (element_kind m) (least_of m) (greatest_of m) (spread_usages m.count us))) state =
+    subst (λ (f : Form). HasRoom (controls_of_form f) state) is room in
     let uses : usages_at layout i ≡ spread_usages m.count us = ap usages_of is in
     let count : length (usages_at layout i) ≡ m.count = ap length uses ∙ long in
     let unsigned : is_negative m.min ≡ false = ap is_negative bits.from_zero in

@@ -15,14 +15,14 @@ use Rattle.hid_fields.proofs.ValueLemmas.{value_of-low, value_of-high}
 use Rattle.hid_layout.specs.declared.control.ControlKind.TheVariants.{Switch, Relative}
 use Rattle.hid_layout.specs.declared.control.Control.{Control}
 use Rattle.hid_layout.specs.declared.main_item.MainItem.{MainItem}
-use Rattle.hid_descriptor.specs.declared.shape.Shape.TheVariants.{Array}
-use Rattle.hid_descriptor.specs.declared.usage.Usage.{Usage}
-use Rattle.hid_layout.specs.Controls.{Item, Key, input_item, Elements, Keys, items_of, items_from, keys_from, rollover_from, spread_usages, control_of_key, head_of}
+use Rattle.hid_report_descriptor.specs.declared.shape.Shape.TheVariants.{Array}
+use Rattle.hid_report_descriptor.specs.declared.usage.Usage.{Usage}
+use Rattle.hid_layout.specs.Controls.{Item, Key, input_item, Elements, Keys, items_of, items_from, keys_from, rollover_from, spread_usages, control_of_key, controls_of_form}
 use Rattle.hid_layout.specs.Finding.{control_usage}
 use Rattle.hid_snapshots.specs.declared.control_state.ControlState.{ControlState}
 use Rattle.hid_snapshots.specs.declared.control_state.ControlState.TheVariants.{Absent, Switches, Values, Motions, RollOver}
 use Rattle.hid_usages.specs.declared.boot.KeyboardReport.{KeyboardReport}
-use Rattle.hid_usages.specs.Boot.{field, keyboard_layout, mouse_layout, keyboard_of, mouse_of, motion_in, is_held, is_rolled, names, buttons_in, TellsKeys, TellsButtons}
+use Rattle.hid_usages.specs.Boot.{field, keyboard_layout, mouse_layout, keyboard_of, mouse_of, boot_motion, is_boot_key_held, is_rolled, names, buttons_in, ReportsKeys, ReportsButtons}
 use Rattle.hid_snapshots.specs.ControlStates.{is_in, FitsView, HasRoom, InView}
 use Rattle.hid_snapshots.specs.Encoding.{AreBytes}
 use Rattle.hid_snapshots.specs.Numbers.{number_at, numbers_in}
@@ -30,8 +30,8 @@ use Rattle.hid_usages.specs.Reading.{read_switch, read_motion, names_rollover, n
 use Rattle.hid_snapshots.specs.Samples.{usage, keyboard, mouse}
 use Rattle.hid_snapshots.specs.Snapshots.{is_pressed, state_at}
 use Rattle.hid_snapshots.specs.declared.event.Event.{Event}
-use Rattle.hid_snapshots.specs.Events.{at, switch_events, motion_event, motion_events, change_events}
-use Rattle.hid_usages.specs.Taking.{read_view, state_by_report, report_events_from, read_events}
+use Rattle.hid_snapshots.specs.Events.{control_at, switch_events, motion_event, motion_events, change_events}
+use Rattle.hid_usages.specs.Taking.{read_view, state_after_report_at, events_of_report_at, read_events}
 use Rattle.hid_snapshots.proofs.CodeLemmas.{test_true}
 use Rattle.hid_snapshots.proofs.ItemLemmas.{got}
 use Rattle.hid_usages.proofs.KeyLemmas.{rollover_named}
@@ -207,7 +207,7 @@ pressed_there view fits = by_state at.0 at.1 (fits.room 0 (input_item 0 8 (Eleme
     at = got view 0 (omega (arith, fits.one_each))
 
     by_state : (state : ControlState) → slice_get view 0 ≡ Some state
-        → HasRoom (head_of (Elements Switch (pos 0) (pos 1) (map (usage 7) (range_with_len 0xE0 8)))) state
+        → HasRoom (controls_of_form (Elements Switch (pos 0) (pos 1) (map (usage 7) (range_with_len 0xE0 8)))) state
         → (ps : List Bool) × (slice_get view 0 ≡ Some (Switches ps)) × (length ps ≡ 8)
     by_state Absent e r = absurd r
     by_state (Switches ps) e r = (ps, e, r)
@@ -223,7 +223,7 @@ keys_there view fits = by_state at.0 at.1 (fits.room 4 (input_item 0 8 (Keys 6 t
     at = got view 4 (omega (arith, fits.one_each))
 
     by_state : (state : ControlState) → slice_get view 4 ≡ Some state
-        → HasRoom (head_of (Keys 6 true keyboard_keys)) state → InView (Keys 6 true keyboard_keys) state
+        → HasRoom (controls_of_form (Keys 6 true keyboard_keys)) state → InView (Keys 6 true keyboard_keys) state
         → (ps : List Bool) × (slice_get view 4 ≡ Some (Switches ps))
     by_state Absent e r s = absurd r
     by_state (Switches ps) e r s = (ps, e)
@@ -233,7 +233,7 @@ keys_there view fits = by_state at.0 at.1 (fits.room 4 (input_item 0 8 (Keys 6 t
 
 -- what is read of the modifiers and of the keys
 modifiers_read : (bytes : List ℕ) (ps : List Bool) → length ps ≡ 8
-    → state_by_report keyboard_layout 0 bytes 0 (Switches ps)
+    → state_after_report_at keyboard_layout 0 bytes 0 (Switches ps)
     ≡ Switches (map (λ n. bit_at (get_or bytes 0 0) n == 1) (range_with_len 0 8))
 unfolding items_from keys_from rollover_from spread_usages
 modifiers_read bytes ps h =
@@ -242,7 +242,7 @@ modifiers_read bytes ps h =
     (switches_read (bit_at (get_or bytes 0 0)) ps (range_with_len 0 8) h (λ n. bit_at-lt (get_or bytes 0 0) n))
 
 keys_read : (bytes : List ℕ) (ps : List Bool) → AreBytes bytes → 8 ≤ length bytes → is_rolled (keyboard_of bytes) ≡ false
-    → state_by_report keyboard_layout 0 bytes 4 (Switches ps)
+    → state_after_report_at keyboard_layout 0 bytes 4 (Switches ps)
     ≡ Switches (named_keys_from key_item (map pos (keyboard_of bytes).keys) 0 keyboard_keys)
 unfolding items_from keys_from rollover_from spread_usages
 keys_read bytes ps bs within rolled =
@@ -253,14 +253,16 @@ keys_read bytes ps bs within rolled =
     (any_rollover (keyboard_of bytes).keys ∙ rolled)
 
 -- what the report tells
-modifier_told : (report : KeyboardReport) (j : ℕ) → j < 8 → is_held report (0xE0 + j) ≡ (bit_at report.modifiers j == 1)
+modifier_told : (report : KeyboardReport) (j : ℕ) → j < 8
+    → is_boot_key_held report (0xE0 + j) ≡ (bit_at report.modifiers j == 1)
 modifier_told report j h =
     let low : nat_le 0xE0 (0xE0 + j) ≡ true = grind (arith, nat_tests) in
     let high : nat_le (0xE0 + j) 0xE7 ≡ true = grind (arith, nat_tests) in
     let less : (0xE0 + j) - 0xE0 ≡ j = omega arith in
     rw (low, high, less) refl
 
-key_told : (report : KeyboardReport) (id : ℕ) → 4 ≤ id → id ≤ 101 → is_rolled report ≡ false → is_held report id ≡ names id report
+key_told : (report : KeyboardReport) (id : ℕ) → 4 ≤ id → id ≤ 101 → is_rolled report ≡ false
+    → is_boot_key_held report id ≡ names id report
 key_told report id low high rolled =
     let none : nat_le 0xE0 id ≡ false = grind (arith, nat_tests) in
     let from : nat_le 4 id ≡ true = grind (arith, nat_tests) in
@@ -296,13 +298,13 @@ key_held bytes view id bs long fits low high rolled =
 
 modifier_place : (bytes : List ℕ) (view : List ControlState) (id i j : ℕ) → FitsView keyboard view → 0xE0 ≤ id
     → IsPlace i j id
-    → is_pressed (state_at (read_view keyboard_layout 0 bytes view) i) j ≡ is_held (keyboard_of bytes) id
+    → is_pressed (state_at (read_view keyboard_layout 0 bytes view) i) j ≡ is_boot_key_held (keyboard_of bytes) id
 modifier_place bytes view id i j fits low (inl p) = rw (p.0, p.2) (modifier_held bytes view j fits p.1 ∙ sym (modifier_told (keyboard_of bytes) j p.1))
 modifier_place bytes view id i j fits low (inr p) = absurd (omega (arith, p.1, p.2))
 
 key_place : (bytes : List ℕ) (view : List ControlState) (id i j : ℕ) → AreBytes bytes → 8 ≤ length bytes
     → FitsView keyboard view → 4 ≤ id → id ≤ 101 → is_rolled (keyboard_of bytes) ≡ false → IsPlace i j id
-    → is_pressed (state_at (read_view keyboard_layout 0 bytes view) i) j ≡ is_held (keyboard_of bytes) id
+    → is_pressed (state_at (read_view keyboard_layout 0 bytes view) i) j ≡ is_boot_key_held (keyboard_of bytes) id
 key_place bytes view id i j bs long fits low high rolled (inl p) = absurd (omega (arith, p.2))
 key_place bytes view id i j bs long fits low high rolled (inr p) =
     rw (p.0, ← p.2) (key_held bytes view id bs long fits low high rolled ∙ sym (key_told (keyboard_of bytes) id low high rolled))
@@ -313,24 +315,24 @@ named_keyboard bytes h =
     rw long refl
 
 pub keys_told : (bytes : List ℕ) (view : List ControlState) → AreBytes bytes → 8 ≤ length bytes
-    → FitsView (items_of keyboard_layout) view → TellsKeys bytes view
+    → FitsView (items_of keyboard_layout) view → ReportsKeys bytes view
 keys_told bytes view bs long there =
     let fits : FitsView keyboard view = subst (λ (items : List Item). FitsView items view) keyboard_controls there in
     record {
       named = named_keyboard bytes long;
-      modifier_there = λ id low high. (at 0 (id - 0xE0), modifier_is id low high);
+      modifier_there = λ id low high. (control_at 0 (id - 0xE0), modifier_is id low high);
       modifiers = λ id low high c is. modifier_place bytes view id c.item c.index fits low (place_of c.item c.index id (rw keyboard_controls at is));
-      key_there = λ id low high. (at 4 id, key_is id low high);
+      key_there = λ id low high. (control_at 4 id, key_is id low high);
       keys = λ id low high rolled c is. key_place bytes view id c.item c.index bs long fits low high rolled (place_of c.item c.index id (rw keyboard_controls at is));
     }
   where
     modifier_is : (id : ℕ) → 0xE0 ≤ id → id ≤ 0xE7
-        → control_usage (items_of keyboard_layout) (at 0 (id - 0xE0)) ≡ Some (usage 7 id)
+        → control_usage (items_of keyboard_layout) (control_at 0 (id - 0xE0)) ≡ Some (usage 7 id)
     modifier_is id low high =
         let e : 0xE0 + (id - 0xE0) ≡ id = omega arith in
         rw (keyboard_controls, there_at (usage 7) 0xE0 8 (id - 0xE0) (omega arith), e) refl
 
-    key_is : (id : ℕ) → 4 ≤ id → id ≤ 0x65 → control_usage (items_of keyboard_layout) (at 4 id) ≡ Some (usage 7 id)
+    key_is : (id : ℕ) → 4 ≤ id → id ≤ 0x65 → control_usage (items_of keyboard_layout) (control_at 4 id) ≡ Some (usage 7 id)
     key_is id low high =
         let e : nat_lt 3 id ≡ true = grind (arith, nat_tests) in
         rw (keyboard_controls, there_at key_of 0 102 id (omega arith), zero-add id, e) refl
@@ -344,10 +346,11 @@ in_range : (v : ℤ) → negsuc 126 ≤ℤ v → v ≤ℤ pos 127 → is_in (neg
 in_range v low high = rw (test_true (le_z (negsuc 126) v) (low.le), test_true (le_z v (pos 127)) (high.le)) refl
 
 -- a motion out of range is none
-one_motion : (b : ℕ) → b < 256 → read_motion (negsuc 126) (pos 127) (value_of b 8 true) ≡ motion_in b
+one_motion : (b : ℕ) → b < 256 → read_motion (negsuc 126) (pos 127) (value_of b 8 true) ≡ boot_motion b
 one_motion b small = by_half (nat_lt b 128) (b == 0x80) refl refl
   where
-    by_half : (low same : Bool) → nat_lt b 128 ≡ low → (b == 0x80) ≡ same → read_motion (negsuc 126) (pos 127) (value_of b 8 true) ≡ motion_in b
+    by_half : (low same : Bool) → nat_lt b 128 ≡ low → (b == 0x80) ≡ same
+        → read_motion (negsuc 126) (pos 127) (value_of b 8 true) ≡ boot_motion b
     by_half low true l e =
         let is : b ≡ 0x80 = grind (arith, nat_tests) in
         rw is refl
@@ -372,7 +375,7 @@ low_three b =
     rw (zeroth, first, second) refl
 
 buttons_read : (bytes : List ℕ) (ps : List Bool) → length ps ≡ 3
-    → state_by_report mouse_layout 0 bytes 0 (Switches ps) ≡ Switches (buttons_in bytes)
+    → state_after_report_at mouse_layout 0 bytes 0 (Switches ps) ≡ Switches (buttons_in bytes)
 unfolding items_from spread_usages
 buttons_read bytes ps h =
     ap (λ (vs : List ℤ). Switches (map (λ p. read_switch p.0 p.1) (zip ps vs))) (three_bits bytes)
@@ -381,7 +384,7 @@ buttons_read bytes ps h =
     ∙ ap Switches (low_three (get_or bytes 0 0))
 
 buttons_told : (bytes : List ℕ) (ps : List Bool) → length ps ≡ 3
-    → report_events_from mouse_layout 0 bytes 0 (Switches ps)
+    → events_of_report_at mouse_layout 0 bytes 0 (Switches ps)
     ≡ switch_events 0 (map (usage 9) (range_with_len 1 3)) ps (buttons_in bytes)
 unfolding items_from spread_usages
 buttons_told bytes ps h =
@@ -394,17 +397,18 @@ abbrev axes : List Usage
 axes = usage 0x01 0x30 ∷ usage 0x01 0x31 ∷ []
 
 motions_told : (bytes : List ℕ) (ms : List ℤ) → AreBytes bytes → 3 ≤ length bytes
-    → report_events_from mouse_layout 0 bytes 2 (Motions ms)
-    ≡ motion_event (at 2 0) (usage 0x01 0x30) (mouse_of bytes).x
-    ++ motion_event (at 2 1) (usage 0x01 0x31) (mouse_of bytes).y
+    → events_of_report_at mouse_layout 0 bytes 2 (Motions ms)
+    ≡ motion_event (control_at 2 0) (usage 0x01 0x30) (mouse_of bytes).x
+    ++ motion_event (control_at 2 1) (usage 0x01 0x31) (mouse_of bytes).y
 unfolding items_from spread_usages
 motions_told bytes ms bs long =
     ap (λ (vs : List ℤ). motion_events 2 axes (map (read_motion (negsuc 126) (pos 127)) vs)) (two_numbers bytes bs long)
     ∙ ap (λ (x : ℤ). motion_events 2 axes (x ∷ read_motion (negsuc 126) (pos 127) (value_of (get_or bytes 2 0) 8 true) ∷ [])) (one_motion (get_or bytes 1 0) (byte_there bytes 1 bs (omega arith)))
-    ∙ ap (λ (y : ℤ). motion_events 2 axes (motion_in (get_or bytes 1 0) ∷ y ∷ [])) (one_motion (get_or bytes 2 0) (byte_there bytes 2 bs (omega arith)))
-    ∙ ap (λ (es : List Event). motion_event (at 2 0) (usage 0x01 0x30) (mouse_of bytes).x ++ es) (append-nil (motion_event (at 2 1) (usage 0x01 0x31) (mouse_of bytes).y))
+    ∙ ap (λ (y : ℤ). motion_events 2 axes (boot_motion (get_or bytes 1 0) ∷ y ∷ []))
+    (one_motion (get_or bytes 2 0) (byte_there bytes 2 bs (omega arith)))
+    ∙ ap (λ (es : List Event). motion_event (control_at 2 0) (usage 0x01 0x30) (mouse_of bytes).x ++ es) (append-nil (motion_event (control_at 2 1) (usage 0x01 0x31) (mouse_of bytes).y))
 
-padding_told : (bytes : List ℕ) (state : ControlState) → report_events_from mouse_layout 0 bytes 1 state ≡ []
+padding_told : (bytes : List ℕ) (state : ControlState) → events_of_report_at mouse_layout 0 bytes 1 state ≡ []
 padding_told bytes state = refl
 
 named_mouse : (bytes : List ℕ) → 3 ≤ length bytes → report_named mouse_layout bytes ≡ Ok 0
@@ -426,8 +430,8 @@ view_there (a ∷ b ∷ c ∷ []) fits =
     by_states a c (fits.room 0 (input_item 0 3 (Elements Switch (pos 0) (pos 1) (map (usage 9) (range_with_len 1 3)))) a refl refl) (fits.room 2 (input_item 0 3 (Elements Relative (negsuc 126) (pos 127) axes)) c refl refl)
   where
     by_states : (x y : ControlState)
-        → HasRoom (head_of (Elements Switch (pos 0) (pos 1) (map (usage 9) (range_with_len 1 3)))) x
-        → HasRoom (head_of (Elements Relative (negsuc 126) (pos 127) axes)) y
+        → HasRoom (controls_of_form (Elements Switch (pos 0) (pos 1) (map (usage 9) (range_with_len 1 3)))) x
+        → HasRoom (controls_of_form (Elements Relative (negsuc 126) (pos 127) axes)) y
         → (ps : List Bool) × (m : ControlState) × (ms : List ℤ) × IsView ps m ms (x ∷ b ∷ y ∷ [])
     by_states Absent y r s = absurd r
     by_states (Values vs) y r s = absurd r
@@ -440,7 +444,7 @@ view_there (a ∷ b ∷ c ∷ []) fits =
     by_states (Switches ps) (Motions ms) r s = (ps, b, ms, (refl, r))
 
 read_mouse : (bytes : List ℕ) (ps : List Bool) (c : ControlState) (ms : List ℤ) → AreBytes bytes → 3 ≤ length bytes
-    → length ps ≡ 3 → TellsButtons bytes (Switches ps ∷ c ∷ Motions ms ∷ [])
+    → length ps ≡ 3 → ReportsButtons bytes (Switches ps ∷ c ∷ Motions ms ∷ [])
 read_mouse bytes ps c ms bs long h = record {
   named = named_mouse bytes long;
   held = buttons_read bytes ps h;
@@ -449,24 +453,24 @@ read_mouse bytes ps c ms bs long h = record {
   where
     told : read_events mouse_layout 0 bytes (Switches ps ∷ c ∷ Motions ms ∷ [])
         ≡ switch_events 0 (map (usage 9) (range_with_len 1 3)) ps (buttons_in bytes)
-        ++ (motion_event (at 2 0) (usage 0x01 0x30) (mouse_of bytes).x ++ motion_event (at 2 1) (usage 0x01 0x31) (mouse_of bytes).y)
+        ++ (motion_event (control_at 2 0) (usage 0x01 0x30) (mouse_of bytes).x ++ motion_event (control_at 2 1) (usage 0x01 0x31) (mouse_of bytes).y)
     told =
         ap (λ (es : List Event). es
-        ++ (report_events_from mouse_layout 0 bytes 1 c
-        ++ (report_events_from mouse_layout 0 bytes 2 (Motions ms) ++ []))) (buttons_told bytes ps h)
+        ++ (events_of_report_at mouse_layout 0 bytes 1 c
+        ++ (events_of_report_at mouse_layout 0 bytes 2 (Motions ms) ++ []))) (buttons_told bytes ps h)
         ∙ ap (λ (es : List Event). switch_events 0 (map (usage 9) (range_with_len 1 3)) ps (buttons_in bytes) ++ es)
-        (append-nil (report_events_from mouse_layout 0 bytes 2 (Motions ms)) ∙ motions_told bytes ms bs long)
+        (append-nil (events_of_report_at mouse_layout 0 bytes 2 (Motions ms)) ∙ motions_told bytes ms bs long)
 
     motions : (before : List Bool) → Switches ps ≡ Switches before
         → read_events mouse_layout 0 bytes (Switches ps ∷ c ∷ Motions ms ∷ [])
         ≡ switch_events 0 (map (usage 9) (range_with_len 1 3)) before (buttons_in bytes)
-        ++ (motion_event (at 2 0) (usage 0x01 0x30) (mouse_of bytes).x ++ motion_event (at 2 1) (usage 0x01 0x31) (mouse_of bytes).y)
+        ++ (motion_event (control_at 2 0) (usage 0x01 0x30) (mouse_of bytes).x ++ motion_event (control_at 2 1) (usage 0x01 0x31) (mouse_of bytes).y)
     motions before is =
         let e : ps ≡ before = cc in
-        told ∙ ap (λ (qs : List Bool). switch_events 0 (map (usage 9) (range_with_len 1 3)) qs (buttons_in bytes) ++ (motion_event (at 2 0) (usage 0x01 0x30) (mouse_of bytes).x ++ motion_event (at 2 1) (usage 0x01 0x31) (mouse_of bytes).y)) e
+        told ∙ ap (λ (qs : List Bool). switch_events 0 (map (usage 9) (range_with_len 1 3)) qs (buttons_in bytes) ++ (motion_event (control_at 2 0) (usage 0x01 0x30) (mouse_of bytes).x ++ motion_event (control_at 2 1) (usage 0x01 0x31) (mouse_of bytes).y)) e
 
 pub buttons_are_told : (bytes : List ℕ) (view : List ControlState) → AreBytes bytes → 3 ≤ length bytes
-    → FitsView (items_of mouse_layout) view → TellsButtons bytes view
+    → FitsView (items_of mouse_layout) view → ReportsButtons bytes view
 buttons_are_told bytes view bs long fits =
     let v = view_there view (subst (λ (items : List Item). FitsView items view) mouse_controls fits) in
-    subst (TellsButtons bytes) (sym v.3.0) (read_mouse bytes v.0 v.1 v.2 bs long v.3.1)
+    subst (ReportsButtons bytes) (sym v.3.0) (read_mouse bytes v.0 v.1 v.2 bs long v.3.1)

@@ -7,9 +7,9 @@ use Rattle.std.proofs.lemmas.Nat.{pow_pos}
 use Rattle.std.proofs.lemmas.Float.{T_from_true}
 use Rattle.std.proofs.lemmas.Option.{get_or_from_slice_get, slice_get_within}
 use Rattle.std.proofs.lemmas.List.Elements.{All-head, All-tail}
-use Rattle.hid_descriptor.specs.declared.usage.Usage.{Usage}
-use Rattle.hid_descriptor.specs.declared.shape.Shape.TheVariants.{Variable}
-use Rattle.hid_descriptor.specs.Faults.{least_value, greatest_value}
+use Rattle.hid_report_descriptor.specs.declared.usage.Usage.{Usage}
+use Rattle.hid_report_descriptor.specs.declared.shape.Shape.TheVariants.{Variable}
+use Rattle.hid_report_descriptor.specs.Faults.{least_value, greatest_value}
 use Rattle.hid_fields.specs.Value.{is_negative, FitsField}
 use Rattle.hid_fields.proofs.FieldLemmas.{pattern_of-lt}
 use Rattle.hid_layout.specs.declared.main_item.MainItem.{MainItem}
@@ -27,7 +27,7 @@ use Rattle.hid_snapshots.specs.Numbers.{number_at, numbers_in}
 use Rattle.hid_snapshots.proofs.NumberLemmas.{numbers_in-at, numbers_in-length}
 use Rattle.hid_snapshots.proofs.SendLemmas.{pattern_fits}
 use Rattle.hid_usages.specs.Reading.{is_in, FitsFields, read_value, read_motion, read_elements, motion_elements, read_state, motion_state}
-use Rattle.hid_usages.specs.Taking.{list_at, IsFormOf, state_by_numbers, number_events}
+use Rattle.hid_usages.specs.Taking.{list_at, IsFormOf, state_after_numbers_at, events_of_numbers_at}
 
 -- of the numbers that fit the fields of an item, those lie in this range that an element can carry
 abbrev pub AreBounds : MainItem → ℤ → ℤ → Type 0
@@ -111,11 +111,11 @@ moved_alike item NullValue a b c d vs same fits = refl
 -- What the numbers of a variable item's elements make of its control state, and tell, is what they do within bounds of it.
 pub record ReadsWithin (layout : Contents) (i : ℕ) (m : MainItem) (kind : ControlKind) (least greatest : ℤ)
     (state : ControlState) (vs : List ℤ) : Type 0 where
-  pub read : read_elements kind least greatest state vs ≡ state_by_numbers layout i m state vs
+  pub read : read_elements kind least greatest state vs ≡ state_after_numbers_at layout i m state vs
   pub told : (after : ControlState)
       → element_events i (usages_at layout i) state after
       ++ motions_of i (usages_at layout i) (motion_elements kind least greatest vs)
-      ≡ number_events layout i m state after vs
+      ≡ events_of_numbers_at layout i m state after vs
 
 pub reads_within : (layout : Contents) (i : ℕ) (m : MainItem) (kind : ControlKind) (least greatest : ℤ)
     (state : ControlState) (vs : List ℤ) → IsFormOf layout i m → m.shape ≡ Variable → kind ≡ element_kind m

@@ -14,25 +14,25 @@ use Rattle.std.proofs.lemmas.List.Folds.{list_any-append}
 use Rattle.hid_fields.specs.Value.{is_negative}
 use Rattle.hid_fields.proofs.ValueLemmas.{twice_half}
 use Rattle.hid_layout.specs.declared.main_item.MainItem.{MainItem}
-use Rattle.hid_descriptor.specs.declared.shape.Shape.{Shape}
-use Rattle.hid_descriptor.specs.declared.shape.Shape.TheVariants.{Padding, Variable, Array}
-use Rattle.hid_descriptor.specs.declared.usage.Usage.{Usage}
+use Rattle.hid_report_descriptor.specs.declared.shape.Shape.{Shape}
+use Rattle.hid_report_descriptor.specs.declared.shape.Shape.TheVariants.{Padding, Variable, Array}
+use Rattle.hid_report_descriptor.specs.declared.usage.Usage.{Usage}
 use Rattle.hid_layout.specs.declared.control.ControlKind.{ControlKind}
 use Rattle.hid_layout.specs.declared.control.ControlKind.TheVariants.{Switch, Value, NullValue, Relative}
-use Rattle.hid_descriptor.specs.Faults.{least_value, greatest_value}
-use Rattle.hid_descriptor.specs.Flags.{has_flag, RELATIVE, NULL_STATE}
-use Rattle.hid_descriptor.specs.Fields.{is_padding}
+use Rattle.hid_report_descriptor.specs.Faults.{least_value, greatest_value}
+use Rattle.hid_report_descriptor.specs.Flags.{has_flag, RELATIVE, NULL_STATE}
+use Rattle.hid_report_descriptor.specs.Fields.{is_padding}
 use Rattle.hid_layout.specs.Reports.{HasElements}
-use Rattle.hid_layout.specs.Controls.{Elements, Keys, least_of, greatest_of, is_encodable, has_outside, element_kind, is_key, keys_from, key_places, rollover_from, has_place, form_of, head_of, spread_usages, array_keys}
-use Rattle.hid_descriptor.specs.Usages.{tells_error, is_rollover}
-use Rattle.hid_layout.specs.Sent.{is_in, at_zero, place_named, number_of, first_passing, least_pattern, names_nothing, null_number, empty_number, rollover_number}
+use Rattle.hid_layout.specs.Controls.{Elements, Keys, least_of, greatest_of, is_encodable, has_outside, element_kind, is_key, keys_from, key_places, rollover_from, has_place, form_of, controls_of_form, spread_usages, array_keys}
+use Rattle.hid_report_descriptor.specs.Usages.{is_keyboard_error, is_rollover}
+use Rattle.hid_layout.specs.Codes.{is_in, at_zero, place_named, number_of_pattern, first_passing, least_pattern, names_nothing, null_number, empty_number, rollover_number}
 use Rattle.hid_layout.proofs.PatternLemmas.{greatest_at, least_at, plain, low, high}
 use Rattle.hid_snapshots.specs.declared.control_state.ControlState.{ControlState}
 use Rattle.hid_snapshots.specs.declared.control_state.ControlState.TheVariants.{Absent, Switches, Values, Motions, RollOver}
 use Rattle.hid_snapshots.specs.ControlStates.{has_null, are_pressable, HasRoom, InPart}
 use Rattle.hid_usages.specs.Reading.{is_rollover_at, names_rollover}
 use Rattle.hid_snapshots.specs.Sending.{or_zero, pressed_places_from, switch_count}
-use Rattle.hid_usages.specs.Law.{names_no_key, IsPart}
+use Rattle.hid_usages.specs.NumbersReadBack.{names_no_key, IsPart}
 use Rattle.hid_snapshots.proofs.CodeLemmas.{test_true, true_test, both_true}
 use Rattle.hid_usages.proofs.KeyLemmas.{rollover_named}
 use Rattle.hid_usages.proofs.LawLemmas.{any_of_same}
@@ -62,26 +62,32 @@ fails test from (suc count) p h low high = by_test (fails test (from + 1) count 
     by_test rest false e k = at_first false e (cases_lt from p) (λ lt. rest k (omega arith) (omega arith))
 
 -- the number of the code that a test finds passes it
-code_passes : (m : MainItem) (test : ℤ → Bool) → is_some (option_map (number_of m) (least_pattern m test)) ≡ true → test (or_zero (option_map (number_of m) (least_pattern m test))) ≡ true
+code_passes : (m : MainItem) (test : ℤ → Bool)
+    → is_some (option_map (number_of_pattern m) (least_pattern m test)) ≡ true
+    → test (or_zero (option_map (number_of_pattern m) (least_pattern m test))) ≡ true
 code_passes m test there = by_code (least_pattern m test) refl there
   where
-    by_code : (o : Option ℕ) → least_pattern m test ≡ o → is_some (option_map (number_of m) o) ≡ true → test (or_zero (option_map (number_of m) o)) ≡ true
+    by_code : (o : Option ℕ) → least_pattern m test ≡ o → is_some (option_map (number_of_pattern m) o) ≡ true
+        → test (or_zero (option_map (number_of_pattern m) o)) ≡ true
     by_code None e h = absurd (cc)
-    by_code (Some p) e h = passes (λ pattern. test (number_of m pattern)) 0 (2 ^ m.size) p e
+    by_code (Some p) e h = passes (λ pattern. test (number_of_pattern m pattern)) 0 (2 ^ m.size) p e
 
 -- a code that some pattern's number passes is there
-code_there : (m : MainItem) (test : ℤ → Bool) (p : ℕ) → p < 2 ^ m.size → test (number_of m p) ≡ true → is_some (option_map (number_of m) (least_pattern m test)) ≡ true
+code_there : (m : MainItem) (test : ℤ → Bool) (p : ℕ) → p < 2 ^ m.size → test (number_of_pattern m p) ≡ true
+    → is_some (option_map (number_of_pattern m) (least_pattern m test)) ≡ true
 code_there m test p fits ok = by_code (least_pattern m test) refl
   where
-    by_code : (o : Option ℕ) → least_pattern m test ≡ o → is_some (option_map (number_of m) o) ≡ true
-    by_code None e = let no_pass = fails (λ pattern. test (number_of m pattern)) 0 (2 ^ m.size) p e (omega arith) (omega arith) in absurd (cc)
+    by_code : (o : Option ℕ) → least_pattern m test ≡ o → is_some (option_map (number_of_pattern m) o) ≡ true
+    by_code None e = let no_pass =
+        fails (λ pattern. test (number_of_pattern m pattern)) 0 (2 ^ m.size) p e (omega arith) (omega arith) in
+        absurd (cc)
     by_code (Some q) e = refl
 
 -- the patterns of the least and the greatest number
 pub record IsPatternOf (m : MainItem) (v : ℤ) : Type 0 where
   pub pattern : ℕ
   pub fits : pattern < 2 ^ m.size
-  pub is : number_of m pattern ≡ v
+  pub is : number_of_pattern m pattern ≡ v
 
 least_pattern_of : (m : MainItem) → 0 < m.size → IsPatternOf m (least_value m.min m.size)
 least_pattern_of m some = by_sign (is_negative m.min) refl
@@ -201,10 +207,18 @@ named_place m i h =
     zero_of (negsuc n) p e = absurd (cc)
 
 -- what is told of a place with a usage
-nothing_there : (m : MainItem) (us : List Usage) (i : ℕ) (u : Usage) → is_encodable m (m.min +ℤ pos i) ≡ true → slice_get us i ≡ Some u → names_nothing m us (m.min +ℤ pos i) ≡ not (is_key m i u || tells_error u)
+nothing_there : (m : MainItem) (us : List Usage) (i : ℕ) (u : Usage) → is_encodable m (m.min +ℤ pos i) ≡ true
+    → slice_get us i ≡ Some u → names_nothing m us (m.min +ℤ pos i) ≡ not (is_key m i u || is_keyboard_error u)
 nothing_there m us i u h at =
-    ap (λ (o : Option ℕ). elim o as (λ _. Bool) [ None ↦ true | Some j ↦ elim (slice_get us j) as (λ _. Bool) [ None ↦ true | Some w ↦ not (is_key m j w || tells_error w) ] ]) (named_place m i h)
-    ∙ ap (λ (o : Option Usage). elim o as (λ _. Bool) [ None ↦ true | Some w ↦ not (is_key m i w || tells_error w) ]) at
+    ap (λ (o : Option ℕ). elim o as
+    (λ _. Bool) [
+      | None ↦ true
+      | Some j ↦
+          elim (slice_get us j) as (λ _. Bool) [ None ↦ true | Some w ↦ not (is_key m j w || is_keyboard_error w) ]
+    ])
+    (named_place m i h)
+    ∙ ap (λ (o : Option Usage). elim o as
+    (λ _. Bool) [ None ↦ true | Some w ↦ not (is_key m i w || is_keyboard_error w) ]) at
 
 rollover_is : (us : List Usage) (i : ℕ) (u : Usage) → slice_get us i ≡ Some u → is_rollover_at us i ≡ is_rollover u
 rollover_is us i u at = ap (λ (o : Option Usage). elim o as (λ _. Bool) [ None ↦ false | Some w ↦ is_rollover w ]) at
@@ -223,7 +237,7 @@ no_key_named m us code i (u ∷ ks) nothing at = (λ on. elim (cases_Bool (int_e
     not_both on e =
         let same : code ≡ m.min +ℤ pos i = (Decides-int_eq code (m.min +ℤ pos i)).0 e in
         let there = nothing_there m us i u ((both_true _ _ on).0) (stands_here us i u ks at) in
-        on_and_off (is_key m i u) (tells_error u) on (sym there ∙ ap (names_nothing m us) (sym same) ∙ nothing)
+        on_and_off (is_key m i u) (is_keyboard_error u) on (sym there ∙ ap (names_nothing m us) (sym same) ∙ nothing)
 
 -- the empty code doesn't name ErrorRollOver
 no_rollover_named : (m : MainItem) (us : List Usage) (v : ℤ) → names_nothing m us v ≡ true → names_rollover m us v ≡ false
@@ -235,11 +249,20 @@ no_rollover_named m us v h = by_place (place_named m v) h
     by_error u i false true false b c e = refl
     by_error u i false true true b c e = absurd (cc)
 
-    by_usage : (i : ℕ) (o : Option Usage) → elim o as (λ _. Bool) [ None ↦ true | Some u ↦ not (is_key m i u || tells_error u) ] ≡ true → elim o as (λ _. Bool) [ None ↦ false | Some u ↦ is_rollover u ] ≡ false
+    by_usage : (i : ℕ) (o : Option Usage)
+        → elim o as (λ _. Bool) [ None ↦ true | Some u ↦ not (is_key m i u || is_keyboard_error u) ] ≡ true
+        → elim o as (λ _. Bool) [ None ↦ false | Some u ↦ is_rollover u ] ≡ false
     by_usage i None e = refl
     by_usage i (Some u) e = by_error u i (is_key m i u) (u.page == 7) (u.id == 1) (u.id == 2) (u.id == 3) e
 
-    by_place : (o : Option ℕ) → elim o as (λ _. Bool) [ None ↦ true | Some i ↦ elim (slice_get us i) as (λ _. Bool) [ None ↦ true | Some u ↦ not (is_key m i u || tells_error u) ] ] ≡ true
+    by_place : (o : Option ℕ)
+        → elim o as
+        (λ _. Bool) [
+          | None ↦ true
+          | Some i ↦
+              elim (slice_get us i) as (λ _. Bool) [ None ↦ true | Some u ↦ not (is_key m i u || is_keyboard_error u) ]
+        ]
+        ≡ true
         → elim (elim o as (λ _. Option Usage) [ None ↦ None | Some i ↦ slice_get us i ]) as (λ _. Bool) [ None ↦ false | Some u ↦ is_rollover u ] ≡ false
     by_place None e = refl
     by_place (Some i) e = by_usage i (slice_get us i) e
@@ -310,7 +333,8 @@ stands_first n us = λ j u h. let e : 0 + j ≡ j = omega arith in rw e (first n
 
 keys_part : (m : MainItem) (us : List Usage) (state : ControlState) → HasElements m
     → is_some (empty_number m us) ≡ true
-    → HasRoom (head_of (Keys m.count (has_place (rollover_from m 0 us)) (array_keys m us))) state → InPart (Keys m.count (has_place (rollover_from m 0 us)) (array_keys m us)) state
+    → HasRoom (controls_of_form (Keys m.count (has_place (rollover_from m 0 us)) (array_keys m us))) state
+    → InPart (Keys m.count (has_place (rollover_from m 0 us)) (array_keys m us)) state
     → IsPart m us (Keys m.count (has_place (rollover_from m 0 us)) (array_keys m us)) state
 keys_part m us Absent has there room ok = absurd room
 keys_part m us (Values vs) has there room ok = absurd room
@@ -328,7 +352,7 @@ keys_part m us (Switches ps) has there room ok =
     )
 
 elements_part : (m : MainItem) (us usages : List Usage) (kind : ControlKind) (state : ControlState) → HasElements m
-    → element_kind m ≡ kind → HasRoom (head_of (Elements kind (least_of m) (greatest_of m) usages)) state
+    → element_kind m ≡ kind → HasRoom (controls_of_form (Elements kind (least_of m) (greatest_of m) usages)) state
     → InPart (Elements kind (least_of m) (greatest_of m) usages) state → IsPart m us (Elements kind (least_of m) (greatest_of m) usages) state
 elements_part m us usages kind (Switches ps) has is room ok = tt
 elements_part m us usages kind (Values vs) has is room ok =
@@ -346,7 +370,8 @@ elements_part m us usages Relative (RollOver ps) has is room ok = absurd room
 -- What a report shows of an item is a part of it.
 pub is_part : (m : MainItem) (us : List Usage) (shape : Shape) (state : ControlState)
     → (is_padding shape ≡ false → HasElements m) → (shape ≡ Array → is_some (empty_number m us) ≡ true)
-    → HasRoom (head_of (form_of m us shape)) state → InPart (form_of m us shape) state → IsPart m us (form_of m us shape) state
+    → HasRoom (controls_of_form (form_of m us shape)) state → InPart (form_of m us shape) state
+    → IsPart m us (form_of m us shape) state
 is_part m us Padding Absent has there room ok = tt
 is_part m us Padding (Switches ps) has there room ok = absurd room
 is_part m us Padding (Values ps) has there room ok = absurd room

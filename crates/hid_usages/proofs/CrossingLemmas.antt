@@ -6,18 +6,18 @@ use Rattle.std.specs.Ordering.{int_eq}
 use Rattle.std.proofs.lemmas.Option.{slice_get_within}
 use Rattle.std.proofs.lemmas.Bool.Decides.{nat_tests, Decides-int_eq}
 use Rattle.hid_layout.specs.declared.main_item.MainItem.{MainItem}
-use Rattle.hid_descriptor.specs.declared.shape.Shape.{Shape}
-use Rattle.hid_descriptor.specs.declared.shape.Shape.TheVariants.{Padding, Variable, Array}
-use Rattle.hid_descriptor.specs.declared.report.Report.{Report}
-use Rattle.hid_descriptor.specs.declared.usage.Usage.{Usage}
+use Rattle.hid_report_descriptor.specs.declared.shape.Shape.{Shape}
+use Rattle.hid_report_descriptor.specs.declared.shape.Shape.TheVariants.{Padding, Variable, Array}
+use Rattle.hid_report_descriptor.specs.declared.report.Report.{Report}
+use Rattle.hid_report_descriptor.specs.declared.usage.Usage.{Usage}
 use Rattle.hid_layout.specs.declared.control.ControlKind.{ControlKind}
 use Rattle.hid_layout.specs.declared.control.ControlKind.TheVariants.{Switch, Value, NullValue, Relative}
-use Rattle.hid_descriptor.specs.Usages.{Entry, usage_list}
-use Rattle.hid_descriptor.specs.Fields.{is_padding}
+use Rattle.hid_report_descriptor.specs.Usages.{Entry, usage_list}
+use Rattle.hid_report_descriptor.specs.Fields.{is_padding}
 use Rattle.hid_layout.specs.Layout.{Contents}
 use Rattle.hid_layout.specs.Reports.{IsLayout, report_bytes}
-use Rattle.hid_layout.specs.Controls.{Form, NoControls, Elements, Keys, Item, items_of, item_of, form_of, form_at, head_of, is_input, input_item, no_item}
-use Rattle.hid_layout.specs.Sent.{empty_number}
+use Rattle.hid_layout.specs.Controls.{Form, NoControls, Elements, Keys, Item, items_of, item_of, form_of, form_at, controls_of_form, is_input, input_item, no_item}
+use Rattle.hid_layout.specs.Codes.{empty_number}
 use Rattle.hid_snapshots.specs.declared.control_state.ControlState.{ControlState}
 use Rattle.hid_snapshots.specs.declared.control_state.ControlState.TheVariants.{Absent, Switches, Values, Motions, RollOver}
 use Rattle.hid_snapshots.specs.declared.event.Event.{Event}
@@ -25,15 +25,15 @@ use Rattle.hid_snapshots.specs.declared.event.Event.TheVariants as event
 use Rattle.hid_snapshots.specs.ControlStates.{HasRoom, InPart, InView}
 use Rattle.hid_snapshots.specs.Codes.{is_array, has_empty_code, empty_codes_from, has_empty_codes}
 use Rattle.hid_snapshots.specs.Encoding.{IsData, part_numbers}
-use Rattle.hid_snapshots.specs.Events.{at, element_list_events, switch_event, value_event, change_events}
-use Rattle.hid_usages.specs.Law.{IsPart, IsLike}
+use Rattle.hid_snapshots.specs.Events.{control_at, element_list_events, switch_event, value_event, change_events}
+use Rattle.hid_usages.specs.NumbersReadBack.{IsPart, IsLike}
 use Rattle.hid_snapshots.specs.Parts.{IsInput, is_of, by_item}
 use Rattle.hid_snapshots.specs.declared.fault.ReportFault.{ReportFault}
 use Rattle.hid_usages.specs.Reading.{report_named, read_state, motion_state, is_data_in, item_numbers}
 use Rattle.hid_snapshots.specs.Sending.{element_numbers}
-use Rattle.hid_usages.specs.Taking.{list_at, state_by_numbers, number_events, state_by_report, report_events_from, view_from_item, events_from_item, read_view, read_events}
+use Rattle.hid_usages.specs.Taking.{list_at, state_after_numbers_at, events_of_numbers_at, state_after_report_at, events_of_report_at, view_from_item, events_from_item, read_view, read_events}
 use Rattle.hid_snapshots.specs.Views.{seen_state, view_item_after, motions_of, form_motions, part_of, events_from}
-use Rattle.hid_usages.specs.Crossing.{PartsAreReadBack, PartsAreTaken, SeenIsView}
+use Rattle.hid_usages.specs.PartsReadBack.{PartsAreReadBack, PartsAreTaken, SeenIsView}
 use Rattle.hid_snapshots.proofs.CodeLemmas.{both_true}
 use Rattle.hid_usages.proofs.CodePartLemmas.{is_part}
 use Rattle.hid_snapshots.proofs.EncodingLemmas.{state_numbers, data_if}
@@ -47,8 +47,8 @@ use Rattle.hid_usages.proofs.ViewLemmas.{same_keys}
 
 -- a view's control state and a part of the same item have one shape
 elements_like : (kind : ControlKind) (least greatest : ℤ) (us : List Usage) (view part : ControlState)
-    → HasRoom (head_of (Elements kind least greatest us)) view
-    → HasRoom (head_of (Elements kind least greatest us)) part → IsLike view part
+    → HasRoom (controls_of_form (Elements kind least greatest us)) view
+    → HasRoom (controls_of_form (Elements kind least greatest us)) part → IsLike view part
 elements_like Switch least greatest us (Switches bs) (Switches ps) room room' = room ∙ sym room'
 elements_like Switch least greatest us (Switches bs) Absent room room' = absurd room'
 elements_like Switch least greatest us (Switches bs) (Values ps) room room' = absurd room'
@@ -86,11 +86,11 @@ elements_like Relative least greatest us (Switches bs) part room room' = absurd 
 elements_like Relative least greatest us (Values bs) part room room' = absurd room
 elements_like Relative least greatest us (RollOver bs) part room room' = absurd room
 
-like : (form : Form) (view part : ControlState) → HasRoom (head_of form) view → InView form view
-    → HasRoom (head_of form) part → IsLike view part
+like : (form : Form) (view part : ControlState) → HasRoom (controls_of_form form) view → InView form view
+    → HasRoom (controls_of_form form) part → IsLike view part
 like NoControls view Absent room ok room' = by_view view room
   where
-    by_view : (view : ControlState) → HasRoom (head_of NoControls) view → IsLike view Absent
+    by_view : (view : ControlState) → HasRoom (controls_of_form NoControls) view → IsLike view Absent
     by_view Absent h = tt
     by_view (Switches bs) h = tt
     by_view (Values bs) h = tt
@@ -113,7 +113,7 @@ like (Keys elements rolls keys) (Motions bs) part room ok room' = absurd room
 
 -- the motions read are those of the part
 motions_read : (m : MainItem) (us : List Usage) (i : ℕ) (form : Form) (part : ControlState)
-    → HasRoom (head_of form) part → InPart form part
+    → HasRoom (controls_of_form form) part → InPart form part
     → form_motions i form (motion_state form (element_numbers m us form part)) ≡ form_motions i form part
 motions_read m us i NoControls part room ok = refl
 motions_read m us i (Keys elements rolls keys) part room ok = refl
@@ -141,21 +141,21 @@ motions_read m us i (Elements NullValue least greatest usages) (RollOver ps) roo
 
 -- a control state that stays tells nothing
 same_switches : (i j : ℕ) (us : List Usage) (bs : List Bool)
-    → element_list_events (λ k u (p : Bool × Bool). switch_event (at i k) u p.0 p.1) j us (zip bs bs) ≡ []
+    → element_list_events (λ k u (p : Bool × Bool). switch_event (control_at i k) u p.0 p.1) j us (zip bs bs) ≡ []
 same_switches i j [] bs = refl
 same_switches i j (u ∷ us) [] = refl
 same_switches i j (u ∷ us) (true ∷ bs) = same_switches i (j + 1) us bs
 same_switches i j (u ∷ us) (false ∷ bs) = same_switches i (j + 1) us bs
 
 same_values : (i j : ℕ) (us : List Usage) (bs : List (Option ℤ))
-    → element_list_events (λ k u (p : Option ℤ × Option ℤ). value_event (at i k) u p.0 p.1) j us (zip bs bs) ≡ []
+    → element_list_events (λ k u (p : Option ℤ × Option ℤ). value_event (control_at i k) u p.0 p.1) j us (zip bs bs) ≡ []
 same_values i j [] bs = refl
 same_values i j (u ∷ us) [] = refl
 same_values i j (u ∷ us) (None ∷ bs) = same_values i (j + 1) us bs
 same_values i j (u ∷ us) (Some v ∷ bs) =
     let same : int_eq v v ≡ true = (Decides-int_eq v v).1 refl in
-    ap (λ (b : Bool). cond b [] (event.Value (at i j) u v ∷ [])
-    ++ element_list_events (λ k u (p : Option ℤ × Option ℤ). value_event (at i k) u p.0 p.1) (j + 1) us
+    ap (λ (b : Bool). cond b [] (event.Value (control_at i j) u v ∷ [])
+    ++ element_list_events (λ k u (p : Option ℤ × Option ℤ). value_event (control_at i k) u p.0 p.1) (j + 1) us
     (zip bs bs)) same ∙ same_values i (j + 1) us bs
 
 pub same_state : (i : ℕ) (form : Form) (state : ControlState) → change_events i form state state ≡ []
@@ -192,8 +192,8 @@ array_code reports m es all input shape =
 -- What reading the bytes of a part makes of one item, and tells of it.
 pub record ReadsItem (layout : Contents) (r : ℕ) (bytes : List ℕ) (i : ℕ) (item : Item)
     (state part : ControlState) : Type 0 where
-  pub view : state_by_report layout r bytes i state ≡ view_item_after r item state part
-  pub events : report_events_from layout r bytes i state
+  pub view : state_after_report_at layout r bytes i state ≡ view_item_after r item state part
+  pub events : events_of_report_at layout r bytes i state
       ≡ change_events i item.form state (view_item_after r item state part)
       ++ form_motions i item.form (part_of r item part)
 
@@ -201,10 +201,12 @@ pub record ReadsItem (layout : Contents) (r : ℕ) (bytes : List ℕ) (i : ℕ) 
 data_item : (layout : Contents) (r i : ℕ) (m : MainItem) (es : List Entry) (state part : ControlState) (vs : List ℤ)
     → IsLayout layout → IsInput layout r → IsData layout r i m → slice_get layout.entries i ≡ Some es
     → has_empty_codes layout ≡ true → vs ≡ element_numbers m (usage_list es) (form_of m (usage_list es) m.shape) part
-    → HasRoom (head_of (form_of m (usage_list es) m.shape)) state → InView (form_of m (usage_list es) m.shape) state
-    → HasRoom (head_of (form_of m (usage_list es) m.shape)) part → InPart (form_of m (usage_list es) m.shape) part
-    → (state_by_numbers layout i m state vs ≡ seen_state state part)
-    × (number_events layout i m state (state_by_numbers layout i m state vs) vs
+    → HasRoom (controls_of_form (form_of m (usage_list es) m.shape)) state
+    → InView (form_of m (usage_list es) m.shape) state
+    → HasRoom (controls_of_form (form_of m (usage_list es) m.shape)) part
+    → InPart (form_of m (usage_list es) m.shape) part
+    → (state_after_numbers_at layout i m state vs ≡ seen_state state part)
+    × (events_of_numbers_at layout i m state (state_after_numbers_at layout i m state vs) vs
     ≡ change_events i (form_of m (usage_list es) m.shape) state (seen_state state part)
     ++ form_motions i (form_of m (usage_list es) m.shape) part)
 data_item layout r i m es state part vs laid input d entries codes numbers room ok room' ok' = (read, told)
@@ -227,16 +229,16 @@ data_item layout r i m es state part vs laid input d entries codes numbers room 
     part_is : IsPart m us form part
     part_is = is_part m us m.shape part (laid.elements i m d.listed) (array_code layout.reports m es (code_at layout.reports layout.items layout.entries i m es d.listed entries codes) item_is_input) room' ok'
 
-    read_is : state_by_numbers layout i m state vs ≡ read_state m us form state (element_numbers m us form part)
+    read_is : state_after_numbers_at layout i m state vs ≡ read_state m us form state (element_numbers m us form part)
     read_is = ap (λ (l : List Usage). read_state m l (form_at (items_of layout) i) state vs) listed ∙ ap (λ (f : Form). read_state m us f state vs) at_form ∙ ap (read_state m us form state) numbers
 
-    read : state_by_numbers layout i m state vs ≡ seen_state state part
+    read : state_after_numbers_at layout i m state vs ≡ seen_state state part
     read = read_is ∙ reads_back m us form state part part_is (like form state part room ok room')
 
-    told : number_events layout i m state (state_by_numbers layout i m state vs) vs
+    told : events_of_numbers_at layout i m state (state_after_numbers_at layout i m state vs) vs
         ≡ change_events i form state (seen_state state part) ++ form_motions i form part
     told =
-        ap (λ (c : ControlState). number_events layout i m state c vs) read
+        ap (λ (c : ControlState). events_of_numbers_at layout i m state c vs) read
         ∙ ap (λ (f : Form). change_events i f state (seen_state state part)
         ++ form_motions i f (motion_state f vs)) at_form
         ∙ ap (λ (l : List ℤ). change_events i form state (seen_state state part)
@@ -249,7 +251,8 @@ pub reads_item : (layout : Contents) (r i : ℕ) (m : MainItem) (es : List Entry
     → slice_get layout.items i ≡ Some m → slice_get layout.entries i ≡ Some es
     → (IsData layout r i m
     → item_numbers layout bytes m ≡ element_numbers m (usage_list es) (form_of m (usage_list es) m.shape) part)
-    → HasRoom (head_of (item_of layout m es).form) state → InView (item_of layout m es).form state → HasRoom (head_of (item_of layout m es).form) part → InPart (item_of layout m es).form part
+    → HasRoom (controls_of_form (item_of layout m es).form) state → InView (item_of layout m es).form state
+    → HasRoom (controls_of_form (item_of layout m es).form) part → InPart (item_of layout m es).form part
     → ReadsItem layout r bytes i (item_of layout m es) state part
 reads_item layout r i m es bytes state part laid input codes listed entries numbers room ok room' ok' = by_data (nat_eq m.report r) (is_padding m.shape) refl refl
   where
@@ -262,24 +265,27 @@ reads_item layout r i m es bytes state part laid input codes listed entries numb
     vs : List ℤ
     vs = item_numbers layout bytes m
 
-    read_is : state_by_report layout r bytes i state ≡ cond (is_data_in r m) (state_by_numbers layout i m state vs) state
+    read_is : state_after_report_at layout r bytes i state
+        ≡ cond (is_data_in r m) (state_after_numbers_at layout i m state vs) state
     read_is =
         ap (λ (o : Option MainItem). elim o as
         (λ _. ControlState) [
           | None ↦ state
           | Some x ↦
-              cond (is_data_in r x) (state_by_numbers layout i x state (item_numbers layout bytes x)) state
+              cond (is_data_in r x) (state_after_numbers_at layout i x state (item_numbers layout bytes x)) state
         ]) listed
 
-    told_is : report_events_from layout r bytes i state
-        ≡ cond (is_data_in r m) (number_events layout i m state (state_by_numbers layout i m state vs) vs) []
+    told_is : events_of_report_at layout r bytes i state
+        ≡ cond (is_data_in r m)
+        (events_of_numbers_at layout i m state (state_after_numbers_at layout i m state vs) vs) []
     told_is =
         ap (λ (o : Option MainItem). elim o as
         (λ _. List Event) [
           | None ↦ []
           | Some x ↦
               cond (is_data_in r x)
-              (number_events layout i x state (state_by_numbers layout i x state (item_numbers layout bytes x))
+              (events_of_numbers_at layout i x state
+              (state_after_numbers_at layout i x state (item_numbers layout bytes x))
               (item_numbers layout bytes x)) []
         ]) listed
 
@@ -302,17 +308,21 @@ reads_item layout r i m es bytes state part laid input codes listed entries numb
     there_data d e =
         let formed : item.form ≡ form_of m us m.shape = form_in_input layout r m es input d.in_report in
         let both = data_item layout r i m es state part vs laid input d entries codes (numbers d)
-        (subst (λ (f : Form). HasRoom (head_of f) state) formed room) (subst (λ (f : Form). InView f state) formed ok)
-        (subst (λ (f : Form). HasRoom (head_of f) part) formed room') (subst (λ (f : Form). InPart f part) formed ok')
+        (subst (λ (f : Form). HasRoom (controls_of_form f) state) formed room)
+        (subst (λ (f : Form). InView f state) formed ok)
+        (subst (λ (f : Form). HasRoom (controls_of_form f) part) formed room')
+        (subst (λ (f : Form). InPart f part) formed ok')
         in
         let here = is_here d.in_report in
         let sees : view_item_after r item state part ≡ seen_state state part =
         ap (λ (b : Bool). cond b (seen_state state part) state) here in
         let its_part : part_of r item part ≡ part = ap (λ (b : Bool). cond b part Absent) here in
         record {
-          view = read_is ∙ ap (λ (b : Bool). cond b (state_by_numbers layout i m state vs) state) e ∙ both.0 ∙ sym sees;
+          view = read_is ∙ ap (λ (b : Bool). cond b (state_after_numbers_at layout i m state vs) state) e ∙ both.0
+              ∙ sym sees;
           events = told_is
-              ∙ ap (λ (b : Bool). cond b (number_events layout i m state (state_by_numbers layout i m state vs) vs) []) e
+              ∙ ap (λ (b : Bool). cond b
+              (events_of_numbers_at layout i m state (state_after_numbers_at layout i m state vs) vs) []) e
               ∙ both.1
               ∙ sym (ap
               (λ (f : Form). change_events i f state (view_item_after r item state part)
@@ -326,9 +336,10 @@ reads_item layout r i m es bytes state part laid input codes listed entries numb
     stays : is_data_in r m ≡ false → view_item_after r item state part ≡ state
         → form_motions i item.form (part_of r item part) ≡ [] → ReadsItem layout r bytes i item state part
     stays e sees quiet = record {
-      view = read_is ∙ ap (λ (b : Bool). cond b (state_by_numbers layout i m state vs) state) e ∙ sym sees;
+      view = read_is ∙ ap (λ (b : Bool). cond b (state_after_numbers_at layout i m state vs) state) e ∙ sym sees;
       events = told_is
-          ∙ ap (λ (b : Bool). cond b (number_events layout i m state (state_by_numbers layout i m state vs) vs) []) e
+          ∙ ap (λ (b : Bool). cond b
+          (events_of_numbers_at layout i m state (state_after_numbers_at layout i m state vs) vs) []) e
           ∙ sym (ap
           (λ (c : ControlState). change_events i item.form state c
           ++ form_motions i item.form (part_of r item part)) sees
@@ -345,7 +356,8 @@ reads_item layout r i m es bytes state part laid input codes listed entries numb
     padded : is_data_in r m ≡ false → m.report ≡ r → is_padding m.shape ≡ true → ReadsItem layout r bytes i item state part
     padded e at_r pads =
         let none : item.form ≡ NoControls = form_in_input layout r m es input at_r ∙ no_controls m.shape pads in
-        stays e (ap (λ (b : Bool). cond b (seen_state state part) state) (is_here at_r) ∙ vacant part (subst (λ (f : Form). HasRoom (head_of f) part) none room'))
+        stays e (ap (λ (b : Bool). cond b (seen_state state part) state) (is_here at_r)
+        ∙ vacant part (subst (λ (f : Form). HasRoom (controls_of_form f) part) none room'))
         (ap (λ (f : Form). form_motions i f (part_of r item part)) none)
       where
         no_controls : (shape : Shape) → is_padding shape ≡ true → form_of m us shape ≡ NoControls
@@ -353,7 +365,7 @@ reads_item layout r i m es bytes state part laid input codes listed entries numb
         no_controls Variable h = absurd (cc)
         no_controls Array h = absurd (cc)
 
-        vacant : (part : ControlState) → HasRoom (head_of NoControls) part → seen_state state part ≡ state
+        vacant : (part : ControlState) → HasRoom (controls_of_form NoControls) part → seen_state state part ≡ state
         vacant Absent h = refl
         vacant (Switches ps) h = absurd h
         vacant (Values ps) h = absurd h
@@ -395,9 +407,9 @@ read_all layout r bytes i (item ∷ items) (c ∷ states) (p ∷ parts) h k elem
     )
 
 -- a view that sees parts suits the items
-seen_room : (form : Form) (state part : ControlState) → HasRoom (head_of form) state → InView form state
-    → HasRoom (head_of form) part → InPart form part
-    → HasRoom (head_of form) (seen_state state part) × InView form (seen_state state part)
+seen_room : (form : Form) (state part : ControlState) → HasRoom (controls_of_form form) state → InView form state
+    → HasRoom (controls_of_form form) part → InPart form part
+    → HasRoom (controls_of_form form) (seen_state state part) × InView form (seen_state state part)
 seen_room form state Absent room ok room' ok' = (room, ok)
 seen_room form state (Motions ms) room ok room' ok' = (room, ok)
 seen_room form state (RollOver ps) room ok room' ok' = (room, ok)
@@ -412,15 +424,18 @@ pub seen_is_view : SeenIsView
 seen_is_view items r view parts fits shows =
     suits_by InView (view_item_after r) items view parts fits.one_each shows.one_each at_item
   where
-    by_report : (b : Bool) (form : Form) (state part : ControlState) → HasRoom (head_of form) state → InView form state
-        → HasRoom (head_of form) part → InPart form part
-        → HasRoom (head_of form) (cond b (seen_state state part) state) × InView form (cond b (seen_state state part) state)
+    by_report : (b : Bool) (form : Form) (state part : ControlState) → HasRoom (controls_of_form form) state
+        → InView form state
+        → HasRoom (controls_of_form form) part → InPart form part
+        → HasRoom (controls_of_form form) (cond b (seen_state state part) state)
+        × InView form (cond b (seen_state state part) state)
     by_report true form state part room ok room' ok' = seen_room form state part room ok room' ok'
     by_report false form state part room ok room' ok' = (room, ok)
 
     at_item : (i : ℕ) (item : Item) (a b : ControlState) → slice_get items i ≡ Some item → slice_get view i ≡ Some a
         → slice_get parts i ≡ Some b
-        → HasRoom (head_of item.form) (view_item_after r item a b) × InView item.form (view_item_after r item a b)
+        → HasRoom (controls_of_form item.form) (view_item_after r item a b)
+        × InView item.form (view_item_after r item a b)
     at_item i item a b h g k = by_report (is_of r item) item.form a b (fits.room i item a h g) (fits.suits i item a h g) (shows.room i item b h k) (shows.suits i item b h k)
 
 -- every part is read back
@@ -438,7 +453,10 @@ parts_back layout r parts bytes view shows fits = record { report = names_report
         → slice_get layout.items i ≡ Some m → slice_get layout.entries i ≡ Some es → item_of layout m es ≡ item
         → slice_get (items_of layout) i ≡ Some item → slice_get view i ≡ Some state → slice_get parts i ≡ Some part → ReadsItem layout r bytes i item state part
     item_there i m es item state part listed entries is h g k =
-        let P : Item → Type 0 = λ it. HasRoom (head_of it.form) state → InView it.form state → HasRoom (head_of it.form) part → InPart it.form part → ReadsItem layout r bytes i it state part in
+        let P : Item → Type 0 =
+        λ it. HasRoom (controls_of_form it.form) state → InView it.form state
+        → HasRoom (controls_of_form it.form) part → InPart it.form part
+        → ReadsItem layout r bytes i it state part in
         let read : P (item_of layout m es) = reads_item layout r i m es bytes state part shows.laid shows.input shows.empty_codes listed entries (numbers i m es part entries k) in
         subst P is read (fits.room i item state h g) (fits.suits i item state h g) (shows.fits.room i item part h k) (shows.fits.suits i item part h k)
 

@@ -1,18 +1,18 @@
 -- Reports of the boot keyboard and mouse (HID 1.11, appendices B and E), written from their parts and read as they show them, worked out by hand.
 use Rattle.std.specs.Prelude.{◌≡◌, ℕ, Bool, true, false, List, [], ◌∷◌, ◌++◌, replicate, Ok, pos, negsuc, refl}
-use Rattle.hid_descriptor.specs.declared.shape.Shape.TheVariants.{Padding, Variable, Array}
-use Rattle.hid_descriptor.specs.declared.report.ReportKind.TheVariants.{Input, Output}
+use Rattle.hid_report_descriptor.specs.declared.shape.Shape.TheVariants.{Padding, Variable, Array}
+use Rattle.hid_report_descriptor.specs.declared.report.ReportKind.TheVariants.{Input, Output}
 use Rattle.hid_layout.specs.Layout.{Contents}
 use Rattle.hid_layout.specs.Controls.{items_of, items_from, spread_usages, keys_from, rollover_from}
-use Rattle.hid_layout.specs.Sent.{first_passing}
+use Rattle.hid_layout.specs.Codes.{first_passing}
 use Rattle.hid_snapshots.specs.declared.control_state.ControlState.{ControlState}
 use Rattle.hid_snapshots.specs.declared.control_state.ControlState.TheVariants.{Absent, Switches, Motions, RollOver}
 use Rattle.hid_snapshots.specs.declared.event.Event.TheVariants as event
 use Rattle.hid_snapshots.specs.ControlStates.{blank}
 use Rattle.hid_snapshots.specs.Encoding.{part_numbers}
-use Rattle.hid_snapshots.specs.Encoded.{part_bytes}
+use Rattle.hid_snapshots.specs.PartBytes.{part_bytes}
 use Rattle.hid_snapshots.specs.Parts.{still_parts}
-use Rattle.hid_snapshots.specs.Events.{at}
+use Rattle.hid_snapshots.specs.Events.{control_at}
 use Rattle.hid_usages.specs.Reading.{report_named}
 use Rattle.hid_snapshots.specs.Samples.{usage}
 use Rattle.hid_usages.specs.Taking.{read_view, read_events}
@@ -45,7 +45,7 @@ mouse_seen : read_view mouse 0 mouse_bytes (blank (items_of mouse))
 unfolding items_from spread_usages
 mouse_seen = refl
 
-mouse_told : read_events mouse 0 mouse_bytes (blank (items_of mouse)) ≡ event.Down (at 0 0) (usage 9 1) ∷ event.Motion (at 2 0) (usage 1 0x30) (pos 127) ∷ event.Motion (at 2 1) (usage 1 0x31) (negsuc 126) ∷ []
+mouse_told : read_events mouse 0 mouse_bytes (blank (items_of mouse)) ≡ event.Down (control_at 0 0) (usage 9 1) ∷ event.Motion (control_at 2 0) (usage 1 0x30) (pos 127) ∷ event.Motion (control_at 2 1) (usage 1 0x31) (negsuc 126) ∷ []
 unfolding items_from spread_usages
 mouse_told = refl
 
@@ -117,7 +117,7 @@ keyboard_seen : read_view keyboard 0 keyboard_bytes (blank (items_of keyboard))
 unfolding items_from spread_usages keys_from rollover_from
 keyboard_seen = refl
 
-keyboard_told : read_events keyboard 0 keyboard_bytes (blank (items_of keyboard)) ≡ event.Down (at 0 1) (usage 7 0xE1) ∷ event.Down (at 4 4) (usage 7 4) ∷ []
+keyboard_told : read_events keyboard 0 keyboard_bytes (blank (items_of keyboard)) ≡ event.Down (control_at 0 1) (usage 7 0xE1) ∷ event.Down (control_at 4 4) (usage 7 4) ∷ []
 unfolding items_from spread_usages keys_from rollover_from
 keyboard_told = refl
 
@@ -135,7 +135,7 @@ rolled_written : part_bytes keyboard 0 rolled_parts ≡ 0 ∷ 0 ∷ 1 ∷ 1 ∷ 
 unfolding part_bytes items_from first_passing keys_from rollover_from spread_usages
 rolled_written = refl
 
-rolled_told : read_events keyboard 0 (0 ∷ 0 ∷ 1 ∷ 1 ∷ 1 ∷ 1 ∷ 1 ∷ 1 ∷ []) keyboard_parts ≡ event.Up (at 0 1) (usage 7 0xE1) ∷ []
+rolled_told : read_events keyboard 0 (0 ∷ 0 ∷ 1 ∷ 1 ∷ 1 ∷ 1 ∷ 1 ∷ 1 ∷ []) keyboard_parts ≡ event.Up (control_at 0 1) (usage 7 0xE1) ∷ []
 unfolding items_from spread_usages keys_from rollover_from
 rolled_told = refl
 
@@ -154,11 +154,11 @@ numbered = record {
 button_named : report_named numbered (2 ∷ 1 ∷ []) ≡ Ok 1
 button_named = refl
 
-button_told : read_events numbered 1 (2 ∷ 1 ∷ []) (blank (items_of numbered)) ≡ event.Down (at 1 0) (usage 9 1) ∷ []
+button_told : read_events numbered 1 (2 ∷ 1 ∷ []) (blank (items_of numbered)) ≡ event.Down (control_at 1 0) (usage 9 1) ∷ []
 unfolding items_from spread_usages
 button_told = refl
 
-wheel_told : read_events numbered 0 (1 ∷ 0xFF ∷ []) (blank (items_of numbered)) ≡ event.Motion (at 0 0) (usage 1 0x38) (negsuc 0) ∷ []
+wheel_told : read_events numbered 0 (1 ∷ 0xFF ∷ []) (blank (items_of numbered)) ≡ event.Motion (control_at 0 0) (usage 1 0x38) (negsuc 0) ∷ []
 unfolding items_from spread_usages
 wheel_told = refl
 

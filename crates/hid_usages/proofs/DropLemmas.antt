@@ -4,23 +4,23 @@ use Rattle.std.specs.List.{slice_get, zip}
 use Rattle.std.specs.Option.{unwrap_or}
 use Rattle.std.specs.Ordering.{int_eq}
 use Rattle.std.proofs.lemmas.List.{map-append}
-use Rattle.hid_descriptor.specs.declared.usage.Usage.{Usage}
+use Rattle.hid_report_descriptor.specs.declared.usage.Usage.{Usage}
 use Rattle.hid_layout.specs.declared.control.Controls.TheVariants as head
 use Rattle.hid_layout.specs.declared.control.ControlId.{ControlId}
 use Rattle.hid_layout.specs.declared.control.ControlKind.{ControlKind}
 use Rattle.hid_layout.specs.declared.control.ControlKind.TheVariants.{Switch, Value, NullValue, Relative}
-use Rattle.hid_layout.specs.Controls.{Form, NoControls, Elements, Keys, Item, form_at, head_of, events_in, max_events}
+use Rattle.hid_layout.specs.Controls.{Form, NoControls, Elements, Keys, Item, form_at, controls_of_form, events_in, max_events}
 use Rattle.hid_snapshots.specs.declared.control_state.ControlState.{ControlState}
 use Rattle.hid_snapshots.specs.declared.control_state.ControlState.TheVariants.{Absent, Switches, Values, Motions, RollOver}
 use Rattle.hid_snapshots.specs.declared.event.Event.{Event}
 use Rattle.hid_snapshots.specs.declared.event.Event.TheVariants as event
-use Rattle.hid_snapshots.specs.ControlStates.{HasRoom, InView, InPart, Suits}
-use Rattle.hid_snapshots.specs.Events.{at, element_list_events, switch_event, value_event, motion_event, up_event, down_event, ups, downs, key_usages, element_events, key_events, change_events}
+use Rattle.hid_snapshots.specs.ControlStates.{HasRoom, InView, InPart, FitControlStates}
+use Rattle.hid_snapshots.specs.Events.{control_at, element_list_events, switch_event, value_event, motion_event, up_event, down_event, ups, downs, key_usages, element_events, key_events, change_events}
 use Rattle.hid_snapshots.specs.Parts.{is_of, item_at}
 use Rattle.hid_snapshots.specs.Snapshots.{state_at, motion_in}
 use Rattle.hid_snapshots.specs.Views.{as_dropped, form_motions, part_of, events_from, drops_between}
 use Rattle.hid_snapshots.proofs.ItemLemmas.{got, form_at-is}
-use Rattle.hid_usages.specs.Dropping.{motions_in, drop_event, drop_events, drops_told, drops_from}
+use Rattle.hid_usages.specs.Dropping.{motions_in, drop_event, drop_events, item_drop_events, drops_from}
 use Rattle.hid_usages.proofs.EventLemmas.{drop_at}
 use Rattle.hid_usages.proofs.ViewLemmas.{each_few, element_few, change_few, suits_tail, sum_cons}
 
@@ -75,12 +75,12 @@ down_stays c u false false = refl
 element_stays : (i : ℕ) (us : List Usage) (b a : ControlState)
     → map as_dropped (element_events i us b a) ≡ element_events i us b a
 element_stays i us (Switches bs) (Switches xs) =
-    each_stays _ (λ j u p. switch_stays (at i j) u p.0 p.1) 0 us (zip bs xs)
+    each_stays _ (λ j u p. switch_stays (control_at i j) u p.0 p.1) 0 us (zip bs xs)
 element_stays i us (Switches bs) Absent = refl
 element_stays i us (Switches bs) (Values xs) = refl
 element_stays i us (Switches bs) (Motions xs) = refl
 element_stays i us (Switches bs) (RollOver xs) = refl
-element_stays i us (Values bs) (Values xs) = each_stays _ (λ j u p. value_stays (at i j) u p.0 p.1) 0 us (zip bs xs)
+element_stays i us (Values bs) (Values xs) = each_stays _ (λ j u p. value_stays (control_at i j) u p.0 p.1) 0 us (zip bs xs)
 element_stays i us (Values bs) Absent = refl
 element_stays i us (Values bs) (Switches xs) = refl
 element_stays i us (Values bs) (Motions xs) = refl
@@ -93,8 +93,8 @@ key_stays : (i : ℕ) (us : List Usage) (b a : ControlState)
     → map as_dropped (key_events i us b a) ≡ key_events i us b a
 key_stays i us (Switches bs) (Switches xs) =
     map-append as_dropped (ups i us bs xs) (downs i us bs xs)
-    ∙ ap (λ (es : List Event). es ++ map as_dropped (downs i us bs xs)) (each_stays _ (λ j u p. up_stays (at i j) u p.0 p.1) 0 us (zip bs xs))
-    ∙ ap (λ (es : List Event). ups i us bs xs ++ es) (each_stays _ (λ j u p. down_stays (at i j) u p.0 p.1) 0 us (zip bs xs))
+    ∙ ap (λ (es : List Event). es ++ map as_dropped (downs i us bs xs)) (each_stays _ (λ j u p. up_stays (control_at i j) u p.0 p.1) 0 us (zip bs xs))
+    ∙ ap (λ (es : List Event). ups i us bs xs ++ es) (each_stays _ (λ j u p. down_stays (control_at i j) u p.0 p.1) 0 us (zip bs xs))
 key_stays i us (Switches bs) Absent = refl
 key_stays i us (Switches bs) (Values xs) = refl
 key_stays i us (Switches bs) (Motions xs) = refl
@@ -111,15 +111,15 @@ change_stays i (Elements kind least greatest us) b a = element_stays i us b a
 change_stays i (Keys elements rolls keys) b a = key_stays i (key_usages keys) b a
 
 -- without motions nothing is told
-none_dropped : (i j : ℕ) (us : List Usage) → element_list_events (λ k u m. drop_event (at i k) u m) j us [] ≡ []
+none_dropped : (i j : ℕ) (us : List Usage) → element_list_events (λ k u m. drop_event (control_at i k) u m) j us [] ≡ []
 none_dropped i j [] = refl
 none_dropped i j (u ∷ us) = refl
 
 told_dropped : (i : ℕ) (form : Form) (part : ControlState)
-    → map as_dropped (form_motions i form part) ≡ drops_told i form part
+    → map as_dropped (form_motions i form part) ≡ item_drop_events i form part
 told_dropped i NoControls part = refl
 told_dropped i (Elements kind least greatest us) (Motions ms) =
-    each_dropped (λ j u m. motion_event (at i j) u m) 0 us ms
+    each_dropped (λ j u m. motion_event (control_at i j) u m) 0 us ms
 told_dropped i (Elements kind least greatest us) Absent = sym (none_dropped i 0 us)
 told_dropped i (Elements kind least greatest us) (Switches ps) = sym (none_dropped i 0 us)
 told_dropped i (Elements kind least greatest us) (Values vs) = sym (none_dropped i 0 us)
@@ -140,7 +140,7 @@ all_dropped i r (item ∷ items) (b ∷ bs) (a ∷ xs) (p ∷ ps) =
     ∙ ap (λ (es : List Event). es ++ map as_dropped rest) (map-append as_dropped here moved)
     ∙ ap (λ (es : List Event). (es ++ map as_dropped moved) ++ map as_dropped rest) (change_stays i item.form b a)
     ∙ ap (λ (es : List Event). (here ++ es) ++ map as_dropped rest) (told_dropped i item.form (part_of r item p))
-    ∙ ap (λ (es : List Event). (here ++ drops_told i item.form (part_of r item p)) ++ es) (all_dropped (i + 1) r items bs xs ps)
+    ∙ ap (λ (es : List Event). (here ++ item_drop_events i item.form (part_of r item p)) ++ es) (all_dropped (i + 1) r items bs xs ps)
 
 pub drops_are : (items : List Item) (r : ℕ) (before after parts : List ControlState)
     → drops_between items r before after parts ≡ drops_from 0 r items before after parts
@@ -151,7 +151,7 @@ drops_are items r before after parts = all_dropped 0 r items before after parts
 pub drops_from-next : (items : List Item) (r : ℕ) (bs xs ps : List ControlState) (i : ℕ) (b a p : ControlState)
     → i < length items → slice_get bs i ≡ Some b → slice_get xs i ≡ Some a → slice_get ps i ≡ Some p
     → drops_from i r (drop i items) (drop i bs) (drop i xs) (drop i ps)
-    ≡ (change_events i (form_at items i) b a ++ drops_told i (form_at items i) (part_of r (item_at items i) (state_at ps i))) ++ drops_from (i + 1) r (drop (i + 1) items) (drop (i + 1) bs) (drop (i + 1) xs) (drop (i + 1) ps)
+    ≡ (change_events i (form_at items i) b a ++ item_drop_events i (form_at items i) (part_of r (item_at items i) (state_at ps i))) ++ drops_from (i + 1) r (drop (i + 1) items) (drop (i + 1) bs) (drop (i + 1) xs) (drop (i + 1) ps)
 drops_from-next items r bs xs ps i b a p within h k g =
     let item = got items i within in
     rw (drop_at items i item.0 item.1, drop_at bs i b h, drop_at xs i a k, drop_at ps i p g, form_at-is items i item.0 item.1, item.1, g) refl
@@ -199,14 +199,15 @@ drops_few_of i us NullValue least greatest b a (Switches ps) room part = absurd 
 drops_few_of i us NullValue least greatest b a (Motions ms) room part = absurd part
 drops_few_of i us NullValue least greatest b a (RollOver ps) room part = absurd part
 drops_few_of i us Relative least greatest (Motions bs) a p room part =
-    omega (arith, each_few _ (λ j u m. drop_one (at i j) u m) 0 us (motions_in p))
+    omega (arith, each_few _ (λ j u m. drop_one (control_at i j) u m) 0 us (motions_in p))
 drops_few_of i us Relative least greatest Absent a p room part = absurd room
 drops_few_of i us Relative least greatest (Switches bs) a p room part = absurd room
 drops_few_of i us Relative least greatest (Values bs) a p room part = absurd room
 drops_few_of i us Relative least greatest (RollOver bs) a p room part = absurd room
 
-drops_few_in : (i : ℕ) (form : Form) (b a p : ControlState) → HasRoom (head_of form) b → HasRoom (head_of form) p
-    → InView form b → InView form a → length (change_events i form b a ++ drops_told i form p) ≤ events_in form
+drops_few_in : (i : ℕ) (form : Form) (b a p : ControlState) → HasRoom (controls_of_form form) b
+    → HasRoom (controls_of_form form) p
+    → InView form b → InView form a → length (change_events i form b a ++ item_drop_events i form p) ≤ events_in form
 drops_few_in i NoControls b a p room part ok ok' = omega arith
 drops_few_in i (Elements kind least greatest us) b a p room part ok ok' =
     omega (arith, drops_few_of i us kind least greatest b a p room part, length-append (element_events i us b a) (drop_events i us (motions_in p)))
@@ -214,7 +215,7 @@ drops_few_in i (Keys elements rolls keys) b a p room part ok ok' =
     omega (arith, change_few i (Keys elements rolls keys) b a ok ok', ap length (append-nil (key_events i (key_usages keys) b a)))
 
 -- of an item of another report nothing is dropped
-pub none_told : (i : ℕ) (form : Form) → drops_told i form Absent ≡ []
+pub none_told : (i : ℕ) (form : Form) → item_drop_events i form Absent ≡ []
 none_told i NoControls = refl
 none_told i (Elements kind least greatest us) = none_dropped i 0 us
 none_told i (Keys elements rolls keys) = refl
@@ -226,9 +227,9 @@ still kind (inr (inl h)) e = cc
 still kind (inr (inr h)) e = cc
 
 pub no_drops : (i : ℕ) (form : Form) (of_it : Bool) (part : ControlState) (kind : ControlKind) (least greatest : ℤ)
-    (count : ℕ) → head_of form ≡ head.Elements kind least greatest count
-    → (kind ≡ Switch) ⊎ ((kind ≡ Value) ⊎ (kind ≡ NullValue)) → HasRoom (head_of form) part
-    → drops_told i form (cond of_it part Absent) ≡ []
+    (count : ℕ) → controls_of_form form ≡ head.Elements kind least greatest count
+    → (kind ≡ Switch) ⊎ ((kind ≡ Value) ⊎ (kind ≡ NullValue)) → HasRoom (controls_of_form form) part
+    → item_drop_events i form (cond of_it part Absent) ≡ []
 no_drops i form false part kind least greatest count is kinds room = none_told i form
 no_drops i form true Absent kind least greatest count is kinds room = none_told i form
 no_drops i NoControls true part kind least greatest count is kinds room = refl
@@ -248,26 +249,27 @@ no_drops i (Elements NullValue least' greatest' us) true (Motions ms) kind least
 no_drops i (Elements Relative least' greatest' us) true (Motions ms) kind least greatest count is kinds room =
     absurd (still kind kinds (cc))
 
-drops_few_by : (of_it : Bool) (i : ℕ) (form : Form) (b a p : ControlState) → HasRoom (head_of form) b
-    → HasRoom (head_of form) p → InView form b → InView form a
-    → length (change_events i form b a ++ drops_told i form (cond of_it p Absent)) ≤ events_in form
+drops_few_by : (of_it : Bool) (i : ℕ) (form : Form) (b a p : ControlState) → HasRoom (controls_of_form form) b
+    → HasRoom (controls_of_form form) p → InView form b → InView form a
+    → length (change_events i form b a ++ item_drop_events i form (cond of_it p Absent)) ≤ events_in form
 drops_few_by true i form b a p room part ok ok' = drops_few_in i form b a p room part ok ok'
 drops_few_by false i form b a p room part ok ok' =
     omega (
       arith,
       change_few i form b a ok ok',
-      length-append (change_events i form b a) (drops_told i form Absent),
+      length-append (change_events i form b a) (item_drop_events i form Absent),
       ap length (none_told i form),
     )
 
-pub drops_few : (i r : ℕ) (items : List Item) (bs xs ps : List ControlState) → Suits InView items bs
-    → Suits InView items xs → Suits InPart items ps → length (drops_from i r items bs xs ps) ≤ max_events items
+pub drops_few : (i r : ℕ) (items : List Item) (bs xs ps : List ControlState) → FitControlStates InView items bs
+    → FitControlStates InView items xs → FitControlStates InPart items ps
+    → length (drops_from i r items bs xs ps) ≤ max_events items
 drops_few i r [] bs xs ps fits fits' parts = omega arith
 drops_few i r (item ∷ items) [] xs ps fits fits' parts = absurd (let e = fits.one_each in omega arith)
 drops_few i r (item ∷ items) (b ∷ bs) [] ps fits fits' parts = absurd (let e = fits'.one_each in omega arith)
 drops_few i r (item ∷ items) (b ∷ bs) (a ∷ xs) [] fits fits' parts = absurd (let e = parts.one_each in omega arith)
 drops_few i r (item ∷ items) (b ∷ bs) (a ∷ xs) (p ∷ ps) fits fits' parts =
-    let here : List Event = change_events i item.form b a ++ drops_told i item.form (part_of r item p) in
+    let here : List Event = change_events i item.form b a ++ item_drop_events i item.form (part_of r item p) in
     omega (
       arith,
       sum_cons item items,

@@ -1,9 +1,9 @@
 -- The elements of a variable item are read in place, one after another, and each tells its change.
 use Rattle.std.proofs.Common.{Vec, vec_len, vec_capacity, ◌≡◌, ℕ, zero, suc, ◌+◌, ◌-◌, ◌*◌, ◌<◌, ◌≤◌, ◌==◌, ◌⊎◌, inl, inr, not, Bool, true, false, Option, unwrap_or, ℤ, pos, List, [], ◌++◌, length, take, drop, Some, None, refl, sym, ap, ◌∙◌, subst, arith}
 use Rattle.std.specs.List.{slice_get, slice_set, zip}
-use Rattle.hid_descriptor.specs.declared.usage.Usage.{Usage}
+use Rattle.hid_report_descriptor.specs.declared.usage.Usage.{Usage}
 use Rattle.hid_snapshots.specs.declared.event.Event.{Event}
-use Rattle.hid_snapshots.specs.Events.{at, element_list_events, switch_event, value_event}
+use Rattle.hid_snapshots.specs.Events.{control_at, element_list_events, switch_event, value_event}
 use Rattle.hid_layout.specs.declared.control.ControlId.{ControlId}
 use Rattle.std.specs.Ordering.{int_eq}
 use Rattle.std.proofs.lemmas.Bool.Decides.{Decides-int_eq}
@@ -130,12 +130,12 @@ pub record AreReadable {A : Type 0} (read : A × ℤ → A) (tell : ℕ → Usag
   pub quiet : (j : ℕ) (u : Usage) (x : A) → tell j u (x, x) ≡ []
 
 pub switches_readable : (item : ℕ) (us : List Usage) (start : List Bool) (numbers : List ℤ) → length numbers ≡ length us → length start ≡ length us
-    → AreReadable switch_by_number (λ j u p. switch_event (at item j) u p.0 p.1) us start numbers
-switches_readable item us start numbers same long = record { same = long ∙ sym same; long = sym long; quiet = λ j u x. switch_stays (at item j) u x }
+    → AreReadable switch_by_number (λ j u p. switch_event (control_at item j) u p.0 p.1) us start numbers
+switches_readable item us start numbers same long = record { same = long ∙ sym same; long = sym long; quiet = λ j u x. switch_stays (control_at item j) u x }
 
 pub values_readable : (carriable : Carriable) (item : ℕ) (us : List Usage) (start : List (Option ℤ)) (numbers : List ℤ) → length numbers ≡ length us → length start ≡ length us
-    → AreReadable (value_by_number carriable) (λ j u p. value_event (at item j) u p.0 p.1) us start numbers
-values_readable carriable item us start numbers same long = record { same = long ∙ sym same; long = sym long; quiet = λ j u x. value_stays (at item j) u x }
+    → AreReadable (value_by_number carriable) (λ j u p. value_event (control_at item j) u p.0 p.1) us start numbers
+values_readable carriable item us start numbers same long = record { same = long ∙ sym same; long = sym long; quiet = λ j u x. value_stays (control_at item j) u x }
 
 -- the elements before one are read, and have told their events into the room that was there
 pub record IsReading {A : Type 0} {Z : Type 0} (read : A × ℤ → A) (tell : ℕ → Usage → A × A → List Event) (us : List Usage) (start : List A) (numbers : List ℤ) (before : Vec Event Z) (all : List Event) (now : List A) (out : Vec Event Z) (i : ℕ) : Type 0 where

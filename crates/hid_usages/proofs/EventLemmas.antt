@@ -1,7 +1,7 @@
 -- The events of the elements of one item.
 use Rattle.std.proofs.Common.{Vec, vec_capacity, ◌≡◌, ℕ, zero, suc, ◌+◌, ◌-◌, ◌<◌, ◌≤◌, ◌&&◌, not, Bool, true, false, ℤ, List, [], ◌∷◌, ◌++◌, append_assoc, length, length-append, append-nil, drop, Some, refl, sym, ap, ◌∙◌, arith}
 use Rattle.std.specs.List.{slice_get, zip}
-use Rattle.hid_descriptor.specs.declared.usage.Usage.{Usage}
+use Rattle.hid_report_descriptor.specs.declared.usage.Usage.{Usage}
 use Rattle.hid_layout.specs.declared.control.ControlId.{ControlId}
 use Rattle.hid_snapshots.specs.declared.event.Event.{Event}
 use Rattle.hid_snapshots.specs.declared.event.Event.TheVariants as event
@@ -11,13 +11,13 @@ use Rattle.std.proofs.lemmas.List.{length-map, drop_all}
 use Rattle.hid_layout.specs.declared.control.Controls.TheVariants as head
 use Rattle.hid_layout.specs.declared.control.ControlKind.{ControlKind}
 use Rattle.hid_layout.specs.declared.control.ControlKind.TheVariants.{Switch, Value, NullValue, Relative}
-use Rattle.hid_layout.specs.Controls.{Form, NoControls, Elements, Keys, head_of}
+use Rattle.hid_layout.specs.Controls.{Form, NoControls, Elements, Keys, controls_of_form}
 use Rattle.hid_snapshots.specs.declared.control_state.ControlState.{ControlState}
 use Rattle.hid_snapshots.specs.declared.control_state.ControlState.TheVariants.{Absent, Switches, Values, Motions, RollOver}
 use Rattle.hid_snapshots.specs.ControlStates.{HasRoom}
 pub use Rattle.hid_snapshots.proofs.ListLemmas.{drop_at, zip_at}
 use Rattle.hid_usages.specs.Appending.{HasSpace, Appends}
-use Rattle.hid_snapshots.specs.Events.{at, switch_event, up_event, down_event, element_list_events, usages_of, element_events, key_events, change_events, HasPlaces}
+use Rattle.hid_snapshots.specs.Events.{control_at, switch_event, up_event, down_event, element_list_events, usages_of, element_events, key_events, change_events, HasPlaces}
 
 -- the events from one element on
 pub element_list_events-from : {C : Type 0} (f : ℕ → Usage → C → List Event) (us : List Usage) (cs : List C) (j : ℕ)
@@ -72,7 +72,7 @@ pub each_end : {C : Type 0} (f : ℕ → Usage → C → List Event) (us : List 
 each_end f us cs j h = ap (λ (vs : List Usage). element_list_events f j vs cs) (drop_all j us h)
 
 -- a control state with room for an item's controls has a place for each usage
-pub has_places : (form : Form) (state : ControlState) → HasRoom (head_of form) state
+pub has_places : (form : Form) (state : ControlState) → HasRoom (controls_of_form form) state
     → HasPlaces state (length (usages_of form))
 has_places form Absent room = tt
 has_places NoControls (Switches ps) room = absurd room
@@ -103,21 +103,22 @@ has_places (Keys elements rolls keys) (Motions ps) room = absurd room
 pub ruleset item_places = (has_places)
 
 -- what changes, by what the item's controls are
-pub events_of_none : (i : ℕ) (form : Form) (b a : ControlState) → head.None ≡ head_of form
+pub events_of_none : (i : ℕ) (form : Form) (b a : ControlState) → head.None ≡ controls_of_form form
     → change_events i form b a ≡ []
 events_of_none i NoControls b a h = refl
 events_of_none i (Elements kind least greatest us) b a h = absurd (cc)
 events_of_none i (Keys elements rolls keys) b a h = absurd (cc)
 
 pub events_of_elements : (i : ℕ) (form : Form) (kind : ControlKind) (least greatest : ℤ) (n : ℕ) (b a : ControlState)
-    → head.Elements kind least greatest n ≡ head_of form
+    → head.Elements kind least greatest n ≡ controls_of_form form
     → change_events i form b a ≡ element_events i (usages_of form) b a
 events_of_elements i NoControls kind least greatest n b a h = absurd (cc)
 events_of_elements i (Elements k l g us) kind least greatest n b a h = refl
 events_of_elements i (Keys elements rolls keys) kind least greatest n b a h = absurd (cc)
 
 pub events_of_keys : (i : ℕ) (form : Form) (elements : ℕ) (rolls : Bool) (n : ℕ) (b a : ControlState)
-    → head.Keys elements rolls n ≡ head_of form → change_events i form b a ≡ key_events i (usages_of form) b a
+    → head.Keys elements rolls n ≡ controls_of_form form
+    → change_events i form b a ≡ key_events i (usages_of form) b a
 events_of_keys i NoControls elements rolls n b a h = absurd (cc)
 events_of_keys i (Elements k l g us) elements rolls n b a h = absurd (cc)
 events_of_keys i (Keys e r keys) elements rolls n b a h = refl
@@ -151,23 +152,23 @@ zip_parts (b ∷ bs) [] j p h = absurd (cc)
 zip_parts (b ∷ bs) (x ∷ xs) zero p h = let e : (b, x) ≡ p = cc in (ap (λ (q : Bool × Bool). q.0) e, ap (λ (q : Bool × Bool). q.1) e)
 zip_parts (b ∷ bs) (x ∷ xs) (suc j) p h = zip_parts bs xs j p h
 
-no_up : (i j : ℕ) (u : Usage) (p q : Bool) → (p && not q) ≡ false → up_event (at i j) u p q ≡ []
+no_up : (i j : ℕ) (u : Usage) (p q : Bool) → (p && not q) ≡ false → up_event (control_at i j) u p q ≡ []
 no_up i j u true true h = refl
 no_up i j u true false h = absurd (cc)
 no_up i j u false q h = refl
 
-one_up : (i j : ℕ) (u : Usage) (p q : Bool) → (p && not q) ≡ true → up_event (at i j) u p q ≡ event.Up (at i j) u ∷ []
+one_up : (i j : ℕ) (u : Usage) (p q : Bool) → (p && not q) ≡ true → up_event (control_at i j) u p q ≡ event.Up (control_at i j) u ∷ []
 one_up i j u true true h = absurd (cc)
 one_up i j u true false h = refl
 one_up i j u false q h = absurd (cc)
 
-no_down : (i j : ℕ) (u : Usage) (p q : Bool) → (q && not p) ≡ false → down_event (at i j) u p q ≡ []
+no_down : (i j : ℕ) (u : Usage) (p q : Bool) → (q && not p) ≡ false → down_event (control_at i j) u p q ≡ []
 no_down i j u true true h = refl
 no_down i j u true false h = refl
 no_down i j u false true h = absurd (cc)
 no_down i j u false false h = refl
 
-one_down : (i j : ℕ) (u : Usage) (p q : Bool) → (q && not p) ≡ true → down_event (at i j) u p q ≡ event.Down (at i j) u ∷ []
+one_down : (i j : ℕ) (u : Usage) (p q : Bool) → (q && not p) ≡ true → down_event (control_at i j) u p q ≡ event.Down (control_at i j) u ∷ []
 one_down i j u true true h = absurd (cc)
 one_down i j u true false h = absurd (cc)
 one_down i j u false true h = refl
@@ -178,13 +179,13 @@ pub record TellsBy (f : ℕ → Usage → Bool × Bool → List Event) (test : �
   pub none : (j : ℕ) (u : Usage) (p : Bool × Bool) → slice_get (zip bs xs) j ≡ Some p → test j ≡ false → f j u p ≡ []
   pub one : (j : ℕ) (u : Usage) (p : Bool × Bool) → slice_get (zip bs xs) j ≡ Some p → test j ≡ true → f j u p ≡ told_at j u ∷ []
 
-pub ups_by : (i : ℕ) (bs xs : List Bool) → TellsBy (λ j u p. up_event (at i j) u p.0 p.1) (is_alone bs xs) bs xs (λ j u. event.Up (at i j) u)
+pub ups_by : (i : ℕ) (bs xs : List Bool) → TellsBy (λ j u p. up_event (control_at i j) u p.0 p.1) (is_alone bs xs) bs xs (λ j u. event.Up (control_at i j) u)
 ups_by i bs xs = record {
   none = λ j u p h e. let q = zip_parts bs xs j p h in no_up i j u p.0 p.1 (sym (ap (λ (b : Bool). b && not (is_on xs j)) q.0 ∙ ap (λ (b : Bool). p.0 && not b) q.1) ∙ e);
   one = λ j u p h e. let q = zip_parts bs xs j p h in one_up i j u p.0 p.1 (sym (ap (λ (b : Bool). b && not (is_on xs j)) q.0 ∙ ap (λ (b : Bool). p.0 && not b) q.1) ∙ e);
 }
 
-pub downs_by : (i : ℕ) (bs xs : List Bool) → TellsBy (λ j u p. down_event (at i j) u p.0 p.1) (is_alone xs bs) bs xs (λ j u. event.Down (at i j) u)
+pub downs_by : (i : ℕ) (bs xs : List Bool) → TellsBy (λ j u p. down_event (control_at i j) u p.0 p.1) (is_alone xs bs) bs xs (λ j u. event.Down (control_at i j) u)
 downs_by i bs xs = record {
   none = λ j u p h e. let q = zip_parts bs xs j p h in no_down i j u p.0 p.1 (sym (ap (λ (b : Bool). b && not (is_on bs j)) q.1 ∙ ap (λ (b : Bool). p.1 && not b) q.0) ∙ e);
   one = λ j u p h e. let q = zip_parts bs xs j p h in one_down i j u p.0 p.1 (sym (ap (λ (b : Bool). b && not (is_on bs j)) q.1 ∙ ap (λ (b : Bool). p.1 && not b) q.0) ∙ e);

@@ -16,8 +16,8 @@ use Rattle.hid_layout.specs.Controls.{Form, NoControls, Elements, Keys, Key, Ite
 use Rattle.hid_usages.specs.Reading.{at_zero, is_rollover_at, names_rollover, names_key, named_keys_from, keys_of, keys_at}
 use Rattle.hid_snapshots.proofs.CodeLemmas.{test_true, true_test, both_true}
 use Rattle.std.specs.Int.Signed.{le_z}
-use Rattle.hid_descriptor.specs.declared.usage.Usage.{Usage}
-use Rattle.hid_descriptor.specs.Usages.{is_rollover}
+use Rattle.hid_report_descriptor.specs.declared.usage.Usage.{Usage}
+use Rattle.hid_report_descriptor.specs.Usages.{is_rollover}
 use Rattle.hid_snapshots.specs.ControlStates.{is_in, switch_count}
 use Rattle.std.proofs.Math.Seq.{take-length}
 use Rattle.hid_snapshots.proofs.BlankLemmas.{none_pressed}

@@ -7,10 +7,10 @@ use Rattle.std.specs.Ordering.{int_eq}
 use Rattle.std.proofs.lemmas.Int.{ints}
 use Rattle.std.proofs.lemmas.Bool.Decides.{Decides-int_eq}
 use Rattle.hid_layout.specs.declared.main_item.MainItem.{MainItem}
-use Rattle.hid_descriptor.specs.declared.usage.Usage.{Usage}
+use Rattle.hid_report_descriptor.specs.declared.usage.Usage.{Usage}
 use Rattle.hid_layout.specs.Controls.{NoControls, Elements, Keys, Key}
 use Rattle.hid_snapshots.specs.ControlStates.{is_value, are_values, are_motions, are_pressable}
-use Rattle.hid_usages.specs.Law.{names_no_key, ReadsBack}
+use Rattle.hid_usages.specs.NumbersReadBack.{names_no_key, ReadsBack}
 use Rattle.hid_snapshots.specs.declared.control_state.ControlState.TheVariants.{Absent, Switches, Values, Motions, RollOver}
 use Rattle.hid_usages.specs.Reading.{read_state, has_null, names_rollover, is_in, read_switch, read_value, read_motion, names_key, named_keys_from}
 use Rattle.hid_snapshots.specs.Sending.{switch_number, pressed_places_from, switch_count, element_numbers, or_zero, null_number, empty_number, rollover_number}

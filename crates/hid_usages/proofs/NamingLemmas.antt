@@ -8,12 +8,12 @@ use Rattle.std.proofs.lemmas.Bool.Decides.{nat_tests}
 use Rattle.hid_fields.specs.Field.{bit_of}
 use Rattle.hid_fields.proofs.FieldLemmas.{pattern_of-same}
 use Rattle.hid_fields.proofs.WordLemmas.{pattern_of-byte}
-use Rattle.hid_descriptor.specs.declared.report.Report.{Report}
-use Rattle.hid_descriptor.specs.declared.report.ReportKind.TheVariants.{Input}
-use Rattle.hid_descriptor.specs.Kinds.{same_kind}
+use Rattle.hid_report_descriptor.specs.declared.report.Report.{Report}
+use Rattle.hid_report_descriptor.specs.declared.report.ReportKind.TheVariants.{Input}
+use Rattle.hid_report_descriptor.specs.Kinds.{same_kind}
 use Rattle.hid_layout.specs.Layout.{Contents}
 use Rattle.hid_layout.specs.Reports.{IsLayout, first_bit, report_bytes, report_id, bits_of}
-use Rattle.hid_descriptor.proofs.Shares.{kinds_equal}
+use Rattle.hid_report_descriptor.proofs.Shares.{kinds_equal}
 use Rattle.hid_snapshots.specs.declared.fault.ReportFault.{ReportFault}
 use Rattle.hid_snapshots.specs.declared.fault.ReportFault.TheVariants.{Short}
 use Rattle.hid_snapshots.specs.Encoding.{AreBytes, IsEncoding, bare_report}

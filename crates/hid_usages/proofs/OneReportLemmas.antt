@@ -10,18 +10,18 @@ use Rattle.hid_snapshots.specs.declared.control_state.ControlState.TheVariants.{
 use Rattle.hid_snapshots.specs.declared.event.Event.{Event}
 use Rattle.hid_snapshots.specs.Encoding.{IsData, numbers_at}
 use Rattle.hid_snapshots.specs.Events.{change_events}
-use Rattle.hid_usages.specs.OneReport.{AgreeOn, SeesOneReport, TellsOneReport, ShowsOneReport}
+use Rattle.hid_usages.specs.OneReport.{SamePartsOfReport, SeesOneReport, IsOneReportsOwn, ShowsOneReport}
 use Rattle.hid_snapshots.specs.Parts.{is_of, by_item}
 use Rattle.hid_snapshots.specs.Views.{seen_state, view_item_after, part_of, form_motions, events_from}
 use Rattle.hid_snapshots.proofs.ItemLemmas.{items_from-at, got}
 use Rattle.hid_snapshots.proofs.PartLemmas.{item_at-is, of_report}
 
 agree_tail : (r : ℕ) (item : Item) (items : List Item) (p q : ControlState) (ps qs : List ControlState)
-    → AgreeOn (item ∷ items) r (p ∷ ps) (q ∷ qs) → AgreeOn items r ps qs
+    → SamePartsOfReport (item ∷ items) r (p ∷ ps) (q ∷ qs) → SamePartsOfReport items r ps qs
 agree_tail r item items p q ps qs agree = record { one_each = (let e = agree.one_each in omega arith); same = λ i it h own. agree.same (suc i) it h own }
 
 agree_head : (r : ℕ) (item : Item) (items : List Item) (p q : ControlState) (ps qs : List ControlState)
-    → AgreeOn (item ∷ items) r (p ∷ ps) (q ∷ qs) → is_of r item ≡ true → p ≡ q
+    → SamePartsOfReport (item ∷ items) r (p ∷ ps) (q ∷ qs) → is_of r item ≡ true → p ≡ q
 agree_head r item items p q ps qs agree own = let e : Some p ≡ Some q = agree.same 0 item refl own in cc
 
 -- what is made of an item's own part alone
@@ -45,7 +45,7 @@ sees_one (item ∷ items) r (v ∷ vs) (p ∷ ps) (q ∷ qs) agree =
     ∙ ap (λ (cs : List ControlState). view_item_after r item v q ∷ cs)
     (sees_one items r vs ps qs (agree_tail r item items p q ps qs agree))
 
-tells_from : (i r : ℕ) (items : List Item) (bs xs ps qs : List ControlState) → AgreeOn items r ps qs
+tells_from : (i r : ℕ) (items : List Item) (bs xs ps qs : List ControlState) → SamePartsOfReport items r ps qs
     → events_from i r items bs xs ps ≡ events_from i r items bs xs qs
 tells_from i r [] bs xs ps qs agree = refl
 tells_from i r (item ∷ items) [] xs ps qs agree = refl
@@ -60,7 +60,7 @@ tells_from i r (item ∷ items) (b ∷ bs) (a ∷ xs) (p ∷ ps) (q ∷ qs) agre
     ∙ ap (λ (l : List Event). (change_events i item.form b a ++ form_motions i item.form (part_of r item q)) ++ l)
     (tells_from (i + 1) r items bs xs ps qs (agree_tail r item items p q ps qs agree))
 
-pub tells_one : TellsOneReport
+pub tells_one : IsOneReportsOwn
 tells_one items r before after parts others agree = tells_from 0 r items before after parts others agree
 
 same_number : (a b : ℕ) → a ≡ b → nat_eq a b ≡ true

@@ -8,15 +8,15 @@ use Rattle.std.proofs.lemmas.Int.{ints}
 use Rattle.std.proofs.lemmas.List.{length-map}
 use Rattle.std.proofs.lemmas.Bool.Decides.{nat_tests}
 use Rattle.hid_layout.specs.declared.main_item.MainItem.{MainItem}
-use Rattle.hid_descriptor.specs.declared.usage.Usage.{Usage}
-use Rattle.hid_descriptor.specs.declared.shape.Shape.{Shape}
-use Rattle.hid_descriptor.specs.declared.shape.Shape.TheVariants.{Padding, Variable, Array}
+use Rattle.hid_report_descriptor.specs.declared.usage.Usage.{Usage}
+use Rattle.hid_report_descriptor.specs.declared.shape.Shape.{Shape}
+use Rattle.hid_report_descriptor.specs.declared.shape.Shape.TheVariants.{Padding, Variable, Array}
 use Rattle.hid_layout.specs.declared.control.Controls.TheVariants as head
-use Rattle.hid_descriptor.specs.Usages.{Entry, usage_list, is_rollover, tells_error}
-use Rattle.hid_usages.specs.Taking.{list_at, IsFormOf, state_by_numbers, number_events}
+use Rattle.hid_report_descriptor.specs.Usages.{Entry, usage_list, is_rollover, is_keyboard_error}
+use Rattle.hid_usages.specs.Taking.{list_at, IsFormOf, state_after_numbers_at, events_of_numbers_at}
 use Rattle.hid_usages.proofs.TakeLemmas.{list_at-is}
 use Rattle.hid_layout.specs.Layout.{Contents}
-use Rattle.hid_layout.specs.Controls.{Form, Keys, Key, head_of, form_of, form_at, items_of, has_place, rollover_from, is_key, is_encodable}
+use Rattle.hid_layout.specs.Controls.{Form, Keys, Key, controls_of_form, form_of, form_at, items_of, has_place, rollover_from, is_key, is_encodable}
 use Rattle.hid_layout.proofs.FormLemmas.{key-get, keys-length}
 use Rattle.hid_layout.proofs.CodeLemmas.{inside}
 use Rattle.hid_snapshots.proofs.CodeLemmas.{both_true}
@@ -92,11 +92,16 @@ is_so true r h k = refl
 is_so false r h k = absurd (cc)
 
 -- the keys of a listed array are those of its usages
-pub keys_are : (layout : Contents) (i : ℕ) (m : MainItem) (es : List Entry) (elements : ℕ) (rolls : Bool) (n : ℕ) → IsFormOf layout i m → slice_get layout.entries i ≡ Some es → head.Keys elements rolls n ≡ head_of (form_at (items_of layout) i)
+pub keys_are : (layout : Contents) (i : ℕ) (m : MainItem) (es : List Entry) (elements : ℕ) (rolls : Bool) (n : ℕ)
+    → IsFormOf layout i m → slice_get layout.entries i ≡ Some es
+    → head.Keys elements rolls n ≡ controls_of_form (form_at (items_of layout) i)
     → keys_at layout i ≡ array_keys m (usage_list es)
-keys_are layout i m es elements rolls n form there heads = ap keys_of form ∙ of_shape (list_at layout i) m.shape (heads ∙ ap head_of form) ∙ ap (array_keys m) (list_at-is layout i es there)
+keys_are layout i m es elements rolls n form there heads =
+    ap keys_of form ∙ of_shape (list_at layout i) m.shape (heads ∙ ap controls_of_form form)
+    ∙ ap (array_keys m) (list_at-is layout i es there)
   where
-    of_shape : (us : List Usage) (shape : Shape) → head.Keys elements rolls n ≡ head_of (form_of m us shape) → keys_of (form_of m us shape) ≡ array_keys m us
+    of_shape : (us : List Usage) (shape : Shape) → head.Keys elements rolls n ≡ controls_of_form (form_of m us shape)
+        → keys_of (form_of m us shape) ≡ array_keys m us
     of_shape us Padding h = absurd (cc)
     of_shape us Variable h = absurd (cc)
     of_shape us Array h = refl
@@ -109,7 +114,7 @@ place_encodable m v p fits is =
 
 -- whether a place is a key that a number can press, by the tests of it
 pub key_tested : (m : MainItem) (v : ℤ) (p : ℕ) (u : Usage) (few low none : Bool) → FitsFields m v → v ≡ m.min +ℤ pos p → int_le v m.max ≡ few → nat_lt p 65536 ≡ low → (u.id == 0) ≡ none
-    → is_key m p u ≡ (few && (low && (not none && not (tells_error u))))
+    → is_key m p u ≡ (few && (low && (not none && not (is_keyboard_error u))))
 key_tested m v p u few low none fits is at_most before zero = rw (place_encodable m v p fits is, at_most, before, zero) refl
 
 -- What the numbers of an array's elements make of its control state, and tell, is what they do by its usage list.
@@ -118,13 +123,13 @@ pub record ReadsKeys (layout : Contents) (i : ℕ) (m : MainItem) (us : List Usa
   pub keys : keys_at layout i ≡ array_keys m us
   pub usages : length (usages_at layout i) ≡ length (keys_at layout i)
   pub places : HasPlaces state (length (keys_at layout i))
-  pub read : read_keys m us (keys_at layout i) state vs ≡ state_by_numbers layout i m state vs
+  pub read : read_keys m us (keys_at layout i) state vs ≡ state_after_numbers_at layout i m state vs
   pub told : (after : ControlState)
-      → key_events i (usages_at layout i) state after ≡ number_events layout i m state after vs
+      → key_events i (usages_at layout i) state after ≡ events_of_numbers_at layout i m state after vs
 
 pub reads_keys : (layout : Contents) (i : ℕ) (m : MainItem) (es : List Entry) (state : ControlState) (vs : List ℤ)
     → IsFormOf layout i m → m.shape ≡ Array → slice_get layout.entries i ≡ Some es
-    → HasRoom (head_of (form_at (items_of layout) i)) state
+    → HasRoom (controls_of_form (form_at (items_of layout) i)) state
     → ReadsKeys layout i m (usage_list es) state vs
 reads_keys layout i m es state vs form shape there room =
     let listed = list_at-is layout i es there in

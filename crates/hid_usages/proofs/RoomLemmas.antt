@@ -4,18 +4,18 @@ use Rattle.std.specs.List.{slice_get, slice_set, zip}
 use Rattle.std.proofs.lemmas.List.{get_or-set_other, length-replicate}
 use Rattle.std.proofs.lemmas.Option.{unwrap_or-slice_get, slice_get_within}
 use Rattle.std.proofs.lemmas.Bool.{cases_lt, cases_eq}
-use Rattle.hid_descriptor.specs.declared.usage.Usage.{Usage}
+use Rattle.hid_report_descriptor.specs.declared.usage.Usage.{Usage}
 use Rattle.hid_layout.specs.declared.control.Controls.{Controls}
 use Rattle.hid_layout.specs.declared.control.Controls.TheVariants as head
 use Rattle.hid_layout.specs.declared.control.ControlKind.TheVariants.{Switch, Value, NullValue, Relative}
-use Rattle.hid_layout.specs.Controls.{Item, head_of}
+use Rattle.hid_layout.specs.Controls.{Item, controls_of_form}
 use Rattle.hid_snapshots.specs.declared.control_state.ControlState.{ControlState}
 use Rattle.hid_snapshots.specs.declared.control_state.ControlState.TheVariants.{Absent, Switches, Values, Motions, RollOver}
 use Rattle.hid_snapshots.specs.ControlStates.{FitsView, HasRoom}
-use Rattle.hid_snapshots.specs.Events.{at, up_event, down_event, element_list_events, ups, downs}
+use Rattle.hid_snapshots.specs.Events.{control_at, up_event, down_event, element_list_events, ups, downs}
 use Rattle.hid_snapshots.specs.Words.{is_on, is_alone, IsFirst}
 use Rattle.hid_snapshots.proofs.ItemLemmas.{got}
-use Rattle.hid_usages.specs.Taking.{flag_places, NamesNone}
+use Rattle.hid_usages.specs.Taking.{flag_places, NoFlagSet}
 
 -- ---- flags after the keys of an array
 
@@ -61,8 +61,8 @@ zip_take (x ∷ xs) (y ∷ ys) (suc n) h = ap (λ t. (x, y) ∷ t) (zip_take xs 
 pub first_told : (i : ℕ) (us : List Usage) (bs xs : List Bool) (n : ℕ) → length bs ≤ n → (ups i us bs (take n xs) ++ downs i us bs (take n xs)) ≡ (ups i us bs xs ++ downs i us bs xs)
 first_told i us bs xs n h =
     ap (λ (ps : List (Bool × Bool)). element_list_events
-    (λ j u (p : Bool × Bool). up_event (at i j) u p.0 p.1) 0 us ps
-    ++ element_list_events (λ j u (p : Bool × Bool). down_event (at i j) u p.0 p.1) 0 us ps) (zip_take bs xs n h)
+    (λ j u (p : Bool × Bool). up_event (control_at i j) u p.0 p.1) 0 us ps
+    ++ element_list_events (λ j u (p : Bool × Bool). down_event (control_at i j) u p.0 p.1) 0 us ps) (zip_take bs xs n h)
 
 -- ---- the room of a view
 
@@ -110,17 +110,23 @@ room_flags (head.Keys elements rolls n) (RollOver ps) room = room
 
 -- control states that have the same room want the same flags
 pub names_stay : (items : List Item) (states new : List ControlState) (named named' : List Bool) → FitsView items states
-    → FitsView items new → NamesNone states named → named' ≡ named → NamesNone new named'
-names_stay items states new named named' fits fits' names same = subst (NamesNone new) (sym same) (record {
+    → FitsView items new → NoFlagSet states named → named' ≡ named → NoFlagSet new named'
+names_stay items states new named named' fits fits' names same = subst (NoFlagSet new) (sym same) (record {
   none = names.none;
   each = λ i state h.
       let item = got items i (omega (arith, slice_get_within new i state h, fits'.one_each)) in
       let old = got states i (omega (arith, slice_get_within new i state h, fits'.one_each, fits.one_each)) in
-      omega (arith, room_flags (head_of item.0.form) state (fits'.room i item.0 state item.1 h), room_flags (head_of item.0.form) old.0 (fits.room i item.0 old.0 item.1 old.1), names.each i old.0 old.1);
+      omega (
+        arith,
+        room_flags (controls_of_form item.0.form) state (fits'.room i item.0 state item.1 h),
+        room_flags (controls_of_form item.0.form) old.0 (fits.room i item.0 old.0 item.1 old.1),
+        names.each i old.0 old.1,
+      );
 })
 
 pub names_none : (states : List ControlState) (named : List Bool) (n : ℕ) → named ≡ replicate n false
-    → ((i : ℕ) (state : ControlState) → slice_get states i ≡ Some state → flag_places state ≤ n) → NamesNone states named
+    → ((i : ℕ) (state : ControlState) → slice_get states i ≡ Some state → flag_places state ≤ n)
+    → NoFlagSet states named
 names_none states named n is most =
     let long : length named ≡ n = ap length is ∙ length-replicate n false in
     record {

@@ -1,24 +1,24 @@
 -- Values of the definitions, worked out by hand.
 use Rattle.std.specs.Prelude.{◌≡◌, ℕ, Bool, true, false, List, [], ◌∷◌, None, Ok, Err, pos, negsuc, refl, replicate}
-use Rattle.hid_descriptor.specs.declared.report.Report.{Report}
-use Rattle.hid_descriptor.specs.declared.report.ReportKind.TheVariants.{Input}
+use Rattle.hid_report_descriptor.specs.declared.report.Report.{Report}
+use Rattle.hid_report_descriptor.specs.declared.report.ReportKind.TheVariants.{Input}
 use Rattle.hid_layout.specs.Controls.{Item}
 use Rattle.hid_layout.specs.Layout.{Contents}
 use Rattle.hid_snapshots.specs.declared.control_state.ControlState.{ControlState}
 use Rattle.hid_snapshots.specs.declared.control_state.ControlState.TheVariants.{Absent, Switches, Values, Motions}
 use Rattle.hid_snapshots.specs.declared.change.Change.{Change}
 use Rattle.hid_snapshots.specs.declared.change.Change.TheVariants as change
-use Rattle.hid_snapshots.specs.declared.change.ChangeFault.TheVariants as fault
+use Rattle.hid_snapshots.specs.declared.fault.ChangeFault.TheVariants as fault
 use Rattle.hid_snapshots.specs.declared.event.Event.{Event}
 use Rattle.hid_snapshots.specs.declared.event.Event.TheVariants as event
 use Rattle.hid_snapshots.specs.ControlStates.{blank}
 use Rattle.hid_snapshots.specs.Snapshots.{OrFault, snapshot_after}
 use Rattle.hid_snapshots.specs.Parts.{blank_parts, shown_parts, without_part_motion, is_changed}
-use Rattle.hid_usages.specs.Boot.{keyboard_of, is_held, mouse_in}
-use Rattle.hid_usages.specs.Receiving.{Receiving, ends_with, packet_outcome}
+use Rattle.hid_usages.specs.Boot.{keyboard_of, is_boot_key_held, mouse_in}
+use Rattle.hid_usages.specs.Receiving.{ReceiverState, ends_with, packet_outcome}
 use Rattle.hid_usages.specs.declared.receiver.Arrived.TheVariants.{Part, Whole}
 use Rattle.hid_snapshots.specs.declared.fault.ReportFault.TheVariants.{Short, UnknownReport}
-use Rattle.hid_snapshots.specs.Events.{at}
+use Rattle.hid_snapshots.specs.Events.{control_at}
 use Rattle.hid_snapshots.specs.Views.{view_after_part, events_between}
 use Rattle.hid_snapshots.specs.Words.{words_in}
 use Rattle.hid_snapshots.specs.Keys.{key_words}
@@ -53,65 +53,65 @@ abbrev due : List Item → ℕ → List Change → Bool
 due items r changes = is_changed items r (kept (changes_of items changes)) (blank_parts items)
 
 -- a key that is pressed goes down
-one_key : told keyboard 0 (change.Press (at 4 4) ∷ []) ≡ event.Down (at 4 4) (usage 7 4) ∷ []
+one_key : told keyboard 0 (change.Press (control_at 4 4) ∷ []) ≡ event.Down (control_at 4 4) (usage 7 4) ∷ []
 one_key = refl
 
 -- a key that is pressed and released before a report calls for none
-no_key : due keyboard 0 (change.Press (at 4 4) ∷ change.Release (at 4 4) ∷ []) ≡ false
+no_key : due keyboard 0 (change.Press (control_at 4 4) ∷ change.Release (control_at 4 4) ∷ []) ≡ false
 no_key = refl
 
 -- seven keys roll over, and a modifier goes on
-rolled_over : told keyboard 0 (change.Press (at 4 4) ∷ change.Press (at 4 5) ∷ change.Press (at 4 6) ∷ change.Press (at 4 7) ∷ change.Press (at 4 8) ∷ change.Press (at 4 9) ∷ change.Press (at 4 10) ∷ change.Press (at 0 1) ∷ [])
-    ≡ event.Down (at 0 1) (usage 7 0xE1) ∷ []
+rolled_over : told keyboard 0 (change.Press (control_at 4 4) ∷ change.Press (control_at 4 5) ∷ change.Press (control_at 4 6) ∷ change.Press (control_at 4 7) ∷ change.Press (control_at 4 8) ∷ change.Press (control_at 4 9) ∷ change.Press (control_at 4 10) ∷ change.Press (control_at 0 1) ∷ [])
+    ≡ event.Down (control_at 0 1) (usage 7 0xE1) ∷ []
 rolled_over = refl
 
 -- 200 to the right: 127 now, and 73 stay
-far_right : told mouse 0 (change.Move (at 2 0) (pos 200) ∷ []) ≡ event.Motion (at 2 0) (usage 1 0x30) (pos 127) ∷ []
+far_right : told mouse 0 (change.Move (control_at 2 0) (pos 200) ∷ []) ≡ event.Motion (control_at 2 0) (usage 1 0x30) (pos 127) ∷ []
 far_right = refl
 
-rest_stays : left mouse 0 (change.Move (at 2 0) (pos 200) ∷ []) ≡ Switches (false ∷ false ∷ false ∷ []) ∷ Absent
+rest_stays : left mouse 0 (change.Move (control_at 2 0) (pos 200) ∷ []) ≡ Switches (false ∷ false ∷ false ∷ []) ∷ Absent
     ∷ Motions (pos 73 ∷ pos 0 ∷ []) ∷ []
 rest_stays = refl
 
 -- 200 to the left
-far_left : told mouse 0 (change.Move (at 2 0) (negsuc 199) ∷ []) ≡ event.Motion (at 2 0) (usage 1 0x30) (negsuc 126) ∷ []
+far_left : told mouse 0 (change.Move (control_at 2 0) (negsuc 199) ∷ []) ≡ event.Motion (control_at 2 0) (usage 1 0x30) (negsuc 126) ∷ []
 far_left = refl
 
 -- a hat switch begins at null
 hat_is_null : blank hat ≡ Values (None ∷ []) ∷ Absent ∷ []
 hat_is_null = refl
 
-hat_north : told hat 0 (change.Set (at 0 0) (pos 0) ∷ []) ≡ event.Value (at 0 0) (usage 1 0x39) (pos 0) ∷ []
+hat_north : told hat 0 (change.Set (control_at 0 0) (pos 0) ∷ []) ≡ event.Value (control_at 0 0) (usage 1 0x39) (pos 0) ∷ []
 hat_north = refl
 
-hat_null_again : due hat 0 (change.Set (at 0 0) (pos 0) ∷ change.Null (at 0 0) ∷ []) ≡ false
+hat_null_again : due hat 0 (change.Set (control_at 0 0) (pos 0) ∷ change.Null (control_at 0 0) ∷ []) ≡ false
 hat_null_again = refl
 
 -- each report calls for itself
-two_reports : told wheel_and_button 0 (change.Press (at 1 0) ∷ change.Move (at 0 0) (negsuc 0) ∷ []) ≡ event.Motion (at 0 0) (usage 1 0x30) (negsuc 0) ∷ []
+two_reports : told wheel_and_button 0 (change.Press (control_at 1 0) ∷ change.Move (control_at 0 0) (negsuc 0) ∷ []) ≡ event.Motion (control_at 0 0) (usage 1 0x30) (negsuc 0) ∷ []
 two_reports = refl
 
-other_report : told wheel_and_button 1 (change.Press (at 1 0) ∷ change.Move (at 0 0) (negsuc 0) ∷ []) ≡ event.Down (at 1 0) (usage 9 1) ∷ []
+other_report : told wheel_and_button 1 (change.Press (control_at 1 0) ∷ change.Move (control_at 0 0) (negsuc 0) ∷ []) ≡ event.Down (control_at 1 0) (usage 9 1) ∷ []
 other_report = refl
 
 -- refusals, in their order
-no_such_key : changes_of keyboard (change.Press (at 4 1) ∷ []) ≡ Err fault.NoSuchControl
+no_such_key : changes_of keyboard (change.Press (control_at 4 1) ∷ []) ≡ Err fault.NoSuchControl
 no_such_key = refl
 
-no_switch : changes_of mouse (change.Press (at 2 0) ∷ []) ≡ Err fault.WrongKind
+no_switch : changes_of mouse (change.Press (control_at 2 0) ∷ []) ≡ Err fault.WrongKind
 no_switch = refl
 
-over_seven : changes_of hat (change.Set (at 0 0) (pos 8) ∷ []) ≡ Err fault.OutOfRange
+over_seven : changes_of hat (change.Set (control_at 0 0) (pos 8) ∷ []) ≡ Err fault.OutOfRange
 over_seven = refl
 
-full_motion : changes_of mouse (change.Move (at 2 0) (pos 0x7FFF_FFFF) ∷ change.Move (at 2 0) (pos 1) ∷ []) ≡ Err fault.MotionFull
+full_motion : changes_of mouse (change.Move (control_at 2 0) (pos 0x7FFF_FFFF) ∷ change.Move (control_at 2 0) (pos 1) ∷ []) ≡ Err fault.MotionFull
 full_motion = refl
 
 -- a boot keyboard's report: the left Shift and a, and seven keys
-shift_and_a : is_held (keyboard_of (0x02 ∷ 0 ∷ 0x04 ∷ 0 ∷ 0 ∷ 0 ∷ 0 ∷ 0 ∷ [])) 0xE1 ≡ true
+shift_and_a : is_boot_key_held (keyboard_of (0x02 ∷ 0 ∷ 0x04 ∷ 0 ∷ 0 ∷ 0 ∷ 0 ∷ 0 ∷ [])) 0xE1 ≡ true
 shift_and_a = refl
 
-boot_rolled_over : is_held (keyboard_of (0x02 ∷ 0 ∷ 1 ∷ 1 ∷ 1 ∷ 1 ∷ 1 ∷ 1 ∷ [])) 0x04 ≡ false
+boot_rolled_over : is_boot_key_held (keyboard_of (0x02 ∷ 0 ∷ 1 ∷ 1 ∷ 1 ∷ 1 ∷ 1 ∷ 1 ∷ [])) 0x04 ≡ false
 boot_rolled_over = refl
 
 -- a boot mouse's report: the first and third button, to the right and up
@@ -120,14 +120,14 @@ right_and_up = refl
 
 -- the seven keys after 07:04 are kept in two words, and 07:E1 is none of them
 seven_keys : List Change
-seven_keys = change.Press (at 4 4) ∷ change.Press (at 4 5) ∷ change.Press (at 4 6) ∷ change.Press (at 4 7) ∷ change.Press (at 4 8) ∷ change.Press (at 4 9) ∷ change.Press (at 4 10) ∷ []
+seven_keys = change.Press (control_at 4 4) ∷ change.Press (control_at 4 5) ∷ change.Press (control_at 4 6) ∷ change.Press (control_at 4 7) ∷ change.Press (control_at 4 8) ∷ change.Press (control_at 4 9) ∷ change.Press (control_at 4 10) ∷ []
 
-keys_in_words : key_words (kept (changes_of keyboard (change.Press (at 0 1) ∷ seven_keys))) 4 ≡ 0x7F0 ∷ 0 ∷ []
+keys_in_words : key_words (kept (changes_of keyboard (change.Press (control_at 0 1) ∷ seven_keys))) 4 ≡ 0x7F0 ∷ 0 ∷ []
 unfolding words_in seven_keys
 keys_in_words = refl
 
 -- a set of keys that rolls over after another that did calls for no report
-second_set : is_changed keyboard 0 (kept (changes_of keyboard (change.Press (at 4 11) ∷ seven_keys)))
+second_set : is_changed keyboard 0 (kept (changes_of keyboard (change.Press (control_at 4 11) ∷ seven_keys)))
     (shown_parts keyboard 0 (kept (changes_of keyboard seven_keys)) (blank_parts keyboard)) ≡ false
 unfolding seven_keys
 second_set = refl
@@ -145,7 +145,7 @@ short_and_long = record {
   paths = [];
 }
 
-abbrev got : List ℕ → Receiving
+abbrev got : List ℕ → ReceiverState
 got collected = record { layout = short_and_long; view = []; collected = collected }
 
 -- 100 bytes come in two packets, of 64 and 36

@@ -2,16 +2,16 @@
 use Rattle.std.proofs.Common.{◌≡◌, ℕ, suc, ◌+◌, ◌*◌, ◌<◌, ◌≤◌, Bool, true, false, cond, List, [], ◌∷◌, ◌++◌, get_or, length, length-append, drop, Option, Some, None, ℤ, pos, zero-add, refl, sym, ap, ◌∙◌, subst, arith}
 use Rattle.std.specs.List.{slice_get, zip}
 use Rattle.std.proofs.lemmas.Option.{unwrap_or-slice_get}
-use Rattle.hid_descriptor.specs.declared.usage.Usage.{Usage}
-use Rattle.hid_layout.specs.Controls.{Form, NoControls, Elements, Keys, Key, Item, form_at, head_of, events_in, max_events}
+use Rattle.hid_report_descriptor.specs.declared.usage.Usage.{Usage}
+use Rattle.hid_layout.specs.Controls.{Form, NoControls, Elements, Keys, Key, Item, form_at, controls_of_form, events_in, max_events}
 use Rattle.hid_snapshots.specs.declared.control_state.ControlState.{ControlState}
 use Rattle.hid_snapshots.specs.declared.control_state.ControlState.TheVariants.{Absent, Switches, Values, Motions, RollOver}
 use Rattle.hid_snapshots.specs.declared.event.Event.{Event}
 use Rattle.hid_snapshots.specs.declared.event.Event.TheVariants as event
 use Rattle.std.specs.Ordering.{int_eq}
 use Rattle.std.proofs.lemmas.List.Sums.{sum_by-append}
-use Rattle.hid_snapshots.specs.ControlStates.{switch_count, HasRoom, InView, Suits}
-use Rattle.hid_snapshots.specs.Events.{at, element_list_events, switch_event, value_event, motion_event, up_event, down_event, motion_events, ups, downs, key_usages, element_events, key_events, change_events}
+use Rattle.hid_snapshots.specs.ControlStates.{switch_count, HasRoom, InView, FitControlStates}
+use Rattle.hid_snapshots.specs.Events.{control_at, element_list_events, switch_event, value_event, motion_event, up_event, down_event, motion_events, ups, downs, key_usages, element_events, key_events, change_events}
 use Rattle.hid_snapshots.specs.Snapshots.{state_at}
 use Rattle.hid_snapshots.specs.Views.{changes_from}
 use Rattle.hid_usages.proofs.EventLemmas.{drop_at}
@@ -27,11 +27,12 @@ changes_from-next items bs xs i b a within h k =
     rw (drop_at items i item.0 item.1, drop_at bs i b h, drop_at xs i a k, form_at-is items i item.0 item.1) refl
 
 pub room_at : (stands : Form → ControlState → Type 0) (items : List Item) (states : List ControlState) (i : ℕ)
-    (state : ControlState) → Suits stands items states → i < length items → slice_get states i ≡ Some state
-    → HasRoom (head_of (form_at items i)) state
+    (state : ControlState) → FitControlStates stands items states → i < length items → slice_get states i ≡ Some state
+    → HasRoom (controls_of_form (form_at items i)) state
 room_at stands items states i state fits within h =
     let item = got items i within in
-    subst (λ (f : Form). HasRoom (head_of f) state) (sym (form_at-is items i item.0 item.1)) (fits.room i item.0 state item.1 h)
+    subst (λ (f : Form). HasRoom (controls_of_form f) state) (sym (form_at-is items i item.0 item.1))
+    (fits.room i item.0 state item.1 h)
 
 -- each element tells one event at most
 pub each_few : {C : Type 0} (f : ℕ → Usage → C → List Event) → ((j : ℕ) (u : Usage) (c : C) → length (f j u c) ≤ 1)
@@ -46,32 +47,32 @@ each_few f one j (u ∷ us) (c ∷ cs) =
       length-append (f j u c) (element_list_events f (j + 1) us cs),
     )
 
-switch_one : (i j : ℕ) (u : Usage) (p q : Bool) → length (switch_event (at i j) u p q) ≤ 1
+switch_one : (i j : ℕ) (u : Usage) (p q : Bool) → length (switch_event (control_at i j) u p q) ≤ 1
 switch_one i j u true true = omega arith
 switch_one i j u true false = omega arith
 switch_one i j u false true = omega arith
 switch_one i j u false false = omega arith
 
-value_one : (i j : ℕ) (u : Usage) (p q : Option ℤ) → length (value_event (at i j) u p q) ≤ 1
+value_one : (i j : ℕ) (u : Usage) (p q : Option ℤ) → length (value_event (control_at i j) u p q) ≤ 1
 value_one i j u None None = omega arith
 value_one i j u None (Some w) = omega arith
 value_one i j u (Some v) None = omega arith
 value_one i j u (Some v) (Some w) = by_same (int_eq v w)
   where
-    by_same : (b : Bool) → length (cond b [] (event.Value (at i j) u w ∷ [])) ≤ 1
+    by_same : (b : Bool) → length (cond b [] (event.Value (control_at i j) u w ∷ [])) ≤ 1
     by_same true = omega arith
     by_same false = omega arith
 
-motion_one : (i j : ℕ) (u : Usage) (m : ℤ) → length (motion_event (at i j) u m) ≤ 1
+motion_one : (i j : ℕ) (u : Usage) (m : ℤ) → length (motion_event (control_at i j) u m) ≤ 1
 motion_one i j u m = by_same (int_eq m (pos 0))
   where
-    by_same : (b : Bool) → length (cond b [] (event.Motion (at i j) u m ∷ [])) ≤ 1
+    by_same : (b : Bool) → length (cond b [] (event.Motion (control_at i j) u m ∷ [])) ≤ 1
     by_same true = omega arith
     by_same false = omega arith
 
 -- no more releases than held keys, and no more presses than keys held then
 ups_few : (i j : ℕ) (us : List Usage) (bs xs : List Bool)
-    → length (element_list_events (λ k u (p : Bool × Bool). up_event (at i k) u p.0 p.1) j us
+    → length (element_list_events (λ k u (p : Bool × Bool). up_event (control_at i k) u p.0 p.1) j us
     (zip bs xs)) ≤ switch_count bs
 ups_few i j [] bs xs = omega arith
 ups_few i j (u ∷ us) [] xs = omega arith
@@ -82,7 +83,7 @@ ups_few i j (u ∷ us) (false ∷ bs) (true ∷ xs) = omega (arith, ups_few i (j
 ups_few i j (u ∷ us) (false ∷ bs) (false ∷ xs) = omega (arith, ups_few i (j + 1) us bs xs, cons_count false bs)
 
 downs_few : (i j : ℕ) (us : List Usage) (bs xs : List Bool)
-    → length (element_list_events (λ k u (p : Bool × Bool). down_event (at i k) u p.0 p.1) j us
+    → length (element_list_events (λ k u (p : Bool × Bool). down_event (control_at i k) u p.0 p.1) j us
     (zip bs xs)) ≤ switch_count xs
 downs_few i j [] bs xs = omega arith
 downs_few i j (u ∷ us) [] xs = omega arith
@@ -139,7 +140,8 @@ pub sum_cons : (item : Item) (items : List Item) → max_events (item ∷ items)
 sum_cons item items = sum_by-append (λ (it : Item). events_in it.form) (item ∷ []) items ∙ ap (λ (n : ℕ). n + max_events items) (zero-add (events_in item.form))
 
 pub suits_tail : (stands : Form → ControlState → Type 0) (item : Item) (items : List Item) (c : ControlState)
-    (states : List ControlState) → Suits stands (item ∷ items) (c ∷ states) → Suits stands items states
+    (states : List ControlState) → FitControlStates stands (item ∷ items) (c ∷ states)
+    → FitControlStates stands items states
 suits_tail stands item items c states fits = record {
   one_each = (let e = fits.one_each in omega arith);
   room = λ i it state h g. fits.room (suc i) it state h g;
@@ -147,8 +149,8 @@ suits_tail stands item items c states fits = record {
 }
 
 -- the events of the changes of all items are few
-pub changes_few : (i : ℕ) (items : List Item) (bs xs : List ControlState) → Suits InView items bs
-    → Suits InView items xs → length (changes_from i items bs xs) ≤ max_events items
+pub changes_few : (i : ℕ) (items : List Item) (bs xs : List ControlState) → FitControlStates InView items bs
+    → FitControlStates InView items xs → length (changes_from i items bs xs) ≤ max_events items
 changes_few i [] bs xs fits fits' = omega arith
 changes_few i (item ∷ items) [] xs fits fits' = absurd (let e = fits.one_each in omega arith)
 changes_few i (item ∷ items) (b ∷ bs) [] fits fits' = absurd (let e = fits'.one_each in omega arith)
@@ -164,14 +166,14 @@ changes_few i (item ∷ items) (b ∷ bs) (a ∷ xs) fits fits' =
 pub ruleset few_changes = (changes_few)
 
 same_ups : (i j : ℕ) (us : List Usage) (bs : List Bool)
-    → element_list_events (λ k u (p : Bool × Bool). up_event (at i k) u p.0 p.1) j us (zip bs bs) ≡ []
+    → element_list_events (λ k u (p : Bool × Bool). up_event (control_at i k) u p.0 p.1) j us (zip bs bs) ≡ []
 same_ups i j [] bs = refl
 same_ups i j (u ∷ us) [] = refl
 same_ups i j (u ∷ us) (true ∷ bs) = same_ups i (j + 1) us bs
 same_ups i j (u ∷ us) (false ∷ bs) = same_ups i (j + 1) us bs
 
 same_downs : (i j : ℕ) (us : List Usage) (bs : List Bool)
-    → element_list_events (λ k u (p : Bool × Bool). down_event (at i k) u p.0 p.1) j us (zip bs bs) ≡ []
+    → element_list_events (λ k u (p : Bool × Bool). down_event (control_at i k) u p.0 p.1) j us (zip bs bs) ≡ []
 same_downs i j [] bs = refl
 same_downs i j (u ∷ us) [] = refl
 same_downs i j (u ∷ us) (true ∷ bs) = same_downs i (j + 1) us bs

@@ -5,17 +5,17 @@ use Rattle.std.specs.Int.{bit_at}
 use Rattle.std.specs.List.{list_any, range_with_len}
 use Rattle.std.specs.Ordering.{int_eq}
 use Rattle.hid_fields.specs.Value.{value_of, pattern_for}
-use Rattle.hid_descriptor.specs.declared.collection.Collection.{Collection}
+use Rattle.hid_report_descriptor.specs.declared.collection.Collection.{Collection}
 use Rattle.hid_layout.specs.declared.control.ControlId.{ControlId}
 use Rattle.hid_layout.specs.declared.main_item.MainItem.{MainItem}
-use Rattle.hid_descriptor.specs.declared.shape.Shape.{Shape}
-use Rattle.hid_descriptor.specs.declared.shape.Shape.TheVariants.{Padding, Variable, Array}
-use Rattle.hid_descriptor.specs.declared.report.ReportKind.TheVariants.{Input, Output}
-use Rattle.hid_descriptor.specs.declared.usage.Usage.{Usage}
-use Rattle.hid_descriptor.specs.Items.{Spelled}
-use Rattle.hid_descriptor.specs.Usages.{Entry}
+use Rattle.hid_report_descriptor.specs.declared.shape.Shape.{Shape}
+use Rattle.hid_report_descriptor.specs.declared.shape.Shape.TheVariants.{Padding, Variable, Array}
+use Rattle.hid_report_descriptor.specs.declared.report.ReportKind.TheVariants.{Input, Output}
+use Rattle.hid_report_descriptor.specs.declared.usage.Usage.{Usage}
+use Rattle.hid_report_descriptor.specs.Items.{EncodedItem}
+use Rattle.hid_report_descriptor.specs.Usages.{Entry}
 use Rattle.hid_layout.specs.Layout.{Contents, layout_of}
-use Rattle.hid_descriptor.specs.Faults.{Accepts}
+use Rattle.hid_report_descriptor.specs.Faults.{Accepts}
 use Rattle.hid_layout.specs.Controls.{items_of}
 use Rattle.hid_layout.specs.Finding.{control_usage}
 use Rattle.hid_usages.specs.declared.boot.KeyboardReport.{KeyboardReport}
@@ -24,7 +24,7 @@ use Rattle.hid_snapshots.specs.declared.control_state.ControlState.{ControlState
 use Rattle.hid_snapshots.specs.declared.control_state.ControlState.TheVariants.{Switches}
 use Rattle.hid_snapshots.specs.declared.fault.ReportFault.{ReportFault}
 use Rattle.hid_snapshots.specs.declared.fault.ReportFault.TheVariants.{Short}
-use Rattle.hid_snapshots.specs.Events.{at, switch_events, motion_event}
+use Rattle.hid_snapshots.specs.Events.{control_at, switch_events, motion_event}
 use Rattle.hid_usages.specs.Reading.{report_named}
 use Rattle.hid_snapshots.specs.Samples.{usage}
 use Rattle.hid_snapshots.specs.Snapshots.{is_pressed, state_at}
@@ -55,28 +55,28 @@ abbrev pub is_modifier : ℕ → Bool
 is_modifier id = nat_le 0xE0 id && nat_le id 0xE7
 
 -- 07:id is a key of the keyboard's array
-abbrev pub is_key : ℕ → Bool
-is_key id = nat_le 0x04 id && nat_le id 0x65
+abbrev pub is_boot_key : ℕ → Bool
+is_boot_key id = nat_le 0x04 id && nat_le id 0x65
 
 -- The report says that 07:id is held: its modifier's bit is set, or it is named and no key is 01. Example: 02 00 01 01
 -- 01 01 01 01 holds E1 alone
-abbrev pub is_held : KeyboardReport → ℕ → Bool
-is_held report id =
+abbrev pub is_boot_key_held : KeyboardReport → ℕ → Bool
+is_boot_key_held report id =
     if is_modifier id then bit_at report.modifiers (id - 0xE0) == 1
-    else is_key id && (not (is_rolled report) && names id report)
+    else is_boot_key id && (not (is_rolled report) && names id report)
 
 -- Byte 0 has a bit for each of the buttons 09:01 to 09:03, bytes 1 and 2 are motions from -127 to 127 (B.2); -128 is
 -- out of that range and moves nothing (our choice).
-abbrev pub motion_in : ℕ → ℤ
-motion_in byte = if byte == 0x80 then pos 0 else value_of byte 8 true
+abbrev pub boot_motion : ℕ → ℤ
+boot_motion byte = if byte == 0x80 then pos 0 else value_of byte 8 true
 
 -- the low three bits of byte 0 are the buttons, bytes 1 and 2 the motions x and y
 abbrev pub mouse_of : List ℕ → MouseReport
 mouse_of bytes =
     record {
       buttons = slice_index bytes 0 % 8;
-      x = motion_in (slice_index bytes 1);
-      y = motion_in (slice_index bytes 2);
+      x = boot_motion (slice_index bytes 1);
+      y = boot_motion (slice_index bytes 2);
     }
 
 -- The mouse's report in these bytes: buttons in the low three bits of byte 0, motions in bytes 1 and 2; Short if they
@@ -170,14 +170,14 @@ mouse_layout = record {
 
 -- a descriptor is accepted, and this is its only layout
 pub record GivesOnly (descriptor : List ℕ) (layout : Contents) : Type 0 where
-  pub accepted : (before : List Spelled) × Accepts descriptor before
-  pub only : (before : List Spelled) → Accepts descriptor before → layout_of before ≡ layout
+  pub accepted : (before : List EncodedItem) × Accepts descriptor before
+  pub only : (before : List EncodedItem) → Accepts descriptor before → layout_of before ≡ layout
 
 -- The control of 07:id is held in the view that is read of these bytes exactly if the report says so.
-abbrev pub IsTold : List ControlState → KeyboardReport → ℕ → Type 0
-IsTold view report id =
+abbrev pub IsReportedKey : List ControlState → KeyboardReport → ℕ → Type 0
+IsReportedKey view report id =
     (c : ControlId) → control_usage (items_of keyboard_layout) c ≡ Some (usage 7 id)
-    → is_pressed (state_at view c.item) c.index ≡ is_held report id
+    → is_pressed (state_at view c.item) c.index ≡ is_boot_key_held report id
 
 -- some control has the usage
 abbrev pub IsControl : ℕ → Type 0
@@ -185,14 +185,14 @@ IsControl id = (c : ControlId) × (control_usage (items_of keyboard_layout) c �
 
 -- The bytes read along the boot keyboard's layout in a view: they are of its Input report, and each modifier is held
 -- where the report says so, and so is each key where it isn't rolled over.
-pub record TellsKeys (bytes : List ℕ) (view : List ControlState) : Type 0 where
+pub record ReportsKeys (bytes : List ℕ) (view : List ControlState) : Type 0 where
   pub named : report_named keyboard_layout bytes ≡ Ok 0
   pub modifier_there : (id : ℕ) → 0xE0 ≤ id → id ≤ 0xE7 → IsControl id
   pub modifiers : (id : ℕ) → 0xE0 ≤ id → id ≤ 0xE7
-      → IsTold (read_view keyboard_layout 0 bytes view) (keyboard_of bytes) id
+      → IsReportedKey (read_view keyboard_layout 0 bytes view) (keyboard_of bytes) id
   pub key_there : (id : ℕ) → 0x04 ≤ id → id ≤ 0x65 → IsControl id
   pub keys : (id : ℕ) → 0x04 ≤ id → id ≤ 0x65 → is_rolled (keyboard_of bytes) ≡ false
-      → IsTold (read_view keyboard_layout 0 bytes view) (keyboard_of bytes) id
+      → IsReportedKey (read_view keyboard_layout 0 bytes view) (keyboard_of bytes) id
 
 -- which of the three buttons the bytes hold
 abbrev pub buttons_in : List ℕ → List Bool
@@ -201,11 +201,11 @@ buttons_in bytes = map (λ n. bit_at (mouse_of bytes).buttons n == 1) (range_wit
 -- The bytes read along the boot mouse's layout in a view: they are of its Input report, the buttons that are held are
 -- those of the report, and the events are what changes at the buttons, and then the motions x and y where they aren't
 -- 0.
-pub record TellsButtons (bytes : List ℕ) (view : List ControlState) : Type 0 where
+pub record ReportsButtons (bytes : List ℕ) (view : List ControlState) : Type 0 where
   pub named : report_named mouse_layout bytes ≡ Ok 0
   pub held : state_at (read_view mouse_layout 0 bytes view) 0 ≡ Switches (buttons_in bytes)
   pub motions : (before : List Bool) → state_at view 0 ≡ Switches before
       → read_events mouse_layout 0 bytes view
       ≡ switch_events 0 (map (usage 9) (range_with_len 1 3)) before (buttons_in bytes)
-      ++ (motion_event (at 2 0) (usage 0x01 0x30) (mouse_of bytes).x
-      ++ motion_event (at 2 1) (usage 0x01 0x31) (mouse_of bytes).y)
+      ++ (motion_event (control_at 2 0) (usage 0x01 0x30) (mouse_of bytes).x
+      ++ motion_event (control_at 2 1) (usage 0x01 0x31) (mouse_of bytes).y)

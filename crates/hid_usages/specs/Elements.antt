@@ -1,8 +1,8 @@
--- The elements of a variable item, read one by one: what each becomes by its number, and what they tell (our choice; HID
+-- The elements of a variable item, read one by one: what each becomes by its number, and their events (our choice; HID
 -- 1.11, 5.6 and 8).
 use Rattle.std.specs.Prelude.{◌≡◌, ℕ, Bool, List, map, slice_get, slice_set, Option, Some, ℤ}
 use Rattle.std.specs.List.{zip}
-use Rattle.hid_descriptor.specs.declared.usage.Usage.{Usage}
+use Rattle.hid_report_descriptor.specs.declared.usage.Usage.{Usage}
 use Rattle.hid_layout.specs.Layout.{Contents}
 use Rattle.hid_snapshots.specs.declared.event.Event.{Event}
 use Rattle.hid_snapshots.specs.Events.{usages_at, switch_events, value_events}
@@ -21,14 +21,14 @@ value_by_number carriable = λ p. read_value carriable.has_null carriable.bounds
 abbrev pub read_all : {A : Type 0} → (A × ℤ → A) → List A → List ℤ → List A
 read_all read start numbers = map read (zip start numbers)
 
--- what the switches of an item tell once their numbers are read
-abbrev pub switches_told : Contents → ℕ → List Bool → List ℤ → List Event
-switches_told layout item held numbers =
+-- the events of an item's switches once their numbers are read
+abbrev pub switch_events_read : Contents → ℕ → List Bool → List ℤ → List Event
+switch_events_read layout item held numbers =
     switch_events item (usages_at layout item) held (read_all switch_by_number held numbers)
 
--- what the values of an item tell once their numbers are read
-abbrev pub values_told : Contents → ℕ → Carriable → List (Option ℤ) → List ℤ → List Event
-values_told layout item carriable held numbers =
+-- the events of an item's values once their numbers are read
+abbrev pub value_events_read : Contents → ℕ → Carriable → List (Option ℤ) → List ℤ → List Event
+value_events_read layout item carriable held numbers =
     value_events item (usages_at layout item) held (read_all (value_by_number carriable) held numbers)
 
 -- the usage of the element at an index, and what is kept of it, have a property

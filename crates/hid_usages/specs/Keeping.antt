@@ -15,8 +15,8 @@ abbrev pub FindsKept : {A : Type 0} → (A × ℤ → A) → List A → List ℤ
 FindsKept read held numbers from end None = AreKept read held numbers from end
 FindsKept read held numbers from end (Some place) = (from ≤ place) × (place < end) × AreKept read held numbers from place
 
--- a number, where there is one, names no key that none of these names
-abbrev pub NamesNoneAnew : MainItem → List ℤ → List Key → Option ℤ → Type 0
-NamesNoneAnew item numbers keys None = Unit {0}
-NamesNoneAnew item numbers keys (Some v) =
+-- the number, if there is one, names no key beyond those that the numbers before it name
+abbrev pub NamesNoNewKey : MainItem → List ℤ → List Key → Option ℤ → Type 0
+NamesNoNewKey item numbers keys None = Unit {0}
+NamesNoNewKey item numbers keys (Some v) =
     named_keys_from item numbers 0 keys ≡ named_keys_from item (numbers ++ v ∷ []) 0 keys

@@ -1,8 +1,8 @@
 -- The keys that the elements of an array name, as they are read one by one (HID 1.11, 6.2.2.5 and appendix C).
 use Rattle.std.specs.Prelude.{◌≡◌, ℕ, ◌*◌, ◌≤◌, Bool, true, false, not, List, [], ◌∷◌, ◌++◌, length, replicate, take, Option, ℤ}
 use Rattle.std.specs.List.{list_any}
-use Rattle.hid_descriptor.specs.declared.usage.Usage.{Usage}
-use Rattle.hid_descriptor.specs.Usages.{usage_list}
+use Rattle.hid_report_descriptor.specs.declared.usage.Usage.{Usage}
+use Rattle.hid_report_descriptor.specs.Usages.{usage_list}
 use Rattle.hid_layout.specs.Controls.{Key, array_keys}
 use Rattle.hid_layout.specs.Layout.{Contents}
 use Rattle.hid_snapshots.specs.declared.control_state.ControlState.{ControlState}
@@ -10,8 +10,8 @@ use Rattle.hid_snapshots.specs.declared.control_state.ControlState.TheVariants.{
 use Rattle.hid_snapshots.specs.declared.event.Event.{Event}
 use Rattle.hid_snapshots.specs.Events.{ups, downs}
 use Rattle.hid_snapshots.specs.Words.{is_on}
-use Rattle.hid_usages.specs.declared.read.KeyArray.{KeyArray}
-use Rattle.hid_usages.specs.Keeping.{NamesNoneAnew}
+use Rattle.hid_usages.specs.declared.key_array.KeyArray.{KeyArray}
+use Rattle.hid_usages.specs.Keeping.{NamesNoNewKey}
 use Rattle.hid_usages.specs.Reading.{FitsFields, keys_at, named_keys_from, names_rollover, read_keys}
 
 -- the usage list of an array
@@ -23,28 +23,28 @@ abbrev pub keys_of_array : KeyArray → List Key
 keys_of_array array = array_keys array.item.now (usages_of_array array)
 
 -- an element of the array names ErrorRollOver by this number
-abbrev pub tells_rollover : KeyArray → ℤ → Bool
-tells_rollover array = names_rollover array.item.now (usages_of_array array)
+abbrev pub is_rollover_number : KeyArray → ℤ → Bool
+is_rollover_number array = names_rollover array.item.now (usages_of_array array)
 
 -- the count of an array's usages, which are at most 64 ranges of 65,536
 abbrev pub CountsUsages : KeyArray → ℕ → Type 0
 CountsUsages array count = (count ≡ length (usages_of_array array)) × (count ≤ 64 * 65536)
 
--- the flags have one for each key of an array
+-- flags have one for each key of an array, and may have more
 abbrev pub HasFlags : KeyArray → List Bool → Type 0
 HasFlags array flags = length (keys_of_array array) ≤ length flags
 
--- an element of the array can have this number, and there is a flag for each key
+-- an element of the array can have this number, and there is a flag for each key, and there may be more
 pub record CanAdd (array : KeyArray) (number : ℤ) (flags : List Bool) : Type 0 where
   pub fits : FitsFields array.item.now number
-  pub after : HasFlags array flags
+  pub room : HasFlags array flags
 
 -- the first flags, one for each key of an array, are set exactly for the keys that these numbers name
 abbrev pub AreKeysNamed : KeyArray → List ℤ → List Bool → Type 0
 AreKeysNamed array numbers flags =
     take (length (keys_of_array array)) flags ≡ named_keys_from array.item.now numbers 0 (keys_of_array array)
 
--- flags for the keys that some numbers name become those for the keys that they and one more name
+-- the flags of some numbers' keys become those of these numbers and one more
 abbrev pub AddsNumber : KeyArray → List ℤ → ℤ → List Bool → List Bool → Type 0
 AddsNumber array numbers number old new = AreKeysNamed array numbers old → AreKeysNamed array (numbers ++ number ∷ []) new
 
@@ -52,21 +52,22 @@ AddsNumber array numbers number old new = AreKeysNamed array numbers old → Are
 abbrev pub AddsKey : KeyArray → ℤ → List Bool → List Bool → Type 0
 AddsKey array number old new = (numbers : List ℤ) → AddsNumber array numbers number old new
 
--- the key that a number names is added to the keys of numbers that name the key of the number before it
+-- adds the key of a number, where the key of the number before it is set already
 abbrev pub AddsNextKey : KeyArray → Option ℤ → ℤ → List Bool → List Bool → Type 0
 AddsNextKey array before number old new =
-    (numbers : List ℤ) → NamesNoneAnew array.item.now numbers (keys_of_array array) before → AddsNumber array numbers number old new
+    (numbers : List ℤ) → NamesNoNewKey array.item.now numbers (keys_of_array array) before
+    → AddsNumber array numbers number old new
 
--- flags after those of an array's keys stay, and there are as many as before
-pub record StaysBehind (array : KeyArray) (old new : List Bool) : Type 0 where
-  pub behind : (i : ℕ) → length (keys_of_array array) ≤ i → is_on new i ≡ is_on old i
+-- flags past the array's keys stay, and the list keeps its length
+pub record KeepsOtherFlags (array : KeyArray) (old new : List Bool) : Type 0 where
+  pub others : (i : ℕ) → length (keys_of_array array) ≤ i → is_on new i ≡ is_on old i
   pub len : length new ≡ length old
 
 -- no flag from a place on is set
-abbrev pub AreOffFrom : ℕ → List Bool → Type 0
-AreOffFrom n flags = (i : ℕ) → n ≤ i → is_on flags i ≡ false
+abbrev pub NoneSetFrom : ℕ → List Bool → Type 0
+NoneSetFrom n flags = (i : ℕ) → n ≤ i → is_on flags i ≡ false
 
--- what the keys of an array tell, by the flags before and those after, which may be more: each release, and then each press
+-- the events of an array's keys, by the flags before and those after, which may be more: each release, and then each press
 abbrev pub flag_events : ℕ → List Usage → List Bool → List Bool → List Event
 flag_events i us before after = ups i us before after ++ downs i us before after
 
@@ -74,15 +75,15 @@ flag_events i us before after = ups i us before after ++ downs i us before after
 abbrev pub keys_by_array : Contents → ℕ → KeyArray → List Bool → List ℤ → ControlState
 keys_by_array layout i array held vs = read_keys array.item.now (usages_of_array array) (keys_at layout i) (Switches held) vs
 
--- the flags have one for each key of an array, and none is set
+-- flags have one for each key of an array, and may have more, and none is set
 pub record AreClear (array : KeyArray) (flags : List Bool) : Type 0 where
-  pub after : HasFlags array flags
+  pub room : HasFlags array flags
   pub none : flags ≡ replicate (length flags) false
 
 -- The numbers of an array's elements are read into flags: false where one names ErrorRollOver, else the keys that they
 -- name are set. No flag after those of the keys is.
 pub record ReadsNumbers (array : KeyArray) (numbers : List ℤ) (result : Bool) (old new : List Bool) : Type 0 where
-  pub rolls : result ≡ not (list_any (tells_rollover array) numbers)
+  pub rolls : result ≡ not (list_any (is_rollover_number array) numbers)
   pub keys : result ≡ true → AreKeysNamed array numbers new
-  pub behind : AreOffFrom (length (keys_of_array array)) new
+  pub others : NoneSetFrom (length (keys_of_array array)) new
   pub len : length new ≡ length old

@@ -3,8 +3,8 @@ pub use Rattle.hid_snapshots.specs.Events
 pub use Rattle.hid_snapshots.specs.Views
 pub mod Reading
 pub mod Taking
-pub mod Law
-pub mod Crossing
+pub mod NumbersReadBack
+pub mod PartsReadBack
 pub mod OneReport
 pub mod Bits
 pub mod Dropping

@@ -9,7 +9,7 @@ use Rattle.hid_snapshots.specs.declared.event.Event.{Event}
 use Rattle.hid_usages.specs.Taking.{TakesReport}
 
 -- the layout of a device's reports, and a host's view of its controls
-pub record Seen : Type 0 where
+pub record ReaderState : Type 0 where
   pub layout : Contents
   pub view : List ControlState
 

@@ -4,26 +4,26 @@ use Rattle.std.specs.Prelude.{ℕ, ◌+◌, ◌*◌, ◌<◌, ◌≤◌, ◌==�
 use Rattle.std.specs.Ordering.{int_eq}
 use Rattle.std.specs.List.{list_any, zip}
 use Rattle.std.specs.Option.{option_and_then}
-use Rattle.hid_descriptor.specs.declared.limits.TheConstants.{MAX_REPORT_BYTES}
+use Rattle.hid_report_descriptor.specs.declared.limits.TheConstants.{MAX_REPORT_BYTES}
 use Rattle.hid_fields.specs.Value.{is_negative, FitsField}
 use Rattle.hid_layout.specs.declared.main_item.MainItem.{MainItem}
 use Rattle.hid_layout.specs.declared.main_item.Element.{Element}
-use Rattle.hid_descriptor.specs.declared.report.Report.{Report}
-use Rattle.hid_descriptor.specs.declared.report.ReportKind.TheVariants.{Input}
-use Rattle.hid_descriptor.specs.Fields.{same_kind}
+use Rattle.hid_report_descriptor.specs.declared.report.Report.{Report}
+use Rattle.hid_report_descriptor.specs.declared.report.ReportKind.TheVariants.{Input}
+use Rattle.hid_report_descriptor.specs.Fields.{same_kind}
 use Rattle.hid_layout.specs.Layout.{Contents}
 use Rattle.hid_layout.specs.Reports.{first_bit, report_bytes}
 use Rattle.hid_snapshots.specs.Numbers.{number_at}
 use Rattle.hid_snapshots.specs.declared.fault.ReportFault.{ReportFault}
 use Rattle.hid_snapshots.specs.declared.fault.ReportFault.TheVariants.{Short, UnknownReport}
-use Rattle.hid_descriptor.specs.declared.usage.Usage.{Usage}
+use Rattle.hid_report_descriptor.specs.declared.usage.Usage.{Usage}
 use Rattle.hid_layout.specs.declared.control.ControlKind.{ControlKind}
 use Rattle.hid_layout.specs.declared.control.ControlKind.TheVariants.{Switch, Value, NullValue, Relative}
 use Rattle.hid_layout.specs.Controls.{Form, NoControls, Elements, Keys, Key}
-use Rattle.hid_descriptor.specs.Usages.{is_rollover}
+use Rattle.hid_report_descriptor.specs.Usages.{is_rollover}
 pub use Rattle.hid_layout.specs.Controls.{array_keys}
 pub use Rattle.hid_snapshots.specs.ControlStates.{is_in, has_null}
-pub use Rattle.hid_layout.specs.Sent.{at_zero, place_named}
+pub use Rattle.hid_layout.specs.Codes.{at_zero, place_named}
 pub use Rattle.hid_snapshots.specs.Encoding.{is_data_in, item_numbers}
 pub use Rattle.hid_snapshots.specs.Keys.{keys_of, keys_at}
 use Rattle.hid_snapshots.specs.declared.control_state.ControlState.{ControlState}
@@ -135,7 +135,7 @@ report_begun layout bytes =
     if layout.numbered then option_and_then (λ id. position (is_input_with id) layout.reports) (first_byte bytes)
     else position (is_input_with 0) layout.reports
 
--- In bytes, the Input report that begins so; where there is none, the longest that there may be (our choice).
+-- The bytes of the Input report that begins so; where there is none, those of the longest possible report (our choice).
 abbrev pub bytes_awaited : Contents → List ℕ → ℕ
 bytes_awaited layout bytes =
     elim (report_begun layout bytes) [ None ↦ MAX_REPORT_BYTES | Some r ↦ report_bytes layout r ]

@@ -11,7 +11,7 @@ use Rattle.hid_usages.specs.Taking.{read_view, read_events}
 
 -- the layout of a device's reports, a host's view of its controls, and the bytes that came of a report that isn't whole
 -- yet
-pub record Receiving : Type 0 where
+pub record ReceiverState : Type 0 where
   pub layout : Contents
   pub view : List ControlState
   pub collected : List ℕ
@@ -21,12 +21,12 @@ abbrev pub is_whole : Contents → List ℕ → ℕ → Bool
 is_whole layout bytes last = nat_lt last 64 || nat_le (bytes_awaited layout bytes) (length bytes)
 
 -- what came of a report, with the data of one more packet
-abbrev pub bytes_with : Receiving → List ℕ → List ℕ
+abbrev pub bytes_with : ReceiverState → List ℕ → List ℕ
 bytes_with receiving packet = receiving.collected ++ packet
 
 -- whether a report ends with this packet: it has its last byte, or 256 bytes if its first byte names none, or the packet
 -- has under 64 bytes. Example: of 100 bytes the second packet, of 36, ends it
-abbrev pub ends_with : Receiving → List ℕ → Bool
+abbrev pub ends_with : ReceiverState → List ℕ → Bool
 ends_with receiving packet = is_whole receiving.layout (bytes_with receiving packet) (length packet)
 
 -- a report that ended is read, or it is refused
@@ -35,7 +35,7 @@ whole_outcome (Ok r) = Ok Whole
 whole_outcome (Err fault) = Err fault
 
 -- what a packet gives: a part of a report; or the report that ends with it is read, or refused
-abbrev pub packet_outcome : Receiving → List ℕ → Result Arrived ReportFault
+abbrev pub packet_outcome : ReceiverState → List ℕ → Result Arrived ReportFault
 packet_outcome receiving packet =
     if ends_with receiving packet then whole_outcome (report_named receiving.layout (bytes_with receiving packet))
     else Ok Part
@@ -46,7 +46,7 @@ view_after_report layout bytes view =
     elim (report_named layout bytes) [ Ok r ↦ read_view layout r bytes view | Err fault ↦ view ]
 
 -- a packet before the last of its report leaves the view
-abbrev pub view_with : Receiving → List ℕ → List ControlState
+abbrev pub view_with : ReceiverState → List ℕ → List ControlState
 view_with receiving packet =
     if ends_with receiving packet then view_after_report receiving.layout
     (bytes_with receiving packet) receiving.view else receiving.view
@@ -57,22 +57,22 @@ events_of_report layout bytes view =
     elim (report_named layout bytes) [ Ok r ↦ read_events layout r bytes view | Err fault ↦ [] ]
 
 -- a packet before the last of its report gives no events
-abbrev pub events_with : Receiving → List ℕ → List Event
+abbrev pub events_with : ReceiverState → List ℕ → List Event
 events_with receiving packet =
     if ends_with receiving packet then events_of_report receiving.layout
     (bytes_with receiving packet) receiving.view else []
 
 -- what came of a report is kept until it ends
-abbrev pub collected_with : Receiving → List ℕ → List ℕ
+abbrev pub collected_with : ReceiverState → List ℕ → List ℕ
 collected_with receiving packet = if ends_with receiving packet then [] else bytes_with receiving packet
 
--- what is known after a packet: the view that it leaves, and what is kept of its report
-abbrev pub after_packet : Receiving → List ℕ → Receiving
+-- the receiver after a packet: its view, and the bytes that it keeps of a report that isn't whole
+abbrev pub after_packet : ReceiverState → List ℕ → ReceiverState
 after_packet receiving packet = record receiving {
   view = view_with receiving packet;
   collected = collected_with receiving packet;
 }
 
--- what is known with nothing kept of a report
-abbrev pub without_collected : Receiving → Receiving
+-- the receiver without the bytes of a report that isn't whole
+abbrev pub without_collected : ReceiverState → ReceiverState
 without_collected receiving = record receiving { collected = [] }

@@ -8,7 +8,7 @@ ghost use Rattle.hid_usages.specs.Appending.{HasSpace, Appends};
 ghost use Rattle.hid_snapshots.specs.Events.{usages_at, switch_events};
 ghost use Rattle.hid_usages.specs.Bits.{are_bits};
 
-use crate::differences::push_switch_event;
+use crate::view_changes::push_switch_event;
 use hid_layout::{Layout, MainItem, Shape};
 use hid_snapshots::{Event, Flags};
 
@@ -23,6 +23,7 @@ pub(crate) fn are_bits(item: &MainItem) -> bool
     }
 }
 
+/// Whether the bit at an index of the pattern is set.
 fn is_bit(pattern: u32, index: usize) -> bool
     requires { index < 32 }
     ensures { result ≡ (bit_at pattern index == 1) }
@@ -30,7 +31,7 @@ fn is_bit(pattern: u32, index: usize) -> bool
     pattern >> index & 1 == 1
 }
 
-/// Tells the switches that aren't held as their bits have them, by rising index.
+/// Appends an event for each switch that isn't held as its bit has it, by rising index.
 fn push_bits(layout: &Layout, item: usize, pattern: u32, held: &Flags, out: &mut Vec<Event>)
     requires held { length held.now ≡ length (usages_at layout.now item) }
     requires few { length held.now ≤ 32 }
@@ -48,7 +49,7 @@ fn push_bits(layout: &Layout, item: usize, pattern: u32, held: &Flags, out: &mut
     }
 }
 
-/// Switches, as the pattern of their bits leaves them, and what they tell.
+/// Sets switches by the pattern of their bits, and appends their events.
 pub(crate) fn take_bits(
     layout: &Layout,
     item: usize,
@@ -62,7 +63,7 @@ pub(crate) fn take_bits(
     requires room { HasSpace out.old (switch_events item (usages_at layout.now item) held.old
         (bits_in (length held.old) pattern)) }
     ensures held { held.new ≡ bits_in (length held.old) pattern }
-    ensures told { Appends out.old (switch_events item (usages_at layout.now item) held.old
+    ensures appends { Appends out.old (switch_events item (usages_at layout.now item) held.old
         (bits_in (length held.old) pattern)) out.new }
 {
     push_bits(layout, item, pattern, held, out);

@@ -3,7 +3,7 @@
 ghost use Rattle.std.specs.Prelude.{◌≡◌, ◌≤◌, ℕ, List, length};
 ghost use Rattle.hid_fields.specs.Value.{pattern_for};
 ghost use Rattle.hid_layout.specs.Controls.{items_of};
-ghost use Rattle.hid_usages.specs.Boot.{keyboard_in, keyboard_bytes, is_rolled, is_held, mouse_in, mouse_bytes, motion_in, keyboard_layout, mouse_layout, GivesOnly, TellsKeys, TellsButtons, KeyboardReadsBack, MouseReadsBack};
+ghost use Rattle.hid_usages.specs.Boot.{keyboard_in, keyboard_bytes, is_rolled, is_boot_key_held, mouse_in, mouse_bytes, boot_motion, keyboard_layout, mouse_layout, GivesOnly, ReportsKeys, ReportsButtons, KeyboardReadsBack, MouseReadsBack};
 ghost use Rattle.hid_snapshots.specs.ControlStates.{FitsView};
 ghost use Rattle.hid_snapshots.specs.Encoding.{AreBytes};
 ghost use Rattle.hid_snapshots.specs.declared.control_state.ControlState.{ControlState};
@@ -54,10 +54,10 @@ impl KeyboardReport {
         self.keys.contains(&1)
     }
 
-    /// Whether 07:id is held, of the modifiers E0 to E7 and the keys 04 to 65 (in hex); false for another ID. No key is
-    /// told where the report is rolled over.
+    /// Whether 07:id is held, of the modifiers E0 to E7 and the keys 04 to 65 (in hex); false for another ID. After a
+    /// rollover the report has no key.
     pub fn holds(&self, id: u8) -> bool
-        ensures { result ≡ is_held self.now id }
+        ensures { result ≡ is_boot_key_held self.now id }
     {
         match id {
             0xE0..=0xE7 => self.modifiers >> (id - 0xE0) & 1 == 1,
@@ -108,7 +108,7 @@ impl MouseReport {
 
 /// The motion that a byte stands for: two's complement, and 0 where it is out of the range.
 fn motion_in(byte: u8) -> i8
-    ensures { result ≡ motion_in byte }
+    ensures { result ≡ boot_motion byte }
 {
     if byte == 0x80 {
         0
@@ -117,27 +117,27 @@ fn motion_in(byte: u8) -> i8
     }
 }
 
+/// The byte of a motion, in two's complement.
 fn motion_byte(motion: i8) -> u8
     ensures { result ≡ pattern_for motion 8 }
 {
     to_pattern(i64::from(motion), 8) as u8
 }
 
-/// What the reports tell is what a host reads along the layouts of the two descriptors, and a report that is written is
-/// read again.
+/// These reports mean what a host reads by the layouts of the two descriptors, and a report that is written is read back.
 pub fn laws()
     // The two descriptors are accepted, with these layouts and no others.
     ensures keyboard { GivesOnly KEYBOARD keyboard_layout }
     ensures mouse { GivesOnly MOUSE mouse_layout }
 
-    // What is told of any bytes, whatever was held before.
+    // The events of any bytes, whatever was held before.
     ensures keys { (bytes : List ℕ) (view : List ControlState) → AreBytes bytes → 8 ≤ length bytes
         → FitsView (items_of keyboard_layout) view
-        → TellsKeys bytes view }
+        → ReportsKeys bytes view }
     ensures buttons { (bytes : List ℕ) (view : List ControlState) → AreBytes bytes
         → 3 ≤ length bytes
         → FitsView (items_of mouse_layout) view
-        → TellsButtons bytes view }
+        → ReportsButtons bytes view }
 
     // What is written is read again, save a motion of -128.
     ensures keyboard_back { KeyboardReadsBack }

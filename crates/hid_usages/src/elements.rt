@@ -1,16 +1,16 @@
-//! The elements of a variable item, as the numbers of a report leave them, one by one, and what they tell.
+//! The elements of a variable item, which the numbers of a report set one by one, and their events.
 
 ghost use Rattle.std.specs.Prelude.{◌≡◌, ◌+◌, ◌*◌, ◌^◌, ◌<◌, ◌≤◌, min, List, ℤ, length, IfSome};
 ghost use Rattle.std.specs.Bool.{OnTrue};
-ghost use Rattle.hid_snapshots.specs.Events.{at, usages_at, switch_event, value_event};
+ghost use Rattle.hid_snapshots.specs.Events.{control_at, usages_at, switch_event, value_event};
 ghost use Rattle.hid_snapshots.specs.Numbers.{IsWordOf};
 ghost use Rattle.hid_usages.specs.Appending.{HasSpace, Appends};
-ghost use Rattle.hid_usages.specs.Elements.{switch_by_number, value_by_number, read_all, switches_told, values_told, OfElement, BecomesAt};
+ghost use Rattle.hid_usages.specs.Elements.{switch_by_number, value_by_number, read_all, switch_events_read, value_events_read, OfElement, BecomesAt};
 ghost use Rattle.hid_usages.specs.Keeping.{FindsKept};
 ghost use Rattle.hid_usages.specs.Reading.{read_switch, read_value};
 
-use crate::bounds::Bounds;
-use crate::differences::{push_switch_event, push_value_event};
+use crate::value_range::Bounds;
+use crate::view_changes::{push_switch_event, push_value_event};
 use hid_fields::FieldCodec;
 use hid_layout::Layout;
 use hid_snapshots::{Event, FieldRun, Flags, Values};
@@ -92,7 +92,7 @@ fn next_switch<C: FieldCodec>(held: &Flags, numbers: &FieldRun<'_>, from: usize)
     requires numbers { length numbers.now ≡ length held.now }
     ensures found { FindsKept switch_by_number held.now numbers.now from
         (length held.now) result }
-    ensures behind { IfSome result (λ place. place + 1 < 2 ^ 64) }
+    ensures bound { IfSome result (λ place. place + 1 < 2 ^ 64) }
 {
     for k in from / 64..held.len().div_ceil(64) {
         match next_of_64::<C>(held, numbers, k, from.max(64 * k)) {
@@ -103,7 +103,7 @@ fn next_switch<C: FieldCodec>(held: &Flags, numbers: &FieldRun<'_>, from: usize)
     None
 }
 
-/// The switch at an index, as an element's number leaves it, and what it tells.
+/// Sets the switch at an index by an element's number, and appends its event, if it has one.
 fn take_switch(
     layout: &Layout,
     item: usize,
@@ -115,10 +115,10 @@ fn take_switch(
     requires index { index < length (usages_at layout.now item) }
     requires held { length held.old ≡ length (usages_at layout.now item) }
     requires room { OfElement layout.now item index held.old (λ usage before. HasSpace out.old
-        (switch_event (at item index) usage before (read_switch before number.now))) }
+        (switch_event (control_at item index) usage before (read_switch before number.now))) }
     ensures held { BecomesAt index (λ before. read_switch before number.now) held.old held.new }
-    ensures told { OfElement layout.now item index held.old (λ usage before. Appends out.old
-        (switch_event (at item index) usage before (read_switch before number.now)) out.new) }
+    ensures appends { OfElement layout.now item index held.old (λ usage before. Appends out.old
+        (switch_event (control_at item index) usage before (read_switch before number.now)) out.new) }
 {
     let before = held.get(index);
     let after = read_switch(before, number);
@@ -126,7 +126,7 @@ fn take_switch(
     held.set(index, after);
 }
 
-/// Switches, as these numbers leave them, and what they tell.
+/// Sets switches by these numbers, and appends their events.
 pub(crate) fn take_switches<C: FieldCodec>(
     layout: &Layout,
     item: usize,
@@ -136,10 +136,11 @@ pub(crate) fn take_switches<C: FieldCodec>(
 )
     requires numbers { length numbers.now ≡ length (usages_at layout.now item) }
     requires held { length held.old ≡ length (usages_at layout.now item) }
-    requires room { HasSpace out.old (switches_told layout.now item held.old numbers.now) }
+    requires room { HasSpace out.old (switch_events_read layout.now item held.old numbers.now) }
     ensures held { held.new ≡ read_all switch_by_number held.old numbers.now }
     ensures len { length held.new ≡ length held.old }
-    ensures told { Appends out.old (switches_told layout.now item held.old numbers.now) out.new }
+    ensures appends { Appends out.old
+        (switch_events_read layout.now item held.old numbers.now) out.new }
 {
     let mut from = 0;
     while let Some(index) = next_switch::<C>(held, numbers, from) {
@@ -193,7 +194,7 @@ fn next_value<C: FieldCodec>(
     requires numbers { length numbers.now ≡ length held.now }
     ensures found { FindsKept (value_by_number carriable.now) held.now numbers.now from
         (length held.now) result }
-    ensures behind { IfSome result (λ place. place + 1 < 2 ^ 64) }
+    ensures bound { IfSome result (λ place. place + 1 < 2 ^ 64) }
 {
     let carriable = *carriable;
     for index in from..held.len() {
@@ -205,7 +206,7 @@ fn next_value<C: FieldCodec>(
     None
 }
 
-/// The value at an index, as an element's number leaves it, and what it tells.
+/// Sets the value at an index by an element's number, and appends its event, if it has one.
 fn take_value(
     layout: &Layout,
     item: usize,
@@ -218,12 +219,12 @@ fn take_value(
     requires index { index < length (usages_at layout.now item) }
     requires held { length held.old ≡ length (usages_at layout.now item) }
     requires room { OfElement layout.now item index held.old (λ usage before. HasSpace out.old
-        (value_event (at item index) usage before
+        (value_event (control_at item index) usage before
         (value_by_number carriable.now (before, number.now)))) }
     ensures held { BecomesAt index (λ before. value_by_number carriable.now (before, number.now))
         held.old held.new }
-    ensures told { OfElement layout.now item index held.old (λ usage before. Appends out.old
-        (value_event (at item index) usage before
+    ensures appends { OfElement layout.now item index held.old (λ usage before. Appends out.old
+        (value_event (control_at item index) usage before
         (value_by_number carriable.now (before, number.now))) out.new) }
 {
     let before = held.get(index);
@@ -232,7 +233,7 @@ fn take_value(
     held.set(index, after);
 }
 
-/// Values, as these numbers leave them, and what they tell. Those of a byte each are read by a loop of their own.
+/// Sets values by these numbers, and appends their events. Values of a byte each are read by a loop of their own.
 pub(crate) fn take_values<C: FieldCodec>(
     layout: &Layout,
     item: usize,
@@ -244,11 +245,11 @@ pub(crate) fn take_values<C: FieldCodec>(
     requires numbers { length numbers.now ≡ length (usages_at layout.now item) }
     requires held { length held.old ≡ length (usages_at layout.now item) }
     requires room { HasSpace out.old
-        (values_told layout.now item carriable.now held.old numbers.now) }
+        (value_events_read layout.now item carriable.now held.old numbers.now) }
     ensures held { held.new ≡ read_all (value_by_number carriable.now) held.old numbers.now }
     ensures len { length held.new ≡ length held.old }
-    ensures told { Appends out.old
-        (values_told layout.now item carriable.now held.old numbers.now) out.new }
+    ensures appends { Appends out.old
+        (value_events_read layout.now item carriable.now held.old numbers.now) out.new }
 {
     match numbers.bytes(false) {
         Some(bytes) => {
@@ -272,11 +273,11 @@ fn take_each_value<C: FieldCodec>(
     requires numbers { length numbers.now ≡ length (usages_at layout.now item) }
     requires held { length held.old ≡ length (usages_at layout.now item) }
     requires room { HasSpace out.old
-        (values_told layout.now item carriable.now held.old numbers.now) }
+        (value_events_read layout.now item carriable.now held.old numbers.now) }
     ensures held { held.new ≡ read_all (value_by_number carriable.now) held.old numbers.now }
     ensures len { length held.new ≡ length held.old }
-    ensures told { Appends out.old
-        (values_told layout.now item carriable.now held.old numbers.now) out.new }
+    ensures appends { Appends out.old
+        (value_events_read layout.now item carriable.now held.old numbers.now) out.new }
 {
     let mut from = 0;
     while let Some(index) = next_value::<C>(held, carriable, numbers, from) {

@@ -2,9 +2,9 @@
 
 ghost use Rattle.std.specs.Prelude.{◌≡◌, ℤ, List, map};
 ghost use Rattle.hid_snapshots.specs.ControlStates.{are_motions};
-ghost use Rattle.hid_usages.specs.Crossing.{PartsAreReadBack, PartsAreTaken, SeenIsView};
-ghost use Rattle.hid_usages.specs.Law.{ReadsBack};
-ghost use Rattle.hid_usages.specs.OneReport.{SeesOneReport, TellsOneReport, ShowsOneReport};
+ghost use Rattle.hid_usages.specs.PartsReadBack.{PartsAreReadBack, PartsAreTaken, SeenIsView};
+ghost use Rattle.hid_usages.specs.NumbersReadBack.{ReadsBack};
+ghost use Rattle.hid_usages.specs.OneReport.{SeesOneReport, IsOneReportsOwn, ShowsOneReport};
 ghost use Rattle.hid_usages.specs.Reading.{read_motion};
 
 /// Reading the numbers that a part of an item is sent as gives the view that sees the part, and the part's motions.
@@ -23,9 +23,9 @@ pub fn parts_are_read_back()
     ensures view { SeenIsView }
 {}
 
-/// A report shows its own part alone: parts of other reports change neither its bytes nor what a view sees and is told.
+/// A report shows its own part alone: parts of other reports change neither its bytes, nor the view, nor the events.
 pub fn one_report_is_shown()
     ensures sees { SeesOneReport }
-    ensures tells { TellsOneReport }
+    ensures tells { IsOneReportsOwn }
     ensures shows { ShowsOneReport }
 {}

@@ -20,29 +20,29 @@
 //!
 //! The promise: any bytes give one view and one list of events (`taken` on [`View::take_report`]). The reports of the boot
 //! keyboard and mouse give the same without a layout ([`boot::laws`]). No call takes memory but `Snapshot::blank`,
-//! `Shown::blank` and `View::initial`; events go into reserved room.
+//! `Shown::blank`, `View::initial` and `first_view`; events go into reserved room.
 #![tactic(auto)]
 
-mod back;
 mod bits;
 pub mod boot;
-mod bounds;
-mod differences;
-mod drops;
+mod dropped_motion;
 mod elements;
-mod input;
+mod key_array;
 pub mod laws;
-mod read;
 mod reader;
 mod receiver;
+mod report_lookup;
+mod reset_events;
 mod take;
+mod value_range;
 mod view;
+mod view_changes;
 
 pub use hid_snapshots::{
-    Change, ChangeFault, Event, MemoryFault, ReportFault, Shown, Snapshot, encode_report,
-    has_empty_codes, has_keys, has_zeros, is_input,
+    Change, ChangeFault, Event, MAX_PIECE, MemoryFault, ReportFault, Shown, Snapshot,
+    encode_report, has_empty_codes, has_keys, has_zeros, is_input,
 };
-pub use input::{bytes_awaited, element_value, input_report};
 pub use reader::Reader;
-pub use receiver::{Arrived, FULL_PACKET, Receiver};
-pub use view::{View, changes, changes_and_drops};
+pub use receiver::{Arrived, Receiver};
+pub use report_lookup::{bytes_awaited, element_value, input_report};
+pub use view::{View, changes, changes_and_drops, first_view};

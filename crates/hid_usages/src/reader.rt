@@ -17,20 +17,19 @@ use std::marker::Model;
 
 /// The layout of a device's reports, and a host's view of its controls. A contract sees both.
 ///
-/// A report of the same bytes as the one before, at most 64, which told nothing, isn't read again: it tells nothing
-/// either.
+/// A report of at most 64 bytes that gave no event isn't read again if the next one has the same bytes: that gives none either.
 #[derive(Drop)]
 pub struct Reader {
     layout: Layout,
     view: View,
-    /// The bytes of a report that tells nothing and changes nothing of the view; none where no such report is known.
+    /// The bytes of a report that gives no event and changes nothing of the view; none where no such report is known.
     still: ArrayVec<u8, 64>,
 }
 
 impl Model for Reader {
-    ghost use Rattle.hid_usages.specs.Reader.{Seen, IsReader};
+    ghost use Rattle.hid_usages.specs.Reader.{ReaderState, IsReader};
 
-    ghost Value = { Seen };
+    ghost Value = { ReaderState };
 
     ghost view = { λ r. record { layout = r.layout; view = r.view } };
 
@@ -44,8 +43,7 @@ fn is_kept(still: &[u8], bytes: &[u8]) -> bool
     !still.is_empty() && still == bytes
 }
 
-/// Keeps the bytes of a report that told nothing. Each branch clears by itself, so that a
-/// report that gave events pays less.
+/// Keeps the bytes of a report that gave no event. Each branch clears by itself, so that a report that gave events pays less.
 fn keep(still: &mut ArrayVec<u8, 64>, bytes: &[u8], is_silent: bool)
     ensures { still.new.items ≡ still_bytes_of is_silent bytes.now }
 {

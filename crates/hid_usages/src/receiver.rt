@@ -1,7 +1,7 @@
 //! The Input reports of one device, out of the packets in which they come.
 
 ghost use Rattle.std.specs.Prelude.{◌≡◌, ◌<◌, ◌≤◌, ◌+◌, ◌++◌, false, [], length, vec_len, vec_capacity};
-ghost use Rattle.hid_descriptor.specs.declared.limits.TheConstants.{MAX_REPORT_BYTES};
+ghost use Rattle.hid_report_descriptor.specs.declared.limits.TheConstants.{MAX_REPORT_BYTES};
 ghost use Rattle.hid_layout.specs.Controls.{items_of, max_events};
 ghost use Rattle.hid_layout.specs.Reports.{IsLayout};
 ghost use Rattle.hid_snapshots.specs.ControlStates.{FitsView};
@@ -9,17 +9,14 @@ ghost use Rattle.hid_usages.specs.Reading.{report_named};
 ghost use Rattle.hid_usages.specs.Receiving.{after_packet, bytes_with, ends_with, events_of_report, events_with, packet_outcome, view_after_report, whole_outcome, without_collected};
 ghost use Rattle.hid_usages.specs.Taking.{TakesReport};
 
-use crate::input::bytes_awaited;
 use crate::reader::Reader;
+use crate::report_lookup::bytes_awaited;
 use crate::view::View;
 use arrayvec::ArrayVec;
 use hid_fields::FieldCodec;
 use hid_layout::Layout;
-use hid_snapshots::{Event, ReportFault};
+use hid_snapshots::{Event, MAX_PIECE, ReportFault};
 use std::marker::Model;
-
-/// The bytes of a packet that isn't the last of its report (USB 2.0, 5.7.3; full speed).
-pub const FULL_PACKET: usize = 64;
 
 /// Room for what comes of the longest report, and a packet.
 const ROOM: usize = 320;
@@ -43,10 +40,10 @@ pub struct Receiver {
 
 impl Model for Receiver {
     ghost use Rattle.std.specs.Prelude.{◌<◌, length};
-    ghost use Rattle.hid_descriptor.specs.declared.limits.TheConstants.{MAX_REPORT_BYTES};
-    ghost use Rattle.hid_usages.specs.Receiving.{Receiving};
+    ghost use Rattle.hid_report_descriptor.specs.declared.limits.TheConstants.{MAX_REPORT_BYTES};
+    ghost use Rattle.hid_usages.specs.Receiving.{ReceiverState};
 
-    ghost Value = { Receiving };
+    ghost Value = { ReceiverState };
 
     ghost view = { λ r. record {
       layout = r.reader.layout;
@@ -64,7 +61,7 @@ fn read_report<C: FieldCodec>(
     out: &mut Vec<Event>,
 ) -> Result<Arrived, ReportFault>
     requires room { vec_len out.old + max_events (items_of reader.old.layout) ≤ vec_capacity out.old }
-    ensures told { result ≡ whole_outcome (report_named reader.old.layout bytes.now) }
+    ensures outcome { result ≡ whole_outcome (report_named reader.old.layout bytes.now) }
     ensures layout { reader.new.layout ≡ reader.old.layout }
     ensures view { reader.new.view ≡ view_after_report reader.old.layout bytes.now reader.old.view }
     ensures events { out.new.items
@@ -127,7 +124,7 @@ impl Receiver {
         ensures ends { result ≡ ends_with self.now packet.now }
         ensures goes_on { result ≡ false → length (bytes_with self.now packet.now) < MAX_REPORT_BYTES }
     {
-        if packet.len() < FULL_PACKET {
+        if packet.len() < MAX_PIECE {
             return true;
         }
         let begin = if self.collected.is_empty() {
@@ -158,7 +155,7 @@ impl Receiver {
         packet: &[u8],
         out: &mut Vec<Event>,
     ) -> Result<Arrived, ReportFault>
-        requires short { length packet.now ≤ FULL_PACKET }
+        requires short { length packet.now ≤ MAX_PIECE }
         requires room { vec_len out.old + max_events (items_of self.old.layout)
             ≤ vec_capacity out.old }
         // What the packet gives, what is known after it, and the events.

@@ -1,7 +1,7 @@
 //! What a report of any bytes makes of a view, and the events of it.
 
 ghost use Rattle.std.specs.Prelude.{All, pos, ◌≡◌, ◌<◌, ◌≤◌, ◌^◌, ◌++◌, length, take};
-ghost use Rattle.hid_layout.specs.Controls.{items_of, head_of};
+ghost use Rattle.hid_layout.specs.Controls.{items_of, controls_of_form};
 ghost use Rattle.hid_layout.specs.declared.control.Controls.TheVariants as head;
 ghost use Rattle.hid_layout.specs.declared.control.ControlKind.TheVariants as ControlKind;
 ghost use Rattle.hid_snapshots.specs.ControlStates.{HasRoom, FitsView};
@@ -9,25 +9,25 @@ ghost use Rattle.hid_snapshots.specs.Events.{element_events, key_events, usages_
 ghost use Rattle.hid_snapshots.specs.Views.{motions_of};
 ghost use Rattle.hid_usages.specs.Appending.{HasSpace, Appends};
 ghost use Rattle.hid_usages.specs.Bits.{read_bits};
-ghost use Rattle.hid_usages.specs.KeyArrays.{AreOffFrom, flag_events, keys_by_array};
+ghost use Rattle.hid_usages.specs.KeyArrays.{NoneSetFrom, flag_events, keys_by_array};
 ghost use Rattle.hid_usages.specs.Reading.{FitsFields, keys_at};
-ghost use Rattle.hid_usages.specs.Taking.{IsInReport, HasRoomAt, NamesNone, NamesNoneOf, usages_in, keys_in, form_in, state_after_numbers, events_of_numbers, state_of_carried, motion_carried};
+ghost use Rattle.hid_usages.specs.Taking.{IsInReport, HasEventRoomAt, NoFlagSet, NoFlagSetFor, usages_in, keys_in, form_in, state_after_numbers, events_of_numbers, state_after_carried, motion_carried};
 ghost use Rattle.hid_usages.specs.Taking.{IsReceived, ArePlacesOf, view_received, events_received, state_received, item_events_received};
 ghost use Rattle.hid_usages.specs.Taking.{HasData, IsFilled, numbers_of_bytes, state_after_bytes, events_by_numbers, events_by_bytes};
 ghost use Rattle.hid_usages.specs.Taking.{IsArrayAt, keys_by_entries, key_events_in};
 
 use crate::bits::{are_bits, take_bits};
-use crate::bounds::Bounds;
-use crate::differences::{flag_changes, motions};
 use crate::elements::{Carriable, take_switches, take_values};
-use crate::read::{KeyArray, read_keys};
+use crate::key_array::{KeyArray, read_keys};
+use crate::value_range::Bounds;
+use crate::view_changes::{flag_changes, motions};
 use hid_fields::FieldCodec;
 use hid_layout::{ControlKind, Layout, MainItem, Shape, Usage};
 use hid_snapshots::{ControlState, Event, FieldRun, Flags, first_bit, item_at};
 
 /// The bytes of an Input report, with its layout and its number there.
 #[derive(Clone, Copy)]
-pub(crate) struct Received<'a> {
+pub(crate) struct ReportBytes<'a> {
     pub(crate) layout: &'a Layout,
     pub(crate) report: usize,
     pub(crate) bytes: &'a [u8],
@@ -35,7 +35,7 @@ pub(crate) struct Received<'a> {
 
 /// A listed item, with its layout and its place there.
 #[derive(Clone, Copy)]
-struct Listed<'a> {
+struct ListedItem<'a> {
     layout: &'a Layout,
     place: usize,
     item: &'a MainItem,
@@ -43,16 +43,16 @@ struct Listed<'a> {
 
 /// The numbers of a variable item's elements, with the kind of the elements and the bounds that they are read by.
 #[derive(Clone, Copy)]
-struct Carried<'a> {
+struct ElementNumbers<'a> {
     kind: ControlKind,
     bounds: Bounds,
     numbers: &'a FieldRun<'a>,
 }
 
-/// What is kept of a layout's items once the bytes of a report, whose items stand at these places, are read, and what
-/// they tell.
+/// Reads the bytes of a report, whose items stand at these places, into what is kept of the layout's items, and appends the
+/// events.
 pub(crate) fn take_items<C: FieldCodec>(
-    received: &Received<'_>,
+    received: &ReportBytes<'_>,
     places: &[usize],
     states: &mut [ControlState],
     named: &mut Flags,
@@ -61,11 +61,11 @@ pub(crate) fn take_items<C: FieldCodec>(
     requires received { IsReceived received.now }
     requires places { ArePlacesOf received.now places.now }
     requires fits { FitsView (items_of received.now.layout.now) states.old }
-    requires named { NamesNone states.old named.old }
+    requires named { NoFlagSet states.old named.old }
     requires room { HasSpace out.old (events_received received.now states.old) }
     ensures view { states.new ≡ view_received received.now states.old }
     ensures named { named.new ≡ named.old }
-    ensures told { Appends out.old (events_received received.now states.old) out.new }
+    ensures appends { Appends out.old (events_received received.now states.old) out.new }
 {
     for place in places {
         let i = *place;
@@ -73,9 +73,9 @@ pub(crate) fn take_items<C: FieldCodec>(
     }
 }
 
-/// What is kept of an item of a report once its bytes are read, and what they tell.
+/// Reads the bytes of a report into what is kept of an item of it, and appends the events.
 fn take_item<C: FieldCodec>(
-    received: &Received<'_>,
+    received: &ReportBytes<'_>,
     place: usize,
     state: &mut ControlState,
     named: &mut Flags,
@@ -84,19 +84,19 @@ fn take_item<C: FieldCodec>(
     requires received { IsReceived received.now }
     requires listed { place < length received.now.layout.now.items }
     requires in_report { IsInReport received.now.layout.now received.now.report place }
-    requires held { HasRoomAt received.now.layout.now place state.old }
-    requires named { NamesNoneOf state.old named.old }
+    requires held { HasEventRoomAt received.now.layout.now place state.old }
+    requires named { NoFlagSetFor state.old named.old }
     requires room { HasSpace out.old (item_events_received received.now place state.old) }
     ensures state { state.new ≡ state_received received.now place state.old }
     ensures named { named.new ≡ named.old }
-    ensures told { Appends out.old (item_events_received received.now place state.old) out.new }
+    ensures appends { Appends out.old (item_events_received received.now place state.old) out.new }
 {
     let layout = received.layout;
     let item = item_at(layout, place);
     match item.shape {
         Shape::Padding => {}
         Shape::Variable | Shape::Array => {
-            let listed = Listed {
+            let listed = ListedItem {
                 layout,
                 place,
                 item,
@@ -106,21 +106,21 @@ fn take_item<C: FieldCodec>(
     }
 }
 
-/// What is kept of an item with data once the bytes of its report are read, and what they tell.
+/// Reads the bytes of a report into what is kept of an item with data, and appends the events.
 fn take_fields<C: FieldCodec>(
-    listed: &Listed<'_>,
+    listed: &ListedItem<'_>,
     bytes: &[u8],
     state: &mut ControlState,
     named: &mut Flags,
     out: &mut Vec<Event>,
 )
     requires listed { IsFilled listed.now bytes.now }
-    requires held { HasRoom (head_of (form_in listed.now)) state.old }
-    requires named { NamesNoneOf state.old named.old }
+    requires held { HasRoom (controls_of_form (form_in listed.now)) state.old }
+    requires named { NoFlagSetFor state.old named.old }
     requires room { HasSpace out.old (events_by_bytes listed.now state.old bytes.now) }
     ensures state { state.new ≡ state_after_bytes listed.now state.old bytes.now }
     ensures named { named.new ≡ named.old }
-    ensures told { Appends out.old (events_of_numbers listed.now state.old state.new
+    ensures appends { Appends out.old (events_of_numbers listed.now state.old state.new
         (numbers_of_bytes listed.now bytes.now)) out.new }
 {
     let item = listed.item;
@@ -133,8 +133,13 @@ fn take_fields<C: FieldCodec>(
     }
 }
 
-/// Switches of one bit each, as their pattern leaves them, and what they tell.
-fn take_pattern(listed: &Listed<'_>, pattern: u32, state: &mut ControlState, out: &mut Vec<Event>)
+/// Sets switches of one bit each by their pattern, and appends their events.
+fn take_pattern(
+    listed: &ListedItem<'_>,
+    pattern: u32,
+    state: &mut ControlState,
+    out: &mut Vec<Event>,
+)
     requires held { HasRoom (head.Elements ControlKind.Switch (pos 0) (pos 1)
         (length (usages_in listed.now))) state.old }
     requires few { length (usages_in listed.now) ≤ 32 }
@@ -142,7 +147,7 @@ fn take_pattern(listed: &Listed<'_>, pattern: u32, state: &mut ControlState, out
     requires room { HasSpace out.old (element_events listed.now.place
         (usages_in listed.now) state.old (read_bits pattern state.old)) }
     ensures state { state.new ≡ read_bits pattern state.old }
-    ensures told { Appends out.old (element_events listed.now.place
+    ensures appends { Appends out.old (element_events listed.now.place
         (usages_in listed.now) state.old state.new) out.new }
 {
     if let ControlState::Switches(held) = state {
@@ -150,10 +155,10 @@ fn take_pattern(listed: &Listed<'_>, pattern: u32, state: &mut ControlState, out
     }
 }
 
-/// What is kept of an item, as these numbers of its elements leave it, and what they tell. They are held against the logical
-/// range: of the numbers that fit the fields, it has those that an element can carry.
+/// Reads the numbers of an item's elements into what is kept of it, and appends the events. The numbers are compared with the
+/// logical range: of the numbers that fit the fields, it has those that an element can carry.
 fn take_numbers<C: FieldCodec>(
-    listed: &Listed<'_>,
+    listed: &ListedItem<'_>,
     numbers: &FieldRun<'_>,
     state: &mut ControlState,
     named: &mut Flags,
@@ -162,18 +167,18 @@ fn take_numbers<C: FieldCodec>(
     requires listed { HasData listed.now }
     requires numbers { length numbers.now ≡ listed.now.item.now.count }
     requires fits { All (FitsFields listed.now.item.now) numbers.now }
-    requires held { HasRoom (head_of (form_in listed.now)) state.old }
-    requires named { NamesNoneOf state.old named.old }
+    requires held { HasRoom (controls_of_form (form_in listed.now)) state.old }
+    requires named { NoFlagSetFor state.old named.old }
     requires room { HasSpace out.old (events_by_numbers listed.now state.old numbers.now) }
     ensures state { state.new ≡ state_after_numbers listed.now state.old numbers.now }
     ensures named { named.new ≡ named.old }
-    ensures told { Appends out.old
+    ensures appends { Appends out.old
         (events_of_numbers listed.now state.old state.new numbers.now) out.new }
 {
     match listed.item.shape {
         Shape::Padding => {}
         Shape::Variable => {
-            let carried = Carried {
+            let carried = ElementNumbers {
                 kind: listed.item.element_kind(),
                 bounds: Bounds {
                     least: listed.item.min,
@@ -190,10 +195,10 @@ fn take_numbers<C: FieldCodec>(
     }
 }
 
-/// The elements of a variable item, as these numbers leave them, and what they tell.
+/// Sets the elements of a variable item by these numbers, and appends their events.
 fn take_elements<C: FieldCodec>(
-    listed: &Listed<'_>,
-    carried: &Carried<'_>,
+    listed: &ListedItem<'_>,
+    carried: &ElementNumbers<'_>,
     state: &mut ControlState,
     out: &mut Vec<Event>,
 )
@@ -201,14 +206,14 @@ fn take_elements<C: FieldCodec>(
     requires held { HasRoom (head.Elements carried.now.kind carried.now.bounds.least
         carried.now.bounds.greatest (length (usages_in listed.now))) state.old }
     requires room { HasSpace out.old (element_events listed.now.place
-        (usages_in listed.now) state.old (state_of_carried carried.now state.old)
+        (usages_in listed.now) state.old (state_after_carried carried.now state.old)
         ++ motions_of listed.now.place (usages_in listed.now) (motion_carried carried.now)) }
-    ensures state { state.new ≡ state_of_carried carried.now state.old }
-    ensures told { Appends out.old (element_events listed.now.place
+    ensures state { state.new ≡ state_after_carried carried.now state.old }
+    ensures appends { Appends out.old (element_events listed.now.place
         (usages_in listed.now) state.old state.new ++ motions_of listed.now.place
         (usages_in listed.now) (motion_carried carried.now)) out.new }
 {
-    let Listed { layout, place, .. } = *listed;
+    let ListedItem { layout, place, .. } = *listed;
     match carried.kind {
         ControlKind::Switch => {
             if let ControlState::Switches(held) = state {
@@ -230,9 +235,9 @@ fn take_elements<C: FieldCodec>(
     }
 }
 
-/// The keys of an array, as these numbers leave them, and what they tell.
+/// Sets the keys of an array by these numbers, and appends their events.
 fn take_array<C: FieldCodec>(
-    listed: &Listed<'_>,
+    listed: &ListedItem<'_>,
     entries: &[(Usage, Usage)],
     numbers: &FieldRun<'_>,
     state: &mut ControlState,
@@ -243,22 +248,22 @@ fn take_array<C: FieldCodec>(
         entries.now }
     requires fits { All (FitsFields listed.now.item.now) numbers.now }
     requires held { HasPlaces state.old (length (keys_in listed.now)) }
-    requires named { NamesNoneOf state.old named.old }
+    requires named { NoFlagSetFor state.old named.old }
     requires room { HasSpace out.old (key_events_in listed.now state.old
         (keys_by_entries listed.now entries.now state.old numbers.now)) }
     ensures state { state.new ≡ keys_by_entries listed.now entries.now state.old numbers.now }
     ensures named { named.new ≡ named.old }
-    ensures told { Appends out.old (key_events_in listed.now state.old state.new) out.new }
+    ensures appends { Appends out.old (key_events_in listed.now state.old state.new) out.new }
 {
     if let ControlState::Switches(held) = state {
         take_flags::<C>(listed, entries, numbers, held, named, out);
     }
 }
 
-/// The held keys of an array, as these numbers leave them, and what they tell. Where one names ErrorRollOver, the keys
-/// stay (HID 1.11, appendix C).
+/// Sets the held keys of an array by these numbers, and appends their events. If a number names ErrorRollOver, the keys stay
+/// (HID 1.11, appendix C).
 fn take_flags<C: FieldCodec>(
-    listed: &Listed<'_>,
+    listed: &ListedItem<'_>,
     entries: &[(Usage, Usage)],
     numbers: &FieldRun<'_>,
     held: &mut Flags,
@@ -269,20 +274,20 @@ fn take_flags<C: FieldCodec>(
         entries.now }
     requires fits { All (FitsFields listed.now.item.now) numbers.now }
     requires held { length held.old ≡ length (keys_in listed.now) }
-    requires named { NamesNoneOf (ControlState.Switches held.old) named.old }
+    requires named { NoFlagSetFor (ControlState.Switches held.old) named.old }
     requires room { HasSpace out.old (key_events_in listed.now (ControlState.Switches held.old)
         (keys_by_entries listed.now entries.now (ControlState.Switches held.old) numbers.now)) }
     ensures held { ControlState.Switches held.new
         ≡ keys_by_entries listed.now entries.now (ControlState.Switches held.old) numbers.now }
     ensures named { named.new ≡ named.old }
-    ensures told { Appends out.old (key_events_in listed.now (ControlState.Switches held.old)
+    ensures appends { Appends out.old (key_events_in listed.now (ControlState.Switches held.old)
         (ControlState.Switches held.new)) out.new }
 {
     let array = KeyArray {
         item: listed.item,
         entries,
     };
-    let Listed { layout, place, .. } = *listed;
+    let ListedItem { layout, place, .. } = *listed;
     let count = held.len();
     take_named::<C>(layout, place, &array, numbers, held, named, out);
     named.release_first(count);
@@ -302,15 +307,15 @@ fn take_named<C: FieldCodec>(
     requires array { IsArrayAt layout.now place array.now.item.now array.now.entries.now }
     requires fits { All (FitsFields array.now.item.now) numbers.now }
     requires held { length held.old ≡ length (keys_at layout.now place) }
-    requires named { NamesNoneOf (ControlState.Switches held.old) named.old }
+    requires named { NoFlagSetFor (ControlState.Switches held.old) named.old }
     requires room { HasSpace out.old (key_events place (usages_at layout.now place)
         (ControlState.Switches held.old)
         (keys_by_array layout.now place array.now held.old numbers.now)) }
     ensures held { ControlState.Switches held.new
         ≡ keys_by_array layout.now place array.now held.old numbers.now }
-    ensures behind { AreOffFrom (length held.old) named.new }
+    ensures others { NoneSetFrom (length held.old) named.new }
     ensures len { length named.new ≡ length named.old }
-    ensures told { Appends out.old (key_events place (usages_at layout.now place)
+    ensures appends { Appends out.old (key_events place (usages_at layout.now place)
         (ControlState.Switches held.old) (ControlState.Switches held.new)) out.new }
 {
     if read_keys::<C>(array, numbers, named) {
@@ -318,15 +323,15 @@ fn take_named<C: FieldCodec>(
     }
 }
 
-/// Makes keys the first ones of these flags, and tells what changes: nothing where they are that.
+/// Sets keys by the first of these flags, and appends the changes: none where the keys are as the flags say.
 fn take_first(layout: &Layout, place: usize, held: &mut Flags, named: &Flags, out: &mut Vec<Event>)
     requires held { length held.old ≡ length (usages_at layout.now place) }
     requires places { length held.old ≤ length named.now }
-    requires behind { AreOffFrom (length held.old) named.now }
+    requires others { NoneSetFrom (length held.old) named.now }
     requires room { HasSpace out.old
         (flag_events place (usages_at layout.now place) held.old named.now) }
     ensures held { held.new ≡ take (length held.old) named.now }
-    ensures told { Appends out.old (flag_events place (usages_at layout.now place) held.old
+    ensures appends { Appends out.old (flag_events place (usages_at layout.now place) held.old
         named.now) out.new }
 {
     if !held.is_first_of(named) {

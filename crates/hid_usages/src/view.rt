@@ -1,9 +1,9 @@
 //! A host's view of a device's controls.
 
-ghost use Rattle.std.specs.Prelude.{◌≡◌, ◌≤◌, ◌+◌, ◌++◌, ℕ, true, length, slice_get, Some, IfOk, vec_len, vec_capacity};
+ghost use Rattle.std.specs.Prelude.{◌≡◌, ◌≤◌, ◌+◌, ◌++◌, ℕ, true, length, slice_get, Some, IfOk, IfSome, vec_len, vec_capacity};
 ghost use Rattle.hid_layout.specs.Controls.{items_of, max_events};
 ghost use Rattle.hid_snapshots.specs.declared.control_state.ControlState.{ControlState as StateValue};
-ghost use Rattle.hid_snapshots.specs.Full.{IsFull};
+ghost use Rattle.hid_snapshots.specs.ExactCapacity.{IsFull};
 ghost use Rattle.hid_snapshots.specs.ControlStates.{blank, FitsShown, FitsView};
 ghost use Rattle.hid_snapshots.specs.Parts.{IsInput};
 ghost use Rattle.hid_snapshots.specs.Snapshots.{is_pressed, state_at};
@@ -11,11 +11,11 @@ ghost use Rattle.hid_snapshots.specs.Keys.{keys_at, has_keys_at, key_words, AreK
 ghost use Rattle.hid_usages.specs.Taking.{TakesReport, flag_places};
 ghost use Rattle.hid_snapshots.specs.Views.{value_in, changes_between, drops_between};
 
-use crate::back::{all_changes_back, all_changes_back_and_drops};
-use crate::differences::all_changes;
-use crate::drops::{Dropped, all_changes_and_drops};
-use crate::input::input_report;
-use crate::take::{Received, take_items};
+use crate::dropped_motion::{Dropped, all_changes_and_drops};
+use crate::report_lookup::input_report;
+use crate::reset_events::{all_changes_back, all_changes_back_and_drops};
+use crate::take::{ReportBytes, take_items};
+use crate::view_changes::all_changes;
 use hid_fields::FieldCodec;
 use hid_layout::{ControlId, Layout};
 use hid_snapshots::{
@@ -45,9 +45,9 @@ impl Model for View {
 
     ghost view = { λ v. v.states.items };
 
-    ghost use Rattle.hid_usages.specs.Taking.{NamesNone};
+    ghost use Rattle.hid_usages.specs.Taking.{NoFlagSet};
 
-    ghost invariant = { λ v. NamesNone v.states.items v.named };
+    ghost invariant = { λ v. NoFlagSet v.states.items v.named };
 }
 
 impl View {
@@ -93,7 +93,7 @@ impl View {
         match input_report(layout, bytes) {
             Ok(report) => {
                 let places = plan_of(layout, report);
-                let received = Received {
+                let received = ReportBytes {
                     layout,
                     report,
                     bytes,
@@ -180,6 +180,17 @@ impl View {
     }
 }
 
+/// The initial view of a layout, and room for the events of a report. None for lack of memory.
+pub fn first_view(alloc: Global, layout: &Layout) -> Option<(View, Vec<Event>)>
+    ensures view { IfSome result (λ made. (made.0 ≡ blank (items_of layout.now))
+        × FitsView (items_of layout.now) made.0) }
+    ensures room { IfSome result (λ made. max_events (items_of layout.now) ≤ vec_capacity made.1) }
+{
+    let view = View::initial(alloc, layout).ok()?;
+    let events = Vec::with_capacity(alloc, layout.max_events()).ok()?;
+    Some((view, events))
+}
+
 /// How many places of a control state can be pressed.
 fn flag_places(state: &ControlState) -> usize
     ensures { result ≡ flag_places state.now }
@@ -227,8 +238,8 @@ pub fn changes(layout: &Layout, before: &View, after: &View, out: &mut Vec<Event
     all_changes(layout, &before.states, &after.states, out);
 }
 
-/// Appends what [`changes`] does, and the motion of an Input report's part as dropped: what a host tells that forgets its
-/// device, where the report was sent and didn't reach it. Views and parts suit the layout. There is reserved room for
+/// Appends what [`changes`] does, and the motion of an Input report's part as dropped: the events of a host that forgets its
+/// device when the report was sent and didn't reach it. Views and parts suit the layout. There is reserved room for
 /// `max_events` more; no memory is taken.
 #[tactic(auto, using(crate::proofs::DropLemmas::drops))]
 pub fn changes_and_drops(

@@ -38,6 +38,7 @@ impl fmt::Display for InputFault {
     }
 }
 
+/// Whether the byte is a blank, a tab or a line end.
 fn is_space(byte: u8) -> bool {
     matches!(byte, b' ' | b'\t' | b'\r' | b'\n')
 }
@@ -55,7 +56,7 @@ fn is_hex_text(bytes: &[u8]) -> bool {
     some
 }
 
-/// The bytes that hex digits spell, whatever spaces stand between them.
+/// The bytes that hex digits encode, whatever spaces stand between them.
 fn read_hex(alloc: Global, text: &[u8]) -> Result<Vec<u8>, InputFault> {
     let mut digits = Vec::new(alloc);
     for byte in text {
@@ -97,6 +98,7 @@ fn read_count(text: &[u8]) -> (u64, &[u8]) {
     (count, rest)
 }
 
+/// The text from its first byte on that is no space.
 fn without_spaces(text: &[u8]) -> &[u8] {
     let mut rest = text;
     while let [first, behind @ ..] = rest {
@@ -274,7 +276,7 @@ fn descriptor_in_text(alloc: Global, text: &[u8]) -> Result<Vec<u8>, InputFault>
 }
 
 /// The descriptor in the bytes of a file: in text the one of the first line that begins with `R:`; else what its digits
-/// spell; else the one that usbhid-dump or C writes. Other bytes are taken as they are.
+/// encode; else the one that usbhid-dump or C writes. Other bytes are taken as they are.
 ///
 /// # Errors
 /// What is wrong with the form that is found: [`InputFault::BadHex`], [`InputFault::BadCount`] of an `R:` line,

@@ -14,31 +14,21 @@
 ghost use Rattle.std.specs.Prelude.{◌≤◌, length};
 ghost use Rattle.hidmap.specs.declared.TheConstants.{MOST};
 
+mod args;
 mod input;
-mod words;
+mod status;
 
+use args::{CliArgs, parse_args};
 use clap::error::ErrorKind;
 use hid_layout::{Cause, Layout, LayoutFault, MAX_DESCRIPTOR};
 use hid_notation::layout_words;
 use hid_page::{Form, draw, draw_refused};
 use input::{InputFault, descriptor_in};
+use status::{FINE, OUTSIDE, REFUSED, WRONG_USAGE};
 use std::alloc::Global;
 use std::io::{self, Read, Write};
 use std::process::ExitCode;
 use std::{env, fs};
-use words::{CliArgs, parse_args};
-
-/// All was drawn.
-const FINE: u8 = 0;
-
-/// The descriptor, or its text, is refused.
-const REFUSED: u8 = 1;
-
-/// The command line is wrong, or there is no such report.
-const WRONG_USAGE: u8 = 2;
-
-/// A file, standard output or memory failed.
-const OUTSIDE: u8 = 3;
 
 /// What is reported where memory runs out.
 const NO_MEMORY: &str = "out of memory";
@@ -128,7 +118,7 @@ fn read_named(rt: &HostRuntime, name: &str) -> io::Result<Vec<u8>> {
     }
 }
 
-/// Draws the descriptor of a file, and tells what stands against it.
+/// Draws the descriptor of a file, or prints why it can't.
 fn draw_file(rt: &HostRuntime, asked: &CliArgs<'_>) -> u8 {
     let name = asked.file;
     let bytes = match read_named(rt, name) {

@@ -1,6 +1,6 @@
 -- The exit status of a run (our choice: docs/RECORDINGS.md).
 use Rattle.std.specs.Prelude.{ℕ, nat_lt, Bool, true, false, if◌then◌else◌, Result, Ok, Err}
-use Rattle.hid_recording.specs.declared.fault.Summary.{Summary}
+use Rattle.hid_recording.specs.declared.summary.Summary.{Summary}
 use Rattle.hid_recording.specs.declared.fault.RecordingFault.{RecordingFault}
 use Rattle.hid_recording.specs.declared.fault.Cause.{Cause}
 use Rattle.hid_recording.specs.declared.fault.Cause.TheVariants.{Refused, LineTooLong, Read, Write, Memory, TooManyReads, Unended}

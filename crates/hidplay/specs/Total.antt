@@ -1,7 +1,7 @@
 -- What all files together had (our choice: docs/RECORDINGS.md).
 use Rattle.std.specs.Prelude.{ℕ, ◌+◌, ◌-◌, ◌^◌, min, List, ◌++◌, codes, Result, Ok, Err}
 use Rattle.std.specs.Fmt.{decimal}
-use Rattle.hid_recording.specs.declared.fault.Summary.{Summary}
+use Rattle.hid_recording.specs.declared.summary.Summary.{Summary}
 use Rattle.hid_recording.specs.declared.fault.RecordingFault.{RecordingFault}
 use Rattle.hidplay.specs.declared.total.Total.{Total}
 use Rattle.hidplay.specs.EndLine.{refusals_of}

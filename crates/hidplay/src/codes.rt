@@ -1,4 +1,4 @@
-//! The codes of what is refused, as `--help` tells them.
+//! The codes of refusals, as `--help` prints them.
 
 /// Each code with its words.
 #[rattlefmt::skip]

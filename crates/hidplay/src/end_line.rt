@@ -1,4 +1,4 @@
-//! The line of JSON that tells what ended a file early, and what was played of it.
+//! The line of JSON that says what ended a file early, and what was played of it.
 
 ghost use Rattle.std.specs.Prelude.{◌≡◌, ◌++◌, IfOk, OnOk};
 ghost use Rattle.hidplay.specs.EndLine.{count_tokens, cause_tokens, played_tokens, end_tokens, refusals_of};

@@ -1,4 +1,4 @@
-//! The line of JSON that stands before what a file tells, where there are several.
+//! The line of JSON before the output of a file, if there are several.
 
 ghost use Rattle.std.specs.Prelude.{◌≡◌, ◌++◌, IfOk, OnOk};
 ghost use Rattle.hidplay.specs.FileLine.{file_tokens};

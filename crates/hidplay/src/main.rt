@@ -11,6 +11,7 @@
 //! be written, or memory runs out.
 #![tactic(auto)]
 
+mod args;
 mod codes;
 mod end_line;
 mod file_line;
@@ -18,8 +19,8 @@ mod progress;
 mod source;
 mod status;
 mod total;
-mod words;
 
+use args::{CliArgs, parse_args};
 use clap::error::ErrorKind;
 use end_line::end_line;
 use file_line::file_line;
@@ -32,7 +33,6 @@ use std::io::{BufWriter, IsTerminal, Stderr, Write};
 use std::process::ExitCode;
 use std::{env, fs};
 use total::Total;
-use words::{CliArgs, parse_args};
 
 fn main(rt: HostRuntime) -> ExitCode {
     let alloc = rt.alloc();
@@ -67,7 +67,7 @@ fn print_bad_words(rt: &HostRuntime, error: &clap::Error) -> u8 {
     }
 }
 
-/// Plays each file, or standard input where none is named, and tells the summary.
+/// Plays each file, or standard input where none is named, and prints the summary.
 fn play_all(rt: &HostRuntime, asked: &CliArgs<'_>) -> u8 {
     let Ok(mut out) = BufWriter::new(rt.alloc(), rt.stdout()) else {
         return OUTSIDE;
@@ -91,7 +91,7 @@ fn play_all(rt: &HostRuntime, asked: &CliArgs<'_>) -> u8 {
     status
 }
 
-/// Plays one file, and tells what ended it early.
+/// Plays one file, and prints what ended it early.
 fn play_one<W: Write>(
     rt: &HostRuntime,
     asked: &CliArgs<'_>,
@@ -133,7 +133,7 @@ fn print_end<W: Write>(
     }
 }
 
-/// Of several files the name stands before what each tells.
+/// Prints the name of a file before its output, if there are several files.
 fn print_file<W: Write>(
     alloc: Global,
     asked: &CliArgs<'_>,
@@ -154,7 +154,7 @@ fn print_file<W: Write>(
     told.map_err(|_| Cause::Write)
 }
 
-/// Where the progress is told: on standard error, if it is a terminal and events go elsewhere.
+/// Where the progress is printed: on standard error, if it is a terminal and events go elsewhere.
 fn terminal(rt: &HostRuntime) -> Option<Stderr> {
     if rt.stderr().is_terminal() && !rt.stdout().is_terminal() {
         Some(rt.stderr())

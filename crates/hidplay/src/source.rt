@@ -8,7 +8,7 @@ use std::io::{BufRead, BufReader, ErrorKind, Read, Write};
 #[derive(Clone, Copy, Debug, PartialEq, Eq)]
 pub enum Kind {
     /// What its first byte says.
-    Told,
+    Detected,
     Text,
     Binary,
 }
@@ -20,7 +20,7 @@ const TOO_MANY: usize = 4097;
 const MARK: [u8; 3] = [0xEF, 0xBB, 0xBF];
 
 /// How often a reader is asked at most.
-const READS: u32 = 1_000_000;
+const MAX_READS: u32 = 1_000_000;
 
 /// What ended a run before its first line was played.
 pub fn before_all(cause: Cause) -> RecordingFault {
@@ -39,7 +39,7 @@ pub fn begins_binary(first: u8) -> bool {
 
 /// The first byte, if there is one. A read that is interrupted is tried again.
 fn first_byte<R: Read>(reader: &mut BufReader<R>) -> Result<Option<u8>, RecordingFault> {
-    for _ in 0..READS {
+    for _ in 0..MAX_READS {
         match reader.fill_buf() {
             Ok(front) => return Ok(front.first().copied()),
             Err(error) if error.kind() == ErrorKind::Interrupted => {}
@@ -53,7 +53,7 @@ fn first_byte<R: Read>(reader: &mut BufReader<R>) -> Result<Option<u8>, Recordin
 fn read_descriptor<R: Read>(alloc: Global, reader: &mut R) -> Result<Vec<u8>, RecordingFault> {
     let mut bytes = Vec::new(alloc);
     let mut piece = [0u8; 512];
-    for _ in 0..READS {
+    for _ in 0..MAX_READS {
         match reader.read(&mut piece) {
             Ok(0) => return Ok(bytes),
             Ok(count) => {
@@ -129,7 +129,7 @@ fn play_buffered<R: Read, W: Write, H: Watch>(
     let is_binary = match kind {
         Kind::Binary => true,
         Kind::Text => false,
-        Kind::Told => matches!(first_byte(reader)?, Some(first) if begins_binary(first)),
+        Kind::Detected => matches!(first_byte(reader)?, Some(first) if begins_binary(first)),
     };
     if is_binary {
         play_binary(alloc, reader, out, options, watch)

@@ -9,16 +9,16 @@
 //! The exit status is 0, or what [`exit_of`](status::exit_of) gives for the fault, or 2 for a wrong command line.
 #![tactic(auto)]
 
+mod args;
 mod status;
-mod words;
 
+use args::options_of;
 use clap::error::ErrorKind;
 use hid_script::{Cause, Options, ScriptFault, Summary, run};
 use status::{OUTSIDE, WRONG_USAGE, exit_of};
 use std::env;
 use std::io::BufWriter;
 use std::process::ExitCode;
-use words::options_of;
 
 const USAGE: &str = "usage: hidrun [--layout] [--trace]";
 
@@ -37,7 +37,7 @@ fn main(rt: HostRuntime) -> ExitCode {
     }
 }
 
-/// Tells how the program is called, unless memory ran out for the words.
+/// Prints how the program is called, unless memory ran out for the words.
 fn print_bad_words(rt: &HostRuntime, error: &clap::Error) -> u8 {
     match error.kind() {
         ErrorKind::OutOfMemory => OUTSIDE,
@@ -61,7 +61,7 @@ fn run_script(rt: &HostRuntime, options: Options) -> ExitCode {
     }
 }
 
-/// Runs the script of standard input. What it tells goes through a buffer, which `run` flushes.
+/// Runs the script of standard input. Its output goes through a buffer, which `run` flushes.
 fn run_buffered(rt: &HostRuntime, options: Options) -> Result<Summary, ScriptFault> {
     let Ok(mut output) = BufWriter::new(rt.alloc(), rt.stdout()) else {
         return Err(ScriptFault {

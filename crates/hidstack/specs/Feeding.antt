@@ -4,7 +4,7 @@ use Rattle.hid_snapshots.specs.declared.fault.ReportFault.TheVariants.{Short, Un
 use Rattle.hidstack_session.specs.declared.event.HidEvent.{HidEvent}
 use Rattle.hidstack_session.specs.declared.session.FeedFault.{FeedFault}
 use Rattle.hidstack_session.specs.declared.session.FeedFault.TheVariants.{NoRoom, Refused}
-use Rattle.hidstack_session.specs.States.{State}
+use Rattle.hidstack_session.specs.States.{SessionState}
 use Rattle.hidstack_session.specs.Sessions.{Feeds, room_of}
 use Rattle.hidstack.specs.declared.status.TheConstants.{OK, CLOSED, NO_ROOM, SHORT, UNKNOWN}
 
@@ -16,14 +16,15 @@ status_of (Err (Refused Short)) = SHORT
 status_of (Err (Refused UnknownReport)) = UNKNOWN
 
 -- how many events were reported; of a table with too few places how many it needs
-abbrev pub count_of : State → Result ℕ FeedFault → ℕ
-count_of s (Ok count) = count
-count_of s (Err NoRoom) = room_of s
-count_of s (Err (Refused fault)) = 0
+abbrev pub event_count : SessionState → Result ℕ FeedFault → ℕ
+event_count s (Ok count) = count
+event_count s (Err NoRoom) = room_of s
+event_count s (Err (Refused fault)) = 0
 
 -- An open handle's session is fed. A closed one is refused, and nothing changes.
-abbrev pub FeedsHandle : Option State → List ℕ → List HidEvent → ℕ → Option State → List HidEvent → ℕ → Type 0
+abbrev pub FeedsHandle : Option SessionState → List ℕ → List HidEvent → ℕ → Option SessionState
+    → List HidEvent → ℕ → Type 0
 FeedsHandle None bytes out status after out' count = (status ≡ CLOSED) × (after ≡ None) × (out' ≡ out) × (count ≡ 0)
 FeedsHandle (Some s) bytes out status after out' count =
-    (answer : Result ℕ FeedFault) × (s' : State) × Feeds s bytes out answer s' out' × (after ≡ Some s')
-    × (status ≡ status_of answer) × (count ≡ count_of s answer)
+    (answer : Result ℕ FeedFault) × (s' : SessionState) × Feeds s bytes out answer s' out' × (after ≡ Some s')
+    × (status ≡ status_of answer) × (count ≡ event_count s answer)

@@ -1,15 +1,15 @@
 -- What opening a handle makes of it (our choice).
 use Rattle.std.specs.Prelude.{◌≡◌, ℕ, List, length, Option, Some, None}
-use Rattle.hid_descriptor.specs.declared.fault.Cause.{Cause}
-use Rattle.hid_descriptor.specs.Faults.{Explains}
+use Rattle.hid_report_descriptor.specs.declared.fault.Cause.{Cause}
+use Rattle.hid_report_descriptor.specs.Faults.{Explains}
 use Rattle.hidstack_session.specs.Causes.{cause_number}
 use Rattle.hidstack_session.specs.Elements.{one_of}
-use Rattle.hidstack_session.specs.States.{State}
+use Rattle.hidstack_session.specs.States.{SessionState}
 use Rattle.hidstack_session.specs.Sessions.{IsFirst, room_of}
 use Rattle.hidstack.specs.declared.session.HidOpened.{HidOpened}
 
 -- what is returned of a session that was opened
-abbrev pub opened_result : State → HidOpened
+abbrev pub opened_result : SessionState → HidOpened
 opened_result s = record {
   at = 0;
   room = room_of s;
@@ -24,16 +24,16 @@ abbrev pub refused_result : ℕ → ℕ → HidOpened
 refused_result cause at = record { at = at; room = 0; reports = 0; items = 0; cause = cause; numbered = 0 }
 
 -- the handle was closed, and has a session of which nothing was read yet
-abbrev pub Opens : Option State → List ℕ → Option State → HidOpened → Type 0
+abbrev pub Opens : Option SessionState → List ℕ → Option SessionState → HidOpened → Type 0
 Opens before bytes after told =
-    (before ≡ None) × (s : State) × (after ≡ Some s) × IsFirst bytes s × (told ≡ opened_result s)
+    (before ≡ None) × (s : SessionState) × (after ≡ Some s) × IsFirst bytes s × (told ≡ opened_result s)
 
 -- the handle was closed and is so, and this is the one refusal, or memory ran out
-abbrev pub Refuses : Option State → List ℕ → Option State → HidOpened → Type 0
+abbrev pub Refuses : Option SessionState → List ℕ → Option SessionState → HidOpened → Type 0
 Refuses before bytes after told =
     (before ≡ None) × (after ≡ None) × (cause : Cause) × (at : ℕ) × Explains bytes cause at
     × (told ≡ refused_result (cause_number cause) at)
 
 -- the handle was open and stays as it was, and so does what was reported
-abbrev pub IsBusy : Option State → Option State → HidOpened → HidOpened → Type 0
-IsBusy before after told told' = (s : State) × (before ≡ Some s) × (after ≡ Some s) × (told' ≡ told)
+abbrev pub IsBusy : Option SessionState → Option SessionState → HidOpened → HidOpened → Type 0
+IsBusy before after told told' = (s : SessionState) × (before ≡ Some s) × (after ≡ Some s) × (told' ≡ told)

@@ -1,9 +1,9 @@
 -- What a run of a script answers (our choice; the outcome of a script: hid_script).
 use Rattle.std.specs.Prelude.{◌≡◌, ℕ, ◌/◌, ◌%◌, ◌==◌, ◌<◌, ◌⊎◌, List, [], length, Result, Ok, Err, IsOk, IsErr}
 use Rattle.std.specs.Str.Lines.{lines}
-use Rattle.hid_script.specs.declared.fault.Options.{Options}
+use Rattle.hid_script.specs.declared.options.Options.{Options}
 use Rattle.hid_script.specs.declared.fault.ScriptFault.{ScriptFault}
-use Rattle.hid_script.specs.declared.fault.Summary.{Summary}
+use Rattle.hid_script.specs.declared.summary.Summary.{Summary}
 use Rattle.hid_script.specs.FaultText.{fault_text}
 use Rattle.hid_script.specs.Runs.{RunsTo}
 use Rattle.hid_script.specs.Session.{at_first}
@@ -26,17 +26,17 @@ AnswersRun status = (status ≡ OK) ⊎ ((status ≡ REFUSED) ⊎ ((status ≡ N
 
 -- how the run ended
 abbrev pub ran_as : Result Summary ScriptFault → List ℕ → HidRan
-ran_as (Ok summary) written = record { line = 0; told = length written; fault = 0 }
-ran_as (Err fault) written = record { line = fault.line; told = length written; fault = length (fault_text fault) }
+ran_as (Ok summary) written = record { line = 0; length = length written; fault = 0 }
+ran_as (Err fault) written = record { line = fault.line; length = length written; fault = length (fault_text fault) }
 
 -- the line that names a fault, and nothing where there is none
-abbrev pub fault_told : Result Summary ScriptFault → List ℕ
-fault_told (Ok summary) = []
-fault_told (Err fault) = fault_text fault
+abbrev pub fault_line : Result Summary ScriptFault → List ℕ
+fault_line (Ok summary) = []
+fault_line (Err fault) = fault_text fault
 
 -- one of the two texts has too little room
-abbrev pub IsShort : List ℕ → List ℕ → List ℕ → List ℕ → Type 0
-IsShort told out text fault = (length out < length told) ⊎ (length fault < length text)
+abbrev pub HasTooLittleRoom : List ℕ → List ℕ → List ℕ → List ℕ → Type 0
+HasTooLittleRoom told out text fault = (length out < length told) ⊎ (length fault < length text)
 
 -- all lines were run, and the text that they wrote is written
 abbrev pub PutsWhole : Result Summary ScriptFault → List ℕ → List ℕ → List ℕ → List ℕ → List ℕ → HidRan → Type 0
@@ -46,17 +46,19 @@ PutsWhole answer written out out' fault fault' ran =
 -- the run ended early; its text and the line that names its fault are written
 abbrev pub PutsRefused : Result Summary ScriptFault → List ℕ → List ℕ → List ℕ → List ℕ → List ℕ → HidRan → Type 0
 PutsRefused answer written out out' fault fault' ran =
-    IsErr answer × Written written out out' × Written (fault_told answer) fault fault' × (ran ≡ ran_as answer written)
+    IsErr answer × Written written out out' × Written (fault_line answer) fault fault'
+    × (ran ≡ ran_as answer written)
 
 -- one of the texts has too little room, and nothing is written
 abbrev pub PutsNone : Result Summary ScriptFault → List ℕ → List ℕ → List ℕ → List ℕ → List ℕ → HidRan → Type 0
 PutsNone answer written out out' fault fault' ran =
-    (out' ≡ out) × (fault' ≡ fault) × (ran ≡ ran_as answer written) × IsShort written out (fault_told answer) fault
+    (out' ≡ out) × (fault' ≡ fault) × (ran ≡ ran_as answer written)
+    × HasTooLittleRoom written out (fault_line answer) fault
 
 -- the run ended early, memory ran out for the line that names its fault, and nothing is written
 abbrev pub PutsMemory : Result Summary ScriptFault → List ℕ → List ℕ → List ℕ → List ℕ → HidRan → Type 0
 PutsMemory answer out out' fault fault' ran =
-    IsErr answer × (out' ≡ out) × (fault' ≡ fault) × (ran ≡ record { line = 0; told = 0; fault = 0 })
+    IsErr answer × (out' ≡ out) × (fault' ≡ fault) × (ran ≡ record { line = 0; length = 0; fault = 0 })
 
 -- all lines of the script were run, and their text is written
 abbrev pub RunsWhole : Options → List ℕ → List ℕ → List ℕ → List ℕ → List ℕ → HidRan → Type 0
@@ -77,7 +79,7 @@ Misses options script out out' fault fault' ran =
     × PutsNone answer written out out' fault fault' ran
 
 -- the script's run ended early, memory ran out for the line that names its fault, and nothing is written
-abbrev pub Wants : Options → List ℕ → List ℕ → List ℕ → List ℕ → List ℕ → HidRan → Type 0
-Wants options script out out' fault fault' ran =
+abbrev pub RunsOutOfMemory : Options → List ℕ → List ℕ → List ℕ → List ℕ → List ℕ → HidRan → Type 0
+RunsOutOfMemory options script out out' fault fault' ran =
     (written : List ℕ) × (answer : Result Summary ScriptFault) × RunsScript options script written answer
     × PutsMemory answer out out' fault fault' ran

@@ -1,7 +1,7 @@
 -- Texts in the caller's room (our choice).
 use Rattle.std.specs.Prelude.{◌≡◌, ℕ, ◌<◌, ◌≤◌, ◌⊎◌, List, ◌++◌, length, drop, Option, None, Some}
-use Rattle.hid_descriptor.specs.declared.fault.Cause.{Cause}
-use Rattle.hid_descriptor.specs.Codes.{code_of}
+use Rattle.hid_report_descriptor.specs.declared.fault.Cause.{Cause}
+use Rattle.hid_report_descriptor.specs.Codes.{code_of}
 use Rattle.hid_names.specs.Names.{Name, name_text}
 use Rattle.hid_notation.specs.Causes.{layout_words}
 use Rattle.hidstack_session.specs.Causes.{cause_number}
@@ -12,8 +12,8 @@ abbrev pub Written : List ℕ → List ℕ → List ℕ → Type 0
 Written text out out' = (length text ≤ length out) × (out' ≡ text ++ drop (length text) out)
 
 -- the text is written, or too long and nothing is; its length is returned either way
-abbrev pub TellsText : List ℕ → List ℕ → ℕ → List ℕ → ℕ → Type 0
-TellsText text out status out' told =
+abbrev pub TextIsReturned : List ℕ → List ℕ → ℕ → List ℕ → ℕ → Type 0
+TextIsReturned text out status out' told =
     (told ≡ length text)
     × (((status ≡ OK) × Written text out out') ⊎ ((status ≡ NO_ROOM) × (length out < length text) × (out' ≡ out)))
 
@@ -22,24 +22,26 @@ abbrev pub Leaves : ℕ → List ℕ → ℕ → List ℕ → ℕ → Type 0
 Leaves why out status out' told = (status ≡ why) × (out' ≡ out) × (told ≡ 0)
 
 -- the code of the cause with this number, or memory ran out for it; or none has that number
-abbrev pub TellsCause : ℕ → List ℕ → ℕ → List ℕ → ℕ → Type 0
-TellsCause number out status out' told =
+abbrev pub CauseIsReturned : ℕ → List ℕ → ℕ → List ℕ → ℕ → Type 0
+CauseIsReturned number out status out' told =
     ((cause : Cause) × (cause_number cause ≡ number)
-    × (TellsText (code_of cause) out status out' told ⊎ Leaves MEMORY out status out' told))
+    × (TextIsReturned (code_of cause) out status out' told ⊎ Leaves MEMORY out status out' told))
     ⊎ (((cause : Cause) → cause_number cause ≡ number → ⊥) × Leaves NONE out status out' told)
 
 -- the text of a usage, or memory ran out
-abbrev pub TellsUsage : List ℕ → List ℕ → ℕ → List ℕ → ℕ → Type 0
-TellsUsage text out status out' told = TellsText text out status out' told ⊎ Leaves MEMORY out status out' told
+abbrev pub UsageIsReturned : List ℕ → List ℕ → ℕ → List ℕ → ℕ → Type 0
+UsageIsReturned text out status out' told =
+    TextIsReturned text out status out' told ⊎ Leaves MEMORY out status out' told
 
 -- the words of the cause with this number; or none has it
-abbrev pub TellsWords : ℕ → List ℕ → ℕ → List ℕ → ℕ → Type 0
-TellsWords number out status out' told =
-    ((cause : Cause) × (cause_number cause ≡ number) × TellsText (layout_words cause) out status out' told)
+abbrev pub WordsAreReturned : ℕ → List ℕ → ℕ → List ℕ → ℕ → Type 0
+WordsAreReturned number out status out' told =
+    ((cause : Cause) × (cause_number cause ≡ number)
+    × TextIsReturned (layout_words cause) out status out' told)
     ⊎ (((cause : Cause) → cause_number cause ≡ number → ⊥) × Leaves NONE out status out' told)
 
 -- a name, where there is one, or memory ran out
-abbrev pub TellsName : Option Name → List ℕ → ℕ → List ℕ → ℕ → Type 0
-TellsName (Some name) out status out' told =
-    TellsText (name_text name) out status out' told ⊎ Leaves MEMORY out status out' told
-TellsName None out status out' told = Leaves NONE out status out' told
+abbrev pub NameIsReturned : Option Name → List ℕ → ℕ → List ℕ → ℕ → Type 0
+NameIsReturned (Some name) out status out' told =
+    TextIsReturned (name_text name) out status out' told ⊎ Leaves MEMORY out status out' told
+NameIsReturned None out status out' told = Leaves NONE out status out' told

@@ -1,17 +1,17 @@
 //! A descriptor's elements with no handle, and an element's number in a report.
 
 ghost use Rattle.std.specs.Prelude.{◌≡◌, IfOk, IfErr};
-ghost use Rattle.hid_descriptor.specs.Faults.{Explains};
-ghost use Rattle.hidstack.specs.Tables.{TablesElements, Tabled, Misses, Refuses, HasElements, NumberAnswers};
+ghost use Rattle.hid_report_descriptor.specs.Faults.{Explains};
+ghost use Rattle.hidstack.specs.Tables.{TablesElements, Tabled, Misses, Refuses, TableHasElements, NumberAnswers};
 
 use crate::status::{NO_ROOM, OK, REFUSED, SHORT, UNKNOWN};
-use hid_layout::{Cause, Layout};
+use hid_layout::Layout;
 use hidstack_session::{
     HidElement, LayoutFault, ReportFault, cause_number, list_elements, number_in, put_elements,
 };
 use std::alloc::Global;
 
-/// What `hidstack_table` tells beside its status.
+/// What `hidstack_table` writes beside its status.
 #[repr(C)]
 #[derive(Clone, Copy)]
 pub struct HidTabled {
@@ -27,16 +27,13 @@ pub struct HidTabled {
 
 /// The elements of a descriptor.
 fn read_elements(alloc: Global, descriptor: &[u8]) -> Result<Vec<HidElement>, LayoutFault>
-    ensures ok { IfOk result (λ elements. HasElements descriptor.now elements.items) }
+    ensures ok { IfOk result (λ elements. TableHasElements descriptor.now elements.items) }
     ensures err { IfErr result (λ f. Explains descriptor.now f.cause f.at) }
 {
     let layout = Layout::parse(alloc, descriptor)?;
     match list_elements(alloc, &layout) {
         Ok(elements) => Ok(elements),
-        Err(_) => Err(LayoutFault {
-            cause: Cause::Memory,
-            at: 0,
-        }),
+        Err(_) => Err(LayoutFault::memory()),
     }
 }
 

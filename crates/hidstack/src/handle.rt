@@ -1,7 +1,7 @@
 //! A session by its address, as C keeps it.
 
 ghost use Rattle.std.specs.Prelude.{◌≡◌, Option, None, Some, MatchOption};
-ghost use Rattle.hidstack_session.specs.States.{State};
+ghost use Rattle.hidstack_session.specs.States.{SessionState};
 ghost use Rattle.hidstack_session.specs.contracts.session.Session.{the_row};
 ghost use Rattle.hidstack.specs.Held.{owned_box};
 
@@ -17,7 +17,7 @@ use std::ptr::null_mut;
 #[derive(Drop)]
 pub struct Handle {
     at: *mut u8,
-    pub ghost kept: { Option State },
+    pub ghost kept: { Option SessionState },
 }
 
 impl Model for Handle {
@@ -32,6 +32,7 @@ impl Handle {
         Handle { at: null_mut() }
     }
 
+    /// The handle of an address.
     fn of_address(address: Address<Session>) -> Handle
         ensures { result.kept ≡ Some address.value }
     {
@@ -39,6 +40,7 @@ impl Handle {
         Handle { at: at as *mut u8 }
     }
 
+    /// The address of a handle; none if it is closed.
     fn into_address(self) -> Option<Address<Session>>
         ensures { MatchOption result (self.kept ≡ None) (λ a. self.kept ≡ Some a.value) }
     {

@@ -1,4 +1,5 @@
-//! HID reports for C: `include/hidstack.h` declares what stands here.
+//! The C library `libhidstack`: `include/hidstack.h` declares what stands here. (The rig of devices and hosts is the crate
+//! `hid_stack`.)
 //! ```text
 //!   hidstack_open     a report descriptor --> a handle
 //!   hidstack_feed     a handle and a report --> the report's events, in the caller's table
@@ -16,6 +17,7 @@
 //! and the events of [`hid_usages::View::take_report`], and the contents of the layout.
 #![tactic(auto)]
 
+pub mod accessors;
 mod address;
 pub mod elements;
 pub mod handle;
@@ -23,5 +25,4 @@ pub mod names;
 pub mod reading;
 pub mod run;
 pub mod session;
-pub mod shown;
 pub mod status;

@@ -3,7 +3,7 @@
 ghost use Rattle.std.specs.Prelude.{◌≡◌, ◌≤◌, ◌++◌, length, drop};
 ghost use Rattle.hid_names.specs.Names.{name_of};
 ghost use Rattle.hid_notation.specs.Text.{usage_text};
-ghost use Rattle.hidstack.specs.Texts.{TellsText, TellsCause, TellsName, TellsUsage, TellsWords};
+ghost use Rattle.hidstack.specs.Texts.{TextIsReturned, CauseIsReturned, NameIsReturned, UsageIsReturned, WordsAreReturned};
 
 use crate::status::{MEMORY, NO_ROOM, NONE, OK};
 use hid_layout::Usage;
@@ -22,11 +22,11 @@ pub(crate) fn put_text(text: &[u8], out: &mut [u8])
     }
 }
 
-/// Writes a text where there is room, and tells its length.
-fn write_text(text: &[u8], out: &mut [u8], told: &mut u64) -> u32
-    ensures { TellsText text.now out.old result out.new told.new }
+/// Writes a text where there is room, and its length.
+fn write_text(text: &[u8], out: &mut [u8], len: &mut u64) -> u32
+    ensures { TextIsReturned text.now out.old result out.new len.new }
 {
-    *told = text.len() as u64;
+    *len = text.len() as u64;
     if text.len() > out.len() {
         return NO_ROOM;
     }
@@ -40,16 +40,16 @@ pub extern "C" fn hidstack_cause_text(
     alloc: Global,
     cause: u32,
     out: &mut [u8],
-    told: &mut u64,
+    len: &mut u64,
 ) -> u32
-    ensures { TellsCause cause out.old result out.new told.new }
+    ensures { CauseIsReturned cause out.old result out.new len.new }
 {
-    *told = 0;
+    *len = 0;
     let Some(found) = cause_with(cause) else {
         return NONE;
     };
     match found.to_string(alloc) {
-        Ok(text) => write_text(text.as_bytes(), out, told),
+        Ok(text) => write_text(text.as_bytes(), out, len),
         Err(_) => MEMORY,
     }
 }
@@ -61,25 +61,26 @@ pub extern "C" fn hidstack_usage_text(
     page: u16,
     id: u16,
     out: &mut [u8],
-    told: &mut u64,
+    len: &mut u64,
 ) -> u32
-    ensures { TellsUsage (usage_text (record { page = page; id = id })) out.old result out.new told.new }
+    ensures { UsageIsReturned
+        (usage_text (record { page = page; id = id })) out.old result out.new len.new }
 {
-    *told = 0;
+    *len = 0;
     match UsageText(Usage { page, id }).to_string(alloc) {
-        Ok(text) => write_text(text.as_bytes(), out, told),
+        Ok(text) => write_text(text.as_bytes(), out, len),
         Err(_) => MEMORY,
     }
 }
 
 /// A cause in words: `a Pop without a Push` of 3.
 #[unsafe(no_mangle)]
-pub extern "C" fn hidstack_cause_words(cause: u32, out: &mut [u8], told: &mut u64) -> u32
-    ensures { TellsWords cause out.old result out.new told.new }
+pub extern "C" fn hidstack_cause_words(cause: u32, out: &mut [u8], len: &mut u64) -> u32
+    ensures { WordsAreReturned cause out.old result out.new len.new }
 {
-    *told = 0;
+    *len = 0;
     match cause_with(cause) {
-        Some(found) => write_text(layout_words(found).as_bytes(), out, told),
+        Some(found) => write_text(layout_words(found).as_bytes(), out, len),
         None => NONE,
     }
 }
@@ -91,16 +92,16 @@ pub extern "C" fn hidstack_usage_name(
     page: u16,
     id: u16,
     out: &mut [u8],
-    told: &mut u64,
+    len: &mut u64,
 ) -> u32
-    ensures { TellsName (name_of page id) out.old result out.new told.new }
+    ensures { NameIsReturned (name_of page id) out.old result out.new len.new }
 {
-    *told = 0;
+    *len = 0;
     let Some(name) = usage_name(page, id) else {
         return NONE;
     };
     match name.to_string(alloc) {
-        Ok(text) => write_text(text.as_bytes(), out, told),
+        Ok(text) => write_text(text.as_bytes(), out, len),
         Err(_) => MEMORY,
     }
 }

@@ -3,7 +3,7 @@
 ghost use Rattle.std.specs.Prelude.{◌≡◌, [], IfOk, IsErr};
 ghost use Rattle.std.specs.Bool.{OnTrue, OnFalse};
 ghost use Rattle.hidstack.specs.Texts.{Written};
-ghost use Rattle.hidstack.specs.Running.{options_of, fault_told, RunsScript, AnswersRun, PutsWhole, PutsRefused, PutsNone, PutsMemory, RunsWhole, RunsRefused, Misses, Wants, IsShort};
+ghost use Rattle.hidstack.specs.Running.{options_of, fault_line, RunsScript, AnswersRun, PutsWhole, PutsRefused, PutsNone, PutsMemory, RunsWhole, RunsRefused, Misses, RunsOutOfMemory, HasTooLittleRoom};
 
 use crate::names::put_text;
 use crate::status::{MEMORY, NO_ROOM, OK, REFUSED};
@@ -22,8 +22,8 @@ pub const POLLS: u32 = 2;
 pub struct HidRan {
     /// The line that was refused, from 1; 0 where none was.
     pub line: u64,
-    /// The bytes of what the script tells.
-    pub told: u64,
+    /// The length of the script's output in bytes.
+    pub length: u64,
     /// The bytes of the line that names the fault.
     pub fault: u64,
 }
@@ -56,7 +56,7 @@ fn run_script(
 fn put_both(told: &[u8], text: &[u8], out: &mut [u8], fault: &mut [u8]) -> bool
     ensures done { OnTrue result (Written told.now out.old out.new × Written text.now fault.old fault.new) }
     ensures missed { OnFalse result ((out.new ≡ out.old) × (fault.new ≡ fault.old)
-        × IsShort told.now out.old text.now fault.old) }
+        × HasTooLittleRoom told.now out.old text.now fault.old) }
 {
     if told.len() > out.len() || text.len() > fault.len() {
         return false;
@@ -68,7 +68,7 @@ fn put_both(told: &[u8], text: &[u8], out: &mut [u8], fault: &mut [u8]) -> bool
 
 /// The line that names a run's fault, and no text where all lines were run.
 fn text_of(alloc: Global, ended: &Result<Summary, ScriptFault>) -> Result<Vec<u8>, ScriptFault>
-    ensures told { IfOk result (λ text. text.items ≡ fault_told ended.now) }
+    ensures text { IfOk result (λ text. text.items ≡ fault_line ended.now) }
     ensures memory { IsErr result → IsErr ended.now }
 {
     match ended {
@@ -77,8 +77,8 @@ fn text_of(alloc: Global, ended: &Result<Summary, ScriptFault>) -> Result<Vec<u8
     }
 }
 
-/// Writes what a run told and the line that names its fault, and answers how it ended. Memory is wanted for a run that
-/// ended early alone.
+/// Writes the output of a run and the line that names its fault, and returns how it ended. Only a run that ended early takes
+/// memory here.
 fn put_run(
     alloc: Global,
     ended: &Result<Summary, ScriptFault>,
@@ -95,13 +95,13 @@ fn put_run(
 {
     *ran = HidRan {
         line: 0,
-        told: 0,
+        length: 0,
         fault: 0,
     };
     let Ok(text) = text_of(alloc, ended) else {
         return MEMORY;
     };
-    ran.told = told.len() as u64;
+    ran.length = told.len() as u64;
     ran.fault = text.len() as u64;
     if let Err(wrong) = ended {
         ran.line = wrong.line as u64;
@@ -112,7 +112,7 @@ fn put_run(
     if ended.is_ok() { OK } else { REFUSED }
 }
 
-/// Runs the script, and writes what it tells over the first bytes of `out`, and the line that names its fault over the
+/// Runs the script, and writes its output over the first bytes of `out`, and the line that names its fault over the
 /// first of `fault`.
 #[unsafe(no_mangle)]
 pub extern "C" fn hidstack_run(
@@ -130,7 +130,7 @@ pub extern "C" fn hidstack_run(
         fault.old fault.new ran.new }
     ensures missed { result ≡ NO_ROOM → Misses (options_of options) script.now out.old out.new
         fault.old fault.new ran.new }
-    ensures memory { result ≡ MEMORY → Wants (options_of options) script.now out.old out.new
+    ensures memory { result ≡ MEMORY → RunsOutOfMemory (options_of options) script.now out.old out.new
         fault.old fault.new ran.new }
 {
     let mut told = Vec::new(alloc);

@@ -1,7 +1,7 @@
 //! A handle is opened, fed and closed.
 
 ghost use Rattle.std.specs.Prelude.{◌≡◌, ◌≤◌, Some, None, Ok, Err, IfOk, IfErr};
-ghost use Rattle.hid_descriptor.specs.Faults.{Explains};
+ghost use Rattle.hid_report_descriptor.specs.Faults.{Explains};
 ghost use Rattle.hidstack_session.specs.Causes.{cause_number};
 ghost use Rattle.hidstack_session.specs.declared.session.FeedFault.TheVariants.{Refused};
 ghost use Rattle.hidstack_session.specs.Sessions.{IsFirst};
@@ -10,12 +10,10 @@ ghost use Rattle.hidstack.specs.Feeding.{FeedsHandle, status_of};
 
 use crate::handle::Handle;
 use crate::status::{BUSY, CLOSED, NO_ROOM, OK, REFUSED, SHORT, UNKNOWN};
-use hidstack_session::{
-    Cause, FeedFault, HidEvent, LayoutFault, ReportFault, Session, cause_number,
-};
+use hidstack_session::{FeedFault, HidEvent, LayoutFault, ReportFault, Session, cause_number};
 use std::alloc::Global;
 
-/// What `hidstack_open` tells beside its status.
+/// What `hidstack_open` writes beside its status.
 #[repr(C)]
 #[derive(Clone, Copy)]
 pub struct HidOpened {
@@ -33,6 +31,7 @@ pub struct HidOpened {
     pub numbered: u32,
 }
 
+/// The counts of an opening that wrote nothing: all 0.
 fn nothing_opened() -> HidOpened
     ensures { result ≡ record { at = 0; room = 0; reports = 0; items = 0; cause = 0; numbered = 0 } }
 {
@@ -53,14 +52,11 @@ fn open_box(alloc: Global, descriptor: &[u8]) -> Result<Box<Session>, LayoutFaul
 {
     match Box::new(alloc, Session::open(alloc, descriptor)?) {
         Ok(session) => Ok(session),
-        Err(_) => Err(LayoutFault {
-            cause: Cause::Memory,
-            at: 0,
-        }),
+        Err(_) => Err(LayoutFault::memory()),
     }
 }
 
-/// What is told of a session that was opened.
+/// What an opening reports of its session.
 fn opened_result(session: &Session) -> HidOpened
     ensures { result ≡ opened_result session.now }
 {
@@ -108,6 +104,7 @@ pub extern "C" fn hidstack_open(
     }
 }
 
+/// The status for a report that is refused.
 fn fault_status(fault: ReportFault) -> u32
     ensures { result ≡ status_of (Err (Refused fault)) }
 {

@@ -3,7 +3,7 @@
 /// Done.
 pub const OK: u32 = 0;
 
-/// The descriptor is refused; its cause and place are told.
+/// The descriptor is refused; its cause and place are reported.
 pub const REFUSED: u32 = 1;
 
 /// The handle is open already.
@@ -12,7 +12,7 @@ pub const BUSY: u32 = 2;
 /// The handle is closed.
 pub const CLOSED: u32 = 3;
 
-/// The caller's table or text is too small; the room that is needed is told.
+/// The caller's table or text is too small; the room that is needed is reported.
 pub const NO_ROOM: u32 = 4;
 
 /// U8: fewer bytes than the report has.

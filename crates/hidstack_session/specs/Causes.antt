@@ -1,7 +1,7 @@
 -- The causes of refusals as numbers (our choice).
 use Rattle.std.specs.Prelude.{ℕ}
-use Rattle.hid_descriptor.specs.declared.fault.Cause.{Cause}
-use Rattle.hid_descriptor.specs.declared.fault.Cause.TheVariants.{Truncated, TooLong, PopEmpty, PushDepth, CollectionDepth, EndWithout, Unclosed, BadReportId, MixedReportId, BadRange, BadSize, BadUsageRange, UnpairedUsage, Delimiter, ReportTooLong, TooMany, Memory}
+use Rattle.hid_report_descriptor.specs.declared.fault.Cause.{Cause}
+use Rattle.hid_report_descriptor.specs.declared.fault.Cause.TheVariants.{Truncated, TooLong, PopEmpty, PushDepth, CollectionDepth, EndWithout, Unclosed, BadReportId, MixedReportId, BadRange, BadSize, BadUsageRange, UnpairedUsage, Delimiter, ReportTooLong, TooMany, Memory}
 
 -- each cause has the number of its code: 1 for L1 to 17 for L17
 abbrev pub cause_number : Cause → ℕ

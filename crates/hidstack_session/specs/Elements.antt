@@ -1,24 +1,21 @@
 -- Elements as records of numbers (HID 1.11, 5.8, 6.2.2.5 and 6.2.2.8; the record: our choice).
-use Rattle.std.specs.Prelude.{◌≡◌, ℕ, ◌+◌, ◌-◌, ◌*◌, ◌<◌, ◌≤◌, ◌==◌, ◌⊎◌, Bool, true, false, not, List, [], length, min, slice_get, slice_index, Option, Some, None, Result, Ok, Err, ℤ}
+use Rattle.std.specs.Prelude.{◌≡◌, ℕ, ◌+◌, ◌*◌, ◌<◌, ◌≤◌, ◌==◌, ◌⊎◌, Bool, true, false, not, List, [], length, slice_get, slice_index, Option, Some, None, Result, Ok, Err, ℤ}
 use Rattle.hid_fields.specs.Field.{pattern_of}
 use Rattle.hid_fields.specs.Value.{value_of}
-use Rattle.hid_descriptor.specs.Kinds.{rank}
-use Rattle.hid_descriptor.specs.declared.usage.Usage.{Usage}
-use Rattle.hid_descriptor.specs.declared.shape.Shape.{Shape}
-use Rattle.hid_descriptor.specs.declared.shape.Shape.TheVariants.{Padding, Variable, Array}
-use Rattle.hid_descriptor.specs.declared.limits.TheConstants.{MAX_WIDTH}
-use Rattle.hid_descriptor.specs.Usages.{usage_list}
+use Rattle.hid_report_descriptor.specs.Kinds.{rank}
+use Rattle.hid_report_descriptor.specs.declared.usage.Usage.{Usage}
+use Rattle.hid_report_descriptor.specs.declared.shape.Shape.{Shape}
+use Rattle.hid_report_descriptor.specs.declared.shape.Shape.TheVariants.{Padding, Variable, Array}
+use Rattle.hid_report_descriptor.specs.declared.limits.TheConstants.{MAX_WIDTH}
+use Rattle.hid_report_descriptor.specs.Usages.{usage_list}
 use Rattle.hid_snapshots.specs.declared.fault.ReportFault.{ReportFault}
 use Rattle.hid_snapshots.specs.declared.fault.ReportFault.TheVariants.{Short, UnknownReport}
 use Rattle.hid_layout.specs.Layout.{Contents}
+use Rattle.hid_layout.specs.Controls.{usage_of_element}
 use Rattle.hid_layout.specs.declared.main_item.MainItem.{MainItem}
 use Rattle.hid_layout.specs.declared.main_item.Element.{Element}
 use Rattle.hid_layout.specs.Reports.{first_bit, report_id, element_of}
 use Rattle.hidstack_session.specs.declared.element.HidElement.{HidElement}
-
--- a variable item has a usage for each element, and where it has fewer the last one is for the rest (6.2.2.8)
-unfoldable pub usage_of_element : List Usage → ℕ → Option Usage
-usage_of_element usages j = slice_get usages (min j (length usages - 1))
 
 -- a usage that may be there, else 00:00
 abbrev pub usage_or_zero : Option Usage → Usage
@@ -47,8 +44,9 @@ abbrev pub kind_at : Contents → ℕ → ℕ
 kind_at layout r = elim (slice_get layout.reports r) [ None ↦ 0 | Some report ↦ rank report.kind ]
 
 -- the usages that the listed item at a place has
-abbrev pub usages_at : Contents → ℕ → List Usage
-usages_at layout i = elim (slice_get layout.entries i) [ None ↦ [] | Some entries ↦ usage_list entries ]
+abbrev pub usage_entries_at : Contents → ℕ → List Usage
+usage_entries_at layout i =
+    elim (slice_get layout.entries i) [ None ↦ [] | Some entries ↦ usage_list entries ]
 
 -- how many collections are open round the listed item at a place
 abbrev pub depth_at : Contents → ℕ → ℕ
@@ -64,9 +62,9 @@ element_record layout i j item element = record {
   collections = depth_at layout i;
   bit = first_bit layout + element.bit;
   width = element.width;
-  usages = length (usages_at layout i);
-  page = (usage_number item.shape (usages_at layout i) j).page;
-  id = (usage_number item.shape (usages_at layout i) j).id;
+  usages = length (usage_entries_at layout i);
+  page = (usage_number item.shape (usage_entries_at layout i) j).page;
+  id = (usage_number item.shape (usage_entries_at layout i) j).id;
   flags = item.flags.0;
   kind = kind_at layout item.report;
   report = report_id layout item.report;

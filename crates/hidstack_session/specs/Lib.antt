@@ -3,5 +3,5 @@ pub mod Events
 pub mod States
 pub mod Sessions
 pub mod Elements
-pub mod Shown
+pub mod Records
 pub mod Tables

@@ -1,8 +1,8 @@
 -- What opening a session gives (HID 1.11, 6.2.2), and what a report makes of it (5.6 and 6.2.2.5).
 use Rattle.std.specs.Prelude.{◌≡◌, ℕ, ◌<◌, ◌≤◌, List, ◌++◌, length, map, drop, Result, Ok, Err}
-use Rattle.hid_descriptor.specs.Items.{Spelled}
-use Rattle.hid_descriptor.specs.Faults.{Accepts}
-use Rattle.hid_descriptor.specs.declared.fault.LayoutFault.{LayoutFault}
+use Rattle.hid_report_descriptor.specs.Items.{EncodedItem}
+use Rattle.hid_report_descriptor.specs.Faults.{Accepts}
+use Rattle.hid_report_descriptor.specs.declared.fault.LayoutFault.{LayoutFault}
 use Rattle.hid_layout.specs.Layout.{Contents, layout_of}
 use Rattle.hid_layout.specs.Controls.{items_of, max_events}
 use Rattle.hid_snapshots.specs.ControlStates.{blank}
@@ -12,25 +12,26 @@ use Rattle.hidstack_session.specs.declared.event.HidEvent.{HidEvent}
 use Rattle.hidstack_session.specs.declared.session.FeedFault.{FeedFault}
 use Rattle.hidstack_session.specs.declared.session.FeedFault.TheVariants.{NoRoom, Refused}
 use Rattle.hidstack_session.specs.Events.{event_of}
-use Rattle.hidstack_session.specs.States.{State}
+use Rattle.hidstack_session.specs.States.{SessionState}
 
 -- a device of which nothing was read yet: the layout of an accepted descriptor's items, and a blank view
-abbrev pub IsFirst : List ℕ → State → Type 0
+abbrev pub IsFirst : List ℕ → SessionState → Type 0
 IsFirst bytes s =
-    (before : List Spelled) × Accepts bytes before × (s.layout ≡ layout_of before)
+    (before : List EncodedItem) × Accepts bytes before × (s.layout ≡ layout_of before)
     × (s.view ≡ blank (items_of s.layout))
 
 -- the session of a layout, with a blank view; of a fault there is none
-abbrev pub IsFirstOf : Result Contents LayoutFault → State → Type 0
+abbrev pub IsFirstOf : Result Contents LayoutFault → SessionState → Type 0
 IsFirstOf (Ok layout) s = (s.layout ≡ layout) × (s.view ≡ blank (items_of layout))
 IsFirstOf (Err fault) s = ⊥
 
 -- the most events that a report of the device has
-abbrev pub room_of : State → ℕ
+abbrev pub room_of : SessionState → ℕ
 room_of s = max_events (items_of s.layout)
 
 -- A report is read and the records of its events stand first in the table, or it is refused and nothing changes.
-abbrev pub Feeds : State → List ℕ → List HidEvent → Result ℕ FeedFault → State → List HidEvent → Type 0
+abbrev pub Feeds : SessionState → List ℕ → List HidEvent → Result ℕ FeedFault → SessionState → List HidEvent
+    → Type 0
 Feeds s bytes out (Ok count) s' out' =
     (room_of s ≤ length out) × (r : ℕ) × (report_named s.layout bytes ≡ Ok r)
     × (s' ≡ record s { view = read_view s.layout r bytes s.view })

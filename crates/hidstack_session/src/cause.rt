@@ -1,7 +1,7 @@
 //! The causes of refusals as numbers.
 
 ghost use Rattle.std.specs.Prelude.{◌≡◌, IfSome, IfNone};
-ghost use Rattle.hid_descriptor.specs.declared.fault.Cause.{Cause};
+ghost use Rattle.hid_report_descriptor.specs.declared.fault.Cause.{Cause};
 ghost use Rattle.hidstack_session.specs.Causes.{cause_number};
 
 use hid_layout::Cause;

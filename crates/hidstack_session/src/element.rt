@@ -1,15 +1,15 @@
 //! Elements as records, and their numbers in the bytes of a report (HID 1.11, 5.8 and 6.2.2.5).
 
 ghost use Rattle.std.specs.Prelude.{◌≡◌, ◌≤◌, ◌<◌, ◌*◌, length};
-ghost use Rattle.hid_descriptor.specs.Kinds.{rank};
-ghost use Rattle.hid_descriptor.specs.Usages.{usage_list};
+ghost use Rattle.hid_report_descriptor.specs.Kinds.{rank};
+ghost use Rattle.hid_report_descriptor.specs.Usages.{usage_list};
 ghost use Rattle.hid_layout.specs.Reports.{report_id, IsLayout};
-ghost use Rattle.hidstack_session.specs.Elements.{usage_of_element, usage_number, element_at, kind_at, element_record, one_of, HoldsNumber};
+ghost use Rattle.hidstack_session.specs.Elements.{usage_number, element_at, kind_at, element_record, one_of, HoldsNumber};
 
 use hid_fields::{FieldCodec, MAX_WIDTH, WordCodec, to_value};
 use hid_layout::{
-    Element, Layout, MAX_ENTRIES, MAX_REPORT_BYTES, MainItem, ReportKind, Shape, Usage, usage_at,
-    usage_count,
+    Element, Layout, MAX_ENTRIES, MAX_REPORT_BYTES, MainItem, ReportKind, Shape, Usage,
+    usage_count, usage_of_element,
 };
 use hid_usages::ReportFault;
 
@@ -89,17 +89,7 @@ fn report_of(layout: &Layout, r: usize) -> (u8, u8)
     }
 }
 
-/// The usage of an element of a variable item.
-#[tactic(auto, unfolding(crate::specs::Elements::usage_of_element))]
-fn usage_of_element(entries: &[(Usage, Usage)], j: usize) -> Option<Usage>
-    requires { length entries.now ≤ MAX_ENTRIES }
-    ensures { result ≡ usage_of_element (usage_list entries.now) j }
-{
-    let last = usage_count(entries).saturating_sub(1);
-    usage_at(entries, j.min(last))
-}
-
-/// The usage that is told of an element.
+/// The usage of an element of a variable item; page 0 and ID 0 for other items.
 fn usage_number(entries: &[(Usage, Usage)], shape: Shape, j: usize) -> Usage
     requires { length entries.now ≤ MAX_ENTRIES }
     ensures { result ≡ usage_number shape (usage_list entries.now) j }

@@ -42,6 +42,7 @@ pub struct HidEvent {
     pub kind: u32,
 }
 
+/// The record of an event.
 fn event_record(kind: u32, control: ControlId, usage: Usage, value: i64) -> HidEvent
     ensures { result ≡ event_record kind control usage value }
 {

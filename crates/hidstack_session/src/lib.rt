@@ -15,8 +15,8 @@
 mod cause;
 mod element;
 mod event;
+mod records;
 mod session;
-mod shown;
 mod table;
 
 pub use cause::{cause_number, cause_with};
@@ -24,6 +24,6 @@ pub use element::{FEATURE, HidElement, INPUT, OUTPUT, element_at, number_in};
 pub use event::{DOWN, DROPPED, HidEvent, MOTION, NULL, UP, VALUE, event_of, put_events};
 pub use hid_layout::{Cause, ControlId, LayoutFault};
 pub use hid_usages::ReportFault;
+pub use records::{HidCollection, HidReport, HidUsage, collection_at, report_at, usage_at};
 pub use session::{FeedFault, Session};
-pub use shown::{HidCollection, HidReport, HidUsage, collection_at, report_at, usage_at};
 pub use table::{list_elements, put_elements};

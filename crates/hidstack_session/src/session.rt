@@ -1,10 +1,9 @@
 //! A device whose reports are read: its descriptor once, then one report at a time.
 
-ghost use Rattle.std.specs.Prelude.{◌≡◌, ◌≤◌, Ok, Err, IfOk, IfErr, IfSome, vec_capacity};
-ghost use Rattle.hid_descriptor.specs.Faults.{Explains};
+ghost use Rattle.std.specs.Prelude.{◌≡◌, Ok, Err, IfOk, IfErr};
+ghost use Rattle.hid_report_descriptor.specs.Faults.{Explains};
 ghost use Rattle.hid_layout.specs.Layout.{Contents};
 ghost use Rattle.hid_layout.specs.Controls.{items_of, max_events};
-ghost use Rattle.hid_snapshots.specs.ControlStates.{FitsView, blank};
 ghost use Rattle.hid_snapshots.specs.Snapshots.{is_pressed, state_at};
 ghost use Rattle.hid_snapshots.specs.Views.{value_in};
 ghost use Rattle.hidstack_session.specs.Sessions.{IsFirst, IsFirstOf, Feeds};
@@ -12,14 +11,14 @@ ghost use Rattle.hidstack_session.specs.Sessions.{IsFirst, IsFirstOf, Feeds};
 use crate::event::{HidEvent, put_events};
 use hid_fields::WordCodec;
 use hid_layout::{Cause, ControlId, Layout, LayoutFault};
-use hid_usages::{Event, Reader, ReportFault, View};
+use hid_usages::{Event, Reader, ReportFault, first_view};
 use std::alloc::Global;
 use std::marker::Model;
 
 /// Why a report is not read, in the order in which causes are looked for.
 #[derive(Clone, Copy, Debug)]
 pub enum FeedFault {
-    /// The table has fewer places than a report can tell events.
+    /// The table has fewer places than a report can have events.
     NoRoom,
     /// U8 or U9: the bytes are no Input report of the device.
     Refused(ReportFault),
@@ -36,34 +35,13 @@ pub struct Session {
 impl Model for Session {
     ghost use Rattle.std.specs.Prelude.{◌≤◌, vec_capacity};
     ghost use Rattle.hid_layout.specs.Controls.{items_of, max_events};
-    ghost use Rattle.hidstack_session.specs.States.{State};
+    ghost use Rattle.hidstack_session.specs.States.{SessionState};
 
-    ghost Value = { State };
+    ghost Value = { SessionState };
 
     ghost view = { λ s. record { layout = s.reader.layout; view = s.reader.view } };
 
     ghost invariant = { λ s. max_events (items_of s.reader.layout) ≤ vec_capacity s.events };
-}
-
-/// Out of memory, where a descriptor is read.
-fn no_memory() -> LayoutFault
-    ensures { result ≡ record { cause = Cause.Memory; at = 0 } }
-{
-    LayoutFault {
-        cause: Cause::Memory,
-        at: 0,
-    }
-}
-
-/// A blank view of a layout, and room for the events of a report.
-fn first_view(alloc: Global, layout: &Layout) -> Option<(View, Vec<Event>)>
-    ensures view { IfSome result (λ made. (made.0 ≡ blank (items_of layout.now))
-        × FitsView (items_of layout.now) made.0) }
-    ensures room { IfSome result (λ made. max_events (items_of layout.now) ≤ vec_capacity made.1) }
-{
-    let view = View::initial(alloc, layout).ok()?;
-    let events = Vec::with_capacity(alloc, layout.max_events()).ok()?;
-    Some((view, events))
 }
 
 impl Session {
@@ -79,7 +57,8 @@ impl Session {
         Session::of_layout(alloc, Layout::parse(alloc, descriptor))
     }
 
-    /// A session of the layout, with a blank view. A fault in the layout's place is handed on as it is.
+    /// A session of the layout, with a blank view. It takes what parsing gave, so that its proof has one early
+    /// return.
     fn of_layout(alloc: Global, laid: Result<Layout, LayoutFault>) -> Result<Session, LayoutFault>
         ensures ok { IfOk result (λ session. IsFirstOf laid session) }
         ensures fault { (f : LayoutFault) → laid ≡ Err f → result ≡ Err f }
@@ -91,11 +70,11 @@ impl Session {
                 reader: Reader::new(layout, view),
                 events,
             }),
-            None => Err(no_memory()),
+            None => Err(LayoutFault::memory()),
         }
     }
 
-    /// How many events a report tells at most.
+    /// How many events a report has at most.
     pub fn room(&self) -> usize
         ensures { result ≡ max_events (items_of self.now.layout) }
     {

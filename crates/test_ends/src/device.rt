@@ -15,8 +15,8 @@
 //! not the first of its pieces; and `halted` while the endpoint is halted. `07*9` are nine bytes 07, as more than eight of the
 //! same are written.
 
-use crate::told::Told;
-use crate::words::{control_of, kind_of, number, small, spell};
+use crate::output::Output;
+use crate::words::{control_of, kind_of, number, read_bytes, small};
 use hid_device::Device;
 use hid_layout::{ControlId, ReportKind};
 use hid_snapshots::Change;
@@ -25,15 +25,15 @@ use usb_control::{HostTransfer, Outcome, Requests, Setup};
 use usb_packet::{decode, encode};
 use usb_transact::Fate;
 
-/// Makes a change, and tells why it can't be made, if it can't.
-fn tell_change(device: &mut Device, change: Option<Change>, told: &mut Told) {
+/// Makes a change, and appends why it can't be made, if it can't.
+fn print_change(device: &mut Device, change: Option<Change>, printed: &mut Output) {
     match change {
         Some(change) => {
             if let Err(fault) = device.change(change) {
-                told.show(fault);
+                printed.show(fault);
             }
         }
-        None => told.unread(),
+        None => printed.unread(),
     }
 }
 
@@ -54,7 +54,7 @@ fn set(item: &str, index: &str, value: &str) -> Option<Change> {
 }
 
 /// Makes the change that is meant; false where none is.
-fn is_changed(device: &mut Device, words: &[&str], told: &mut Told) -> bool {
+fn is_changed(device: &mut Device, words: &[&str], printed: &mut Output) -> bool {
     let change = match *words {
         ["press", item, index] => pressed(item, index),
         ["release", item, index] => released(item, index),
@@ -62,7 +62,7 @@ fn is_changed(device: &mut Device, words: &[&str], told: &mut Told) -> bool {
         ["set", item, index, value] => set(item, index, value),
         _ => return false,
     };
-    tell_change(device, change, told);
+    print_change(device, change, printed);
     true
 }
 
@@ -90,45 +90,45 @@ fn is_acted(device: &mut Device, words: &[&str]) -> bool {
     true
 }
 
-fn pass_frames(device: &mut Device, count: Option<usize>, told: &mut Told) {
+fn pass_frames(device: &mut Device, count: Option<usize>, printed: &mut Output) {
     match count {
         Some(count) => {
             for _ in 0..count {
                 device.frame();
             }
         }
-        None => told.unread(),
+        None => printed.unread(),
     }
 }
 
-/// Tells the motion that is fixed of a control.
-fn tell_motion(device: &Device, control: Option<ControlId>, told: &mut Told) {
+/// Appends the fixed motion of a control.
+fn print_motion(device: &Device, control: Option<ControlId>, printed: &mut Output) {
     match control {
-        Some(control) => told.show(device.fixed().motion(control)),
-        None => told.unread(),
+        Some(control) => printed.show(device.fixed().motion(control)),
+        None => printed.unread(),
     }
 }
 
-/// Tells a report that was set last.
-fn tell_kept(device: &Device, kind: Option<ReportKind>, id: Option<u8>, told: &mut Told) {
+/// Appends a report that was set last.
+fn print_kept(device: &Device, kind: Option<ReportKind>, id: Option<u8>, printed: &mut Output) {
     match (kind, id) {
-        (Some(kind), Some(id)) => told.hex_if_any(device.outputs(kind, id)),
-        _ => told.unread(),
+        (Some(kind), Some(id)) => printed.hex_if_any(device.outputs(kind, id)),
+        _ => printed.unread(),
     }
 }
 
-/// Tells the answer that is fixed at endpoint 0.
-fn tell_fixed_answer(device: &mut Device, told: &mut Told) {
-    told.hex_if_any(device.control().requests().answer());
+/// Appends the answer that is fixed at endpoint 0.
+fn print_fixed_answer(device: &mut Device, printed: &mut Output) {
+    printed.hex_if_any(device.control().requests().answer());
 }
 
 /// Shows what is one of these words; false where it is something else.
-fn is_shown(device: &mut Device, words: &[&str], told: &mut Told) -> bool {
+fn is_shown(device: &mut Device, words: &[&str], printed: &mut Output) -> bool {
     match *words {
-        ["frames", count] => pass_frames(device, number(count), told),
-        ["fixed", item, index] => tell_motion(device, control_of(item, index), told),
-        ["kept", kind, id] => tell_kept(device, kind_of(kind), small(id), told),
-        ["answer"] => tell_fixed_answer(device, told),
+        ["frames", count] => pass_frames(device, number(count), printed),
+        ["fixed", item, index] => print_motion(device, control_of(item, index), printed),
+        ["kept", kind, id] => print_kept(device, kind_of(kind), small(id), printed),
+        ["answer"] => print_fixed_answer(device, printed),
         _ => return false,
     }
     true
@@ -146,108 +146,116 @@ fn run(transfer: &mut HostTransfer, device: &mut Device) {
 }
 
 /// How a transfer ends: the bytes read, or the fault.
-fn tell_end(transfer: &HostTransfer, told: &mut Told) {
+fn print_end(transfer: &HostTransfer, printed: &mut Output) {
     match transfer.outcome() {
-        Outcome::Running => told.add("running "),
-        Outcome::Done(bytes) => told.hex(bytes),
-        Outcome::Failed(fault) => told.show(fault),
+        Outcome::Running => printed.add("running "),
+        Outcome::Done(bytes) => printed.hex(bytes),
+        Outcome::Failed(fault) => printed.show(fault),
     }
 }
 
-/// Runs a transfer, and tells how it ends.
-fn tell_run(transfer: &mut HostTransfer, device: &mut Device, told: &mut Told) {
+/// Runs a transfer, and appends how it ends.
+fn print_run(transfer: &mut HostTransfer, device: &mut Device, printed: &mut Output) {
     run(transfer, device);
-    tell_end(transfer, told);
+    print_end(transfer, printed);
 }
 
-/// Tells of a transfer of these setup data, with these data where it writes: as many as they say.
-fn tell_transfer(alloc: Global, device: &mut Device, setup: Setup, data: &[u8], told: &mut Told) {
+/// Appends the end of a transfer of these setup data; a write has as many of these data as they say.
+fn print_transfer(
+    alloc: Global,
+    device: &mut Device,
+    setup: Setup,
+    data: &[u8],
+    printed: &mut Output,
+) {
     let sent = if setup.is_read() {
         0
     } else {
         usize::from(setup.length)
     };
     if data.len() != sent {
-        return told.unread();
+        return printed.unread();
     }
     match HostTransfer::begin(alloc, 1, setup, data) {
-        Ok(mut transfer) => tell_run(&mut transfer, device, told),
-        Err(_) => told.unread(),
+        Ok(mut transfer) => print_run(&mut transfer, device, printed),
+        Err(_) => printed.unread(),
     }
 }
 
-/// Tells how the transfer goes that these bytes ask for: setup data, and what is sent after them.
-fn tell_request(alloc: Global, device: &mut Device, bytes: &[u8], told: &mut Told) {
+/// Appends the end of the transfer that these bytes ask for: setup data, and what is sent after them.
+fn print_request(alloc: Global, device: &mut Device, bytes: &[u8], printed: &mut Output) {
     match bytes.split_first_chunk::<8>() {
-        Some((request, data)) => tell_transfer(
+        Some((request, data)) => print_transfer(
             alloc,
             device,
             Setup::from_bytes(request),
             data,
-            told,
+            printed,
         ),
-        None => told.unread(),
+        None => printed.unread(),
     }
 }
 
-/// Tells the answer to a packet, both as they are spelled.
-fn tell_answer(device: &mut Device, bytes: &[u8], told: &mut Told) {
+/// Appends the answer to a packet, both as they are encoded.
+fn print_answer(device: &mut Device, bytes: &[u8], printed: &mut Output) {
     match decode(bytes) {
         Ok(packet) => {
             if let Some(answer) = device.on_packet(&packet) {
-                told.hex(&encode(&answer));
+                printed.hex(&encode(&answer));
             }
         }
-        Err(_) => told.unread(),
+        Err(_) => printed.unread(),
     }
 }
 
-/// Tells what is answered to a packet, or of a transfer of setup data.
-fn tell_bytes(
+/// Appends the answer to a packet, or the end of a transfer of setup data.
+fn print_bytes(
     alloc: Global,
     device: &mut Device,
     words: &[&str],
     bytes: &mut Vec<u8>,
-    told: &mut Told,
+    printed: &mut Output,
 ) {
     match *words {
-        ["ask", ref rest @ ..] if spell(bytes, rest) => tell_request(alloc, device, bytes, told),
-        _ if spell(bytes, words) => tell_answer(device, bytes, told),
-        _ => told.unread(),
+        ["ask", ref rest @ ..] if read_bytes(bytes, rest) => print_request(
+            alloc, device, bytes, printed,
+        ),
+        _ if read_bytes(bytes, words) => print_answer(device, bytes, printed),
+        _ => printed.unread(),
     }
 }
 
-/// Does what these words mean with a device, and tells what is answered, and its round after that.
-pub fn tell_device(
+/// Does what these words mean with a device, and appends the answer and the round after that.
+pub fn print_device(
     alloc: Global,
     device: &mut Device,
     words: &[&str],
     bytes: &mut Vec<u8>,
-    told: &mut Told,
+    printed: &mut Output,
 ) {
     if !is_acted(device, words)
-        && !is_changed(device, words, told)
-        && !is_shown(device, words, told)
+        && !is_changed(device, words, printed)
+        && !is_shown(device, words, printed)
     {
-        tell_bytes(alloc, device, words, bytes, told);
+        print_bytes(alloc, device, words, bytes, printed);
     }
-    tell_round(device, told);
+    print_round(device, printed);
 }
 
-/// Tells a round that is open: its report, its toggle and its piece.
-fn tell_open(report: usize, one: bool, piece: usize, told: &mut Told) {
-    told.show(format_args!("round {report}.{}", u8::from(one)));
+/// Appends a round that is open: its report, its toggle and its piece.
+fn print_open(report: usize, one: bool, piece: usize, printed: &mut Output) {
+    printed.show(format_args!("round {report}.{}", u8::from(one)));
     if piece != 0 {
-        told.show(format_args!("piece {piece}"));
+        printed.show(format_args!("piece {piece}"));
     }
 }
 
-/// Tells the open round, if one is: something is armed for it. Or that the endpoint is halted.
-pub fn tell_round(device: &Device, told: &mut Told) {
+/// Appends the open round, if there is one (something is armed for it), or that the endpoint is halted.
+pub fn print_round(device: &Device, printed: &mut Output) {
     match (device.open_round(), device.piece(), device.pipe().armed()) {
-        (None, None, None) if device.pipe().halted() => told.add("halted"),
+        (None, None, None) if device.pipe().halted() => printed.add("halted"),
         (None, None, None) => {}
-        (Some((report, one)), Some(piece), Some(_)) => tell_open(report, one, piece, told),
-        _ => told.add("armed without a round, or a round without"),
+        (Some((report, one)), Some(piece), Some(_)) => print_open(report, one, piece, printed),
+        _ => printed.add("armed without a round, or a round without"),
     }
 }

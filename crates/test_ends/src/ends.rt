@@ -11,7 +11,7 @@
 use hid_device::{Boot, Config, Device, DeviceFault};
 use hid_host::{HostDevice, StackFault};
 use std::alloc::Global;
-use test_rows::{RowFault, Sheet, bytes_of, number_of};
+use test_rows::{RowFault, Table, bytes_of, number_of};
 
 /// What a foreign device has in place of descriptors: any bytes.
 #[derive(Drop)]
@@ -121,14 +121,14 @@ fn without<'a>(name: &'a str, word: &str) -> (&'a str, bool) {
 }
 
 /// The ends that are given; `Unread` where there is no such device or host.
-pub fn begun(sheet: &Sheet<'_>, given: &str) -> Result<Ends, RowFault> {
+pub fn begun(table: &Table<'_>, given: &str) -> Result<Ends, RowFault> {
     let (kind, is_ready) = without(given, "ready ");
     let (kind, is_plain) = without(kind, "plain ");
     let (name, addr) = kind.split_once(" at ").unwrap_or((kind, "1"));
     let boot = if is_plain { Boot::No } else { boot_of(name) };
     let addr = addr.parse()?;
-    let descriptor = bytes_of(sheet, name)?;
-    match ends_of(sheet.alloc, addr, boot, is_ready, descriptor) {
+    let descriptor = bytes_of(table, name)?;
+    match ends_of(table.alloc, addr, boot, is_ready, descriptor) {
         Some(ends) => Ok(ends),
         None => Err(RowFault::Unread),
     }

@@ -1,9 +1,9 @@
-//! What is done with a host, in words, and what it tells:
+//! What is done with a host, in words, and the result:
 //! ```text
-//!   begin config                  a request, spelled as in docs/SCRIPT.md: nothing, or why it doesn't begin
-//!   try clean 6                   so many tries with the device, of one fate: what the last one tells: `running`, `done`,
+//!   begin config                  a request, encoded as in docs/SCRIPT.md: nothing, or why it doesn't begin
+//!   try clean 6                   this many tries with the device, of one fate; the result of the last one: `running`, `done`,
 //!                                 `failed C2`, or a refusal
-//!   outcome                       of the transfer that was begun last: the same, and behind `done` the bytes
+//!   outcome                       of the transfer that was begun last: one of these, and after `done` the bytes
 //!   state                         `Cold`, `Described`, `Parsed` or `Ready`
 //!   token                         the packet of a poll
 //!   reply 4B 00 05                what comes to a poll, a packet or `none`: what it is taken as, the toggle that is expected
@@ -15,8 +15,8 @@
 //! Fates and refusals are those of docs/SCRIPT.md.
 
 ghost use Rattle.std.specs.Prelude.{IfOk, List};
-ghost use Rattle.hid_descriptor.specs.Items.{Spelled};
-ghost use Rattle.hid_descriptor.specs.Faults.{Accepts};
+ghost use Rattle.hid_report_descriptor.specs.Items.{EncodedItem};
+ghost use Rattle.hid_report_descriptor.specs.Faults.{Accepts};
 ghost use Rattle.hid_layout.specs.Layout.{layout_of};
 ghost use Rattle.hid_layout.specs.Controls.{items_of};
 ghost use Rattle.hid_usages.specs.ControlStates.{FitsShown};
@@ -24,8 +24,8 @@ ghost use Rattle.hid_usages.specs.ControlStates.{FitsShown};
 mod foreign;
 
 use crate::ends::{Ends, ready};
-use crate::told::Told;
-use crate::words::{control_of, fate_of, number, request_of, spell};
+use crate::output::Output;
+use crate::words::{control_of, fate_of, number, read_bytes, request_of};
 use hid_device::Device;
 use hid_host::{HostDevice, StackFault};
 use hid_layout::laws::one_reading;
@@ -52,18 +52,18 @@ fn step<R: Requests>(
     host.control_step(control, fate)
 }
 
-fn tell_begun(host: &mut HostDevice, request: Option<Request>, told: &mut Told) {
+fn print_begun(host: &mut HostDevice, request: Option<Request>, printed: &mut Output) {
     match request {
         Some(request) => {
             if let Err(fault) = begin(host, &request) {
-                told.show(fault);
+                printed.show(fault);
             }
         }
-        None => told.unread(),
+        None => printed.unread(),
     }
 }
 
-/// Makes n tries, at least one: what the last one tells.
+/// Makes n tries, at least one: the result of the last one.
 fn tried(
     host: &mut HostDevice,
     device: &mut Device,
@@ -76,100 +76,103 @@ fn tried(
     step(host, device.control(), fate)
 }
 
-/// Tells how far a transfer has come, or why not.
-fn tell_progress(told_of: Result<Progress, StackFault>, told: &mut Told) {
-    match told_of {
-        Ok(Progress::Running) => told.add("running "),
-        Ok(Progress::Done) => told.add("done "),
-        Ok(Progress::Failed(fault)) => told.show(format_args!("failed {fault}")),
-        Err(fault) => told.show(fault),
+/// Appends how far a transfer has come, or its refusal.
+fn print_progress(progress: Result<Progress, StackFault>, printed: &mut Output) {
+    match progress {
+        Ok(Progress::Running) => printed.add("running "),
+        Ok(Progress::Done) => printed.add("done "),
+        Ok(Progress::Failed(fault)) => printed.show(format_args!("failed {fault}")),
+        Err(fault) => printed.show(fault),
     }
 }
 
-fn tell_tried(ends: &mut Ends, fate: Option<Fate>, count: Option<usize>, told: &mut Told) {
+fn print_tried(ends: &mut Ends, fate: Option<Fate>, count: Option<usize>, printed: &mut Output) {
     match (fate, count) {
         (Some(fate), Some(count)) => {
-            tell_progress(tried(&mut ends.host, &mut ends.device, fate, count), told);
+            print_progress(
+                tried(&mut ends.host, &mut ends.device, fate, count),
+                printed,
+            );
         }
-        _ => told.unread(),
+        _ => printed.unread(),
     }
 }
 
-/// Tells the bytes of a read that is done, by the transfer that was begun last; else how far that has come.
-fn tell_came(host: &HostDevice, told: &mut Told) {
+/// Appends the bytes of a read that is done, by the transfer that was begun last; else how far that has come.
+fn print_came(host: &HostDevice, printed: &mut Output) {
     match host.outcome() {
-        Ok(Outcome::Running) => told.add("running "),
-        Ok(Outcome::Done(bytes)) => told.hex(bytes),
-        Ok(Outcome::Failed(fault)) => told.show(format_args!("failed {fault}")),
-        Err(fault) => told.show(fault),
+        Ok(Outcome::Running) => printed.add("running "),
+        Ok(Outcome::Done(bytes)) => printed.hex(bytes),
+        Ok(Outcome::Failed(fault)) => printed.show(format_args!("failed {fault}")),
+        Err(fault) => printed.show(fault),
     }
 }
 
-/// Tells what came of the transfer, with a word before the bytes of one that is done.
-fn tell_outcome(host: &HostDevice, told: &mut Told) {
+/// Appends the outcome of the transfer, with a word before the bytes of one that is done.
+fn print_outcome(host: &HostDevice, printed: &mut Output) {
     if let Ok(Outcome::Done(_)) = host.outcome() {
-        told.add("done ");
+        printed.add("done ");
     }
-    tell_came(host, told);
+    print_came(host, printed);
 }
 
-fn tell_state(host: &HostDevice, told: &mut Told) {
-    told.show(format_args!("{:?}", host.state()));
+fn print_state(host: &HostDevice, printed: &mut Output) {
+    printed.show(format_args!("{:?}", host.state()));
 }
 
-fn tell_token(host: &HostDevice, told: &mut Told) {
+fn print_token(host: &HostDevice, printed: &mut Output) {
     match host.token() {
-        Ok(token) => told.hex(&encode(&token)),
-        Err(fault) => told.show(fault),
+        Ok(token) => printed.hex(&encode(&token)),
+        Err(fault) => printed.show(fault),
     }
 }
 
-fn tell_control(word: &str, control: ControlId, usage: Usage, told: &mut Told) {
-    told.show(format_args!(
+fn print_control(word: &str, control: ControlId, usage: Usage, printed: &mut Output) {
+    printed.show(format_args!(
         "{word} {}.{} {:02X}:{:02X}",
         control.item, control.index, usage.page, usage.id
     ));
 }
 
-fn tell_event(event: &Event, told: &mut Told) {
+fn print_event(event: &Event, printed: &mut Output) {
     match *event {
-        Event::Down { control, usage } => tell_control("down", control, usage, told),
-        Event::Up { control, usage } => tell_control("up", control, usage, told),
-        Event::Null { control, usage } => tell_control("null", control, usage, told),
+        Event::Down { control, usage } => print_control("down", control, usage, printed),
+        Event::Up { control, usage } => print_control("up", control, usage, printed),
+        Event::Null { control, usage } => print_control("null", control, usage, printed),
         Event::Value {
             control,
             usage,
             value,
         } => {
-            tell_control("value", control, usage, told);
-            told.show(value);
+            print_control("value", control, usage, printed);
+            printed.show(value);
         }
         Event::Motion { control, usage, by } => {
-            tell_control("motion", control, usage, told);
-            told.show(by);
+            print_control("motion", control, usage, printed);
+            printed.show(by);
         }
         Event::Dropped { control, usage, by } => {
-            tell_control("dropped", control, usage, told);
-            told.show(by);
+            print_control("dropped", control, usage, printed);
+            printed.show(by);
         }
     }
 }
 
-fn tell_events(events: &[Event], told: &mut Told) {
+fn print_events(events: &[Event], printed: &mut Output) {
     for event in events {
-        tell_event(event, told);
+        print_event(event, printed);
     }
 }
 
-/// Tells what is taken that comes to a poll.
-fn tell_took(took: &Result<Took, StackFault>, told: &mut Told) {
+/// Appends how a host took the reply to a poll.
+fn print_took(took: &Result<Took, StackFault>, printed: &mut Output) {
     match took {
-        Ok(Took::Fresh(_)) => told.add("fresh "),
-        Ok(Took::Again) => told.add("again "),
-        Ok(Took::Nak) => told.add("nak "),
-        Ok(Took::Stall) => told.add("stall "),
-        Ok(Took::Silent) => told.add("silent "),
-        Err(fault) => told.show(*fault),
+        Ok(Took::Fresh(_)) => printed.add("fresh "),
+        Ok(Took::Again) => printed.add("again "),
+        Ok(Took::Nak) => printed.add("nak "),
+        Ok(Took::Stall) => printed.add("stall "),
+        Ok(Took::Silent) => printed.add("silent "),
+        Err(fault) => printed.show(*fault),
     }
 }
 
@@ -189,40 +192,45 @@ fn replied(
     Ok((took, host.pipe().expects(), events))
 }
 
-fn tell_replied(replied: &Result<Replied, StackFault>, told: &mut Told) {
+fn print_replied(replied: &Result<Replied, StackFault>, printed: &mut Output) {
     match replied {
         Ok((took, expects, events)) => {
-            tell_took(took, told);
-            told.add(if *expects { "DATA1 " } else { "DATA0 " });
-            tell_events(events, told);
+            print_took(took, printed);
+            printed.add(if *expects { "DATA1 " } else { "DATA0 " });
+            print_events(events, printed);
         }
-        Err(fault) => told.show(*fault),
+        Err(fault) => printed.show(*fault),
     }
 }
 
-fn tell_reply(alloc: Global, host: &mut HostDevice, packet: Option<&Packet>, told: &mut Told) {
+fn print_reply(
+    alloc: Global,
+    host: &mut HostDevice,
+    packet: Option<&Packet>,
+    printed: &mut Output,
+) {
     let replied = replied(alloc, host, packet);
-    tell_replied(&replied, told);
+    print_replied(&replied, printed);
 }
 
-/// Tells what a host makes of a packet that these bytes spell.
-fn tell_reply_of(alloc: Global, host: &mut HostDevice, bytes: &[u8], told: &mut Told) {
+/// Appends what a host makes of a packet that these bytes encode.
+fn print_reply_of(alloc: Global, host: &mut HostDevice, bytes: &[u8], printed: &mut Output) {
     match decode(bytes) {
-        Ok(packet) => tell_reply(alloc, host, Some(&packet), told),
-        Err(_) => told.unread(),
+        Ok(packet) => print_reply(alloc, host, Some(&packet), printed),
+        Err(_) => printed.unread(),
     }
 }
 
-/// Tells whether a control is held in the view of a host that polls.
-fn tell_held(host: &HostDevice, control: Option<ControlId>, told: &mut Told) {
+/// Appends whether a control is held in the view of a host that polls.
+fn print_held(host: &HostDevice, control: Option<ControlId>, printed: &mut Output) {
     match (control, host.token()) {
-        (Some(control), Ok(_)) => told.add(if host.view().held(control) {
+        (Some(control), Ok(_)) => printed.add(if host.view().held(control) {
             "yes"
         } else {
             "no"
         }),
-        (Some(_), Err(fault)) => told.show(fault),
-        (None, _) => told.unread(),
+        (Some(_), Err(fault)) => printed.show(fault),
+        (None, _) => printed.unread(),
     }
 }
 
@@ -232,7 +240,7 @@ type Reset = (HostDevice, Took, usize, Vec<Event>);
 
 /// What a device of this descriptor shows before anything has changed.
 fn blank_of(alloc: Global, descriptor: &[u8]) -> Result<Shown, StackFault>
-    ensures { IfOk result (λ shown. (before : List Spelled) × Accepts descriptor.now before
+    ensures { IfOk result (λ shown. (before : List EncodedItem) × Accepts descriptor.now before
         × FitsShown (items_of (layout_of before)) shown) }
 {
     match Layout::parse(alloc, descriptor) {
@@ -246,7 +254,7 @@ fn blank_of(alloc: Global, descriptor: &[u8]) -> Result<Shown, StackFault>
 }
 
 /// A new host that was reset once it had taken this packet, with no round open at its device then.
-fn reset_behind(
+fn reset_after(
     alloc: Global,
     descriptor: &[u8],
     packet: Option<&Packet>,
@@ -281,25 +289,25 @@ fn reset_behind(
     Ok((host, took, given, out))
 }
 
-/// Makes the host one that was reset so, and tells what it told.
-fn tell_reset(alloc: Global, ends: &mut Ends, packet: Option<&Packet>, told: &mut Told) {
-    match reset_behind(alloc, &ends.descriptor, packet) {
+/// Makes the host one that was reset in this way, and appends its events.
+fn print_reset(alloc: Global, ends: &mut Ends, packet: Option<&Packet>, printed: &mut Output) {
+    match reset_after(alloc, &ends.descriptor, packet) {
         Ok((host, took, given, events)) => {
             drop(mem::replace(&mut ends.host, host));
-            tell_took(&Ok(took), told);
-            told.show(format_args!("{given} events, reset"));
-            tell_events(&events, told);
+            print_took(&Ok(took), printed);
+            printed.show(format_args!("{given} events, reset"));
+            print_events(&events, printed);
             drop(events);
         }
-        Err(fault) => told.show(fault),
+        Err(fault) => printed.show(fault),
     }
 }
 
-/// Tells of a reset after a packet that these bytes spell.
-fn tell_reset_of(alloc: Global, ends: &mut Ends, bytes: &[u8], told: &mut Told) {
+/// Appends the events of a reset after a packet that these bytes encode.
+fn print_reset_of(alloc: Global, ends: &mut Ends, bytes: &[u8], printed: &mut Output) {
     match decode(bytes) {
-        Ok(packet) => tell_reset(alloc, ends, Some(&packet), told),
-        Err(_) => told.unread(),
+        Ok(packet) => print_reset(alloc, ends, Some(&packet), printed),
+        Err(_) => printed.unread(),
     }
 }
 
@@ -309,41 +317,41 @@ fn is_replied(
     ends: &mut Ends,
     words: &[&str],
     bytes: &mut Vec<u8>,
-    told: &mut Told,
+    printed: &mut Output,
 ) -> bool {
     match *words {
-        ["reply", "none"] => tell_reply(alloc, &mut ends.host, None, told),
-        ["reply", ref rest @ ..] if spell(bytes, rest) => tell_reply_of(
+        ["reply", "none"] => print_reply(alloc, &mut ends.host, None, printed),
+        ["reply", ref rest @ ..] if read_bytes(bytes, rest) => print_reply_of(
             alloc,
             &mut ends.host,
             bytes,
-            told,
+            printed,
         ),
-        ["reset", "behind", ref rest @ ..] if spell(bytes, rest) => tell_reset_of(
-            alloc, ends, bytes, told,
+        ["reset", "after", ref rest @ ..] if read_bytes(bytes, rest) => print_reset_of(
+            alloc, ends, bytes, printed,
         ),
         _ => return false,
     }
     true
 }
 
-/// Does what these words mean with a host, and tells what it tells; false where they mean nothing of one.
-pub fn is_told(
+/// Does what these words mean with a host, and appends the result; false if they mean nothing for a host.
+pub fn is_reported(
     alloc: Global,
     ends: &mut Ends,
     words: &[&str],
     bytes: &mut Vec<u8>,
-    told: &mut Told,
+    printed: &mut Output,
 ) -> bool {
     match *words {
-        ["begin", ref rest @ ..] => tell_begun(&mut ends.host, request_of(rest, bytes), told),
-        ["try", fate, count] => tell_tried(ends, fate_of(fate), number(count), told),
-        ["outcome"] => tell_outcome(&ends.host, told),
-        ["state"] => tell_state(&ends.host, told),
-        ["token"] => tell_token(&ends.host, told),
-        ["held", item, index] => tell_held(&ends.host, control_of(item, index), told),
-        _ => return is_replied(alloc, ends, words, bytes, told)
-            || foreign::is_told(alloc, ends, words, bytes, told),
+        ["begin", ref rest @ ..] => print_begun(&mut ends.host, request_of(rest, bytes), printed),
+        ["try", fate, count] => print_tried(ends, fate_of(fate), number(count), printed),
+        ["outcome"] => print_outcome(&ends.host, printed),
+        ["state"] => print_state(&ends.host, printed),
+        ["token"] => print_token(&ends.host, printed),
+        ["held", item, index] => print_held(&ends.host, control_of(item, index), printed),
+        _ => return is_replied(alloc, ends, words, bytes, printed)
+            || foreign::is_reported(alloc, ends, words, bytes, printed),
     }
     true
 }

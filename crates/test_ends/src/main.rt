@@ -7,23 +7,23 @@
 //!     a button: press 0 0 >                  nothing if the step is right; if not, the table, the step and its result
 //!     a poll: 69 81 00 > C3 01 00 00 round 0.0
 //! ```
-//! A question of requests, descriptors and refusals is a row of one line: `requests.rt` and `making.rt`. Both ends are played
+//! A question of requests, descriptors and refusals is a row of one line: `requests.rt` and `creation.rt`. Both ends are played
 //! by steps, with the whole result after `>`: `device.rt` has the words of a device, `host.rt` and `host/foreign.rt` those of a
 //! host, and `ends.rt` how both are made. A row that can't be read is wrong.
 //!
 //! The exit status is 0 if no row is wrong, else 1; 2 if standard input can't be read or standard output written.
 #![tactic(auto)]
 
-mod asked;
+mod creation;
 mod device;
 mod ends;
 mod host;
-mod making;
+mod output;
+mod questions;
 mod requests;
-mod told;
 mod words;
 
-use asked::Questions;
+use questions::Questions;
 use std::process::ExitCode;
 use test_rows::run;
 

@@ -1,23 +1,23 @@
 //! Requests and descriptors, of no device:
 //! ```text
-//!   asks: 80 00 00 00 00 00 02 00    what setup data ask: a variant of `RequestKind` and what it holds, or `nothing`
-//!   spells: get-idle 255             what a host sends for a request, where the report descriptor has 306 bytes and the
+//!   asks: 80 00 00 00 00 00 02 00    what setup data ask: a variant of `RequestKind` and what it holds, or `no_dump`
+//!   encodes: get-idle 255             what a host sends for a request, where the report descriptor has 306 bytes and the
 //!                                    endpoint is 1: the setup data, the data behind them, and what they ask
 //!   describes: 63 1 1 1 10           the configuration of these: length of the report descriptor, endpoint, subclass,
 //!                                    protocol, interval; and what is read of it again, but for the interval
 //!   describes: hid 4660              the HID descriptor of a report descriptor of this length
 //!   describes: device 65279 513      the device descriptor of this vendor and product, and what is read of it again
 //! ```
-//! Requests are spelled as in docs/SCRIPT.md.
+//! Requests are encoded as in docs/SCRIPT.md.
 
-use crate::told::Told;
+use crate::output::Output;
 use crate::words::{request_of, small, words_in};
 use arrayvec::ArrayVec;
-use hid_descriptor::ReportKind;
+use hid_report_descriptor::ReportKind;
 use hid_requests::{
     Asking, Request, RequestKind, configuration, device_descriptor, hid_descriptor, request_kind,
 };
-use test_rows::{RowFault, Sheet};
+use test_rows::{RowFault, Table};
 use usb_control::{ConfigInfo, DeviceInfo, Setup};
 
 /// The name of a row.
@@ -45,74 +45,74 @@ fn name_of(asked: RequestKind) -> &'static str {
     }
 }
 
-fn tell_report(kind: ReportKind, id: u8, told: &mut Told) {
-    told.show(format_args!("{kind:?} {id}"));
+fn print_report(kind: ReportKind, id: u8, printed: &mut Output) {
+    printed.show(format_args!("{kind:?} {id}"));
 }
 
-/// Tells a row: its name, and what it holds.
-fn tell_row(asked: RequestKind, told: &mut Told) {
-    told.show(name_of(asked));
+/// Appends a row: its name, and what it has.
+fn print_row(asked: RequestKind, printed: &mut Output) {
+    printed.show(name_of(asked));
     match asked {
-        RequestKind::GetReport { kind, id } => tell_report(kind, id, told),
-        RequestKind::GetIdle { id } => told.show(id),
+        RequestKind::GetReport { kind, id } => print_report(kind, id, printed),
+        RequestKind::GetIdle { id } => printed.show(id),
         RequestKind::SetReport { kind, id, length } => {
-            tell_report(kind, id, told);
-            told.show(length);
+            print_report(kind, id, printed);
+            printed.show(length);
         }
         RequestKind::SetIdle { id, time } => {
-            told.show(id);
-            told.show(time);
+            printed.show(id);
+            printed.show(time);
         }
-        RequestKind::SetProtocol { protocol } => told.show(format_args!("{protocol:?}")),
+        RequestKind::SetProtocol { protocol } => printed.show(format_args!("{protocol:?}")),
         _ => {}
     }
 }
 
-/// Tells what setup data ask.
-fn tell_asked(setup: &Setup, told: &mut Told) {
+/// Appends what setup data ask.
+fn print_asked(setup: &Setup, printed: &mut Output) {
     match request_kind(setup) {
-        Some(asked) => tell_row(asked, told),
-        None => told.add("nothing"),
+        Some(asked) => print_row(asked, printed),
+        None => printed.add("nothing"),
     }
 }
 
-/// Tells what setup data ask, which these bytes spell.
-fn tell_asked_by(bytes: &[u8], told: &mut Told) {
+/// Appends what the setup data ask that these bytes encode.
+fn print_asked_by(bytes: &[u8], printed: &mut Output) {
     match bytes.as_array::<8>() {
-        Some(bytes) => tell_asked(&Setup::from_bytes(bytes), told),
-        None => told.unread(),
+        Some(bytes) => print_asked(&Setup::from_bytes(bytes), printed),
+        None => printed.unread(),
     }
 }
 
-/// Tells what a host sends for a request, and whether its copy is another.
-fn tell_sent(request: &Request, told: &mut Told) {
+/// Appends what a host sends for a request, and whether its copy is another.
+fn print_sent(request: &Request, printed: &mut Output) {
     let setup = request.setup(&Asking {
         report_length: 306,
         endpoint: 1,
     });
-    told.hex(&setup.to_bytes());
-    told.hex(request.sends());
-    tell_asked(&setup, told);
+    printed.hex(&setup.to_bytes());
+    printed.hex(request.sends());
+    print_asked(&setup, printed);
     if request.copied() != *request {
-        told.add("copied otherwise");
+        printed.add("copied otherwise");
     }
 }
 
-fn tell_spelled(request: Option<Request>, told: &mut Told) {
+fn print_encoded(request: Option<Request>, printed: &mut Output) {
     match request {
-        Some(request) => tell_sent(&request, told),
-        None => told.unread(),
+        Some(request) => print_sent(&request, printed),
+        None => printed.unread(),
     }
 }
 
-/// Tells what is read of a configuration.
-fn tell_read(bytes: &[u8], told: &mut Told) {
+/// Appends what is read of a configuration.
+fn print_read(bytes: &[u8], printed: &mut Output) {
     match ConfigInfo::read(bytes) {
-        Ok(info) => told.show(format_args!(
+        Ok(info) => printed.show(format_args!(
             "{} {} {} {}",
             info.report_length, info.endpoint, info.subclass, info.protocol
         )),
-        Err(fault) => told.show(fault),
+        Err(fault) => printed.show(fault),
     }
 }
 
@@ -124,10 +124,10 @@ fn configuration_of(info: &ConfigInfo, interval: u8) -> ArrayVec<u8, 34> {
     configuration(info, interval)
 }
 
-fn tell_configuration(info: &ConfigInfo, interval: u8, told: &mut Told) {
+fn print_configuration(info: &ConfigInfo, interval: u8, printed: &mut Output) {
     let bytes = configuration_of(info, interval);
-    told.hex(&bytes);
-    tell_read(&bytes, told);
+    printed.hex(&bytes);
+    print_read(&bytes, printed);
 }
 
 fn info_of(length: &str, endpoint: &str, subclass: &str, protocol: &str) -> Option<ConfigInfo> {
@@ -139,66 +139,74 @@ fn info_of(length: &str, endpoint: &str, subclass: &str, protocol: &str) -> Opti
     })
 }
 
-fn tell_described(info: Option<ConfigInfo>, interval: Option<u8>, told: &mut Told) {
+fn print_described(info: Option<ConfigInfo>, interval: Option<u8>, printed: &mut Output) {
     match (info, interval) {
-        (Some(info), Some(interval)) => tell_configuration(&info, interval, told),
-        _ => told.unread(),
+        (Some(info), Some(interval)) => print_configuration(&info, interval, printed),
+        _ => printed.unread(),
     }
 }
 
-fn tell_hid(length: Option<u16>, told: &mut Told) {
+fn print_hid(length: Option<u16>, printed: &mut Output) {
     match length {
-        Some(length) => told.hex(&hid_descriptor(length)),
-        None => told.unread(),
+        Some(length) => printed.hex(&hid_descriptor(length)),
+        None => printed.unread(),
     }
 }
 
-/// Tells a device descriptor, and what is read of it again.
-fn tell_device(vendor: Option<u16>, product: Option<u16>, told: &mut Told) {
+/// Appends a device descriptor, and what is read from it again.
+fn print_device(vendor: Option<u16>, product: Option<u16>, printed: &mut Output) {
     let (Some(vendor), Some(product)) = (vendor, product) else {
-        return told.unread();
+        return printed.unread();
     };
     let bytes = device_descriptor(&DeviceInfo { vendor, product });
-    told.hex(&bytes);
+    printed.hex(&bytes);
     match DeviceInfo::read(&bytes) {
-        Ok(info) => told.show(format_args!("{} {}", info.vendor, info.product)),
-        Err(fault) => told.show(fault),
+        Ok(info) => printed.show(format_args!("{} {}", info.vendor, info.product)),
+        Err(fault) => printed.show(fault),
     }
 }
 
-fn tell_described_by(words: &[&str], told: &mut Told) {
+fn print_described_by(words: &[&str], printed: &mut Output) {
     match *words {
-        ["hid", length] => tell_hid(length.parse().ok(), told),
-        ["device", vendor, product] => tell_device(vendor.parse().ok(), product.parse().ok(), told),
-        [length, endpoint, subclass, protocol, interval] => tell_described(
+        ["hid", length] => print_hid(length.parse().ok(), printed),
+        ["device", vendor, product] => print_device(
+            vendor.parse().ok(),
+            product.parse().ok(),
+            printed,
+        ),
+        [length, endpoint, subclass, protocol, interval] => print_described(
             info_of(length, endpoint, subclass, protocol),
             small(interval),
-            told,
+            printed,
         ),
-        _ => told.unread(),
+        _ => printed.unread(),
     }
 }
 
 /// What setup data ask.
-pub fn tell_asks(told: &mut String, sheet: &Sheet<'_>, bytes: &[u8]) -> Result<(), RowFault> {
-    let mut row = Told::new(sheet.alloc);
-    tell_asked_by(bytes, &mut row);
-    row.give(told)
+pub fn print_asks(printed: &mut String, table: &Table<'_>, bytes: &[u8]) -> Result<(), RowFault> {
+    let mut row = Output::new(table.alloc);
+    print_asked_by(bytes, &mut row);
+    row.give(printed)
 }
 
 /// What a host sends for a request.
-pub fn tell_spells(told: &mut String, sheet: &Sheet<'_>, given: &str) -> Result<(), RowFault> {
-    let words = words_in(sheet.alloc, given)?;
-    let mut bytes = Vec::new(sheet.alloc);
-    let mut row = Told::new(sheet.alloc);
-    tell_spelled(request_of(&words, &mut bytes), &mut row);
-    row.give(told)
+pub fn print_encodes(printed: &mut String, table: &Table<'_>, given: &str) -> Result<(), RowFault> {
+    let words = words_in(table.alloc, given)?;
+    let mut bytes = Vec::new(table.alloc);
+    let mut row = Output::new(table.alloc);
+    print_encoded(request_of(&words, &mut bytes), &mut row);
+    row.give(printed)
 }
 
 /// A descriptor, and what is read of it again.
-pub fn tell_describes(told: &mut String, sheet: &Sheet<'_>, given: &str) -> Result<(), RowFault> {
-    let words = words_in(sheet.alloc, given)?;
-    let mut row = Told::new(sheet.alloc);
-    tell_described_by(&words, &mut row);
-    row.give(told)
+pub fn print_describes(
+    printed: &mut String,
+    table: &Table<'_>,
+    given: &str,
+) -> Result<(), RowFault> {
+    let words = words_in(table.alloc, given)?;
+    let mut row = Output::new(table.alloc);
+    print_described_by(&words, &mut row);
+    row.give(printed)
 }

@@ -1,8 +1,8 @@
 //! The words of a row: bytes, numbers, controls and requests.
 
 use arrayvec::ArrayVec;
-use hid_descriptor::ReportKind;
 use hid_layout::ControlId;
+use hid_report_descriptor::ReportKind;
 use hid_requests::Request;
 use std::alloc::Global;
 use test_rows::{RowFault, push_word};
@@ -17,18 +17,18 @@ pub fn words_in(alloc: Global, text: &str) -> Result<Vec<&str>, RowFault> {
     }
 }
 
-/// The number that is spelled by a word in decimal.
+/// The number that is encoded by a word in decimal.
 pub fn number(word: &str) -> Option<usize> {
     word.parse().ok()
 }
 
-/// The byte that is spelled by a word in decimal.
+/// The byte that is encoded by a word in decimal.
 pub fn small(word: &str) -> Option<u8> {
     word.parse().ok()
 }
 
-/// Makes these the bytes that are spelled by words; false where one of them spells none.
-pub fn spell(bytes: &mut Vec<u8>, words: &[&str]) -> bool {
+/// Makes these the bytes that are encoded by words; false where one of them encodes none.
+pub fn read_bytes(bytes: &mut Vec<u8>, words: &[&str]) -> bool {
     bytes.clear();
     for word in words {
         if push_word(bytes, "", word).is_err() {
@@ -82,9 +82,9 @@ fn plain_request(word: &str) -> Option<Request> {
     }
 }
 
-/// To set a report: its bytes are spelled by words.
+/// To set a report: its bytes are encoded by words.
 fn set_report(kind: &str, id: &str, words: &[&str], bytes: &mut Vec<u8>) -> Option<Request> {
-    if !spell(bytes, words) {
+    if !read_bytes(bytes, words) {
         return None;
     }
     Some(Request::SetReport {

@@ -81,7 +81,7 @@ fn names_end_no_tag(rt: HostRuntime) -> Result<(), Fail> {
     Ok(())
 }
 
-/// So many bytes in front; then 16 collections with the longest name and kind, and as many bytes in a field with the longest
+/// This many bytes in front; then 16 collections with the longest name and kind, and as many bytes in a field with the longest
 /// words of flags and the longest range of names.
 fn deepest(alloc: Global, front: u8) -> Result<Vec<u8>, AllocError> {
     let mut deep = Vec::from_slice(alloc, &[0x75, 0x08, 0x95, front, 0x81, 0x03])?;

@@ -6,9 +6,9 @@
 #[cfg(test)]
 mod drawings;
 #[cfg(test)]
-mod layout_memory;
+mod generated;
 #[cfg(test)]
-mod made;
+mod layout_memory;
 #[cfg(test)]
 mod recordings;
 #[cfg(test)]

@@ -1,4 +1,4 @@
-//! Recordings over memory, and what they tell.
+//! Recordings over memory, and their output.
 //! The mouse is that of HID 1.11, appendix E.10; its reports were worked out by hand from appendix B.2, and every expected
 //! text from docs/RECORDINGS.md.
 
@@ -46,10 +46,10 @@ const NO_NAMES: Options = Options {
     json: true,
 };
 
-/// What a recording is about, the options, the recording, and what it tells.
+/// What a recording is about, the options, the recording, and its output.
 type Recorded = (&'static str, Options, &'static str, &'static str);
 
-/// Recordings with what they tell.
+/// Recordings with their output.
 #[rattlefmt::skip]
 const TOLD: [Recorded; 29] = [
     ("a mouse that clicks and moves", PLAIN,
@@ -139,7 +139,7 @@ const TOLD: [Recorded; 29] = [
         "1 0 down 09:01\n"),
 ];
 
-/// Recordings of descriptors that can't be read, with what they tell.
+/// Recordings of descriptors that can't be read, with their output.
 #[rattlefmt::skip]
 const UNREAD: [Recorded; 14] = [
     ("a descriptor with a wrong count, and reports behind it", PLAIN,
@@ -196,7 +196,7 @@ fn played(
     play(alloc, &mut reader, text, options, &mut ())
 }
 
-/// What the first recording is about that tells anything else.
+/// What the first recording is about whose output is another.
 fn first_wrong(alloc: Global, rows: &[Recorded]) -> Result<Option<&'static str>, Fail> {
     for (name, options, recording, want) in rows {
         let mut text = Vec::new(alloc);
@@ -222,7 +222,7 @@ fn descriptors_that_cannot_be_read_take_the_place_of_those_before(
     Ok(())
 }
 
-/// Recordings that end early, the options, what they tell, and where and why they end: a button is pressed, and then comes
+/// Recordings that end early, the options, their output, and where and why they end: a button is pressed, and then comes
 /// what ends them.
 #[rattlefmt::skip]
 const EARLY: [(&str, Options, &str, &str, u64, Cause); 4] = [
@@ -263,7 +263,7 @@ fn runs_that_end_early_tell_where_and_what_was_played(rt: HostRuntime) {
     }
 }
 
-/// Recordings of a head, a piece that is repeated, and a tail, with what they tell and the line at which they end, if they
+/// Recordings of a head, a piece that is repeated, and a tail, with their output and the line at which they end, if they
 /// end early.
 #[rattlefmt::skip]
 const LONG: [(&str, &str, &str, u32, &str, &str, Option<u64>); 5] = [

@@ -73,7 +73,7 @@ fn is_read(transfer: &HostTransfer) -> bool {
     transfer.outcome() == Outcome::Done(&[0, 0])
 }
 
-/// Whether a read begins and is done by one decision; or memory runs out, and the device heard nothing.
+/// Whether a read begins and is done by one decision; or memory runs out, and the device received nothing.
 fn is_read_or_wants(alloc: Global, control: &mut DevControl<Zeros>) -> bool {
     let before = control.requests().decisions;
     match begin(alloc) {
@@ -86,7 +86,7 @@ fn is_read_or_wants(alloc: Global, control: &mut DevControl<Zeros>) -> bool {
     }
 }
 
-/// With memory a read begins and is done. Without it, it is refused, and nothing has begun: the device heard nothing, and
+/// With memory a read begins and is done. Without it, it is refused, and nothing has begun: the device received nothing, and
 /// the next may begin.
 #[test]
 fn want_of_memory_begins_nothing(rt: HostRuntime) {

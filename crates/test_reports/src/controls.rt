@@ -3,19 +3,19 @@
 use crate::events::{add_control, add_usage};
 use crate::words::{control_of, usage_of};
 use hid_layout::{Codes, Control, ControlId, Controls, Layout, Usage};
-use test_rows::{RowFault, add, add_debug, number_of, split, tell, tell_debug, tell_shown};
+use test_rows::{RowFault, add, add_debug, number_of, print, print_debug, print_shown, split};
 
-/// The controls of an item and the least number out of its range, which tells null; of an array also the numbers that tell
-/// no key and too many.
-fn tell_codes(told: &mut String, controls: &Controls, codes: &Codes) -> Result<(), RowFault> {
-    tell_debug(told, controls)?;
-    tell_debug(told, &codes.null)?;
+/// Appends the controls of an item and the least number out of its range, which stands for null; of an array also the numbers
+/// that stand for no key and for too many.
+fn print_codes(printed: &mut String, controls: &Controls, codes: &Codes) -> Result<(), RowFault> {
+    print_debug(printed, controls)?;
+    print_debug(printed, &codes.null)?;
     match controls {
         Controls::Keys { .. } => {
-            add(told, " ")?;
-            add_debug(told, &codes.empty)?;
-            add(told, " ")?;
-            add_debug(told, &codes.rollover)
+            add(printed, " ")?;
+            add_debug(printed, &codes.empty)?;
+            add(printed, " ")?;
+            add_debug(printed, &codes.rollover)
         }
         Controls::None | Controls::Elements { .. } => Ok(()),
     }
@@ -30,17 +30,17 @@ fn controls_of(layout: &Layout, item: usize) -> Option<(Controls, Codes)> {
 }
 
 /// The controls and codes of an item.
-pub fn tell_controls(told: &mut String, layout: &Layout, words: &str) -> Result<(), RowFault> {
+pub fn print_controls(printed: &mut String, layout: &Layout, words: &str) -> Result<(), RowFault> {
     match controls_of(layout, number_of(words)?) {
-        Some((controls, codes)) => tell_codes(told, &controls, &codes),
-        None => tell(told, "no item"),
+        Some((controls, codes)) => print_codes(printed, &controls, &codes),
+        None => print(printed, "no item"),
     }
 }
 
-fn tell_found(told: &mut String, usage: Option<Usage>) -> Result<(), RowFault> {
+fn print_found(printed: &mut String, usage: Option<Usage>) -> Result<(), RowFault> {
     match usage {
-        Some(usage) => add_usage(told, usage),
-        None => tell(told, "none"),
+        Some(usage) => add_usage(printed, usage),
+        None => print(printed, "none"),
     }
 }
 
@@ -49,14 +49,14 @@ fn control_at(layout: &Layout, control: ControlId) -> Option<Control> {
 }
 
 /// A control as its kind and its usage.
-pub fn tell_control(told: &mut String, layout: &Layout, words: &str) -> Result<(), RowFault> {
+pub fn print_control(printed: &mut String, layout: &Layout, words: &str) -> Result<(), RowFault> {
     match control_at(layout, control_of(words)?) {
         Some(control) => {
-            add_debug(told, &control.kind)?;
-            add(told, " ")?;
-            add_usage(told, control.usage)
+            add_debug(printed, &control.kind)?;
+            add(printed, " ")?;
+            add_usage(printed, control.usage)
         }
-        None => tell(told, "none"),
+        None => print(printed, "none"),
     }
 }
 
@@ -82,12 +82,12 @@ fn most_events(layout: &Layout) -> usize {
 
 /// Of an item and a report: where the ranges of the item's usages begin, the items of the report, and the most events that
 /// one report gives.
-pub fn tell_plan(told: &mut String, layout: &Layout, words: &str) -> Result<(), RowFault> {
+pub fn print_plan(printed: &mut String, layout: &Layout, words: &str) -> Result<(), RowFault> {
     let (item, report) = split(words, ' ');
     let (item, report) = (number_of(item)?, number_of(report)?);
-    tell_debug(told, &starts(layout, item))?;
-    tell_debug(told, &plan(layout, report))?;
-    tell_shown(told, &most_events(layout))
+    print_debug(printed, &starts(layout, item))?;
+    print_debug(printed, &plan(layout, report))?;
+    print_shown(printed, &most_events(layout))
 }
 
 fn least(layout: &Layout, usage: Usage) -> Option<ControlId> {
@@ -95,10 +95,10 @@ fn least(layout: &Layout, usage: Usage) -> Option<ControlId> {
 }
 
 /// The least control with a usage.
-pub fn tell_least(told: &mut String, layout: &Layout, words: &str) -> Result<(), RowFault> {
+pub fn print_least(printed: &mut String, layout: &Layout, words: &str) -> Result<(), RowFault> {
     match least(layout, usage_of(words)?) {
-        Some(control) => add_control(told, control),
-        None => tell(told, "none"),
+        Some(control) => add_control(printed, control),
+        None => print(printed, "none"),
     }
 }
 
@@ -111,6 +111,6 @@ fn usage_at(layout: &Layout, index: usize) -> Option<Usage> {
 }
 
 /// The usage at a place of the first item.
-pub fn tell_usage(told: &mut String, layout: &Layout, words: &str) -> Result<(), RowFault> {
-    tell_found(told, usage_at(layout, number_of(words)?))
+pub fn print_usage(printed: &mut String, layout: &Layout, words: &str) -> Result<(), RowFault> {
+    print_found(printed, usage_at(layout, number_of(words)?))
 }

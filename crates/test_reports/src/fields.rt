@@ -5,8 +5,8 @@ ghost use Rattle.std.specs.Bool.{OnTrue};
 
 use hid_fields::{BitCodec, FieldCodec, MAX_WIDTH, WordCodec, null_pattern, to_pattern, to_value};
 use test_rows::{
-    RowFault, number_of, pattern_of, signed_of, split, tell, tell_bytes, tell_number, tell_pattern,
-    width_of,
+    RowFault, number_of, pattern_of, print, print_bytes, print_number, print_pattern, signed_of,
+    split, width_of,
 };
 
 /// In bytes: the longest slice that a row gives.
@@ -44,19 +44,19 @@ fn write<C: FieldCodec>(bytes: &mut [u8], at: usize, width: u32, pattern: u32) -
 }
 
 /// The pattern that both codecs read.
-fn tell_read(told: &mut String, bytes: &[u8], at: usize, width: u32) -> Result<(), RowFault> {
+fn print_read(printed: &mut String, bytes: &[u8], at: usize, width: u32) -> Result<(), RowFault> {
     let by_bits = read::<BitCodec>(bytes, at, width);
     if by_bits == read::<WordCodec>(bytes, at, width) {
-        tell_pattern(told, by_bits)
+        print_pattern(printed, by_bits)
     } else {
-        tell(told, "codecs differ")
+        print(printed, "codecs differ")
     }
 }
 
 /// The pattern of a field, by its place and its width.
-pub fn tell_field(told: &mut String, bytes: &[u8], words: &str) -> Result<(), RowFault> {
+pub fn print_field(printed: &mut String, bytes: &[u8], words: &str) -> Result<(), RowFault> {
     let (at, width) = split(words, ' ');
-    tell_read(told, bytes, number_of(at)?, width_of(width)?)
+    print_read(printed, bytes, number_of(at)?, width_of(width)?)
 }
 
 /// These bytes and 0 after them, with a field written.
@@ -77,8 +77,8 @@ fn written<C: FieldCodec>(
 }
 
 /// The bytes that both codecs write, and the pattern that both read there.
-fn tell_after(
-    told: &mut String,
+fn print_after(
+    printed: &mut String,
     before: &[u8],
     at: usize,
     width: u32,
@@ -86,22 +86,22 @@ fn tell_after(
 ) -> Result<(), RowFault> {
     let by_bits = written::<BitCodec>(before, at, width, pattern);
     if by_bits != written::<WordCodec>(before, at, width, pattern) {
-        return tell(told, "codecs differ");
+        return print(printed, "codecs differ");
     }
     let Some(buffer) = by_bits else {
         return Err(RowFault::Unread);
     };
     let after = buffer.get(..before.len()).unwrap_or(&[]);
-    tell_bytes(told, after)?;
-    tell_read(told, after, at, width)
+    print_bytes(printed, after)?;
+    print_read(printed, after, at, width)
 }
 
 /// The bytes once a field is written, by its place, its width and the pattern in hex; and the pattern that is read then.
-pub fn tell_written(told: &mut String, before: &[u8], words: &str) -> Result<(), RowFault> {
+pub fn print_written(printed: &mut String, before: &[u8], words: &str) -> Result<(), RowFault> {
     let (at, words) = split(words, ' ');
     let (width, pattern) = split(words, ' ');
-    tell_after(
-        told,
+    print_after(
+        printed,
         before,
         number_of(at)?,
         width_of(width)?,
@@ -143,14 +143,14 @@ fn first_apart(before: &[u8], at: usize, pattern: u32) -> Option<u32> {
 }
 
 /// Whether both codecs agree on the low bits of a pattern in hex, at every place and width in these bytes.
-pub fn tell_agreement(told: &mut String, before: &[u8], words: &str) -> Result<(), RowFault> {
+pub fn print_agreement(printed: &mut String, before: &[u8], words: &str) -> Result<(), RowFault> {
     let pattern = pattern_of(words)?;
     for at in 0..8 * LONGEST {
         if first_apart(before, at, pattern).is_some() {
-            return tell_number(told, Some(at as i64));
+            return print_number(printed, Some(at as i64));
         }
     }
-    tell(told, "agree")
+    print(printed, "agree")
 }
 
 /// The number of a pattern of 1 to 32 bits.
@@ -162,11 +162,11 @@ fn value_of(pattern: u32, width: u32, signed: bool) -> Option<i64> {
 }
 
 /// The number of a pattern in hex, by its width and `signed` or `unsigned`.
-pub fn tell_number_of(told: &mut String, words: &str) -> Result<(), RowFault> {
+pub fn print_number_of(printed: &mut String, words: &str) -> Result<(), RowFault> {
     let (pattern, words) = split(words, ' ');
     let (width, sign) = split(words, ' ');
     let number = value_of(pattern_of(pattern)?, width_of(width)?, sign == "signed");
-    tell_number(told, number)
+    print_number(printed, number)
 }
 
 /// The pattern of a number, of 1 to 32 bits that it fits with or without a sign.
@@ -181,19 +181,19 @@ fn pattern_for(number: i64, width: u32) -> Option<u32> {
 }
 
 /// The pattern of a number, by its width.
-pub fn tell_pattern_of(told: &mut String, words: &str) -> Result<(), RowFault> {
+pub fn print_pattern_of(printed: &mut String, words: &str) -> Result<(), RowFault> {
     let (number, width) = split(words, ' ');
     let pattern = pattern_for(signed_of(number)?, width_of(width)?);
-    tell_pattern(told, pattern)
+    print_pattern(printed, pattern)
 }
 
 /// The pattern of the null, by a width, a minimum and a maximum.
-pub fn tell_null(told: &mut String, words: &str) -> Result<(), RowFault> {
+pub fn print_null(printed: &mut String, words: &str) -> Result<(), RowFault> {
     let (width, words) = split(words, ' ');
     let (min, max) = split(words, ' ');
     let (width, min, max) = (width_of(width)?, signed_of(min)?, signed_of(max)?);
     if width == 0 || width > MAX_WIDTH {
         return Err(RowFault::Unread);
     }
-    tell_pattern(told, null_pattern(width, min, max))
+    print_pattern(printed, null_pattern(width, min, max))
 }

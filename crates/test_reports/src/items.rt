@@ -4,14 +4,14 @@ use crate::words::usage_of;
 use hid_items::{Item, ItemFault, ItemKind, Items};
 use hid_layout::Usage;
 use hid_names::usage_name;
-use test_rows::{RowFault, add, add_hex, add_shown, tell_bytes, tell_shown};
+use test_rows::{RowFault, add, add_hex, add_shown, print_bytes, print_shown};
 
 /// Where an item begins, its sort, and its prefix or its tag.
-fn tell_head(told: &mut String, at: usize, sort: &str, code: u8) -> Result<(), RowFault> {
-    add(told, " at ")?;
-    add_shown(told, &at)?;
-    add(told, sort)?;
-    add_hex(told, u32::from(code))
+fn print_head(printed: &mut String, at: usize, sort: &str, code: u8) -> Result<(), RowFault> {
+    add(printed, " at ")?;
+    add_shown(printed, &at)?;
+    add(printed, sort)?;
+    add_hex(printed, u32::from(code))
 }
 
 /// The data of the first item without and with a sign, where it is a short one.
@@ -25,51 +25,54 @@ fn numbers(bytes: &[u8]) -> Option<(u64, i64)> {
     }
 }
 
-fn tell_data(told: &mut String, bytes: &[u8]) -> Result<(), RowFault> {
+fn print_data(printed: &mut String, bytes: &[u8]) -> Result<(), RowFault> {
     match numbers(bytes) {
         Some((unsigned, signed)) => {
-            add(told, " ")?;
-            add_shown(told, &unsigned)?;
-            add(told, " ")?;
-            add_shown(told, &signed)
+            add(printed, " ")?;
+            add_shown(printed, &unsigned)?;
+            add(printed, " ")?;
+            add_shown(printed, &signed)
         }
-        None => add(told, " no data"),
+        None => add(printed, " no data"),
     }
 }
 
 /// Its bytes, its place, and of a short item its prefix and its data without and with a sign, of a long one its tag.
-fn tell_item(told: &mut String, item: &Item<'_>) -> Result<(), RowFault> {
-    tell_bytes(told, item.bytes)?;
+fn print_item(printed: &mut String, item: &Item<'_>) -> Result<(), RowFault> {
+    print_bytes(printed, item.bytes)?;
     let at = item.at;
     match item.kind {
         ItemKind::Short { prefix } => {
-            tell_head(told, at, " short ", prefix)?;
-            tell_data(told, item.bytes)
+            print_head(printed, at, " short ", prefix)?;
+            print_data(printed, item.bytes)
         }
-        ItemKind::Long { tag } => tell_head(told, at, " long ", tag),
+        ItemKind::Long { tag } => print_head(printed, at, " long ", tag),
     }
 }
 
-fn tell_answer(told: &mut String, answer: &Result<Item<'_>, ItemFault>) -> Result<(), RowFault> {
+fn print_answer(
+    printed: &mut String,
+    answer: &Result<Item<'_>, ItemFault>,
+) -> Result<(), RowFault> {
     match answer {
-        Ok(item) => tell_item(told, item),
-        Err(fault) => tell_shown(told, fault),
+        Ok(item) => print_item(printed, item),
+        Err(fault) => print_shown(printed, fault),
     }
 }
 
 /// The items of these bytes.
-pub fn tell_items(told: &mut String, bytes: &[u8]) -> Result<(), RowFault> {
+pub fn print_items(printed: &mut String, bytes: &[u8]) -> Result<(), RowFault> {
     for answer in Items::new(bytes) {
-        tell_answer(told, &answer)?;
+        print_answer(printed, &answer)?;
     }
     Ok(())
 }
 
 /// The name of a usage, `PAGE:ID`.
-pub fn tell_name(told: &mut String, words: &str) -> Result<(), RowFault> {
+pub fn print_name(printed: &mut String, words: &str) -> Result<(), RowFault> {
     let Usage { page, id } = usage_of(words)?;
     match usage_name(page, id) {
-        Some(name) => add_shown(told, &name),
-        None => add(told, "no name"),
+        Some(name) => add_shown(printed, &name),
+        None => add(printed, "no name"),
     }
 }

@@ -3,7 +3,7 @@
 use hid_layout::{Element, Layout, LayoutFault, Usage};
 use std::alloc::Global;
 use test_rows::{
-    RowFault, add, add_shown, number_of, split, tell, tell_debug, tell_shown, tell_whether,
+    RowFault, add, add_shown, number_of, print, print_debug, print_shown, print_whether, split,
 };
 
 fn item_count(layout: &Layout) -> usize {
@@ -11,9 +11,9 @@ fn item_count(layout: &Layout) -> usize {
 }
 
 /// How many items are listed.
-pub fn tell_count(told: &mut String, layout: &Layout) -> Result<(), RowFault> {
-    add_shown(told, &item_count(layout))?;
-    add(told, " items")
+pub fn print_count(printed: &mut String, layout: &Layout) -> Result<(), RowFault> {
+    add_shown(printed, &item_count(layout))?;
+    add(printed, " items")
 }
 
 fn usage(layout: &Layout, item: usize, index: usize) -> Option<Usage> {
@@ -33,11 +33,11 @@ fn element(layout: &Layout, item: usize, index: usize) -> Option<Element> {
 }
 
 /// The usage and the element at a place of an item.
-pub fn tell_element(told: &mut String, layout: &Layout, words: &str) -> Result<(), RowFault> {
+pub fn print_element(printed: &mut String, layout: &Layout, words: &str) -> Result<(), RowFault> {
     let (item, index) = split(words, ' ');
     let (item, index) = (number_of(item)?, number_of(index)?);
-    tell_debug(told, &usage(layout, item, index))?;
-    tell_debug(told, &element(layout, item, index))
+    print_debug(printed, &usage(layout, item, index))?;
+    print_debug(printed, &element(layout, item, index))
 }
 
 fn entries(layout: &Layout) -> &[(Usage, Usage)] {
@@ -65,11 +65,11 @@ fn report_bytes(layout: &Layout) -> usize {
 }
 
 /// Of the first item, its entries and how many collections it is in; of the first report, its bytes and whether it has an ID.
-pub fn tell_lists(told: &mut String, layout: &Layout) -> Result<(), RowFault> {
-    tell_debug(told, &entries(layout))?;
-    tell_shown(told, &collections(layout))?;
-    tell_shown(told, &report_bytes(layout))?;
-    tell_whether(told, layout.numbered(), "with an ID", "without an ID")
+pub fn print_lists(printed: &mut String, layout: &Layout) -> Result<(), RowFault> {
+    print_debug(printed, &entries(layout))?;
+    print_shown(printed, &collections(layout))?;
+    print_shown(printed, &report_bytes(layout))?;
+    print_whether(printed, layout.numbered(), "with an ID", "without an ID")
 }
 
 /// Why a descriptor is refused.
@@ -77,23 +77,23 @@ fn fault_of(alloc: Global, descriptor: &[u8]) -> Option<LayoutFault> {
     Layout::parse(alloc, descriptor).err()
 }
 
-fn tell_part(told: &mut String, alloc: Global, descriptor: &[u8]) -> Result<(), RowFault> {
+fn print_part(printed: &mut String, alloc: Global, descriptor: &[u8]) -> Result<(), RowFault> {
     match fault_of(alloc, descriptor) {
-        Some(fault) => tell_shown(told, &fault),
-        None => tell(told, "accepted"),
+        Some(fault) => print_shown(printed, &fault),
+        None => print(printed, "accepted"),
     }
 }
 
 /// Why the first bytes of a descriptor are refused, by how many there are.
-pub fn tell_parts(
-    told: &mut String,
+pub fn print_parts(
+    printed: &mut String,
     alloc: Global,
     descriptor: &[u8],
     words: &str,
 ) -> Result<(), RowFault> {
     for word in words.split_whitespace() {
         match descriptor.get(..number_of(word)?) {
-            Some(front) => tell_part(told, alloc, front)?,
+            Some(front) => print_part(printed, alloc, front)?,
             None => return Err(RowFault::Unread),
         }
     }

@@ -9,19 +9,19 @@
 //! The rule to know: `stdout` has nothing but the last line, so a row that is wrong or lost is seen.
 #![tactic(auto)]
 
-mod asked;
 mod boot;
 mod controls;
 mod events;
 mod fields;
 mod items;
 mod layouts;
+mod questions;
 mod session;
 mod snapshots;
 mod views;
 mod words;
 
-use asked::Questions;
+use questions::Questions;
 use std::process::ExitCode;
 use test_rows::run;
 

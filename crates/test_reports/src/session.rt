@@ -1,13 +1,13 @@
-//! A session of `hidstack_session`, as steps with `;` between them: `feed N HEX` gives a report and a table of N places, and tells
-//! the events or the fault; `room` tells how many events come at most, and `held C` whether a switch is held.
+//! A session of `hidstack_session`, as steps with `;` between them: `feed N HEX` gives a report and a table of N places, and
+//! prints the events or the fault; `room` prints how many events come at most, and `held C` whether a switch is held.
 
 use crate::words::control_of;
 use hid_usages::ReportFault;
 use hidstack_session::{FeedFault, HidElement, HidEvent, Session, list_elements, number_in};
 use std::alloc::Global;
 use test_rows::{
-    RowFault, Sheet, bytes_of, number_of, split, tell, tell_debug, tell_number, tell_numbers,
-    tell_shown, tell_whether,
+    RowFault, Table, bytes_of, number_of, print, print_debug, print_number, print_numbers,
+    print_shown, print_whether, split,
 };
 
 /// The most places of a table.
@@ -23,7 +23,7 @@ const NO_EVENT: HidEvent = HidEvent {
 };
 
 /// Its kind, its control's item and place, its usage's page and ID, and its value.
-fn tell_event(told: &mut String, event: &HidEvent) -> Result<(), RowFault> {
+fn print_event(printed: &mut String, event: &HidEvent) -> Result<(), RowFault> {
     let HidEvent {
         value,
         item,
@@ -35,19 +35,19 @@ fn tell_event(told: &mut String, event: &HidEvent) -> Result<(), RowFault> {
     let item = i64::try_from(item).unwrap_or(-1);
     let index = i64::try_from(index).unwrap_or(-1);
     let (kind, page, id) = (i64::from(kind), i64::from(page), i64::from(id));
-    tell_numbers(told, &[kind, item, index, page, id, value])
+    print_numbers(printed, &[kind, item, index, page, id, value])
 }
 
-fn tell_first(told: &mut String, events: &[HidEvent], count: usize) -> Result<(), RowFault> {
+fn print_first(printed: &mut String, events: &[HidEvent], count: usize) -> Result<(), RowFault> {
     for event in events.iter().take(count) {
-        tell_event(told, event)?;
+        print_event(printed, event)?;
     }
     Ok(())
 }
 
 /// Feeds a report with a table of n places.
 fn feed(
-    told: &mut String,
+    printed: &mut String,
     session: &mut Session,
     places: usize,
     report: &[u8],
@@ -57,61 +57,66 @@ fn feed(
         return Err(RowFault::Unread);
     };
     match session.feed(report, out) {
-        Ok(count) => tell_first(told, out, count),
-        Err(FeedFault::NoRoom) => tell(told, "no room"),
-        Err(FeedFault::Refused(fault)) => tell_shown(told, &fault),
+        Ok(count) => print_first(printed, out, count),
+        Err(FeedFault::NoRoom) => print(printed, "no room"),
+        Err(FeedFault::Refused(fault)) => print_shown(printed, &fault),
     }
 }
 
 fn feed_words(
-    told: &mut String,
-    sheet: &Sheet<'_>,
+    printed: &mut String,
+    table: &Table<'_>,
     session: &mut Session,
     words: &str,
 ) -> Result<(), RowFault> {
     let (places, report) = split(words, ' ');
     let places = number_of(places)?;
-    let report = bytes_of(sheet, report)?;
-    feed(told, session, places, &report)
+    let report = bytes_of(table, report)?;
+    feed(printed, session, places, &report)
 }
 
 fn play_step(
-    told: &mut String,
-    sheet: &Sheet<'_>,
+    printed: &mut String,
+    table: &Table<'_>,
     session: &mut Session,
     step: &str,
 ) -> Result<(), RowFault> {
     let (verb, words) = split(step, ' ');
     match verb {
-        "feed" => feed_words(told, sheet, session, words),
-        "room" => tell_shown(told, &session.room()),
-        "held" => tell_whether(told, session.held(control_of(words)?), "held", "not held"),
+        "feed" => feed_words(printed, table, session, words),
+        "room" => print_shown(printed, &session.room()),
+        "held" => print_whether(
+            printed,
+            session.held(control_of(words)?),
+            "held",
+            "not held",
+        ),
         _ => Err(RowFault::Unread),
     }
 }
 
 fn play(
-    told: &mut String,
-    sheet: &Sheet<'_>,
+    printed: &mut String,
+    table: &Table<'_>,
     session: &mut Session,
     steps: &str,
 ) -> Result<(), RowFault> {
     for step in steps.split(';') {
-        play_step(told, sheet, session, step.trim())?;
+        play_step(printed, table, session, step.trim())?;
     }
     Ok(())
 }
 
-/// What the steps tell of a session.
-pub fn tell_session(
-    told: &mut String,
-    sheet: &Sheet<'_>,
+/// Appends the results of the steps of a session.
+pub fn print_session(
+    printed: &mut String,
+    table: &Table<'_>,
     descriptor: &[u8],
     steps: &str,
 ) -> Result<(), RowFault> {
-    match Session::open(sheet.alloc, descriptor) {
-        Ok(mut session) => play(told, sheet, &mut session, steps),
-        Err(fault) => tell_shown(told, &fault),
+    match Session::open(table.alloc, descriptor) {
+        Ok(mut session) => play(printed, table, &mut session, steps),
+        Err(fault) => print_shown(printed, &fault),
     }
 }
 
@@ -124,52 +129,52 @@ fn number(element: &HidElement, bytes: &[u8]) -> Result<i64, ReportFault> {
 }
 
 /// An element, and its number in these bytes.
-fn tell_element(told: &mut String, element: &HidElement, bytes: &[u8]) -> Result<(), RowFault> {
-    tell_debug(told, element)?;
+fn print_element(printed: &mut String, element: &HidElement, bytes: &[u8]) -> Result<(), RowFault> {
+    print_debug(printed, element)?;
     match number(element, bytes) {
-        Ok(number) => tell_number(told, Some(number)),
-        Err(fault) => tell_shown(told, &fault),
+        Ok(number) => print_number(printed, Some(number)),
+        Err(fault) => print_shown(printed, &fault),
     }
 }
 
 /// How many elements there are, and the last of them.
-fn tell_last(told: &mut String, elements: &[HidElement], bytes: &[u8]) -> Result<(), RowFault> {
-    tell_shown(told, &elements.len())?;
+fn print_last(printed: &mut String, elements: &[HidElement], bytes: &[u8]) -> Result<(), RowFault> {
+    print_shown(printed, &elements.len())?;
     match elements.last() {
-        Some(element) => tell_element(told, element, bytes),
+        Some(element) => print_element(printed, element, bytes),
         None => Ok(()),
     }
 }
 
-fn tell_elements(
-    told: &mut String,
+fn print_elements(
+    printed: &mut String,
     alloc: Global,
     session: &Session,
     bytes: &[u8],
 ) -> Result<(), RowFault> {
     let elements = elements_of(alloc, session)?;
-    tell_last(told, &elements, bytes)
+    print_last(printed, &elements, bytes)
 }
 
-fn tell_elements_in(
-    told: &mut String,
-    sheet: &Sheet<'_>,
+fn print_elements_in(
+    printed: &mut String,
+    table: &Table<'_>,
     session: &Session,
     words: &str,
 ) -> Result<(), RowFault> {
-    let bytes = bytes_of(sheet, words)?;
-    tell_elements(told, sheet.alloc, session, &bytes)
+    let bytes = bytes_of(table, words)?;
+    print_elements(printed, table.alloc, session, &bytes)
 }
 
 /// How many elements are listed, the last of them, and its number in the bytes of a report.
-pub fn tell_table(
-    told: &mut String,
-    sheet: &Sheet<'_>,
+pub fn print_table(
+    printed: &mut String,
+    table: &Table<'_>,
     descriptor: &[u8],
     words: &str,
 ) -> Result<(), RowFault> {
-    match Session::open(sheet.alloc, descriptor) {
-        Ok(session) => tell_elements_in(told, sheet, &session, words),
-        Err(fault) => tell_shown(told, &fault),
+    match Session::open(table.alloc, descriptor) {
+        Ok(session) => print_elements_in(printed, table, &session, words),
+        Err(fault) => print_shown(printed, &fault),
     }
 }

@@ -1,9 +1,9 @@
 //! Changes of snapshots, what reports show of them, and when these are due, as steps with `;` between them:
 //!
-//! - `press C`, `release C`, `set C V`, `null C`, `move C BY` change a control, and tell a refusal;
-//! - `show R` and `still R` set the part of a report, or its still part, and tell its bytes; `fix R` tells nothing;
+//! - `press C`, `release C`, `set C V`, `null C`, `move C BY` change a control, and print a refusal;
+//! - `show R` and `still R` set the part of a report, or its still part, and print its bytes; `fix R` prints nothing;
 //! - `take R` sets the part, and takes its motion out of the snapshot; `reset` makes all parts blank again;
-//! - `due R`, `motion C`, `keys I`, `input R` and `codes` tell what there is.
+//! - `due R`, `motion C`, `keys I`, `input R` and `codes` print the state.
 
 ghost use Rattle.std.specs.Prelude.{IfOk};
 ghost use Rattle.hid_layout.specs.Controls.{items_of};
@@ -19,8 +19,8 @@ use hid_snapshots::{
 };
 use std::alloc::Global;
 use test_rows::{
-    RowFault, number_of, signed_of, split, tell, tell_bytes, tell_debug, tell_number, tell_shown,
-    tell_whether,
+    RowFault, number_of, print, print_bytes, print_debug, print_number, print_shown, print_whether,
+    signed_of, split,
 };
 
 /// A blank snapshot.
@@ -69,9 +69,9 @@ fn make(snapshot: &mut Snapshot, layout: &Layout, change: &Change) -> Result<(),
     }
 }
 
-/// Changes a control, and tells a refusal.
+/// Changes a control, and appends a refusal.
 pub fn change(
-    told: &mut String,
+    printed: &mut String,
     layout: &Layout,
     snapshot: &mut Snapshot,
     change: &Change,
@@ -81,7 +81,7 @@ pub fn change(
 {
     match make(snapshot, layout, change) {
         Ok(()) => Ok(()),
-        Err(fault) => tell_shown(told, &fault),
+        Err(fault) => print_shown(printed, &fault),
     }
 }
 
@@ -120,8 +120,8 @@ fn encoded<F: FieldCodec>(layout: &Layout, parts: &Shown, report: usize) -> Arra
 }
 
 /// The bytes of a report's part, by both codecs.
-fn tell_part(
-    told: &mut String,
+fn print_part(
+    printed: &mut String,
     layout: &Layout,
     parts: &Shown,
     report: usize,
@@ -131,15 +131,15 @@ fn tell_part(
     let by_words = encoded::<WordCodec>(layout, parts, report);
     let by_bits = encoded::<BitCodec>(layout, parts, report);
     if by_words == by_bits {
-        tell_bytes(told, &by_words)
+        print_bytes(printed, &by_words)
     } else {
-        tell(told, "codecs differ")
+        print(printed, "codecs differ")
     }
 }
 
-/// Sets a part, and tells its bytes unless it is only fixed.
+/// Sets a part, and appends its bytes unless it is only fixed.
 fn show(
-    told: &mut String,
+    printed: &mut String,
     layout: &Layout,
     snapshot: &Snapshot,
     parts: &mut Shown,
@@ -151,18 +151,18 @@ fn show(
     ensures { FitsShown (items_of layout.now) parts.new }
 {
     if !fix(layout, snapshot, parts, report, verb == "still") {
-        return tell(told, "no report");
+        return print(printed, "no report");
     }
     if verb == "fix" {
         Ok(())
     } else {
-        tell_part(told, layout, parts, report)
+        print_part(printed, layout, parts, report)
     }
 }
 
 /// Sets a part, and takes its motion out of the snapshot.
 fn take(
-    told: &mut String,
+    printed: &mut String,
     layout: &Layout,
     snapshot: &mut Snapshot,
     parts: &mut Shown,
@@ -174,15 +174,15 @@ fn take(
     ensures parts { FitsShown (items_of layout.now) parts.new }
 {
     if !is_input(layout, report) || !has_zeros(layout) {
-        return tell(told, "no report");
+        return print(printed, "no report");
     }
     snapshot.shown(layout, report, parts);
     snapshot.take_motion(layout, report, parts);
     Ok(())
 }
 
-fn tell_due(
-    told: &mut String,
+fn print_due(
+    printed: &mut String,
     layout: &Layout,
     snapshot: &Snapshot,
     parts: &Shown,
@@ -192,14 +192,19 @@ fn tell_due(
     requires parts { FitsShown (items_of layout.now) parts.now }
 {
     if !is_input(layout, report) {
-        return tell(told, "no report");
+        return print(printed, "no report");
     }
-    tell_whether(told, snapshot.due(layout, report, parts), "due", "not due")
+    print_whether(
+        printed,
+        snapshot.due(layout, report, parts),
+        "due",
+        "not due",
+    )
 }
 
 /// The pressed keys of an array, as words.
-fn tell_keys(
-    told: &mut String,
+fn print_keys(
+    printed: &mut String,
     layout: &Layout,
     snapshot: &Snapshot,
     item: usize,
@@ -207,14 +212,14 @@ fn tell_keys(
     requires { FitsSnapshot (items_of layout.now) snapshot.now }
 {
     if !has_keys(layout, item) {
-        return tell(told, "no array");
+        return print(printed, "no array");
     }
-    tell_debug(told, &snapshot.key_words(layout, item))
+    print_debug(printed, &snapshot.key_words(layout, item))
 }
 
-/// Tells what there is.
-fn tell_state(
-    told: &mut String,
+/// Appends the state that the words ask for.
+fn print_state(
+    printed: &mut String,
     layout: &Layout,
     snapshot: &Snapshot,
     parts: &Shown,
@@ -225,17 +230,17 @@ fn tell_state(
 {
     let (verb, word) = split(step, ' ');
     match verb {
-        "due" => tell_due(told, layout, snapshot, parts, number_of(word)?),
-        "motion" => tell_number(told, Some(parts.motion(control_of(word)?))),
-        "keys" => tell_keys(told, layout, snapshot, number_of(word)?),
-        "input" => tell_whether(told, is_input(layout, number_of(word)?), "input", "none"),
-        "codes" => tell_whether(told, has_empty_codes(layout), "codes", "no code"),
+        "due" => print_due(printed, layout, snapshot, parts, number_of(word)?),
+        "motion" => print_number(printed, Some(parts.motion(control_of(word)?))),
+        "keys" => print_keys(printed, layout, snapshot, number_of(word)?),
+        "input" => print_whether(printed, is_input(layout, number_of(word)?), "input", "none"),
+        "codes" => print_whether(printed, has_empty_codes(layout), "codes", "no code"),
         _ => Err(RowFault::Unread),
     }
 }
 
 fn play_step(
-    told: &mut String,
+    printed: &mut String,
     layout: &Layout,
     snapshot: &mut Snapshot,
     parts: &mut Shown,
@@ -249,20 +254,22 @@ fn play_step(
     let (verb, words) = split(step, ' ');
     match verb {
         "press" | "release" | "set" | "null" | "move" => {
-            change(told, layout, snapshot, &change_of(verb, words)?)
+            change(printed, layout, snapshot, &change_of(verb, words)?)
         }
-        "show" | "still" | "fix" => { show(told, layout, snapshot, parts, verb, number_of(words)?) }
-        "take" => take(told, layout, snapshot, parts, number_of(words)?),
+        "show" | "still" | "fix" => {
+            show(printed, layout, snapshot, parts, verb, number_of(words)?)
+        }
+        "take" => take(printed, layout, snapshot, parts, number_of(words)?),
         "reset" => {
             parts.reset(layout);
             Ok(())
         }
-        _ => tell_state(told, layout, snapshot, parts, step),
+        _ => print_state(printed, layout, snapshot, parts, step),
     }
 }
 
 fn play(
-    told: &mut String,
+    printed: &mut String,
     layout: &Layout,
     snapshot: &mut Snapshot,
     parts: &mut Shown,
@@ -272,19 +279,19 @@ fn play(
     requires parts { FitsShown (items_of layout.now) parts.old }
 {
     for step in steps.split(';') {
-        play_step(told, layout, snapshot, parts, step.trim())?;
+        play_step(printed, layout, snapshot, parts, step.trim())?;
     }
     Ok(())
 }
 
-/// What the steps tell of a blank snapshot and blank parts.
-pub fn tell_snapshot(
-    told: &mut String,
+/// Appends the results of the steps, from a blank snapshot and blank parts on.
+pub fn print_snapshot(
+    printed: &mut String,
     alloc: Global,
     layout: &Layout,
     steps: &str,
 ) -> Result<(), RowFault> {
     let mut snapshot = blank_snapshot(alloc, layout)?;
     let mut parts = blank_parts(alloc, layout)?;
-    play(told, layout, &mut snapshot, &mut parts, steps)
+    play(printed, layout, &mut snapshot, &mut parts, steps)
 }

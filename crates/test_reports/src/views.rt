@@ -1,11 +1,11 @@
-//! Reports of any bytes in a view, as steps with `;` between them: `take HEX` tells the events of a report, or its refusal,
-//! `bits HEX` too, bit by bit, and `feed HEX` a refusal alone; `held C`, `value C` and `keys I` tell what there is.
+//! Reports of any bytes in a view, as steps with `;` between them: `take HEX` prints the events of a report, or its refusal,
+//! `bits HEX` too, bit by bit, and `feed HEX` a refusal alone; `held C`, `value C` and `keys I` print the view.
 
 ghost use Rattle.std.specs.Prelude.{◌≤◌, ◌+◌, IfOk, vec_len, vec_capacity};
 ghost use Rattle.hid_layout.specs.Controls.{items_of, max_events};
 ghost use Rattle.hid_snapshots.specs.ControlStates.{FitsSnapshot, FitsShown, FitsView};
 
-use crate::events::tell_events;
+use crate::events::print_events;
 use crate::snapshots::{blank_parts, blank_snapshot, change, fix};
 use crate::words::control_of;
 use hid_fields::{BitCodec, WordCodec};
@@ -16,8 +16,8 @@ use hid_usages::{
 };
 use std::alloc::Global;
 use test_rows::{
-    RowFault, Sheet, bytes_of, number_of, split, tell, tell_debug, tell_number, tell_shown,
-    tell_whether,
+    RowFault, Table, bytes_of, number_of, print, print_debug, print_number, print_shown,
+    print_whether, split,
 };
 
 fn initial_view(alloc: Global, layout: &Layout) -> Result<View, RowFault>
@@ -56,22 +56,22 @@ fn take(
     }
 }
 
-/// Tells the events of a report or its refusal, if they are asked for.
-fn tell_taken(
-    told: &mut String,
+/// Appends the events of a report or its refusal, if they are asked for.
+fn print_taken(
+    printed: &mut String,
     taken: Result<(), ReportFault>,
     verb: &str,
     events: &[Event],
 ) -> Result<(), RowFault> {
     match taken {
         Ok(()) if verb == "feed" => Ok(()),
-        Ok(()) => tell_events(told, events),
-        Err(fault) => tell_shown(told, &fault),
+        Ok(()) => print_events(printed, events),
+        Err(fault) => print_shown(printed, &fault),
     }
 }
 
 fn take_bytes(
-    told: &mut String,
+    printed: &mut String,
     alloc: Global,
     layout: &Layout,
     view: &mut View,
@@ -83,12 +83,12 @@ fn take_bytes(
 {
     let mut events = room_of(alloc, layout)?;
     let taken = take(layout, view, report, verb != "bits", &mut events);
-    tell_taken(told, taken, verb, &events)
+    print_taken(printed, taken, verb, &events)
 }
 
 fn take_words(
-    told: &mut String,
-    sheet: &Sheet<'_>,
+    printed: &mut String,
+    table: &Table<'_>,
     layout: &Layout,
     view: &mut View,
     verb: &str,
@@ -97,23 +97,28 @@ fn take_words(
     requires { FitsView (items_of layout.now) view.old }
     ensures { FitsView (items_of layout.now) view.new }
 {
-    let report = bytes_of(sheet, words)?;
-    take_bytes(told, sheet.alloc, layout, view, verb, &report)
+    let report = bytes_of(table, words)?;
+    take_bytes(printed, table.alloc, layout, view, verb, &report)
 }
 
 /// The held keys of an array, as words.
-fn tell_keys(told: &mut String, layout: &Layout, view: &View, item: usize) -> Result<(), RowFault>
+fn print_keys(
+    printed: &mut String,
+    layout: &Layout,
+    view: &View,
+    item: usize,
+) -> Result<(), RowFault>
     requires { FitsView (items_of layout.now) view.now }
 {
     if !has_keys(layout, item) {
-        return tell(told, "no array");
+        return print(printed, "no array");
     }
-    tell_debug(told, &view.key_words(layout, item))
+    print_debug(printed, &view.key_words(layout, item))
 }
 
 fn play_step(
-    told: &mut String,
-    sheet: &Sheet<'_>,
+    printed: &mut String,
+    table: &Table<'_>,
     layout: &Layout,
     view: &mut View,
     step: &str,
@@ -123,17 +128,17 @@ fn play_step(
 {
     let (verb, words) = split(step, ' ');
     match verb {
-        "take" | "bits" | "feed" => take_words(told, sheet, layout, view, verb, words),
-        "held" => tell_whether(told, view.held(control_of(words)?), "held", "not held"),
-        "value" => tell_number(told, view.value(control_of(words)?)),
-        "keys" => tell_keys(told, layout, view, number_of(words)?),
+        "take" | "bits" | "feed" => take_words(printed, table, layout, view, verb, words),
+        "held" => print_whether(printed, view.held(control_of(words)?), "held", "not held"),
+        "value" => print_number(printed, view.value(control_of(words)?)),
+        "keys" => print_keys(printed, layout, view, number_of(words)?),
         _ => Err(RowFault::Unread),
     }
 }
 
 fn play(
-    told: &mut String,
-    sheet: &Sheet<'_>,
+    printed: &mut String,
+    table: &Table<'_>,
     layout: &Layout,
     view: &mut View,
     steps: &str,
@@ -142,24 +147,24 @@ fn play(
     ensures { FitsView (items_of layout.now) view.new }
 {
     for step in steps.split(';') {
-        play_step(told, sheet, layout, view, step.trim())?;
+        play_step(printed, table, layout, view, step.trim())?;
     }
     Ok(())
 }
 
-/// What the steps tell of the initial view.
-pub fn tell_view(
-    told: &mut String,
-    sheet: &Sheet<'_>,
+/// Appends the results of the steps, from the initial view on.
+pub fn print_view(
+    printed: &mut String,
+    table: &Table<'_>,
     layout: &Layout,
     steps: &str,
 ) -> Result<(), RowFault> {
-    let mut view = initial_view(sheet.alloc, layout)?;
-    play(told, sheet, layout, &mut view, steps)
+    let mut view = initial_view(table.alloc, layout)?;
+    play(printed, table, layout, &mut view, steps)
 }
 
-fn tell_changes(
-    told: &mut String,
+fn print_changes(
+    printed: &mut String,
     alloc: Global,
     layout: &Layout,
     old: &View,
@@ -170,12 +175,12 @@ fn tell_changes(
 {
     let mut events = room_of(alloc, layout)?;
     changes(layout, old, new, &mut events);
-    tell_events(told, &events)
+    print_events(printed, &events)
 }
 
 fn play_between(
-    told: &mut String,
-    sheet: &Sheet<'_>,
+    printed: &mut String,
+    table: &Table<'_>,
     layout: &Layout,
     old: &mut View,
     new: &mut View,
@@ -185,25 +190,25 @@ fn play_between(
     requires new { FitsView (items_of layout.now) new.old }
 {
     let (before, after) = split(words, ';');
-    take_words(told, sheet, layout, old, "feed", before)?;
-    take_words(told, sheet, layout, new, "feed", after)?;
-    tell_changes(told, sheet.alloc, layout, old, new)
+    take_words(printed, table, layout, old, "feed", before)?;
+    take_words(printed, table, layout, new, "feed", after)?;
+    print_changes(printed, table.alloc, layout, old, new)
 }
 
 /// The events that lead from the view of one report to that of another, `HEX; HEX`.
-pub fn tell_between(
-    told: &mut String,
-    sheet: &Sheet<'_>,
+pub fn print_between(
+    printed: &mut String,
+    table: &Table<'_>,
     layout: &Layout,
     words: &str,
 ) -> Result<(), RowFault> {
-    let mut old = initial_view(sheet.alloc, layout)?;
-    let mut new = initial_view(sheet.alloc, layout)?;
-    play_between(told, sheet, layout, &mut old, &mut new, words)
+    let mut old = initial_view(table.alloc, layout)?;
+    let mut new = initial_view(table.alloc, layout)?;
+    play_between(printed, table, layout, &mut old, &mut new, words)
 }
 
-fn tell_drops(
-    told: &mut String,
+fn print_drops(
+    printed: &mut String,
     alloc: Global,
     layout: &Layout,
     view: &View,
@@ -216,17 +221,17 @@ fn tell_drops(
     requires parts { FitsShown (items_of layout.now) parts.now }
 {
     if !is_input(layout, report) {
-        return tell(told, "no report");
+        return print(printed, "no report");
     }
     let mut events = room_of(alloc, layout)?;
     changes_and_drops(layout, view, initial, report, parts, &mut events);
-    tell_events(told, &events)
+    print_events(printed, &events)
 }
 
-/// Takes a report, and tells what leads back from there to the initial view.
+/// Takes a report, and appends the events that lead back from there to the initial view.
 fn forget(
-    told: &mut String,
-    sheet: &Sheet<'_>,
+    printed: &mut String,
+    table: &Table<'_>,
     layout: &Layout,
     parts: &Shown,
     bytes: &str,
@@ -234,15 +239,15 @@ fn forget(
 ) -> Result<(), RowFault>
     requires { FitsShown (items_of layout.now) parts.now }
 {
-    let mut view = initial_view(sheet.alloc, layout)?;
-    let initial = initial_view(sheet.alloc, layout)?;
-    take_words(told, sheet, layout, &mut view, "feed", bytes)?;
-    tell_drops(told, sheet.alloc, layout, &view, &initial, parts, report)
+    let mut view = initial_view(table.alloc, layout)?;
+    let initial = initial_view(table.alloc, layout)?;
+    take_words(printed, table, layout, &mut view, "feed", bytes)?;
+    print_drops(printed, table.alloc, layout, &view, &initial, parts, report)
 }
 
 /// Moves a control, and fixes the part of a report.
 fn move_and_fix(
-    told: &mut String,
+    printed: &mut String,
     layout: &Layout,
     snapshot: &mut Snapshot,
     parts: &mut Shown,
@@ -255,9 +260,9 @@ fn move_and_fix(
 {
     let (control, by) = split(moved, ' ');
     let moved = Change::Move(control_of(control)?, by.parse()?);
-    change(told, layout, snapshot, &moved)?;
-    tell_whether(
-        told,
+    change(printed, layout, snapshot, &moved)?;
+    print_whether(
+        printed,
         fix(layout, snapshot, parts, report, false),
         "shown",
         "no report",
@@ -266,9 +271,9 @@ fn move_and_fix(
 
 /// What leads from the view of a report back to the initial one, where a motion was made since then, a report shows it and one
 /// is dropped, `HEX; C BY; R; R`.
-pub fn tell_forgotten(
-    told: &mut String,
-    sheet: &Sheet<'_>,
+pub fn print_forgotten(
+    printed: &mut String,
+    table: &Table<'_>,
     layout: &Layout,
     words: &str,
 ) -> Result<(), RowFault> {
@@ -276,37 +281,37 @@ pub fn tell_forgotten(
     let (moved, words) = split(words, ';');
     let (shows, drops) = split(words, ';');
     let (shows, drops) = (number_of(shows)?, number_of(drops)?);
-    let mut snapshot = blank_snapshot(sheet.alloc, layout)?;
-    let mut parts = blank_parts(sheet.alloc, layout)?;
-    move_and_fix(told, layout, &mut snapshot, &mut parts, moved, shows)?;
-    forget(told, sheet, layout, &parts, bytes, drops)
+    let mut snapshot = blank_snapshot(table.alloc, layout)?;
+    let mut parts = blank_parts(table.alloc, layout)?;
+    move_and_fix(printed, layout, &mut snapshot, &mut parts, moved, shows)?;
+    forget(printed, table, layout, &parts, bytes, drops)
 }
 
-fn tell_report(told: &mut String, layout: &Layout, bytes: &[u8]) -> Result<(), RowFault> {
+fn print_report(printed: &mut String, layout: &Layout, bytes: &[u8]) -> Result<(), RowFault> {
     match input_report(layout, bytes) {
-        Ok(report) => tell_shown(told, &report),
-        Err(fault) => tell_shown(told, &fault),
+        Ok(report) => print_shown(printed, &report),
+        Err(fault) => print_shown(printed, &fault),
     }
 }
 
 /// The number of the Input report that these bytes are.
-pub fn tell_named(
-    told: &mut String,
-    sheet: &Sheet<'_>,
+pub fn print_named(
+    printed: &mut String,
+    table: &Table<'_>,
     layout: &Layout,
     words: &str,
 ) -> Result<(), RowFault> {
-    let bytes = bytes_of(sheet, words)?;
-    tell_report(told, layout, &bytes)
+    let bytes = bytes_of(table, words)?;
+    print_report(printed, layout, &bytes)
 }
 
 /// How many bytes the Input report has that begins with these.
-pub fn tell_awaited(
-    told: &mut String,
-    sheet: &Sheet<'_>,
+pub fn print_awaited(
+    printed: &mut String,
+    table: &Table<'_>,
     layout: &Layout,
     words: &str,
 ) -> Result<(), RowFault> {
-    let bytes = bytes_of(sheet, words)?;
-    tell_shown(told, &bytes_awaited(layout, &bytes))
+    let bytes = bytes_of(table, words)?;
+    print_shown(printed, &bytes_awaited(layout, &bytes))
 }

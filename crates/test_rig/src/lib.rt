@@ -5,5 +5,3 @@
 
 #[cfg(test)]
 mod rig;
-#[cfg(test)]
-mod verdict;

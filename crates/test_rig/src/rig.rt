@@ -1,7 +1,6 @@
 //! What no script shows of steps on a bus with boot keyboards and boot mice, worked out by hand from the definitions (USB
 //! 2.0, 8.5.4 and 8.6): runs of steps, controls of events, and what a rig lets one look at.
 
-use crate::verdict::{holds, none_is_wrong};
 use hid_device::{Boot, Config, Device, KEYBOARD, MOUSE};
 use hid_layout::{ControlId, Usage};
 use hid_stack::{
@@ -9,6 +8,7 @@ use hid_stack::{
 };
 use hid_usages::{Change, ChangeFault, Event};
 use std::test::Fail;
+use test_rows::{holds, none_is_wrong};
 use usb_control::Outcome;
 use usb_transact::Fate;
 
@@ -82,13 +82,13 @@ enum Act {
     /// The device halts by itself.
     Halt,
     Reset,
-    Begin(RequestKind),
+    Begin(PlainRequest),
     Control(Fate),
 }
 
 /// A request without bytes.
 #[derive(Clone, Copy)]
-enum RequestKind {
+enum PlainRequest {
     Config,
     Report,
     Configure,
@@ -104,23 +104,23 @@ const CLEAN: Act = Act::Poll(Fate::Clean);
 
 const TRY: Act = Act::Control(Fate::Clean);
 
-const CLEAR: Act = Act::Begin(RequestKind::Clear);
+const CLEAR: Act = Act::Begin(PlainRequest::Clear);
 
 fn changes(dev: u8, change: Change) -> Step {
     Step::Change { dev, change }
 }
 
-fn request_of(asked: RequestKind) -> Request {
+fn request_of(asked: PlainRequest) -> Request {
     match asked {
-        RequestKind::Config => Request::Config,
-        RequestKind::Report => Request::Report,
-        RequestKind::Configure => Request::Configure,
-        RequestKind::Status => Request::Status,
-        RequestKind::GetConfiguration => Request::GetConfiguration,
-        RequestKind::GetIdle => Request::GetIdle { id: 0 },
-        RequestKind::Halt => Request::Halt,
-        RequestKind::Clear => Request::Clear,
-        RequestKind::EndpointStatus => Request::EndpointStatus,
+        PlainRequest::Config => Request::Config,
+        PlainRequest::Report => Request::Report,
+        PlainRequest::Configure => Request::Configure,
+        PlainRequest::Status => Request::Status,
+        PlainRequest::GetConfiguration => Request::GetConfiguration,
+        PlainRequest::GetIdle => Request::GetIdle { id: 0 },
+        PlainRequest::Halt => Request::Halt,
+        PlainRequest::Clear => Request::Clear,
+        PlainRequest::EndpointStatus => Request::EndpointStatus,
     }
 }
 
@@ -154,7 +154,7 @@ fn take_all(
 }
 
 /// A request, and how many tries it takes where nothing is lost.
-type Asks = (RequestKind, usize);
+type Asks = (PlainRequest, usize);
 
 /// A request of a device with n tries.
 fn ask(rig: &mut Rig, dev: u8, asks: Asks, out: &mut Vec<Delivered>) -> Result<(), StackFault> {
@@ -353,11 +353,11 @@ fn is_pipe(device: &Device, toggle: bool, armed: Option<&[u8]>) -> bool {
 /// Whether the host of device 1 expects DATA1 and holds the key a, and the device's pipe stands so.
 fn are_ends(rig: &Rig, toggle: bool, armed: Option<&[u8]>) -> Result<bool, StackFault> {
     let host = rig.host(1)?;
-    let is_told = expects(host) == Some(true) && holds_control(host, key(4));
-    Ok(is_told && is_pipe(rig.device(1)?, toggle, armed))
+    let is_reported = expects(host) == Some(true) && holds_control(host, key(4));
+    Ok(is_reported && is_pipe(rig.device(1)?, toggle, armed))
 }
 
-/// An ACK that is lost, and the next poll, which tells nothing again.
+/// An ACK that is lost, and the next poll, which delivers nothing again.
 #[rattlefmt::skip]
 const APART: Run = (&[(1, Act::Press(4, 4)), (1, Act::Poll(Fate::AckLost))], Ok(()), &[(1, Given::Down(4))]);
 
@@ -445,7 +445,7 @@ fn is_transfer(rig: &Rig, wanted: &Outcome<'_>) -> bool {
 
 /// Whether a configuration is read: its status is missing after two tries, and after the third it is 0.
 fn is_read(rig: &mut Rig, out: &mut Vec<Delivered>) -> Result<(), Fail> {
-    ask(rig, 6, (RequestKind::GetConfiguration, 2), out)?;
+    ask(rig, 6, (PlainRequest::GetConfiguration, 2), out)?;
     let is_running = is_transfer(rig, &Outcome::Running);
     take_step(rig, &step_of(6, TRY), out)?;
     holds(

@@ -2,7 +2,7 @@
 //! the turn, from 01 on.
 
 use crate::fault::RowFault;
-use crate::sheet::Sheet;
+use crate::table::Table;
 
 /// The byte of a pair of digits, in a turn.
 fn byte_of(pair: &str, turn: u8) -> Result<u8, RowFault> {
@@ -61,16 +61,16 @@ pub fn push_word(bytes: &mut Vec<u8>, names: &str, word: &str) -> Result<(), Row
     push_times(bytes, digits, times.parse()?)
 }
 
-fn push_words(bytes: &mut Vec<u8>, sheet: &Sheet<'_>, words: &str) -> Result<(), RowFault> {
+fn push_words(bytes: &mut Vec<u8>, table: &Table<'_>, words: &str) -> Result<(), RowFault> {
     for word in words.split_whitespace() {
-        push_word(bytes, sheet.names, word)?;
+        push_word(bytes, table.names, word)?;
     }
     Ok(())
 }
 
-/// The bytes that are spelled by words.
-pub fn bytes_of(sheet: &Sheet<'_>, words: &str) -> Result<Vec<u8>, RowFault> {
-    let mut bytes = Vec::new(sheet.alloc);
-    push_words(&mut bytes, sheet, words)?;
+/// The bytes that are encoded by words.
+pub fn bytes_of(table: &Table<'_>, words: &str) -> Result<Vec<u8>, RowFault> {
+    let mut bytes = Vec::new(table.alloc);
+    push_words(&mut bytes, table, words)?;
     Ok(bytes)
 }

@@ -3,7 +3,7 @@
 //! ```text
 //!   -- a remark
 //!   MOUSE = 05 01 09 02 ..                     bytes that rows name, before the first table
-//!   # a_report_tells_what_changes: view        a table: its title, and the question that its rows ask
+//!   # a_report_gives_its_changes: view         a table: its title, and the question that its rows ask
 //!   two keys: KEYBOARD | take 00*2 05 04 00*4 > down 4.4 07:04, down 4.5 07:05
 //!                                              a row: a name, if it has one; the input; the expected result
 //!   a key: plain KEYBOARD                      a row of steps: the input of all of them,
@@ -17,19 +17,21 @@
 
 mod bytes;
 mod fault;
+mod outcome;
 mod program;
-mod sheet;
-mod told;
+mod results;
+mod table;
 mod verdict;
 mod words;
 
 pub use bytes::{bytes_of, push_word};
 pub use fault::RowFault;
+pub use outcome::{holds, none_is_wrong};
 pub use program::run;
-pub use sheet::Sheet;
-pub use told::{
-    add, add_debug, add_hex, add_shown, tell, tell_bytes, tell_debug, tell_hex, tell_number,
-    tell_numbers, tell_pattern, tell_shown, tell_whether,
+pub use results::{
+    add, add_debug, add_hex, add_shown, print, print_bytes, print_debug, print_hex, print_number,
+    print_numbers, print_pattern, print_shown, print_whether,
 };
+pub use table::Table;
 pub use verdict::{Answers, Asked, Row, Subject, Verdict, judge, judge_steps};
 pub use words::{number_of, pattern_of, signed_of, split, width_of};

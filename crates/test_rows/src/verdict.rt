@@ -2,15 +2,15 @@
 
 use crate::bytes::bytes_of;
 use crate::fault::RowFault;
-use crate::sheet::{Heading, Line, Sheet, heading_in, is_remark, is_step, line_in, steps_in};
-use crate::told::{add, add_shown};
+use crate::results::{add, add_shown};
+use crate::table::{Heading, Line, Table, heading_in, is_remark, is_step, line_in, steps_in};
 use crate::words::split;
 use std::alloc::Global;
 
 /// What a row of one line asks: the question of its table, of what is given.
 #[derive(Clone, Copy)]
 pub struct Asked<'a> {
-    pub sheet: &'a Sheet<'a>,
+    pub table: &'a Table<'a>,
     pub question: &'a str,
     pub given: &'a str,
 }
@@ -18,7 +18,7 @@ pub struct Asked<'a> {
 impl Asked<'_> {
     /// The bytes that are given, up to a `|`.
     pub fn bytes(&self) -> Result<Vec<u8>, RowFault> {
-        bytes_of(self.sheet, split(self.given, '|').0)
+        bytes_of(self.table, split(self.given, '|').0)
     }
 
     /// The words that are given after a `|`.
@@ -30,13 +30,13 @@ impl Asked<'_> {
 /// What a program answers to its rows.
 pub trait Answers {
     /// Writes what is reported where this is asked.
-    fn answer(&self, told: &mut String, asked: &Asked<'_>) -> Result<(), RowFault>;
+    fn answer(&self, printed: &mut String, asked: &Asked<'_>) -> Result<(), RowFault>;
 
     /// Plays the steps of a row, by [`judge_steps`], with what its given words mean. Without it a program has no rows of steps.
     fn play(
         &self,
         _verdict: &mut Verdict,
-        _sheet: &Sheet<'_>,
+        _sheet: &Table<'_>,
         _row: &Row<'_>,
     ) -> Result<(), RowFault> {
         Err(RowFault::Unread)
@@ -46,7 +46,12 @@ pub trait Answers {
 /// What the steps of a row are played with.
 pub trait Subject {
     /// Does what a step says, and writes what is reported.
-    fn step(&mut self, told: &mut String, sheet: &Sheet<'_>, given: &str) -> Result<(), RowFault>;
+    fn step(
+        &mut self,
+        printed: &mut String,
+        table: &Table<'_>,
+        given: &str,
+    ) -> Result<(), RowFault>;
 }
 
 /// A row of steps: its table, what is given for all of them, and their lines.
@@ -101,27 +106,27 @@ impl Verdict {
         self.steps = self.steps.saturating_add(1);
     }
 
-    /// Tells a line that is wrong.
-    fn add_wrong(&mut self, title: &str, line: &str, told: &str) -> Result<(), RowFault> {
+    /// Adds a line that is wrong.
+    fn add_wrong(&mut self, title: &str, line: &str, printed: &str) -> Result<(), RowFault> {
         self.wrong = self.wrong.saturating_add(1);
         let report = &mut self.report;
         add(report, title)?;
         add(report, ": ")?;
         add(report, line)?;
         add(report, ", but ")?;
-        add(report, told)?;
+        add(report, printed)?;
         add(report, "\n")
     }
 
     /// Compares what is reported with what is wanted.
-    fn compare(&mut self, title: &str, line: Line<'_>, told: &str) -> Result<(), RowFault> {
-        if told == line.wanted {
+    fn compare(&mut self, title: &str, line: Line<'_>, printed: &str) -> Result<(), RowFault> {
+        if printed == line.wanted {
             return Ok(());
         }
-        self.add_wrong(title, line.text, told)
+        self.add_wrong(title, line.text, printed)
     }
 
-    /// Tells how many there were.
+    /// Adds how many there were.
     fn add_count(&mut self) -> Result<(), RowFault> {
         let report = &mut self.report;
         add_shown(report, &self.tables)?;
@@ -136,9 +141,9 @@ impl Verdict {
 }
 
 /// Marks what is reported as unread, where a row or a step means nothing.
-fn unread_in(told: &mut String, end: Result<(), RowFault>) -> Result<(), RowFault> {
+fn unread_in(printed: &mut String, end: Result<(), RowFault>) -> Result<(), RowFault> {
     match end {
-        Err(RowFault::Unread) => Ok(told.push_str(" unread")?),
+        Err(RowFault::Unread) => Ok(printed.push_str(" unread")?),
         end => end,
     }
 }
@@ -147,45 +152,45 @@ fn unread_in(told: &mut String, end: Result<(), RowFault>) -> Result<(), RowFaul
 fn judge_row<A: Answers>(
     answers: &A,
     verdict: &mut Verdict,
-    sheet: &Sheet<'_>,
+    table: &Table<'_>,
     heading: Heading<'_>,
     line: Line<'_>,
 ) -> Result<(), RowFault> {
-    let mut told = String::new(sheet.alloc);
+    let mut printed = String::new(table.alloc);
     let asked = Asked {
-        sheet,
+        table,
         question: heading.question,
         given: line.given,
     };
-    let end = answers.answer(&mut told, &asked);
-    unread_in(&mut told, end)?;
-    verdict.compare(heading.title, line, &told)
+    let end = answers.answer(&mut printed, &asked);
+    unread_in(&mut printed, end)?;
+    verdict.compare(heading.title, line, &printed)
 }
 
 fn judge_step<S: Subject>(
     subject: &mut S,
     verdict: &mut Verdict,
-    sheet: &Sheet<'_>,
+    table: &Table<'_>,
     title: &str,
     line: Line<'_>,
 ) -> Result<(), RowFault> {
-    let mut told = String::new(sheet.alloc);
-    let end = subject.step(&mut told, sheet, line.given);
-    unread_in(&mut told, end)?;
-    verdict.compare(title, line, &told)
+    let mut printed = String::new(table.alloc);
+    let end = subject.step(&mut printed, table, line.given);
+    unread_in(&mut printed, end)?;
+    verdict.compare(title, line, &printed)
 }
 
 /// Plays the steps of a row once, in turn.
 pub fn judge_steps<S: Subject>(
     subject: &mut S,
     verdict: &mut Verdict,
-    sheet: &Sheet<'_>,
+    table: &Table<'_>,
     row: &Row<'_>,
 ) -> Result<(), RowFault> {
     for line in row.steps.split('\n') {
         if !is_remark(line) {
             verdict.add_step();
-            judge_step(subject, verdict, sheet, row.title, line_in(line))?;
+            judge_step(subject, verdict, table, row.title, line_in(line))?;
         }
     }
     Ok(())
@@ -195,11 +200,11 @@ pub fn judge_steps<S: Subject>(
 fn judge_played<A: Answers>(
     answers: &A,
     verdict: &mut Verdict,
-    sheet: &Sheet<'_>,
+    table: &Table<'_>,
     row: &Row<'_>,
     text: &str,
 ) -> Result<(), RowFault> {
-    match answers.play(verdict, sheet, row) {
+    match answers.play(verdict, table, row) {
         Err(RowFault::Unread) => verdict.add_wrong(row.title, text, "unread"),
         end => end,
     }
@@ -209,7 +214,7 @@ fn judge_played<A: Answers>(
 fn judge_line<A: Answers>(
     answers: &A,
     verdict: &mut Verdict,
-    sheet: &Sheet<'_>,
+    table: &Table<'_>,
     heading: Heading<'_>,
     line: &str,
     steps: &str,
@@ -217,7 +222,7 @@ fn judge_line<A: Answers>(
     let line = line_in(line);
     verdict.add_row();
     if steps.is_empty() {
-        return judge_row(answers, verdict, sheet, heading, line);
+        return judge_row(answers, verdict, table, heading, line);
     }
     let row = Row {
         title: heading.title,
@@ -225,14 +230,14 @@ fn judge_line<A: Answers>(
         given: line.given,
         steps,
     };
-    judge_played(answers, verdict, sheet, &row, line.text)
+    judge_played(answers, verdict, table, &row, line.text)
 }
 
 /// Plays the rows of all tables.
 fn judge_tables<A: Answers>(
     answers: &A,
     verdict: &mut Verdict,
-    sheet: &Sheet<'_>,
+    table: &Table<'_>,
     tables: &str,
 ) -> Result<(), RowFault> {
     let mut heading = Heading {
@@ -256,14 +261,14 @@ fn judge_tables<A: Answers>(
             verdict.add_table();
         } else if !is_remark(line) {
             let steps = steps_in(tables.get(at..).unwrap_or(""));
-            judge_line(answers, verdict, sheet, heading, line, steps)?;
+            judge_line(answers, verdict, table, heading, line, steps)?;
             below_row = true;
         }
     }
     Ok(())
 }
 
-/// Plays a text: its names, up to the first heading, and then its tables. The last line tells how many there were.
+/// Plays a text: its names, up to the first heading, and then its tables. The last line says how many there were.
 pub fn judge<A: Answers>(
     answers: &A,
     verdict: &mut Verdict,
@@ -273,6 +278,6 @@ pub fn judge<A: Answers>(
     let first = text.find("\n# ").unwrap_or(0);
     let names = text.get(..first).unwrap_or("");
     let tables = text.get(first..).unwrap_or("");
-    judge_tables(answers, verdict, &Sheet { alloc, names }, tables)?;
+    judge_tables(answers, verdict, &Table { alloc, names }, tables)?;
     verdict.add_count()
 }

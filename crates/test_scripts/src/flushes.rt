@@ -2,7 +2,6 @@
 //! hand from docs/SCRIPT.md. Running out of memory can't be had here: `make memory` refuses each allocation.
 
 use crate::play::{QUIET, play};
-use crate::verdict::{holds, none_is_wrong};
 use hid_script::{Cause, ScriptFault, StepFault, Summary};
 use hid_snapshots::ReportFault;
 use std::alloc::Global;
@@ -10,6 +9,7 @@ use std::cell::RefCell;
 use std::io;
 use std::io::{ErrorKind, Read, Write};
 use std::test::Fail;
+use test_rows::{holds, none_is_wrong};
 
 /// What a run asks of its two ends.
 #[derive(Clone, Copy, Debug, PartialEq, Eq)]
@@ -161,7 +161,7 @@ fn recorded(
     play(alloc, &mut reader, &mut writer, QUIET)
 }
 
-/// Whether three lines are asked for and told so.
+/// Whether three lines are read and printed in this order.
 fn is_in_order(alloc: Global, given: &[Given], wanted: &[Call]) -> bool {
     let calls = RefCell::new(Vec::new(alloc));
     let end = recorded(alloc, given, usize::MAX, &calls);
@@ -172,7 +172,7 @@ fn is_in_order(alloc: Global, given: &[Given], wanted: &[Call]) -> bool {
 }
 
 #[test]
-fn what_was_told_is_flushed_before_each_read(rt: HostRuntime) -> Result<(), Fail> {
+fn what_was_printed_is_flushed_before_each_read(rt: HostRuntime) -> Result<(), Fail> {
     holds("the calls", is_in_order(rt.alloc(), &LAYOUTS, &MADE))
 }
 
@@ -351,8 +351,8 @@ fn is_lost(end: &Result<Summary, ScriptFault>, line: usize) -> bool {
     *end == Err(lost)
 }
 
-/// Whether a last flush that fails is told in place of how a run ends. One flush comes before each read, and one at the end.
-fn is_told(alloc: Global, row: &Ends) -> bool {
+/// Whether a last flush that fails is reported instead of how a run ends. One flush comes before each read, and one at the end.
+fn is_reported(alloc: Global, row: &Ends) -> bool {
     let (given, then, reads, takes, line, cause) = *row;
     let fault = cause.map(|cause| ScriptFault { line, cause });
     let whole = flushed(alloc, given, then, takes, reads.saturating_add(1));
@@ -361,9 +361,9 @@ fn is_told(alloc: Global, row: &Ends) -> bool {
 }
 
 /// The first run of which it isn't.
-fn first_not_told(alloc: Global, rows: &[Ends]) -> Option<usize> {
+fn first_wrong_row(alloc: Global, rows: &[Ends]) -> Option<usize> {
     for (at, row) in rows.iter().enumerate() {
-        if !is_told(alloc, row) {
+        if !is_reported(alloc, row) {
             return Some(at);
         }
     }
@@ -371,17 +371,17 @@ fn first_not_told(alloc: Global, rows: &[Ends]) -> Option<usize> {
 }
 
 #[test]
-fn a_last_flush_that_fails_is_told_whatever_ended_the_run(rt: HostRuntime) -> Result<(), Fail> {
-    none_is_wrong(first_not_told(rt.alloc(), &ENDS))
+fn a_last_flush_that_fails_is_reported_whatever_ended_the_run(rt: HostRuntime) -> Result<(), Fail> {
+    none_is_wrong(first_wrong_row(rt.alloc(), &ENDS))
 }
 
 /// Whether it is reported after too many reads.
-fn is_told_behind_reads(alloc: Global) -> bool {
+fn is_reported_after_reads(alloc: Global) -> bool {
     let end = flushed(alloc, &[], Given::Piece("\n"), true, 1_000_000);
     is_lost(&end, 1_000_001)
 }
 
 #[test]
-fn a_last_flush_that_fails_behind_too_many_reads_is_told(rt: HostRuntime) -> Result<(), Fail> {
-    holds("a million reads", is_told_behind_reads(rt.alloc()))
+fn a_last_flush_that_fails_after_too_many_reads_is_reported(rt: HostRuntime) -> Result<(), Fail> {
+    holds("a million reads", is_reported_after_reads(rt.alloc()))
 }

@@ -13,5 +13,3 @@ mod play;
 mod streams;
 #[cfg(test)]
 mod summaries;
-#[cfg(test)]
-mod verdict;

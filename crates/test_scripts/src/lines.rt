@@ -1,12 +1,12 @@
 //! What a line says that nothing prints, worked out by hand from docs/SCRIPT.md. What a script shows of the other lines
 //! stands in tests/scripts/lines.rows, and so do lines that are none.
 
-use crate::verdict::{holds, none_is_wrong};
 use hid_bus::Start;
-use hid_descriptor::Usage;
+use hid_report_descriptor::Usage;
 use hid_requests::Boot;
 use hid_script::{Cause, Line, ShortLine, parse_line};
 use std::test::Fail;
+use test_rows::{holds, none_is_wrong};
 use usb_transact::Fate;
 
 /// Whether a line sets this value.

@@ -2,12 +2,12 @@
 //! docs/SCRIPT.md.
 
 use crate::play::{QUIET, TRACED, play};
-use crate::verdict::{holds, none_is_wrong};
 use hid_script::{Cause, Options, ScriptFault, Summary, fault_line};
 use std::alloc::Global;
 use std::io;
 use std::io::{BufWriter, ErrorKind, Read, Write};
 use std::test::Fail;
+use test_rows::{holds, none_is_wrong};
 
 /// A script in five lines, the last without its end.
 #[derive(Clone, Copy)]
@@ -192,7 +192,7 @@ fn a_read_that_fails_leaves_the_text_of_the_lines_before(rt: HostRuntime) -> Res
     Ok(())
 }
 
-/// Whether a write that fails, or takes nothing, after n bytes leaves them, and its line is told.
+/// Whether a write that fails, or takes nothing, after n bytes leaves them, and its line is reported.
 fn is_taken(alloc: Global, sample: &Sample, room: usize, fails: bool) -> bool {
     let mut reader = sample.script.as_bytes();
     let mut writer = Narrow {
@@ -250,7 +250,7 @@ fn what_a_buffer_holds_is_flushed(rt: HostRuntime) -> Result<(), Fail> {
 }
 
 /// Whether a script is refused at its second line, after this text.
-fn is_refused_behind(alloc: Global, script: &str, text: &str) -> io::Result<bool> {
+fn is_refused_after(alloc: Global, script: &str, text: &str) -> io::Result<bool> {
     let mut writer = BufWriter::new(alloc, Vec::new(alloc))?;
     let end = buffered(alloc, script, QUIET, &mut writer);
     Ok(is_fault(&end, 2, Cause::Syntax) && writer.get_ref().as_slice() == text.as_bytes())
@@ -260,10 +260,10 @@ fn is_refused_behind(alloc: Global, script: &str, text: &str) -> io::Result<bool
 fn what_comes_before_a_fault_is_flushed(rt: HostRuntime) -> Result<(), Fail> {
     let script = "layout 75 08 95 01 81 01\nx\n";
     let text = "report input 0 bytes 1\nitem 0 input 0 at 0 8x1 padding\n";
-    holds("the text", is_refused_behind(rt.alloc(), script, text)?)
+    holds("the text", is_refused_after(rt.alloc(), script, text)?)
 }
 
-/// Whether a buffer that can't be flushed after n bytes is told at the line where the run stands.
+/// Whether a buffer that can't be flushed after n bytes is reported at the line where the run stands.
 fn is_lost(alloc: Global, sample: &Sample, room: usize) -> io::Result<bool> {
     let mut reader = sample.script.as_bytes();
     let narrow = Narrow {

@@ -1,11 +1,10 @@
-//! What a run tells of itself that nothing prints: how many lines and events there were. Worked out by hand from
-//! docs/SCRIPT.md.
+//! What a run counts and nothing prints: how many lines and events there were. Worked out by hand from docs/SCRIPT.md.
 
 use crate::play::{QUIET, play};
-use crate::verdict::none_is_wrong;
 use hid_script::Summary;
 use std::alloc::Global;
 use std::test::Fail;
+use test_rows::none_is_wrong;
 
 /// Scripts without events, and how many lines each has.
 const LINES: [(&str, u64); 4] = [

@@ -1,7 +1,7 @@
 //! What a host reads of descriptors: a keyboard's, those bytes with some of them changed, and descriptors in some order.
 
 use crate::keyboard::{CONFIG, DEVICE};
-use test_rows::{RowFault, number_of, pattern_of, split, tell_hex, tell_numbers, tell_shown};
+use test_rows::{RowFault, number_of, pattern_of, print_hex, print_numbers, print_shown, split};
 use usb_control::{ConfigInfo, ControlFault, DeviceInfo, InfoFault};
 
 /// Each fault of a transfer.
@@ -15,14 +15,14 @@ const FAULTS: [ControlFault; 6] = [
 ];
 
 /// The codes of the faults of a transfer.
-pub fn tell_faults(told: &mut String) -> Result<(), RowFault> {
+pub fn print_faults(printed: &mut String) -> Result<(), RowFault> {
     for fault in FAULTS {
-        tell_shown(told, &fault)?;
+        print_shown(printed, &fault)?;
     }
     Ok(())
 }
 
-fn tell_configuration(told: &mut String, info: &ConfigInfo) -> Result<(), RowFault> {
+fn print_configuration(printed: &mut String, info: &ConfigInfo) -> Result<(), RowFault> {
     let ConfigInfo {
         report_length,
         endpoint,
@@ -30,8 +30,8 @@ fn tell_configuration(told: &mut String, info: &ConfigInfo) -> Result<(), RowFau
         protocol,
     } = info;
     let (length, endpoint) = (i64::from(*report_length), i64::from(*endpoint));
-    tell_numbers(
-        told,
+    print_numbers(
+        printed,
         &[length, endpoint, i64::from(*subclass), i64::from(*protocol)],
     )
 }
@@ -42,10 +42,10 @@ fn configuration_in(bytes: &[u8]) -> Result<ConfigInfo, InfoFault> {
 
 /// What is read of a configuration: the length of the report descriptor, the endpoint, and subclass and protocol; or the
 /// fault.
-pub fn tell_joined(told: &mut String, bytes: &[u8]) -> Result<(), RowFault> {
+pub fn print_joined(printed: &mut String, bytes: &[u8]) -> Result<(), RowFault> {
     match configuration_in(bytes) {
-        Ok(info) => tell_configuration(told, &info),
-        Err(fault) => tell_shown(told, &fault),
+        Ok(info) => print_configuration(printed, &info),
+        Err(fault) => print_shown(printed, &fault),
     }
 }
 
@@ -67,17 +67,17 @@ fn change(bytes: &mut [u8], words: &str) -> Result<(), RowFault> {
 }
 
 /// What is read of the keyboard's descriptors with some bytes changed, `PLACE=HEX`.
-pub fn tell_changed(told: &mut String, words: &str) -> Result<(), RowFault> {
+pub fn print_changed(printed: &mut String, words: &str) -> Result<(), RowFault> {
     let mut bytes = CONFIG;
     change(&mut bytes, words)?;
-    tell_joined(told, &bytes)
+    print_joined(printed, &bytes)
 }
 
 /// What is read of the first bytes of the keyboard's descriptors, n.
-pub fn tell_prefixes(told: &mut String, words: &str) -> Result<(), RowFault> {
+pub fn print_prefixes(printed: &mut String, words: &str) -> Result<(), RowFault> {
     for word in words.split_whitespace() {
         match CONFIG.get(..number_of(word)?) {
-            Some(front) => tell_joined(told, front)?,
+            Some(front) => print_joined(printed, front)?,
             None => return Err(RowFault::Unread),
         }
     }
@@ -89,23 +89,23 @@ fn device_in(bytes: &[u8]) -> Result<DeviceInfo, InfoFault> {
 }
 
 /// What is read of these bytes: vendor and product, or the fault.
-fn tell_device_in(told: &mut String, bytes: &[u8]) -> Result<(), RowFault> {
+fn print_device_in(printed: &mut String, bytes: &[u8]) -> Result<(), RowFault> {
     match device_in(bytes) {
         Ok(DeviceInfo { vendor, product }) => {
-            tell_hex(told, &[u32::from(vendor), u32::from(product)])
+            print_hex(printed, &[u32::from(vendor), u32::from(product)])
         }
-        Err(fault) => tell_shown(told, &fault),
+        Err(fault) => print_shown(printed, &fault),
     }
 }
 
 /// What is read of n of the device's bytes, two after them included, with this type of descriptor.
-pub fn tell_device(told: &mut String, words: &str) -> Result<(), RowFault> {
+pub fn print_device(printed: &mut String, words: &str) -> Result<(), RowFault> {
     let (count, kind) = split(words, ' ');
     let mut bytes = [0; 20];
     bytes[..18].copy_from_slice(&DEVICE);
     bytes[1] = (pattern_of(kind)? % 256) as u8;
     match bytes.get(..number_of(count)?) {
-        Some(front) => tell_device_in(told, front),
+        Some(front) => print_device_in(printed, front),
         None => Err(RowFault::Unread),
     }
 }

@@ -3,7 +3,7 @@
 use crate::keyboard::Keyboard;
 use crate::packets::read;
 use arrayvec::ArrayVec;
-use test_rows::{RowFault, Sheet, bytes_of, tell_bytes, tell_shown, tell_whether};
+use test_rows::{RowFault, Table, bytes_of, print_bytes, print_shown, print_whether};
 use usb_control::DevControl;
 use usb_packet::encode;
 
@@ -18,9 +18,9 @@ fn answer(control: &mut DevControl<Keyboard>, packet: &[u8]) -> ArrayVec<u8, 65>
     }
 }
 
-/// Hears a packet, and tells its answer where it isn't this one.
-fn tell_other(
-    told: &mut String,
+/// Takes a packet, and appends its answer if it isn't this one.
+fn print_other(
+    printed: &mut String,
     control: &mut DevControl<Keyboard>,
     packet: &[u8],
     wanted: &[u8],
@@ -29,60 +29,60 @@ fn tell_other(
     if answer.as_slice() == wanted {
         return Ok(());
     }
-    tell_bytes(told, &answer)
+    print_bytes(printed, &answer)
 }
 
 fn hear(
-    told: &mut String,
-    sheet: &Sheet<'_>,
+    printed: &mut String,
+    table: &Table<'_>,
     control: &mut DevControl<Keyboard>,
     word: &str,
 ) -> Result<(), RowFault> {
     let (packet, wanted) = word.split_once('=').unwrap_or((word, ""));
-    let packet = bytes_of(sheet, packet)?;
-    let wanted = bytes_of(sheet, wanted)?;
-    tell_other(told, control, &packet, &wanted)
+    let packet = bytes_of(table, packet)?;
+    let wanted = bytes_of(table, wanted)?;
+    print_other(printed, control, &packet, &wanted)
 }
 
 /// How often a write took effect, and the output report that is kept.
-fn tell_effects(told: &mut String, keyboard: &Keyboard) -> Result<(), RowFault> {
-    tell_shown(told, &keyboard.effects)?;
+fn print_effects(printed: &mut String, keyboard: &Keyboard) -> Result<(), RowFault> {
+    print_shown(printed, &keyboard.effects)?;
     if keyboard.output.is_empty() {
         return Ok(());
     }
-    tell_bytes(told, &keyboard.output)
+    print_bytes(printed, &keyboard.output)
 }
 
 fn hear_all(
-    told: &mut String,
-    sheet: &Sheet<'_>,
+    printed: &mut String,
+    table: &Table<'_>,
     control: &mut DevControl<Keyboard>,
     words: &str,
 ) -> Result<(), RowFault> {
     for word in words.split_whitespace() {
-        hear(told, sheet, control, word)?;
+        hear(printed, table, control, word)?;
     }
-    tell_effects(told, control.requests())
+    print_effects(printed, control.requests())
 }
 
 /// Packets that a new device hears, each with its answer after `=` where it has one: each answer that is another one;
 /// and then how often a write took effect in them, and the output report that is kept.
-pub fn tell_heard(told: &mut String, sheet: &Sheet<'_>, words: &str) -> Result<(), RowFault> {
-    hear_all(told, sheet, &mut DevControl::new(Keyboard::new()), words)
+pub fn print_heard(printed: &mut String, table: &Table<'_>, words: &str) -> Result<(), RowFault> {
+    hear_all(printed, table, &mut DevControl::new(Keyboard::new()), words)
 }
 
-fn tell_answer(
-    told: &mut String,
+fn print_answer(
+    printed: &mut String,
     control: &mut DevControl<Keyboard>,
     packet: &[u8],
 ) -> Result<(), RowFault> {
-    tell_bytes(told, &answer(control, packet))
+    print_bytes(printed, &answer(control, packet))
 }
 
 /// A device's answer to what it hears, where `configure` and `reset` are done to it.
 fn answer_to(
-    told: &mut String,
-    sheet: &Sheet<'_>,
+    printed: &mut String,
+    table: &Table<'_>,
     control: &mut DevControl<Keyboard>,
     word: &str,
 ) -> Result<(), RowFault> {
@@ -90,28 +90,28 @@ fn answer_to(
         "configure" => control.requests_mut().configured = true, // the token stays heard
         "reset" => control.reset(),
         _ => {
-            let packet = bytes_of(sheet, word)?;
-            tell_answer(told, control, &packet)?;
+            let packet = bytes_of(table, word)?;
+            print_answer(printed, control, &packet)?;
         }
     }
     Ok(())
 }
 
-fn tell_all(
-    told: &mut String,
-    sheet: &Sheet<'_>,
+fn print_all(
+    printed: &mut String,
+    table: &Table<'_>,
     control: &mut DevControl<Keyboard>,
     words: &str,
 ) -> Result<(), RowFault> {
     for word in words.split_whitespace() {
-        answer_to(told, sheet, control, word)?;
+        answer_to(printed, table, control, word)?;
     }
     let keyboard = control.requests();
-    tell_whether(told, keyboard.configured, "configured", "not configured")?;
-    tell_shown(told, &keyboard.decisions)
+    print_whether(printed, keyboard.configured, "configured", "not configured")?;
+    print_shown(printed, &keyboard.decisions)
 }
 
 /// What a new device answers to each packet, whether it is configured then, and how often it decided.
-pub fn tell_reset(told: &mut String, sheet: &Sheet<'_>, words: &str) -> Result<(), RowFault> {
-    tell_all(told, sheet, &mut DevControl::new(Keyboard::new()), words)
+pub fn print_reset(printed: &mut String, table: &Table<'_>, words: &str) -> Result<(), RowFault> {
+    print_all(printed, table, &mut DevControl::new(Keyboard::new()), words)
 }

@@ -1,8 +1,8 @@
 //! The host's end against packets of a foreign device.
 
 use crate::packets::read;
-use crate::requests::{begin, request_in, runs, tell_outcome, tell_refused};
-use test_rows::{RowFault, Sheet, bytes_of, tell};
+use crate::requests::{begin, print_outcome, print_refused, request_in, runs};
+use test_rows::{RowFault, Table, bytes_of, print};
 use usb_control::{HostTransfer, Outcome};
 
 /// It hears a packet in these bytes, or nothing, if it runs: whether it sends ACK.
@@ -12,44 +12,44 @@ pub fn hears(transfer: &mut HostTransfer, packet: &[u8]) -> bool {
 
 /// Whether it sends ACK for what comes.
 fn hears_word(
-    sheet: &Sheet<'_>,
+    table: &Table<'_>,
     transfer: &mut HostTransfer,
     word: &str,
 ) -> Result<bool, RowFault> {
-    let packet = bytes_of(sheet, word)?;
+    let packet = bytes_of(table, word)?;
     Ok(hears(transfer, &packet))
 }
 
 /// It takes what comes in each try: whether it sends ACK for the last, and where it stands then. It runs before each.
-fn tell_taken(
-    told: &mut String,
-    sheet: &Sheet<'_>,
+fn print_taken(
+    printed: &mut String,
+    table: &Table<'_>,
     transfer: &mut HostTransfer,
     words: &str,
 ) -> Result<(), RowFault> {
     let mut sent = false;
     for word in words.split_whitespace() {
         if !runs(transfer) {
-            return tell(told, "it ended before");
+            return print(printed, "it ended before");
         }
-        sent = hears_word(sheet, transfer, word)?;
+        sent = hears_word(table, transfer, word)?;
     }
     if sent {
-        tell(told, "ACK")?;
+        print(printed, "ACK")?;
     }
-    tell_outcome(told, transfer)
+    print_outcome(printed, transfer)
 }
 
-/// What is told of a request, and of what comes. A write sends 02.
-pub fn tell_foreign(
-    told: &mut String,
-    sheet: &Sheet<'_>,
+/// Appends what a request sends, and the answer. A write sends 02.
+pub fn print_foreign(
+    printed: &mut String,
+    table: &Table<'_>,
     request: &[u8],
     words: &str,
 ) -> Result<(), RowFault> {
     let request = request_in(request)?;
-    match begin(sheet.alloc, 5, &request, &[2]) {
-        Ok(mut transfer) => tell_taken(told, sheet, &mut transfer, words),
-        Err(fault) => tell_refused(told, fault),
+    match begin(table.alloc, 5, &request, &[2]) {
+        Ok(mut transfer) => print_taken(printed, table, &mut transfer, words),
+        Err(fault) => print_refused(printed, fault),
     }
 }

@@ -59,7 +59,7 @@ impl Keyboard {
         }
     }
 
-    // The answer to a read, whole.
+    /// The answer to a read, whole.
     fn read(&self, setup: &Setup) -> Option<&'static [u8]> {
         match (setup.request_type, setup.request, setup.value, setup.index) {
             (0x80, 0x00, 0, 0) => Some(&[0, 0]),
@@ -76,7 +76,7 @@ impl Keyboard {
         }
     }
 
-    // What a write is for.
+    /// What a write is for.
     fn write(setup: &Setup) -> Prepared {
         match (setup.request_type, setup.request, setup.value, setup.length) {
             (0x00, 0x09, 1, 0) => Prepared::Configure,

@@ -8,18 +8,18 @@
 //! The rule to know: `stdout` has nothing but the last line, so a row that is wrong or lost is seen.
 #![tactic(auto)]
 
-mod asked;
 mod descriptors;
 mod device;
 mod foreign;
 mod keyboard;
 mod packets;
+mod questions;
 mod requests;
 mod sent;
 mod transactions;
 mod transfers;
 
-use asked::Questions;
+use questions::Questions;
 use std::process::ExitCode;
 use test_rows::run;
 

@@ -1,6 +1,6 @@
 //! Packets of `usb_packet`. A sweep tests each token body against its two fields.
 
-use test_rows::{RowFault, pattern_of, split, tell, tell_bytes, tell_numbers, tell_shown};
+use test_rows::{RowFault, pattern_of, print, print_bytes, print_numbers, print_shown, split};
 use usb_packet::{Packet, PacketFault, TokenKind, decode, encode, fits};
 
 const KINDS: [TokenKind; 3] = [TokenKind::Out, TokenKind::In, TokenKind::Setup];
@@ -11,47 +11,47 @@ pub fn read(bytes: &[u8]) -> Result<Packet, PacketFault> {
 }
 
 /// A packet: a token with its address and its endpoint, data under their toggle, or a handshake.
-pub fn tell_packet(told: &mut String, packet: &Packet) -> Result<(), RowFault> {
+pub fn print_packet(printed: &mut String, packet: &Packet) -> Result<(), RowFault> {
     match packet {
-        Packet::Token { kind, addr, endp } => tell_token(told, *kind, *addr, *endp),
+        Packet::Token { kind, addr, endp } => print_token(printed, *kind, *addr, *endp),
         Packet::Data { one, payload } => {
-            tell(told, if *one { "DATA1" } else { "DATA0" })?;
-            tell_bytes(told, payload)
+            print(printed, if *one { "DATA1" } else { "DATA0" })?;
+            print_bytes(printed, payload)
         }
-        Packet::Ack => tell(told, "ACK"),
-        Packet::Nak => tell(told, "NAK"),
-        Packet::Stall => tell(told, "STALL"),
+        Packet::Ack => print(printed, "ACK"),
+        Packet::Nak => print(printed, "NAK"),
+        Packet::Stall => print(printed, "STALL"),
     }
 }
 
-fn tell_token(told: &mut String, kind: TokenKind, addr: u8, endp: u8) -> Result<(), RowFault> {
+fn print_token(printed: &mut String, kind: TokenKind, addr: u8, endp: u8) -> Result<(), RowFault> {
     let kind = match kind {
         TokenKind::Out => "OUT",
         TokenKind::In => "IN",
         TokenKind::Setup => "SETUP",
     };
-    tell(told, kind)?;
-    tell_numbers(told, &[i64::from(addr), i64::from(endp)])
+    print(printed, kind)?;
+    print_numbers(printed, &[i64::from(addr), i64::from(endp)])
 }
 
-/// Whether a packet fits, and is spelled so.
-fn is_spelled(packet: &Packet, bytes: &[u8]) -> bool {
+/// Whether a packet fits, and is encoded so.
+fn is_encoded(packet: &Packet, bytes: &[u8]) -> bool {
     fits(packet) && encode(packet).as_slice() == bytes
 }
 
-/// The packet that bytes are, where it is spelled by them; or their fault.
-pub fn tell_decoded(told: &mut String, bytes: &[u8]) -> Result<(), RowFault> {
+/// The packet that bytes are, where it is encoded by them; or their fault.
+pub fn print_decoded(printed: &mut String, bytes: &[u8]) -> Result<(), RowFault> {
     match read(bytes) {
-        Ok(packet) if is_spelled(&packet, bytes) => tell_packet(told, &packet),
-        Ok(_) => tell(told, "spelled otherwise"),
-        Err(fault) => tell_shown(told, &fault),
+        Ok(packet) if is_encoded(&packet, bytes) => print_packet(printed, &packet),
+        Ok(_) => print(printed, "encoded otherwise"),
+        Err(fault) => print_shown(printed, &fault),
     }
 }
 
 /// What each of these bytes is by itself.
-pub fn tell_alone(told: &mut String, bytes: &[u8]) -> Result<(), RowFault> {
+pub fn print_alone(printed: &mut String, bytes: &[u8]) -> Result<(), RowFault> {
     for byte in bytes {
-        tell_decoded(told, &[*byte])?;
+        print_decoded(printed, &[*byte])?;
     }
     Ok(())
 }
@@ -68,23 +68,24 @@ fn fitting(addr: u8, endp: u8) -> usize {
 }
 
 /// Whether a token of each kind fits, or of none, by an address and an endpoint.
-pub fn tell_fitting(told: &mut String, words: &str) -> Result<(), RowFault> {
+pub fn print_fitting(printed: &mut String, words: &str) -> Result<(), RowFault> {
     let (addr, endp) = split(words, ' ');
     let count = fitting(addr.parse()?, endp.parse()?);
-    tell_shown(told, &count)
+    print_shown(printed, &count)
 }
 
 /// Whether a token's body is read as its two fields, or refused where one of its five high bits is set.
 fn is_body(kind: TokenKind, pid: u8, low: u8, high: u8) -> bool {
-    let told = read(&[pid, low, high]);
+    let printed = read(&[pid, low, high]);
     if high >= 8 {
-        return told == Err(PacketFault::BadReserved);
+        return printed == Err(PacketFault::BadReserved);
     }
-    told == Ok(Packet::Token {
-        kind,
-        addr: low % 128,
-        endp: low / 128 + high * 2,
-    })
+    printed
+        == Ok(Packet::Token {
+            kind,
+            addr: low % 128,
+            endp: low / 128 + high * 2,
+        })
 }
 
 /// The first low byte with which that isn't so.
@@ -109,7 +110,7 @@ fn bodies(kind: TokenKind, pid: u8) -> usize {
 }
 
 /// How many high bytes of a token's body are read as they have to be with each low byte, by a kind and its PID.
-pub fn tell_bodies(told: &mut String, words: &str) -> Result<(), RowFault> {
+pub fn print_bodies(printed: &mut String, words: &str) -> Result<(), RowFault> {
     let (kind, pid) = split(words, ' ');
     let kind = match kind {
         "OUT" => TokenKind::Out,
@@ -118,5 +119,5 @@ pub fn tell_bodies(told: &mut String, words: &str) -> Result<(), RowFault> {
         _ => return Err(RowFault::Unread),
     };
     let count = bodies(kind, (pattern_of(pid)? % 256) as u8);
-    tell_shown(told, &count)
+    print_shown(printed, &count)
 }

@@ -4,7 +4,7 @@ ghost use Rattle.std.specs.Prelude.{◌≤◌};
 
 use crate::keyboard::{CONFIG, DEVICE, REPORT};
 use std::alloc::Global;
-use test_rows::{RowFault, tell, tell_bytes, tell_hex, tell_shown};
+use test_rows::{RowFault, print, print_bytes, print_hex, print_shown};
 use usb_control::{ControlFault, HostTransfer, Outcome, Setup};
 use usb_packet::MAX_ADDRESS;
 
@@ -16,7 +16,7 @@ pub fn request_in(bytes: &[u8]) -> Result<[u8; 8], RowFault> {
     }
 }
 
-fn tell_setup(told: &mut String, setup: &Setup) -> Result<(), RowFault> {
+fn print_setup(printed: &mut String, setup: &Setup) -> Result<(), RowFault> {
     let Setup {
         request_type,
         request,
@@ -26,53 +26,53 @@ fn tell_setup(told: &mut String, setup: &Setup) -> Result<(), RowFault> {
     } = setup;
     let (request_type, request) = (u32::from(*request_type), u32::from(*request));
     let (value, index, length) = (u32::from(*value), u32::from(*index), u32::from(*length));
-    tell_hex(told, &[request_type, request, value, index, length])
+    print_hex(printed, &[request_type, request, value, index, length])
 }
 
 /// The fields of a request, and whether it reads; nothing where its bytes aren't those that it was read from.
-pub fn tell_fields(told: &mut String, bytes: &[u8]) -> Result<(), RowFault> {
+pub fn print_fields(printed: &mut String, bytes: &[u8]) -> Result<(), RowFault> {
     let request = request_in(bytes)?;
     let setup = Setup::from_bytes(&request);
     if setup.to_bytes() != request {
-        return tell(told, "spelled otherwise");
+        return print(printed, "encoded otherwise");
     }
-    tell_setup(told, &setup)?;
-    tell(told, if setup.is_read() { "reads" } else { "writes" })
+    print_setup(printed, &setup)?;
+    print(printed, if setup.is_read() { "reads" } else { "writes" })
 }
 
-fn tell_read(told: &mut String, bytes: &[u8]) -> Result<(), RowFault> {
+fn print_read(printed: &mut String, bytes: &[u8]) -> Result<(), RowFault> {
     if bytes.is_empty() {
         return Ok(());
     }
     if bytes == DEVICE.as_slice() {
-        return tell(told, "DEVICE");
+        return print(printed, "DEVICE");
     }
     if bytes == CONFIG.as_slice() {
-        return tell(told, "CONFIG");
+        return print(printed, "CONFIG");
     }
     if bytes == REPORT.as_slice() {
-        return tell(told, "REPORT");
+        return print(printed, "REPORT");
     }
-    tell_bytes(told, bytes)
+    print_bytes(printed, bytes)
 }
 
 /// Where a transfer stands: `running`, its fault, or `done` and the bytes read. Those of the whole descriptors of the
 /// keyboard have names.
-pub fn tell_outcome(told: &mut String, transfer: &HostTransfer) -> Result<(), RowFault> {
+pub fn print_outcome(printed: &mut String, transfer: &HostTransfer) -> Result<(), RowFault> {
     match transfer.outcome() {
-        Outcome::Running => tell(told, "running"),
-        Outcome::Failed(fault) => tell_shown(told, &fault),
+        Outcome::Running => print(printed, "running"),
+        Outcome::Failed(fault) => print_shown(printed, &fault),
         Outcome::Done(bytes) => {
-            tell(told, "done")?;
-            tell_read(told, bytes)
+            print(printed, "done")?;
+            print_read(printed, bytes)
         }
     }
 }
 
 /// A transfer that isn't begun.
-pub fn tell_refused(told: &mut String, fault: ControlFault) -> Result<(), RowFault> {
-    tell(told, "not begun")?;
-    tell_shown(told, &fault)
+pub fn print_refused(printed: &mut String, fault: ControlFault) -> Result<(), RowFault> {
+    print(printed, "not begun")?;
+    print_shown(printed, &fault)
 }
 
 /// Whether a transfer runs.

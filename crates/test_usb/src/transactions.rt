@@ -1,11 +1,11 @@
-//! Transactions of `usb_transact`: both ends of a pipe play steps with `;` between them, and the last is told, with both
+//! Transactions of `usb_transact`: both ends of a pipe play steps with `;` between them, and the last is printed, with both
 //! toggles, the host's and the device's, the bytes that are armed, and whether the device is halted. A try is written by what is
 //! lost in it: `lost` the token, `reply`, `late` the ACK, or `clean`; `hear HEX` gives the host a packet, or nothing; `answer` and
-//! `ask` tell what the device and the host send.
+//! `ask` print what the device and the host send.
 
-use crate::packets::{read, tell_packet};
+use crate::packets::{print_packet, read};
 use arrayvec::ArrayVec;
-use test_rows::{RowFault, Sheet, bytes_of, split, tell, tell_bytes, tell_numbers};
+use test_rows::{RowFault, Table, bytes_of, print, print_bytes, print_numbers, split};
 use usb_packet::Packet;
 use usb_transact::{Bus, DevPipe, Fate, HostPipe, Phase, Took, exchange, send_packet, send_reply};
 
@@ -21,16 +21,16 @@ pub fn fate_of(word: &str) -> Option<Fate> {
 }
 
 /// What the host takes.
-fn tell_took(told: &mut String, took: &Took) -> Result<(), RowFault> {
+fn print_took(printed: &mut String, took: &Took) -> Result<(), RowFault> {
     match took {
         Took::Fresh(bytes) => {
-            tell(told, "fresh")?;
-            tell_bytes(told, bytes)
+            print(printed, "fresh")?;
+            print_bytes(printed, bytes)
         }
-        Took::Again => tell(told, "again"),
-        Took::Nak => tell(told, "nak"),
-        Took::Silent => tell(told, "silent"),
-        Took::Stall => tell(told, "stall"),
+        Took::Again => print(printed, "again"),
+        Took::Nak => print(printed, "nak"),
+        Took::Silent => print(printed, "silent"),
+        Took::Stall => print(printed, "stall"),
     }
 }
 
@@ -39,14 +39,14 @@ fn digit(toggle: bool) -> i64 {
 }
 
 /// How both ends stand.
-fn tell_stand(told: &mut String, host: &HostPipe, device: &DevPipe) -> Result<(), RowFault> {
-    tell_numbers(told, &[digit(host.expects()), digit(device.toggle())])?;
+fn print_stand(printed: &mut String, host: &HostPipe, device: &DevPipe) -> Result<(), RowFault> {
+    print_numbers(printed, &[digit(host.expects()), digit(device.toggle())])?;
     if let Some(bytes) = device.armed() {
-        tell(told, "armed")?;
-        tell_bytes(told, bytes)?;
+        print(printed, "armed")?;
+        print_bytes(printed, bytes)?;
     }
     if device.halted() {
-        return tell(told, "halted");
+        return print(printed, "halted");
     }
     Ok(())
 }
@@ -58,7 +58,7 @@ fn arm(device: &mut DevPipe, bytes: &[u8]) {
     }
 }
 
-/// A step of one end of which nothing is told.
+/// A step of one end of which nothing is printed.
 fn act(host: &mut HostPipe, device: &mut DevPipe, step: &str) -> Result<(), RowFault> {
     match step {
         "halt" => device.halt(),
@@ -80,68 +80,68 @@ fn heard(host: &mut HostPipe, packet: &[u8]) -> Took {
 
 /// A step with bytes.
 fn step_with_bytes(
-    told: &mut String,
+    printed: &mut String,
     host: &mut HostPipe,
     device: &mut DevPipe,
     verb: &str,
     bytes: &[u8],
 ) -> Result<(), RowFault> {
     if verb == "hear" {
-        return tell_took(told, &heard(host, bytes));
+        return print_took(printed, &heard(host, bytes));
     }
     arm(device, bytes);
     Ok(())
 }
 
 fn play_words(
-    told: &mut String,
-    sheet: &Sheet<'_>,
+    printed: &mut String,
+    table: &Table<'_>,
     host: &mut HostPipe,
     device: &mut DevPipe,
     step: &str,
 ) -> Result<(), RowFault> {
     let (verb, words) = split(step, ' ');
-    let bytes = bytes_of(sheet, words)?;
-    step_with_bytes(told, host, device, verb, &bytes)
+    let bytes = bytes_of(table, words)?;
+    step_with_bytes(printed, host, device, verb, &bytes)
 }
 
 fn play_step(
-    told: &mut String,
-    sheet: &Sheet<'_>,
+    printed: &mut String,
+    table: &Table<'_>,
     host: &mut HostPipe,
     device: &mut DevPipe,
     step: &str,
 ) -> Result<(), RowFault> {
     if let Some(fate) = fate_of(step) {
-        return tell_took(told, &tried(host, device, fate));
+        return print_took(printed, &tried(host, device, fate));
     }
     match step {
-        "answer" => tell_packet(told, &device.answer()),
-        "ask" => tell_packet(told, &host.token()),
+        "answer" => print_packet(printed, &device.answer()),
+        "ask" => print_packet(printed, &host.token()),
         _ if step.starts_with("hear") || step.starts_with("arm") => {
-            play_words(told, sheet, host, device, step)
+            play_words(printed, table, host, device, step)
         }
         _ => act(host, device, step),
     }
 }
 
-/// Steps, and what is told of the last one.
+/// Plays steps, and appends the result of the last one.
 fn play(
-    told: &mut String,
-    sheet: &Sheet<'_>,
+    printed: &mut String,
+    table: &Table<'_>,
     host: &mut HostPipe,
     device: &mut DevPipe,
     steps: &str,
 ) -> Result<(), RowFault> {
     for step in steps.split(';') {
-        told.clear();
-        play_step(told, sheet, host, device, step.trim())?;
+        printed.clear();
+        play_step(printed, table, host, device, step.trim())?;
     }
-    tell_stand(told, host, device)
+    print_stand(printed, host, device)
 }
 
-/// What two new ends tell, by an address and an endpoint and, after `|`, steps.
-pub fn tell_ends(told: &mut String, sheet: &Sheet<'_>, words: &str) -> Result<(), RowFault> {
+/// Appends the result of two new ends, by an address and an endpoint and, after `|`, steps.
+pub fn print_ends(printed: &mut String, table: &Table<'_>, words: &str) -> Result<(), RowFault> {
     let (names, steps) = split(words, '|');
     let (addr, endp) = split(names, ' ');
     let (addr, endp) = (addr.parse()?, endp.parse()?);
@@ -149,19 +149,19 @@ pub fn tell_ends(told: &mut String, sheet: &Sheet<'_>, words: &str) -> Result<()
         return Err(RowFault::Unread);
     }
     play(
-        told,
-        sheet,
+        printed,
+        table,
         &mut HostPipe::new(addr, endp),
         &mut DevPipe::new(),
         steps,
     )
 }
 
-/// What a device's default end tells by steps.
-pub fn tell_answers(told: &mut String, sheet: &Sheet<'_>, steps: &str) -> Result<(), RowFault> {
+/// Appends the answers of a device's default end to steps.
+pub fn print_answers(printed: &mut String, table: &Table<'_>, steps: &str) -> Result<(), RowFault> {
     play(
-        told,
-        sheet,
+        printed,
+        table,
         &mut HostPipe::new(1, 1),
         &mut DevPipe::default(),
         steps,
@@ -180,20 +180,20 @@ fn phase_of(word: &str) -> Result<Phase, RowFault> {
 }
 
 /// A packet that arrives, or `lost`.
-fn tell_arrived(told: &mut String, packet: Option<Packet>) -> Result<(), RowFault> {
+fn print_arrived(printed: &mut String, packet: Option<Packet>) -> Result<(), RowFault> {
     match packet {
-        Some(packet) => tell_packet(told, &packet),
-        None => tell(told, "lost"),
+        Some(packet) => print_packet(printed, &packet),
+        None => print(printed, "lost"),
     }
 }
 
 /// Whether NAK arrives, by a fate and a phase.
-pub fn tell_fate(told: &mut String, words: &str) -> Result<(), RowFault> {
+pub fn print_fate(printed: &mut String, words: &str) -> Result<(), RowFault> {
     let (fate, phase) = split(words, ' ');
     let Some(fate) = fate_of(fate) else {
         return Err(RowFault::Unread);
     };
-    tell_arrived(told, send_packet(&fate, phase_of(phase)?, &Packet::Nak))
+    print_arrived(printed, send_packet(&fate, phase_of(phase)?, &Packet::Nak))
 }
 
 /// A bus on which ACK arrives, whatever is sent.
@@ -212,12 +212,12 @@ impl Bus for Stuck {
 }
 
 /// What arrives on that bus of a NAK that is sent, one that is replied, or of nothing.
-pub fn tell_stuck(told: &mut String, word: &str) -> Result<(), RowFault> {
+pub fn print_stuck(printed: &mut String, word: &str) -> Result<(), RowFault> {
     let arrived = match word {
         "sent" => send_packet(&Stuck, Phase::Reply, &Packet::Nak),
         "replied" => send_reply(&Stuck, Phase::Reply, Some(&Packet::Nak)),
         "nothing" => send_reply(&Stuck, Phase::Reply, None),
         _ => return Err(RowFault::Unread),
     };
-    tell_arrived(told, arrived)
+    print_arrived(printed, arrived)
 }

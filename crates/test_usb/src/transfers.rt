@@ -1,10 +1,10 @@
 //! Whole transfers between both ends, under fates.
 
 use crate::keyboard::Keyboard;
-use crate::requests::{begin, request_in, tell_outcome, tell_refused};
+use crate::requests::{begin, print_outcome, print_refused, request_in};
 use crate::transactions::fate_of;
 use std::alloc::Global;
-use test_rows::{RowFault, add, add_shown, tell, tell_numbers, tell_shown};
+use test_rows::{RowFault, add, add_shown, print, print_numbers, print_shown};
 use usb_control::{ControlFault, DevControl, HostTransfer, Outcome};
 use usb_transact::Fate;
 
@@ -43,41 +43,41 @@ fn play(transfer: &mut HostTransfer, control: &mut DevControl<Keyboard>, fates: 
     100
 }
 
-/// What is told of a device: how often it decided, how often a write took effect, and how many of the data it keeps. What is
-/// kept of a write are the first of its data.
-fn tell_kept(told: &mut String, keyboard: &Keyboard, data: &[u8]) -> Result<(), RowFault> {
+/// Appends what a device kept: how often it decided, how often a write took effect, and how many of the data it keeps. Of a
+/// write it keeps the first of its data.
+fn print_kept(printed: &mut String, keyboard: &Keyboard, data: &[u8]) -> Result<(), RowFault> {
     let Keyboard {
         decisions,
         effects,
         output,
         ..
     } = keyboard;
-    tell_numbers(told, &[i64::from(*decisions), i64::from(*effects)])?;
-    add(told, " ")?;
-    add_shown(told, &output.len())?;
+    print_numbers(printed, &[i64::from(*decisions), i64::from(*effects)])?;
+    add(printed, " ")?;
+    add_shown(printed, &output.len())?;
     if data.starts_with(output) {
         Ok(())
     } else {
-        tell(told, "of other data")
+        print(printed, "of other data")
     }
 }
 
-/// Plays a transfer that has begun: how many tries it takes, what is told of the device, and how it ends.
-fn tell_played(
-    told: &mut String,
+/// Plays a transfer that has begun: how many tries it takes, what the device kept, and how it ends.
+fn print_played(
+    printed: &mut String,
     transfer: &mut HostTransfer,
     control: &mut DevControl<Keyboard>,
     fates: &str,
     data: &[u8],
 ) -> Result<(), RowFault> {
     let tries = play(transfer, control, fates);
-    tell_shown(told, &tries)?;
-    tell_kept(told, control.requests(), data)?;
-    tell_outcome(told, transfer)
+    print_shown(printed, &tries)?;
+    print_kept(printed, control.requests(), data)?;
+    print_outcome(printed, transfer)
 }
 
 fn play_request(
-    told: &mut String,
+    printed: &mut String,
     alloc: Global,
     request: &[u8; 8],
     fates: &str,
@@ -85,26 +85,26 @@ fn play_request(
 ) -> Result<(), RowFault> {
     let mut control = DevControl::new(Keyboard::new());
     match begin(alloc, 1, request, data) {
-        Ok(mut transfer) => tell_played(told, &mut transfer, &mut control, fates, data),
-        Err(fault) => tell_refused(told, fault),
+        Ok(mut transfer) => print_played(printed, &mut transfer, &mut control, fates, data),
+        Err(fault) => print_refused(printed, fault),
     }
 }
 
-/// What is told of a transfer with a new device, by the fates of its first tries.
-pub fn tell_transfer(
-    told: &mut String,
+/// Appends the course of a transfer with a new device, by the fates of its first tries.
+pub fn print_transfer(
+    printed: &mut String,
     alloc: Global,
     request: &[u8],
     fates: &str,
 ) -> Result<(), RowFault> {
     let request = request_in(request)?;
     let data = data(alloc)?;
-    play_request(told, alloc, &request, fates, &data)
+    play_request(printed, alloc, &request, fates, &data)
 }
 
 /// How a transfer with a device ends.
-fn tell_end(
-    told: &mut String,
+fn print_end(
+    printed: &mut String,
     alloc: Global,
     control: &mut DevControl<Keyboard>,
     request: &[u8; 8],
@@ -112,9 +112,9 @@ fn tell_end(
     match begin(alloc, 1, request, &[]) {
         Ok(mut transfer) => {
             play(&mut transfer, control, "");
-            tell_outcome(told, &transfer)
+            print_outcome(printed, &transfer)
         }
-        Err(fault) => tell_refused(told, fault),
+        Err(fault) => print_refused(printed, fault),
     }
 }
 
@@ -124,19 +124,24 @@ fn configure(alloc: Global, control: &mut DevControl<Keyboard>) -> Result<(), Co
     Ok(())
 }
 
-fn tell_both(
-    told: &mut String,
+fn print_both(
+    printed: &mut String,
     alloc: Global,
     control: &mut DevControl<Keyboard>,
     request: &[u8; 8],
 ) -> Result<(), RowFault> {
-    tell_end(told, alloc, control, request)?;
+    print_end(printed, alloc, control, request)?;
     let _ = configure(alloc, control);
-    tell_end(told, alloc, control, request)
+    print_end(printed, alloc, control, request)
 }
 
 /// How a read ends before SET_CONFIGURATION, and after it.
-pub fn tell_state(told: &mut String, alloc: Global, request: &[u8]) -> Result<(), RowFault> {
+pub fn print_state(printed: &mut String, alloc: Global, request: &[u8]) -> Result<(), RowFault> {
     let request = request_in(request)?;
-    tell_both(told, alloc, &mut DevControl::new(Keyboard::new()), &request)
+    print_both(
+        printed,
+        alloc,
+        &mut DevControl::new(Keyboard::new()),
+        &request,
+    )
 }

@@ -2,7 +2,7 @@
 use Rattle.std.proofs.Common.{◌≡◌, ◌∙◌, ℕ, refl, sym, ap, subst, Bool, true, false, List, Option, Some, None}
 use Rattle.usb_packet.specs.declared.packet.Packet.{Packet}
 use Rattle.usb_packet.specs.declared.packet.Packet.TheVariants as packets
-use Rattle.usb_packet.specs.Spelling.{spelling}
+use Rattle.usb_packet.specs.PacketEncoding.{encoding}
 use Rattle.usb_transact.specs.declared.transaction.Fate.{Fate}
 use Rattle.usb_transact.specs.declared.transaction.Fate.TheVariants.{Clean, TokenLost, ReplyLost, AckLost}
 use Rattle.usb_control.specs.declared.setup.Setup.{Setup as Request}
@@ -20,7 +20,7 @@ use Rattle.usb_control.specs.Requests.{PrepareGives, ApplyGives, AnswerOf}
 use Rattle.usb_control.specs.Device.{DevControlState, Does, effect, effect_of_ack}
 use Rattle.usb_control.specs.Host.{HostTransferState, IsRunning, asks_at, kind_of, payload_at, transfer_after_reply_at, acknowledges_at}
 use Rattle.usb_control.specs.Transaction.{AckComes, Transacts, effect_of_stage, reply_after_fate}
-use Rattle.usb_control.specs.Crossing.{Receives, HearsData, Reaches, Acknowledges, Crosses, phase_of}
+use Rattle.usb_control.specs.Crossing.{Receives, HearsData, PacketReaches, Acknowledges, Crosses, phase_of}
 
 -- a phase in which packets arrive as they were sent, and one in which they are lost
 abbrev IsWhole : Arrivals → Phase → Type 0
@@ -37,7 +37,7 @@ hears_whole : {R : Type 0} (prepare_gives : PrepareGives R) (apply_gives : Apply
     (effect (answer_of old.requests) old.stage old.last_packet sent) old.requests new answer
 hears_whole prepare_gives apply_gives answer_of arrivals phase sent came old new answer whole c h =
     subst (λ (x : Option Packet). Receives prepare_gives apply_gives answer_of x old new answer)
-    (read_whole arrivals phase sent came (whole (spelling sent)) c) h
+    (read_whole arrivals phase sent came (whole (encoding sent)) c) h
 
 hears_lost : {R : Type 0} (prepare_gives : PrepareGives R) (apply_gives : ApplyGives R) (answer_of : AnswerOf R)
     (arrivals : Arrivals) (phase : Phase) (sent : Packet) (came : Option Packet) (old new : DevControlState R)
@@ -45,7 +45,7 @@ hears_lost : {R : Type 0} (prepare_gives : PrepareGives R) (apply_gives : ApplyG
     → Receives prepare_gives apply_gives answer_of came old new answer → (new ≡ old) × (answer ≡ None)
 hears_lost prepare_gives apply_gives answer_of arrivals phase sent came old new answer lost c h =
     subst (λ (x : Option Packet). Receives prepare_gives apply_gives answer_of x old new answer)
-    (read_lost arrivals phase sent came (lost (spelling sent)) c) h
+    (read_lost arrivals phase sent came (lost (encoding sent)) c) h
 
 -- the data packet after a token that was heard
 data_heard_whole : {R : Type 0} (prepare_gives : PrepareGives R) (apply_gives : ApplyGives R) (answer_of : AnswerOf R)
@@ -81,7 +81,7 @@ reach_whole : {R : Type 0} (prepare_gives : PrepareGives R) (apply_gives : Apply
     (arrivals : Arrivals) (stage : HostStage) (addr : ℕ) (request : Request) (bytes : List ℕ)
     (old new : DevControlState R) (answer : Option Packet) → IsRunning stage → IsWhole arrivals Token
     → IsWhole arrivals HostData
-    → Reaches prepare_gives apply_gives answer_of arrivals (packets.Token (kind_of stage) addr 0)
+    → PacketReaches prepare_gives apply_gives answer_of arrivals (packets.Token (kind_of stage) addr 0)
     (payload_at stage request bytes) old new answer
     → Does prepare_gives apply_gives
     (effect_of_stage stage request bytes old.stage (answer_of old.requests)) old.requests new answer
@@ -93,7 +93,11 @@ data_lost : {R : Type 0} (prepare_gives : PrepareGives R) (apply_gives : ApplyGi
 data_lost prepare_gives apply_gives answer_of arrivals None old before new answer lost none h = (h.0, h.1 ∙ none)
 data_lost prepare_gives apply_gives answer_of arrivals (Some sent) old before new answer lost none (came, c, h) = hears_lost prepare_gives apply_gives answer_of arrivals HostData sent came old new answer lost c h
 
-reach_lost : {R : Type 0} (prepare_gives : PrepareGives R) (apply_gives : ApplyGives R) (answer_of : AnswerOf R) (arrivals : Arrivals) (token : Packet) (payload : Option Packet) (old new : DevControlState R) (answer : Option Packet) → IsLost arrivals Token → IsLost arrivals HostData → Reaches prepare_gives apply_gives answer_of arrivals token payload old new answer → (new ≡ old) × (answer ≡ None)
+reach_lost : {R : Type 0} (prepare_gives : PrepareGives R) (apply_gives : ApplyGives R) (answer_of : AnswerOf R)
+    (arrivals : Arrivals) (token : Packet) (payload : Option Packet) (old new : DevControlState R)
+    (answer : Option Packet) → IsLost arrivals Token → IsLost arrivals HostData
+    → PacketReaches prepare_gives apply_gives answer_of arrivals token payload old new answer
+    → (new ≡ old) × (answer ≡ None)
 reach_lost prepare_gives apply_gives answer_of arrivals token payload old new answer lost lost_data (came, mid, before, c, first, h) =
     let none = hears_lost prepare_gives apply_gives answer_of arrivals Token token came old mid before lost c first in
     let then = data_lost prepare_gives apply_gives answer_of arrivals payload mid before new answer lost_data none.1 h in
@@ -102,11 +106,11 @@ reach_lost prepare_gives apply_gives answer_of arrivals token payload old new an
 -- the host reads the answer
 reply_whole : (arrivals : Arrivals) (phase : Phase) (answer reply : Option Packet) → IsWhole arrivals phase → Replies arrivals phase answer reply → reply ≡ answer
 reply_whole arrivals phase None reply whole h = h
-reply_whole arrivals phase (Some sent) reply whole h = read_whole arrivals phase sent reply (whole (spelling sent)) h
+reply_whole arrivals phase (Some sent) reply whole h = read_whole arrivals phase sent reply (whole (encoding sent)) h
 
 reply_lost : (arrivals : Arrivals) (phase : Phase) (answer reply : Option Packet) → IsLost arrivals phase → Replies arrivals phase answer reply → reply ≡ None
 reply_lost arrivals phase None reply lost h = h
-reply_lost arrivals phase (Some sent) reply lost h = read_lost arrivals phase sent reply (lost (spelling sent)) h
+reply_lost arrivals phase (Some sent) reply lost h = read_lost arrivals phase sent reply (lost (encoding sent)) h
 
 reply_late : (asks : Bool) (answer reply : Option Packet)
     → Replies (arrives_under AckLost) (phase_of asks) answer reply → reply ≡ reply_after_fate AckLost asks answer

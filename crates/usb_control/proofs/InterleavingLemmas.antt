@@ -11,14 +11,14 @@ use Rattle.usb_control.specs.declared.host.HostStage.TheVariants as stages
 use Rattle.usb_control.specs.declared.device.LastPacket.{LastPacket}
 use Rattle.usb_control.specs.declared.device.LastPacket.TheVariants as last_packets
 use Rattle.usb_control.specs.declared.device.Stage.{Stage}
-use Rattle.usb_control.specs.SetupBytes.{IsSpelled}
+use Rattle.usb_control.specs.SetupBytes.{IsEncoded}
 use Rattle.usb_control.specs.TryFunctions.{AppliesBy, PreparesBy, Table, after_ack_if, control_after, control_tried, effect_reached, host_tried, is_acknowledged, is_applied, takes_effect}
 use Rattle.usb_control.specs.Device.{Answers, Applies, Decides as Decides', DevControlState, Effect, effect_of_ack}
 use Rattle.usb_control.specs.Host.{HostTransferState, IsRunning}
-use Rattle.usb_control.specs.Transfer.{Shape, shape_of, Decision, Refused, Accepted, decision_of, Position, Setup, Piece, Status, Past, Place, Act, Nothing, Decides, TakesEffect, Acts, act_at, act_of, comes_from_device, place_after_try, place_after_try_at}
+use Rattle.usb_control.specs.Transfer.{Shape, transfer_shape, Decision, Refused, Accepted, decision_of, Position, Setup, Piece, Status, Past, Place, Act, Nothing, Decides, TakesEffect, Acts, act_at, act_of, comes_from_device, place_after_try, place_after_try_at}
 use Rattle.usb_control.specs.Runs.{place_after_tries, is_open, is_open_at}
-use Rattle.usb_control.specs.Positions.{Stands, StandsWith, host_stage, piece_toggle}
-use Rattle.usb_control.specs.Interleaving.{Ends, GoesBy, Turn, Tries, Meanwhile, act_now, is_effect, is_running, ends_tried, ends_after_turn, ends_after_turns, decision_now, tries_in, LeaveAnswers, StandAt}
+use Rattle.usb_control.specs.Positions.{TransferIsAt, TransferIsAtWithFault, host_stage, piece_toggle}
+use Rattle.usb_control.specs.Interleaving.{BothEnds, GoesBy, Turn, Tries, Meanwhile, act_now, is_effect, is_running, ends_tried, ends_after_turn, ends_after_turns, decision_now, tries_in, LeaveAnswers, EndsAreAt}
 use Rattle.usb_control.proofs.KeepsLemmas.{took_keeps}
 use Rattle.usb_control.proofs.TryLemmas.{try_shown}
 use Rattle.usb_control.proofs.LawLemmas.{kept_across, kept_is}
@@ -37,10 +37,13 @@ runs_at shape Status = runs_data (comes_from_device shape Status) stages.StatusI
 runs_at shape Past = refl
 
 running_is : {R : Type 0} (answer_of : R → Option (List ℕ)) (shape : Shape) (sends : List ℕ) (place : Place) (host : HostTransferState) (control : DevControlState R)
-    → Stands answer_of shape sends place host control → is_running host.stage ≡ is_open place
+    → TransferIsAt answer_of shape sends place host control → is_running host.stage ≡ is_open place
 running_is answer_of shape sends place host control u =
-    let by_fault : StandsWith answer_of shape sends place place.fault host control → is_running host.stage ≡ is_open_at place.fault place.host
-    = elim place.fault as (λ (f : Option ControlFault). StandsWith answer_of shape sends place f host control → is_running host.stage ≡ is_open_at f place.host) [
+    let by_fault : TransferIsAtWithFault answer_of shape sends place place.fault host control
+    → is_running host.stage ≡ is_open_at place.fault place.host
+    = elim place.fault as
+    (λ (f : Option ControlFault). TransferIsAtWithFault answer_of shape sends place f host control
+    → is_running host.stage ≡ is_open_at f place.host) [
       | Some fault ↦ λ h. ap is_running h
       | None ↦ λ b. ap is_running b.sender.stage ∙ runs_at shape place.host
     ] in by_fault u
@@ -209,50 +212,66 @@ once_same true false e = absurd (cc)
 once_same false true e = absurd (cc)
 once_same false false e = refl
 
-takes_so : {R : Type 0} (t : Table R) (sends : List ℕ) (place : Place) (fate : Fate) (m : Ends R) → IsSpelled m.host.setup → IsRunning m.host.stage → StandAt t sends place m
+takes_so : {R : Type 0} (t : Table R) (sends : List ℕ) (place : Place) (fate : Fate) (m : BothEnds R)
+    → IsEncoded m.host.setup → IsRunning m.host.stage → EndsAreAt t sends place m
     → takes_effect t fate m.host m.control ≡ is_effect (act_now t place fate m)
-takes_so {R} t sends place fate m spelled running stands =
+takes_so {R} t sends place fate m encoded running stands =
     let table = counting t in
     let c = counted m.control in
-    let shape = shape_of m.host.setup in
+    let shape = transfer_shape m.host.setup in
     let there = kept_across t.answer_of table.answer_of shape sends place m.host m.control c stands refl refl in
-    let shown = try_shown (PreparesBy table) (AppliesBy table) table.answer_of shape sends fate place m.host c (host_tried table fate m.host c) (control_tried table fate m.host c) spelled running there (transacts_computed table fate m.host c) in
+    let shown = try_shown (PreparesBy table) (AppliesBy table) table.answer_of shape sends fate place m.host c (host_tried table fate m.host c) (control_tried table fate m.host c) encoded running there (transacts_computed table fate m.host c) in
     once_same (takes_effect t fate m.host m.control) (is_effect (act_now t place fate m))
     (sym (tried_counts t fate m.host m.control)
     ∙ acts_count t m.host.setup sends (act_of shape fate shown.0 place) m.control.requests (control_tried table fate m.host c).requests shown.1
     ∙ ap once_if (act_apart place.host shape fate shown.0 (decision_now t m) place.decision place.applied))
 
 -- one try of a transfer that runs
-pub goes_by : {R : Type 0} (t : Table R) (sends : List ℕ) (place : Place) (fate : Fate) (m : Ends R) → IsSpelled m.host.setup → IsRunning m.host.stage → StandAt t sends place m → GoesBy t sends place fate m
-goes_by {R} t sends place fate m spelled running stands =
-    let shape = shape_of m.host.setup in
-    let shown = try_shown (PreparesBy t) (AppliesBy t) t.answer_of shape sends fate place m.host m.control (host_tried t fate m.host m.control) (control_tried t fate m.host m.control) spelled running stands (transacts_computed t fate m.host m.control) in
+pub goes_by : {R : Type 0} (t : Table R) (sends : List ℕ) (place : Place) (fate : Fate) (m : BothEnds R)
+    → IsEncoded m.host.setup → IsRunning m.host.stage → EndsAreAt t sends place m → GoesBy t sends place fate m
+goes_by {R} t sends place fate m encoded running stands =
+    let shape = transfer_shape m.host.setup in
+    let shown = try_shown (PreparesBy t) (AppliesBy t) t.answer_of shape sends fate place m.host m.control (host_tried t fate m.host m.control) (control_tried t fate m.host m.control) encoded running stands (transacts_computed t fate m.host m.control) in
     let same : place_after_try shape fate shown.0 place ≡ place_after_try shape fate (decision_now t m) place
     = tried_so t m.host.setup sends shape fate place.host place.decision place.applied shown.0 place m.control.requests (control_tried t fate m.host m.control).requests shown.1 in
     let asked = host_keeps t fate m.host m.control in
     record {
       acts = acts_so t m.host.setup sends shape fate place.host place.decision place.applied shown.0 m.control.requests (control_tried t fate m.host m.control).requests shown.1;
-      takes = takes_so t sends place fate m spelled running stands;
+      takes = takes_so t sends place fate m encoded running stands;
       asked = asked;
       stands = subst
-          (λ (s : Shape). Stands t.answer_of s sends (place_after_try shape fate (decision_now t m) place)
-          (host_tried t fate m.host m.control) (control_tried t fate m.host m.control)) (sym (ap shape_of asked))
-          (subst (λ (p : Place). Stands t.answer_of shape sends p (host_tried t fate m.host m.control) (control_tried t fate m.host m.control)) same shown.2);
+          (λ (s : Shape). TransferIsAt t.answer_of s sends (place_after_try shape fate (decision_now t m) place)
+          (host_tried t fate m.host m.control) (control_tried t fate m.host m.control))
+          (sym (ap transfer_shape asked))
+          (subst (λ (p : Place). TransferIsAt t.answer_of shape sends p (host_tried t fate m.host m.control)
+          (control_tried t fate m.host m.control)) same shown.2);
     }
 
-pub runs_so : {R : Type 0} (t : Table R) (sends : List ℕ) (place : Place) (m : Ends R) → StandAt t sends place m → is_running m.host.stage ≡ is_open place
-runs_so t sends place m stands = running_is t.answer_of (shape_of m.host.setup) sends place m.host m.control stands
+pub runs_so : {R : Type 0} (t : Table R) (sends : List ℕ) (place : Place) (m : BothEnds R) → EndsAreAt t sends place m
+    → is_running m.host.stage ≡ is_open place
+runs_so t sends place m stands =
+    running_is t.answer_of (transfer_shape m.host.setup) sends place m.host m.control stands
 
-pub places_are_run : {R : Type 0} (t : Table R) (sends : List ℕ) (place : Place) (m : Ends R) (xs : List (Turn R)) → IsSpelled m.host.setup → LeaveAnswers t xs → StandAt t sends place m
-    → StandAt t sends (place_after_tries (shape_of m.host.setup) (tries_in t m xs) place) (ends_after_turns t m xs)
-places_are_run t sends place m [] spelled keep stands = stands
-places_are_run t sends place m (Meanwhile f hears ∷ xs) spelled keep stands =
-    let n : Ends _ = record { control = record m.control { requests = f m.control.requests; last_packet = hears m.control.last_packet }; host = m.host } in
-    places_are_run t sends place n xs spelled keep.1 (kept_is t.answer_of (shape_of m.host.setup) sends place m.host m.control n.control stands (keep.0 m.control.requests) refl)
-places_are_run {R} t sends place m (Tries fate ∷ xs) spelled keep stands =
-    let shape = shape_of m.host.setup in
-    let Goal : Ends R → Bool → Type 0 =
-    λ n o. StandAt t sends
+pub places_are_run : {R : Type 0} (t : Table R) (sends : List ℕ) (place : Place) (m : BothEnds R) (xs : List (Turn R))
+    → IsEncoded m.host.setup → LeaveAnswers t xs → EndsAreAt t sends place m
+    → EndsAreAt t sends (place_after_tries (transfer_shape m.host.setup) (tries_in t m xs) place)
+    (ends_after_turns t m xs)
+places_are_run t sends place m [] encoded keep stands = stands
+places_are_run t sends place m (Meanwhile f hears ∷ xs) encoded keep stands =
+    let n : BothEnds _ =
+    record {
+      control =
+          record m.control { requests = f m.control.requests; last_packet = hears m.control.last_packet };
+      host =
+          m.host;
+    } in
+    places_are_run t sends place n xs encoded keep.1
+    (kept_is t.answer_of (transfer_shape m.host.setup) sends place m.host m.control n.control stands
+    (keep.0 m.control.requests) refl)
+places_are_run {R} t sends place m (Tries fate ∷ xs) encoded keep stands =
+    let shape = transfer_shape m.host.setup in
+    let Goal : BothEnds R → Bool → Type 0 =
+    λ n o. EndsAreAt t sends
     (if o then place_after_tries shape (tries_in t n xs)
     (place_after_try shape fate (decision_now t m) place) else place) (ends_after_turns t n xs) in
     let opens = runs_so t sends place m stands in
@@ -260,36 +279,37 @@ places_are_run {R} t sends place m (Tries fate ∷ xs) spelled keep stands =
       | inl runs ↦
           let n = ends_tried t fate m in
           let same_setup : n.host.setup ≡ m.host.setup = host_keeps t fate m.host m.control in
-          let next = (goes_by t sends place fate m spelled (is_running_runs m.host.stage runs) stands).stands in
+          let next = (goes_by t sends place fate m encoded (is_running_runs m.host.stage runs) stands).stands in
           let rest =
           places_are_run t sends (place_after_try shape fate (decision_now t m) place) n xs
-          (subst IsSpelled (sym same_setup) spelled) keep next in
+          (subst IsEncoded (sym same_setup) encoded) keep next in
           let rest_here : Goal n true =
-          subst (λ (s : Shape). StandAt t sends
+          subst (λ (s : Shape). EndsAreAt t sends
           (place_after_tries s (tries_in t n xs) (place_after_try shape fate (decision_now t m) place))
-          (ends_after_turns t n xs)) (ap shape_of same_setup) rest in
+          (ends_after_turns t n xs)) (ap transfer_shape same_setup) rest in
           let there : ends_tried t fate m ≡ ends_after_turn t m (Tries fate) =
           sym (ap (λ (b : Bool). if b then ends_tried t fate m else m) runs) in
           subst (λ (o : Bool). Goal (ends_after_turn t m (Tries fate)) o) (sym runs ∙ opens)
-          (subst (λ (x : Ends R). Goal x true) there rest_here)
+          (subst (λ (x : BothEnds R). Goal x true) there rest_here)
       | inr over ↦
           let closed : is_open place ≡ false = sym opens ∙ over in
-          let rest = places_are_run t sends place m xs spelled keep stands in
+          let rest = places_are_run t sends place m xs encoded keep stands in
           let rest_here : Goal m false =
-          subst (λ (p : Place). StandAt t sends p (ends_after_turns t m xs))
+          subst (λ (p : Place). EndsAreAt t sends p (ends_after_turns t m xs))
           (run_closed shape (tries_in t m xs) place closed) rest in
           let there : m ≡ ends_after_turn t m (Tries fate) =
           sym (ap (λ (b : Bool). if b then ends_tried t fate m else m) over) in
           subst (λ (o : Bool). Goal (ends_after_turn t m (Tries fate)) o) (sym closed)
-          (subst (λ (x : Ends R). Goal x false) there rest_here)
+          (subst (λ (x : BothEnds R). Goal x false) there rest_here)
     ]
 
 -- what the host asked for stays
-turned_setup : {R : Type 0} (t : Table R) (m : Ends R) (fate : Fate) (b : Bool) → (if b then ends_tried t fate m else m).host.setup ≡ m.host.setup
+turned_setup : {R : Type 0} (t : Table R) (m : BothEnds R) (fate : Fate) (b : Bool)
+    → (if b then ends_tried t fate m else m).host.setup ≡ m.host.setup
 turned_setup t m fate true = host_keeps t fate m.host m.control
 turned_setup t m fate false = refl
 
-pub setup_stays : {R : Type 0} (t : Table R) (m : Ends R) (xs : List (Turn R))
+pub setup_stays : {R : Type 0} (t : Table R) (m : BothEnds R) (xs : List (Turn R))
     → (ends_after_turns t m xs).host.setup ≡ m.host.setup
 setup_stays t m [] = refl
 setup_stays t m (Meanwhile f hears ∷ xs) = setup_stays t (ends_after_turn t m (Meanwhile f hears)) xs

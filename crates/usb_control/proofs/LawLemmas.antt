@@ -9,8 +9,8 @@ use Rattle.usb_control.specs.SetupBytes.{reads}
 use Rattle.usb_control.specs.Requests.{AnswerOf}
 use Rattle.usb_control.specs.Device.{DevControlState}
 use Rattle.usb_control.specs.Host.{HostTransferState}
-use Rattle.usb_control.specs.Transfer.{Shape, shape_of, Decision, Refused, Accepted, Position, Setup, Piece, Status, Past, Place, answered_bytes, comes_from_device, start}
-use Rattle.usb_control.specs.Positions.{host_stage, host_bytes, DeviceHas, DeviceStands, StandsWith, Stands}
+use Rattle.usb_control.specs.Transfer.{Shape, transfer_shape, Decision, Refused, Accepted, Position, Setup, Piece, Status, Past, Place, answered_bytes, comes_from_device, start}
+use Rattle.usb_control.specs.Positions.{host_stage, host_bytes, DeviceIsAtAfterSetup, DeviceIsAt, TransferIsAtWithFault, TransferIsAt}
 use Rattle.usb_control.specs.Runs.{IsDone}
 use Rattle.usb_control.proofs.StepLemmas.{shaped}
 
@@ -23,7 +23,10 @@ sent_whole : (r : Bool) (len : ℕ) (sends : List ℕ) → length sends ≡ (if 
 sent_whole true len sends h e = cc
 sent_whole false len sends h e = h
 
-pub begins : {R : Type 0} (answer_of : AnswerOf R) (addr : ℕ) (request : Request) (sends : List ℕ) (control : DevControlState R) → length sends ≡ (if reads request then 0 else request.length) → Stands answer_of (shape_of request) sends start (record { addr = addr; setup = request; bytes = sends; stage = tries.Setup; tries = 0 }) control
+pub begins : {R : Type 0} (answer_of : AnswerOf R) (addr : ℕ) (request : Request) (sends : List ℕ)
+    (control : DevControlState R) → length sends ≡ (if reads request then 0 else request.length)
+    → TransferIsAt answer_of (transfer_shape request) sends start
+    (record { addr = addr; setup = request; bytes = sends; stage = tries.Setup; tries = 0 }) control
 begins answer_of addr request sends control h = record {
   whole = sent_whole (reads request) request.length sends h;
   sender = record { asked = refl; stage = refl; bytes = nothing_sent (reads request) request.length sends h; tries = refl };
@@ -41,35 +44,48 @@ done_stage shape (Piece k) e = absurd (way_stage shape.reads _ _ (λ h. cc) (λ 
 done_stage shape Status e = absurd (way_stage (comes_from_device shape Status) _ _ (λ h. cc) (λ h. cc) e)
 done_stage shape Past e = refl
 
-done_with : {R : Type 0} (answer_of : AnswerOf R) (shape : Shape) (sends : List ℕ) (p d : Position) (q : Decision) (a : Bool) (t : ℕ) (fault : Option ControlFault) (host : HostTransferState) (control : DevControlState R) → let place : Place = record { host = p; device = d; decision = q; applied = a; tries = t; fault = fault } in Stands answer_of shape sends place host control → (host.stage ≡ tries.Done) ↔ IsDone place
+done_with : {R : Type 0} (answer_of : AnswerOf R) (shape : Shape) (sends : List ℕ) (p d : Position) (q : Decision)
+    (a : Bool) (t : ℕ) (fault : Option ControlFault) (host : HostTransferState) (control : DevControlState R)
+    → let place : Place =
+    record { host = p; device = d; decision = q; applied = a; tries = t; fault = fault } in
+    TransferIsAt answer_of shape sends place host control → (host.stage ≡ tries.Done) ↔ IsDone place
 done_with answer_of shape sends p d q a t None host control u = (λ e. (refl, done_stage shape p (sym u.sender.stage ∙ e)), λ h. u.sender.stage ∙ ap (host_stage shape) h.1)
 done_with answer_of shape sends p d q a t (Some f) host control u = (λ e. cc, λ h. let e = h.0 in cc)
 
-pub done_is : {R : Type 0} (answer_of : AnswerOf R) (shape : Shape) (sends : List ℕ) (place : Place) (host : HostTransferState) (control : DevControlState R) → Stands answer_of shape sends place host control → (host.stage ≡ tries.Done) ↔ IsDone place
+pub done_is : {R : Type 0} (answer_of : AnswerOf R) (shape : Shape) (sends : List ℕ) (place : Place)
+    (host : HostTransferState) (control : DevControlState R) → TransferIsAt answer_of shape sends place host control
+    → (host.stage ≡ tries.Done) ↔ IsDone place
 done_is answer_of shape sends place host control u = done_with answer_of shape sends place.host place.device place.decision place.applied place.tries place.fault host control u
 
-pub read_is : {R : Type 0} (answer_of : AnswerOf R) (shape : Shape) (sends : List ℕ) (place : Place) (host : HostTransferState) (control : DevControlState R) → Stands answer_of shape sends place host control → IsDone place → shape.reads ≡ true → host.bytes ≡ answered_bytes shape place.decision
+pub read_is : {R : Type 0} (answer_of : AnswerOf R) (shape : Shape) (sends : List ℕ) (place : Place)
+    (host : HostTransferState) (control : DevControlState R) → TransferIsAt answer_of shape sends place host control
+    → IsDone place → shape.reads ≡ true → host.bytes ≡ answered_bytes shape place.decision
 read_is answer_of shape sends place host control u done is_read =
-    let both = subst (λ (f : Option ControlFault). StandsWith answer_of shape sends place f host control) done.0 u in
+    let both =
+    subst (λ (f : Option ControlFault). TransferIsAtWithFault answer_of shape sends place f host control) done.0 u in
     both.sender.bytes
     ∙ ap (λ (p : Position). host_bytes shape sends place.decision p) done.1
     ∙ ap (λ (b : Bool). if b then answered_bytes shape place.decision else sends) is_read
 
 -- a place doesn't tell what answers requests, but for its answer
 has_kept : {R S : Type 0} (old_of : AnswerOf R) (new_of : AnswerOf S) (shape : Shape) (sends : List ℕ) (q : Decision) (a : Bool) (p : Position) (old : DevControlState R) (new : DevControlState S)
-    → new_of new.requests ≡ old_of old.requests → new.stage ≡ old.stage → DeviceHas old_of shape sends q a p old → DeviceHas new_of shape sends q a p new
+    → new_of new.requests ≡ old_of old.requests → new.stage ≡ old.stage
+    → DeviceIsAtAfterSetup old_of shape sends q a p old → DeviceIsAtAfterSetup new_of shape sends q a p new
 has_kept old_of new_of shape sends Refused a p old new e f h = f ∙ h
 has_kept old_of new_of shape sends (Accepted x) a p old new e f h = (f ∙ h.0, λ r. e ∙ h.1 r)
 
 device_kept : {R S : Type 0} (old_of : AnswerOf R) (new_of : AnswerOf S) (shape : Shape) (sends : List ℕ) (q : Decision) (a : Bool) (p : Position) (old : DevControlState R) (new : DevControlState S)
-    → new_of new.requests ≡ old_of old.requests → new.stage ≡ old.stage → DeviceStands old_of shape sends q a p old → DeviceStands new_of shape sends q a p new
+    → new_of new.requests ≡ old_of old.requests → new.stage ≡ old.stage → DeviceIsAt old_of shape sends q a p old
+    → DeviceIsAt new_of shape sends q a p new
 device_kept old_of new_of shape sends q a Setup old new e f h = tt
 device_kept old_of new_of shape sends q a (Piece k) old new e f h = has_kept old_of new_of shape sends q a (Piece k) old new e f h
 device_kept old_of new_of shape sends q a Status old new e f h = has_kept old_of new_of shape sends q a Status old new e f h
 device_kept old_of new_of shape sends q a Past old new e f h = has_kept old_of new_of shape sends q a Past old new e f h
 
 kept_with : {R S : Type 0} (old_of : AnswerOf R) (new_of : AnswerOf S) (shape : Shape) (sends : List ℕ) (place : Place) (fault : Option ControlFault) (host : HostTransferState) (old : DevControlState R) (new : DevControlState S)
-    → new_of new.requests ≡ old_of old.requests → new.stage ≡ old.stage → StandsWith old_of shape sends place fault host old → StandsWith new_of shape sends place fault host new
+    → new_of new.requests ≡ old_of old.requests → new.stage ≡ old.stage
+    → TransferIsAtWithFault old_of shape sends place fault host old
+    → TransferIsAtWithFault new_of shape sends place fault host new
 kept_with old_of new_of shape sends place None host old new e f u = record {
   whole = u.whole;
   sender = u.sender;
@@ -79,8 +95,12 @@ kept_with old_of new_of shape sends place None host old new e f u = record {
 kept_with old_of new_of shape sends place (Some fault) host old new e f u = u
 
 pub kept_across : {R S : Type 0} (old_of : AnswerOf R) (new_of : AnswerOf S) (shape : Shape) (sends : List ℕ) (place : Place) (host : HostTransferState) (old : DevControlState R) (new : DevControlState S)
-    → Stands old_of shape sends place host old → new_of new.requests ≡ old_of old.requests → new.stage ≡ old.stage → Stands new_of shape sends place host new
+    → TransferIsAt old_of shape sends place host old → new_of new.requests ≡ old_of old.requests
+    → new.stage ≡ old.stage → TransferIsAt new_of shape sends place host new
 kept_across old_of new_of shape sends place host old new u e f = kept_with old_of new_of shape sends place place.fault host old new e f u
 
-pub kept_is : {R : Type 0} (answer_of : AnswerOf R) (shape : Shape) (sends : List ℕ) (place : Place) (host : HostTransferState) (old new : DevControlState R) → Stands answer_of shape sends place host old → answer_of new.requests ≡ answer_of old.requests → new.stage ≡ old.stage → Stands answer_of shape sends place host new
+pub kept_is : {R : Type 0} (answer_of : AnswerOf R) (shape : Shape) (sends : List ℕ) (place : Place)
+    (host : HostTransferState) (old new : DevControlState R) → TransferIsAt answer_of shape sends place host old
+    → answer_of new.requests ≡ answer_of old.requests → new.stage ≡ old.stage
+    → TransferIsAt answer_of shape sends place host new
 kept_is answer_of shape sends place host old new u e f = kept_across answer_of answer_of shape sends place host old new u e f

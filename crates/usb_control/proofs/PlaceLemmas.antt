@@ -12,9 +12,9 @@ use Rattle.usb_control.specs.Requests.{PrepareGives, ApplyGives, AnswerOf}
 use Rattle.usb_control.specs.Packets.{data_packet}
 use Rattle.usb_control.specs.Device.{DevControlState, Effect, Answers, Does, stage_after_ack, effect_of_ack}
 use Rattle.usb_control.specs.Host.{HostTransferState, asks_at, transfer_after_reply_at, acknowledges_at, with_stage}
-use Rattle.usb_control.specs.Transaction.{TransactsAt, AckComes, effect_of_stage, reply_after_fate, is_clean}
+use Rattle.usb_control.specs.Transaction.{TransactsAt, AckComes, effect_of_stage, reply_after_fate, loses_nothing}
 use Rattle.usb_control.specs.Transfer.{Shape, Decision, Position, Place, place_after_silence}
-use Rattle.usb_control.specs.Positions.{BothStand, Stands}
+use Rattle.usb_control.specs.Positions.{BothAreAt, TransferIsAt}
 use Rattle.usb_control.proofs.StepLemmas.{at, silent_stands, moved}
 use Rattle.usb_control.proofs.RefusedLemmas.{IsPiece, none_taken, unacknowledged}
 
@@ -37,9 +37,10 @@ out_place Clean p d n q a t = at n n q a 0
 out_lost : {R : Type 0} (answer_of : AnswerOf R) (shape : Shape) (sends : List ℕ) (p n : Position) (q : Decision)
     (a : Bool) (t : ℕ) (host : HostTransferState) (stage : HostStage) (old mid : DevControlState R)
     (after : HostTransferState) (new : DevControlState R) → IsPiece stage
-    → BothStand answer_of shape sends (at p n q a t) host mid → mid.requests ≡ old.requests
+    → BothAreAt answer_of shape sends (at p n q a t) host mid → mid.requests ≡ old.requests
     → after ≡ transfer_after_reply_at stage None host → new ≡ mid
-    → (new.requests ≡ old.requests) × Stands answer_of shape sends (place_after_silence (at p n q a t)) after new
+    → (new.requests ≡ old.requests)
+    × TransferIsAt answer_of shape sends (place_after_silence (at p n q a t)) after new
 out_lost answer_of shape sends p n q a t host stage old mid after new piece u same e f =
     (ap (λ c. c.requests) f ∙ same, moved answer_of shape sends _ _ after _ new (e ∙ none_taken stage host piece) f (silent_stands answer_of shape sends p n q a t host mid u))
 
@@ -49,13 +50,14 @@ pub out_shown : {R : Type 0} (prepare_gives : PrepareGives R) (apply_gives : App
     (old : DevControlState R) (after : HostTransferState) (new : DevControlState R) → IsPiece stage
     → asks_at stage ≡ false → transfer_after_reply_at stage (Some packets.Ack) host ≡ with_stage after_stage host
     → effect_of_stage stage host.setup bytes device_stage (answer_of old.requests)
-    ≡ Answers (Some packets.Ack) device_after last_packets.Nothing → BothStand answer_of shape sends (at p d q a t) host old
+    ≡ Answers (Some packets.Ack) device_after last_packets.Nothing
+    → BothAreAt answer_of shape sends (at p d q a t) host old
     → ((m : DevControlState R) → m.stage ≡ device_after → m.requests ≡ old.requests
-    → BothStand answer_of shape sends (at p n q a t) host m)
+    → BothAreAt answer_of shape sends (at p n q a t) host m)
     → ((m : DevControlState R) → m.stage ≡ device_after → m.requests ≡ old.requests
-    → BothStand answer_of shape sends (at n n q a 0) (with_stage after_stage host) m)
+    → BothAreAt answer_of shape sends (at n n q a 0) (with_stage after_stage host) m)
     → TransactsAt prepare_gives apply_gives answer_of fate stage device_stage bytes host old after new
-    → (new.requests ≡ old.requests) × Stands answer_of shape sends (out_place fate p d n q a t) after new
+    → (new.requests ≡ old.requests) × TransferIsAt answer_of shape sends (out_place fate p d n q a t) after new
 out_shown prepare_gives apply_gives answer_of shape sends TokenLost p d n q a t host stage after_stage device_stage device_after bytes old after new piece asks took effect u has goes (e, f) =
     out_lost answer_of shape sends p d q a t host stage old old after new piece u refl e f
 out_shown prepare_gives apply_gives answer_of shape sends ReplyLost p d n q a t host stage after_stage device_stage device_after bytes old after new piece asks took effect u has goes (mid, answer, does, e, f) =
@@ -106,14 +108,15 @@ pub in_shown : {R : Type 0} (prepare_gives : PrepareGives R) (apply_gives : Appl
     (mid : DevControlState R) (answer : Option Packet) (after : HostTransferState) (new : DevControlState R)
     → ¬ (fate ≡ TokenLost) → IsPiece stage → Takes host host_after stage one payload → mid.stage ≡ device_stage
     → mid.last_packet ≡ last_packets.Answered → answer ≡ Some (data_packet one payload)
-    → BothStand answer_of shape sends (at p d q a t) host mid
-    → BothStand answer_of shape sends (at p_after d q a 0) host_after mid
+    → BothAreAt answer_of shape sends (at p d q a t) host mid
+    → BothAreAt answer_of shape sends (at p_after d q a 0) host_after mid
     → ((m : DevControlState R) → m.stage ≡ stage_after_ack (answer_of mid.requests) device_stage
-    → m.requests ≡ mid.requests → BothStand answer_of shape sends (at p_after d_after q a 0) host_after m)
+    → m.requests ≡ mid.requests → BothAreAt answer_of shape sends (at p_after d_after q a 0) host_after m)
     → after ≡ transfer_after_reply_at stage (reply_after_fate fate (asks_at stage) answer) host
     → AckComes prepare_gives apply_gives answer_of
-    (is_clean fate && acknowledges_at stage (reply_after_fate fate (asks_at stage) answer) after.stage) mid new
-    → (new.requests ≡ mid.requests) × Stands answer_of shape sends (in_place fate p d p_after d_after q a t) after new
+    (loses_nothing fate && acknowledges_at stage (reply_after_fate fate (asks_at stage) answer) after.stage) mid new
+    → (new.requests ≡ mid.requests)
+    × TransferIsAt answer_of shape sends (in_place fate p d p_after d_after q a t) after new
 in_shown prepare_gives apply_gives answer_of shape sends TokenLost p d p_after d_after q a t host host_after stage device_stage one payload mid answer after new arrives piece takes m h s lost late goes e f = absurd (arrives refl)
 in_shown prepare_gives apply_gives answer_of shape sends ReplyLost p d p_after d_after q a t host host_after stage device_stage one payload mid answer after new arrives piece takes m h s lost late goes e f =
     out_lost answer_of shape sends p d q a t host stage mid mid after new piece lost refl e f

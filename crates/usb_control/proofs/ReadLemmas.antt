@@ -17,7 +17,7 @@ use Rattle.usb_control.specs.Device.{DevControlState, read_piece, read_goes_on, 
 use Rattle.usb_control.specs.Host.{HostTransferState, with_stage, transfer_after_reply_at, is_overrun, with_payload, after_read_piece}
 use Rattle.usb_control.specs.Transaction.{TransactsAt, Arrives}
 use Rattle.usb_control.specs.Transfer.{Shape, Decision, Accepted, Position, Piece, Status, Place, read_pieces, next_position, host_position_after, place_after_in, place_after_silence}
-use Rattle.usb_control.specs.Positions.{piece_toggle, host_stage, bytes_before, accepted_stage, Near, HostStands, BothStand, Stands}
+use Rattle.usb_control.specs.Positions.{piece_toggle, host_stage, bytes_before, accepted_stage, AreWithinAPiece, HostIsAt, BothAreAt, TransferIsAt}
 use Rattle.usb_control.proofs.PieceLemmas.{take-next, length-piece, count_bounds, goes_on, is_last, follows}
 use Rattle.usb_control.proofs.StepLemmas.{at, silent_stands, moved, has_stands, shaped}
 use Rattle.usb_control.proofs.RefusedLemmas.{none_taken}
@@ -58,11 +58,17 @@ bytes_next : (xs : List ℕ) (k : ℕ) (more : Bool) → (more ≡ false → tak
 bytes_next xs k true last = take-next xs k
 bytes_next xs k false last = take-next xs k ∙ last refl
 
-near_late : (len : ℕ) (x : Option (List ℕ)) (k : ℕ) (a more : Bool) → (len == 0) ≡ false → (more ≡ true → suc k < read_pieces len (length (cut_of len x))) → (more ≡ false → suc k ≡ read_pieces len (length (cut_of len x))) → Near (shaped true len) (Accepted x) a (if more then Piece (suc k) else Status) (Piece k)
+near_late : (len : ℕ) (x : Option (List ℕ)) (k : ℕ) (a more : Bool) → (len == 0) ≡ false
+    → (more ≡ true → suc k < read_pieces len (length (cut_of len x)))
+    → (more ≡ false → suc k ≡ read_pieces len (length (cut_of len x)))
+    → AreWithinAPiece (shaped true len) (Accepted x) a (if more then Piece (suc k) else Status) (Piece k)
 near_late len x k a true some before last = (before refl, inr (k, refl, refl))
 near_late len x k a false some before last = rw some (inr (inr (k, last refl, refl)))
 
-near_next : (len : ℕ) (x : Option (List ℕ)) (k : ℕ) (a more : Bool) → (len == 0) ≡ false → (more ≡ true → suc k < read_pieces len (length (cut_of len x))) → Near (shaped true len) (Accepted x) a (if more then Piece (suc k) else Status) (if more then Piece (suc k) else Status)
+near_next : (len : ℕ) (x : Option (List ℕ)) (k : ℕ) (a more : Bool) → (len == 0) ≡ false
+    → (more ≡ true → suc k < read_pieces len (length (cut_of len x)))
+    → AreWithinAPiece (shaped true len) (Accepted x) a (if more then Piece (suc k) else Status)
+    (if more then Piece (suc k) else Status)
 near_next len x k a true some before = (before refl, inl refl)
 near_next len x k a false some before = rw some (inl refl)
 
@@ -115,7 +121,7 @@ facts_of len x k here =
 -- the host takes the piece that it waits for
 level_takes : (len : ℕ) (sends : List ℕ) (x : Option (List ℕ)) (k : ℕ) (d : Position) (a : Bool) (t : ℕ)
     (host : HostTransferState) → PieceFacts len x k
-    → HostStands (shaped true len) sends (at (Piece k) d (Accepted x) a t) host → let n =
+    → HostIsAt (shaped true len) sends (at (Piece k) d (Accepted x) a t) host → let n =
     next_position (read_pieces len (length (cut_of len x))) (Piece k) in
     Takes host (got_host host (bytes_before (cut_of len x) n) (host_stage (shaped true len) n))
     (tries.DataIn (piece_toggle k)) (piece_toggle k) (piece_from (cut_of len x) (8 * k))
@@ -146,7 +152,7 @@ level_takes len sends x k d a t host f u =
 -- the host throws away the piece that it has
 behind_takes : (len : ℕ) (sends : List ℕ) (x : Option (List ℕ)) (j : ℕ) (d : Position) (a : Bool) (t : ℕ)
     (host : HostTransferState) (payload : List ℕ)
-    → HostStands (shaped true len) sends (at (Piece (suc j)) d (Accepted x) a t) host
+    → HostIsAt (shaped true len) sends (at (Piece (suc j)) d (Accepted x) a t) host
     → Takes host (with_stage host.stage host) (tries.DataIn (not (piece_toggle j))) (piece_toggle j) payload
 behind_takes len sends x j d a t host payload u = record {
   asks = refl;
@@ -170,14 +176,15 @@ read_arrives : {R : Type 0} (prepare_gives : PrepareGives R) (apply_gives : Appl
     (host host_after : HostTransferState) (old : DevControlState R) (after : HostTransferState)
     (new : DevControlState R) → let shape = shaped true len in let count =
     read_pieces len (length (cut_of len x)) in ¬ (fate ≡ TokenLost) → PieceFacts len x j → answer_of old.requests ≡ x
-    → BothStand answer_of shape sends (at (Piece k) (Piece j) (Accepted x) a t) host old
+    → BothAreAt answer_of shape sends (at (Piece k) (Piece j) (Accepted x) a t) host old
     → Takes host host_after (tries.DataIn (piece_toggle k)) (piece_toggle j) (piece_from (cut_of len x) (8 * j))
-    → HostStands shape sends (at p_after (Piece j) (Accepted x) a 0) host_after
-    → Near shape (Accepted x) a p_after (Piece j) → Near shape (Accepted x) a p_after (next_position count (Piece j))
+    → HostIsAt shape sends (at p_after (Piece j) (Accepted x) a 0) host_after
+    → AreWithinAPiece shape (Accepted x) a p_after (Piece j)
+    → AreWithinAPiece shape (Accepted x) a p_after (next_position count (Piece j))
     → Arrives prepare_gives apply_gives answer_of fate (tries.DataIn (piece_toggle k))
     (stages.ReadData len (8 * j) (piece_toggle j)) host.bytes host old after new
     → (new.requests ≡ old.requests)
-    × Stands answer_of shape sends
+    × TransferIsAt answer_of shape sends
     (in_place fate (Piece k) (Piece j) p_after (next_position count (Piece j)) (Accepted x) a t) after new
 read_arrives prepare_gives apply_gives answer_of len sends fate k j p_after x a t host host_after old after new arrives f same u takes sender late goes (mid, answer, does, e, h) =
     let shape = shaped true len in
@@ -242,11 +249,12 @@ read_level : {R : Type 0} (prepare_gives : PrepareGives R) (apply_gives : ApplyG
     (host : HostTransferState) (old : DevControlState R) (after : HostTransferState) (new : DevControlState R)
     → let shape = shaped true len in let count =
     read_pieces len (length (cut_of len x)) in ¬ (fate ≡ TokenLost)
-    → BothStand answer_of shape sends (at (Piece k) (Piece k) (Accepted x) a t) host old
+    → BothAreAt answer_of shape sends (at (Piece k) (Piece k) (Accepted x) a t) host old
     → Arrives prepare_gives apply_gives answer_of fate
     (tries.DataIn (piece_toggle k)) old.stage host.bytes host old after new
     → (new.requests ≡ old.requests)
-    × Stands answer_of shape sends (place_after_in fate count (at (Piece k) (Piece k) (Accepted x) a t)) after new
+    × TransferIsAt answer_of shape sends
+    (place_after_in fate count (at (Piece k) (Piece k) (Accepted x) a t)) after new
 read_level prepare_gives apply_gives answer_of len sends fate k x a t host old after new lost u h =
     let shape = shaped true len in
     let count = read_pieces len (length (cut_of len x)) in
@@ -264,8 +272,11 @@ read_level prepare_gives apply_gives answer_of len sends fate k x a t host old a
     (near_late len x k a _ f.some f.more f.last)
     (near_next len x k a _ f.some f.more)
     h'
-    in
-    (shown.0, subst (λ (p : Place). Stands answer_of shape sends p after new) (in_place_is fate count (Piece k) (Piece k) n n (Accepted x) a t (rw (same_number k) refl) refl) shown.1)
+    in (
+      shown.0,
+      subst (λ (p : Place). TransferIsAt answer_of shape sends p after new)
+          (in_place_is fate count (Piece k) (Piece k) n n (Accepted x) a t (rw (same_number k) refl) refl) shown.1,
+    )
 
 -- a try that arrives, of the piece that the host has already
 read_behind : {R : Type 0} (prepare_gives : PrepareGives R) (apply_gives : ApplyGives R) (answer_of : AnswerOf R)
@@ -273,11 +284,11 @@ read_behind : {R : Type 0} (prepare_gives : PrepareGives R) (apply_gives : Apply
     (host : HostTransferState) (old : DevControlState R) (after : HostTransferState) (new : DevControlState R)
     → let shape = shaped true len in let count =
     read_pieces len (length (cut_of len x)) in ¬ (fate ≡ TokenLost)
-    → BothStand answer_of shape sends (at (Piece (suc j)) (Piece j) (Accepted x) a t) host old
+    → BothAreAt answer_of shape sends (at (Piece (suc j)) (Piece j) (Accepted x) a t) host old
     → Arrives prepare_gives apply_gives answer_of fate
     (tries.DataIn (piece_toggle (suc j))) old.stage host.bytes host old after new
     → (new.requests ≡ old.requests)
-    × Stands answer_of shape sends
+    × TransferIsAt answer_of shape sends
     (place_after_in fate count (at (Piece (suc j)) (Piece j) (Accepted x) a t)) after new
 read_behind prepare_gives apply_gives answer_of len sends fate j x a t host old after new lost u h =
     let shape = shaped true len in
@@ -297,7 +308,7 @@ read_behind prepare_gives apply_gives answer_of len sends fate j x a t host old 
     h'
     in (
       shown.0,
-      subst (λ (p : Place). Stands answer_of shape sends p after new)
+      subst (λ (p : Place). TransferIsAt answer_of shape sends p after new)
           (in_place_is fate count (Piece (suc j)) (Piece j) (Piece (suc j)) (next_position count (Piece j))
           (Accepted x) a t (rw (other_number j) refl) refl) shown.1,
     )
@@ -307,11 +318,11 @@ pub read_shown : {R : Type 0} (prepare_gives : PrepareGives R) (apply_gives : Ap
     (host : HostTransferState) (old : DevControlState R) (after : HostTransferState) (new : DevControlState R)
     → let shape = shaped true len in let count =
     read_pieces len (length (cut_of len x)) in
-    BothStand answer_of shape sends (at (Piece k) d (Accepted x) a t) host old
+    BothAreAt answer_of shape sends (at (Piece k) d (Accepted x) a t) host old
     → TransactsAt prepare_gives apply_gives answer_of fate
     (tries.DataIn (piece_toggle k)) old.stage host.bytes host old after new
     → (new.requests ≡ old.requests)
-    × Stands answer_of shape sends (place_after_in fate count (at (Piece k) d (Accepted x) a t)) after new
+    × TransferIsAt answer_of shape sends (place_after_in fate count (at (Piece k) d (Accepted x) a t)) after new
 read_shown prepare_gives apply_gives answer_of len sends fate k d x a t host old after new u tr =
     let shape = shaped true len in
     let count = read_pieces len (length (cut_of len x)) in
@@ -319,7 +330,7 @@ read_shown prepare_gives apply_gives answer_of len sends fate k d x a t host old
     (tries.DataIn (piece_toggle k)) old.stage host.bytes host old after new tr) [
       | inl h ↦ (
         ap (λ (c : DevControlState _). c.requests) h.2,
-        subst (λ (y : Fate). Stands answer_of shape sends
+        subst (λ (y : Fate). TransferIsAt answer_of shape sends
             (place_after_in y count (at (Piece k) d (Accepted x) a t)) after new) (sym h.0)
             (moved answer_of shape sends (place_after_silence (at (Piece k) d (Accepted x) a t)) _ after _ new
             (h.1 ∙ none_taken (tries.DataIn (piece_toggle k)) host tt) h.2
@@ -328,20 +339,24 @@ read_shown prepare_gives apply_gives answer_of len sends fate k d x a t host old
       | inr h ↦ elim u.near.1 [
         | inl level ↦
             subst (λ (p : Position). (new.requests ≡ old.requests)
-            × Stands answer_of shape sends
+            × TransferIsAt answer_of shape sends
             (place_after_in fate count (at (Piece k) p (Accepted x) a t)) after new) (sym level)
-            (read_level prepare_gives apply_gives answer_of len sends fate k x a t host old after new h.0 (subst (λ (p : Position). BothStand answer_of shape sends (at (Piece k) p (Accepted x) a t) host old) level u) h.1)
+            (read_level prepare_gives apply_gives answer_of len sends fate k x a t host old after new h.0
+            (subst (λ (p : Position). BothAreAt answer_of shape sends
+            (at (Piece k) p (Accepted x) a t) host old) level u) h.1)
         | inr behind ↦
-            let v = subst (λ (p : Position). BothStand answer_of shape sends (at (Piece k) p (Accepted x) a t) host old) behind.2 u in
+            let v = subst
+            (λ (p : Position). BothAreAt answer_of shape sends
+            (at (Piece k) p (Accepted x) a t) host old) behind.2 u in
             subst (λ (p : Position). (new.requests ≡ old.requests)
-            × Stands answer_of shape sends
+            × TransferIsAt answer_of shape sends
             (place_after_in fate count (at (Piece k) p (Accepted x) a t)) after new) (sym behind.2)
-            (subst (λ (i : ℕ). BothStand answer_of shape sends
+            (subst (λ (i : ℕ). BothAreAt answer_of shape sends
             (at (Piece i) (Piece behind.0) (Accepted x) a t) host old
             → Arrives prepare_gives apply_gives answer_of fate
             (tries.DataIn (piece_toggle i)) old.stage host.bytes host old after new
             → (new.requests ≡ old.requests)
-            × Stands answer_of shape sends
+            × TransferIsAt answer_of shape sends
             (place_after_in fate count (at (Piece i) (Piece behind.0) (Accepted x) a t)) after new) behind.1
             (λ w g. read_behind prepare_gives apply_gives answer_of len sends fate behind.0 x a t host old after new h.0 w g) v h.1)
       ]

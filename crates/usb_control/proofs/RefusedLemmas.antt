@@ -14,7 +14,7 @@ use Rattle.usb_control.specs.Device.{DevControlState, Effect, stall_effect, Does
 use Rattle.usb_control.specs.Host.{HostTransferState, asks_at, transfer_after_reply_at, acknowledges_at, after_no_answer, with_failure}
 use Rattle.usb_control.specs.Transaction.{TransactsAt, AckComes, effect_of_stage, reply_after_fate}
 use Rattle.usb_control.specs.Transfer.{Shape, Refused, Position, place_after_refusal}
-use Rattle.usb_control.specs.Positions.{BothStand, Stands}
+use Rattle.usb_control.specs.Positions.{BothAreAt, TransferIsAt}
 use Rattle.usb_control.proofs.StepLemmas.{at, silent_stands, moved, has_stands}
 
 -- a data piece or a status is tried
@@ -78,7 +78,10 @@ pub unacknowledged : {R : Type 0} (prepare_gives : PrepareGives R) (apply_gives 
 unacknowledged prepare_gives apply_gives answer_of true b old new e h = subst (λ (x : Bool). AckComes prepare_gives apply_gives answer_of x old new) e h
 unacknowledged prepare_gives apply_gives answer_of false b old new e h = h
 
-refused_device : {R : Type 0} (answer_of : AnswerOf R) (shape : Shape) (sends : List ℕ) (p d : Position) (a : Bool) (t : ℕ) (host : HostTransferState) (old new : DevControlState R) → BothStand answer_of shape sends (at p d Refused a t) host old → new.stage ≡ stages.Idle → BothStand answer_of shape sends (at p d Refused a t) host new
+refused_device : {R : Type 0} (answer_of : AnswerOf R) (shape : Shape) (sends : List ℕ) (p d : Position) (a : Bool)
+    (t : ℕ) (host : HostTransferState) (old new : DevControlState R)
+    → BothAreAt answer_of shape sends (at p d Refused a t) host old → new.stage ≡ stages.Idle
+    → BothAreAt answer_of shape sends (at p d Refused a t) host new
 refused_device answer_of shape sends p d a t host old new u h = record {
   whole = u.whole;
   sender = u.sender;
@@ -103,11 +106,11 @@ refused_heard prepare_gives apply_gives answer_of shape sends clean p d a t host
 refused_lost : {R : Type 0} (prepare_gives : PrepareGives R) (apply_gives : ApplyGives R) (answer_of : AnswerOf R)
     (shape : Shape) (sends : List ℕ) (p d : Position) (a : Bool) (t : ℕ) (host : HostTransferState)
     (stage : HostStage) (piece : IsPiece stage) (old after : DevControlState R) (host_after : HostTransferState)
-    (mid : DevControlState R) (answer : Option Packet) → BothStand answer_of shape sends (at p d Refused a t) host old
+    (mid : DevControlState R) (answer : Option Packet) → BothAreAt answer_of shape sends (at p d Refused a t) host old
     → Does prepare_gives apply_gives stall_effect old.requests mid answer
     → host_after ≡ transfer_after_reply_at stage None host → after ≡ mid
     → (after.requests ≡ old.requests)
-    × Stands answer_of shape sends (place_after_refusal TokenLost false (at p d Refused a t)) host_after after
+    × TransferIsAt answer_of shape sends (place_after_refusal TokenLost false (at p d Refused a t)) host_after after
 refused_lost prepare_gives apply_gives answer_of shape sends p d a t host stage piece old after host_after mid answer u (m, s) e f =
     (ap (λ c. c.requests) (f ∙ m), moved answer_of shape sends _ _ host_after _ after (e ∙ none_taken stage host piece) f (silent_stands answer_of shape sends p d Refused a t host mid (refused_device answer_of shape sends p d a t host old mid u (ap (λ c. c.stage) m))))
 
@@ -115,10 +118,10 @@ pub refused_place : {R : Type 0} (prepare_gives : PrepareGives R) (apply_gives :
     (answer_of : AnswerOf R) (shape : Shape) (sends : List ℕ) (fate : Fate) (c : Bool) (p d : Position) (a : Bool)
     (t : ℕ) (host : HostTransferState) (stage : HostStage) (old : DevControlState R) (after : HostTransferState)
     (new : DevControlState R) → IsPiece stage → asks_at stage ≡ c
-    → BothStand answer_of shape sends (at p d Refused a t) host old
+    → BothAreAt answer_of shape sends (at p d Refused a t) host old
     → TransactsAt prepare_gives apply_gives answer_of fate stage stages.Idle host.bytes host old after new
     → (new.requests ≡ old.requests)
-    × Stands answer_of shape sends (place_after_refusal fate c (at p d Refused a t)) after new
+    × TransferIsAt answer_of shape sends (place_after_refusal fate c (at p d Refused a t)) after new
 refused_place prepare_gives apply_gives answer_of shape sends TokenLost c p d a t host stage old after new piece asks u (e, f) =
     (ap (λ c. c.requests) f, moved answer_of shape sends _ _ after _ new (e ∙ none_taken stage host piece) f (silent_stands answer_of shape sends p d Refused a t host old u))
 refused_place prepare_gives apply_gives answer_of shape sends ReplyLost c p d a t host stage old after new piece asks u (mid, answer, does, e, f) =

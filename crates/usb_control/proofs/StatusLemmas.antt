@@ -13,9 +13,9 @@ use Rattle.usb_control.specs.Requests.{PrepareGives, ApplyGives, AnswerOf}
 use Rattle.usb_control.specs.Packets.{data_packet}
 use Rattle.usb_control.specs.Device.{DevControlState, Effect, Answers, Applies, Does, effect_of_out, effect_of_in}
 use Rattle.usb_control.specs.Host.{HostTransferState, with_stage, transfer_after_reply_at, acknowledges_at}
-use Rattle.usb_control.specs.Transaction.{TransactsAt, Arrives, AckComes, reply_after_fate, is_clean}
+use Rattle.usb_control.specs.Transaction.{TransactsAt, Arrives, AckComes, reply_after_fate, loses_nothing}
 use Rattle.usb_control.specs.Transfer.{Shape, Accepted, Position, Setup, Piece, Status, Past, Place, data_pieces, place_after_in}
-use Rattle.usb_control.specs.Positions.{read_stage, DeviceHas, DeviceStands, Near, BothStand, Stands}
+use Rattle.usb_control.specs.Positions.{read_stage, DeviceIsAtAfterSetup, DeviceIsAt, AreWithinAPiece, BothAreAt, TransferIsAt}
 use Rattle.usb_control.proofs.StepLemmas.{at, shaped}
 use Rattle.usb_control.proofs.PlaceLemmas.{out_place, in_shown, out_shown}
 use Rattle.usb_control.proofs.ReadLemmas.{in_place_is}
@@ -29,14 +29,25 @@ status_given len (Piece k) = refl
 status_given len Status = refl
 status_given len Past = refl
 
-status_device : (len : ℕ) (x : Option (List ℕ)) (d : Position) → (len == 0) ≡ false → Near (shaped true len) (Accepted x) false Status d → {R : Type 0} (answer_of : AnswerOf R) (sends : List ℕ) (a : Bool) (old : DevControlState R) → DeviceStands answer_of (shaped true len) sends (Accepted x) a d old → (old.stage ≡ read_stage len d) × (answer_of old.requests ≡ x)
+status_device : (len : ℕ) (x : Option (List ℕ)) (d : Position) → (len == 0) ≡ false
+    → AreWithinAPiece (shaped true len) (Accepted x) false Status d
+    → {R : Type 0} (answer_of : AnswerOf R) (sends : List ℕ) (a : Bool) (old : DevControlState R)
+    → DeviceIsAt answer_of (shaped true len) sends (Accepted x) a d old
+    → (old.stage ≡ read_stage len d) × (answer_of old.requests ≡ x)
 status_device len x Setup some near answer_of sends a old h =
     elim (rw some at near) as (λ _. (old.stage ≡ read_stage len Setup) × (answer_of old.requests ≡ x)) [ inl e ↦ cc | inr others ↦ elim others [ inl e ↦ cc | inr behind ↦ let e = behind.2 in cc ] ]
 status_device len x (Piece k) some near answer_of sends a old h = (rw some at h.0, h.1 refl)
 status_device len x Status some near answer_of sends a old h = (rw some at h.0, h.1 refl)
 status_device len x Past some near answer_of sends a old h = (rw some at h.0, h.1 refl)
 
-pub status_out_shown : {R : Type 0} (prepare_gives : PrepareGives R) (apply_gives : ApplyGives R) (answer_of : AnswerOf R) (len : ℕ) (sends : List ℕ) (fate : Fate) (d : Position) (x : Option (List ℕ)) (a : Bool) (t : ℕ) (host : HostTransferState) (old : DevControlState R) (after : HostTransferState) (new : DevControlState R) → let shape = shaped true len in (len == 0) ≡ false → BothStand answer_of shape sends (at Status d (Accepted x) a t) host old → TransactsAt prepare_gives apply_gives answer_of fate tries.StatusOut old.stage host.bytes host old after new → (new.requests ≡ old.requests) × Stands answer_of shape sends (out_place fate Status d Past (Accepted x) a t) after new
+pub status_out_shown : {R : Type 0} (prepare_gives : PrepareGives R) (apply_gives : ApplyGives R)
+    (answer_of : AnswerOf R) (len : ℕ) (sends : List ℕ) (fate : Fate) (d : Position) (x : Option (List ℕ)) (a : Bool)
+    (t : ℕ) (host : HostTransferState) (old : DevControlState R) (after : HostTransferState) (new : DevControlState R)
+    → let shape =
+    shaped true len in (len == 0) ≡ false → BothAreAt answer_of shape sends (at Status d (Accepted x) a t) host old
+    → TransactsAt prepare_gives apply_gives answer_of fate tries.StatusOut old.stage host.bytes host old after new
+    → (new.requests ≡ old.requests)
+    × TransferIsAt answer_of shape sends (out_place fate Status d Past (Accepted x) a t) after new
 status_out_shown prepare_gives apply_gives answer_of len sends fate d x a t host old after new some u tr =
     let shape = shaped true len in
     let stands = status_device len x d some u.near answer_of sends a old u.device in
@@ -62,14 +73,14 @@ status_comes : {R : Type 0} (prepare_gives : PrepareGives R) (apply_gives : Appl
     (mid : DevControlState R) (answer : Option Packet) (after : HostTransferState) (new : DevControlState R)
     → ¬ (fate ≡ TokenLost) → mid.stage ≡ stages.StatusIn → mid.last_packet ≡ last_packets.Answered
     → answer ≡ Some (data_packet true [])
-    → BothStand answer_of shape sends (at Status Status (Accepted x) a t) host mid
+    → BothAreAt answer_of shape sends (at Status Status (Accepted x) a t) host mid
     → ((m : DevControlState R) → m.stage ≡ stages.Idle → m.requests ≡ mid.requests
-    → DeviceHas answer_of shape sends (Accepted x) a Past m)
+    → DeviceIsAtAfterSetup answer_of shape sends (Accepted x) a Past m)
     → after ≡ transfer_after_reply_at tries.StatusIn (reply_after_fate fate true answer) host
     → AckComes prepare_gives apply_gives answer_of
-    (is_clean fate && acknowledges_at tries.StatusIn (reply_after_fate fate true answer) after.stage) mid new
+    (loses_nothing fate && acknowledges_at tries.StatusIn (reply_after_fate fate true answer) after.stage) mid new
     → (new.requests ≡ mid.requests)
-    × Stands answer_of shape sends
+    × TransferIsAt answer_of shape sends
     (place_after_in fate (data_pieces shape (Accepted x)) (at Status Status (Accepted x) a t)) after new
 status_comes prepare_gives apply_gives answer_of shape sends fate x a t host mid answer after new lost stage last_packet said u idle e f =
     let shown =
@@ -89,18 +100,22 @@ status_comes prepare_gives apply_gives answer_of shape sends fate x a t host mid
       device = idle m h same;
     })
     e f
-    in
-    (shown.0, subst (λ (p : Place). Stands answer_of shape sends p after new) (in_place_is fate (data_pieces shape (Accepted x)) Status Status Past Past (Accepted x) a t refl refl) shown.1)
+    in (
+      shown.0,
+      subst (λ (p : Place). TransferIsAt answer_of shape sends p after new)
+          (in_place_is fate (data_pieces shape (Accepted x)) Status Status Past Past
+          (Accepted x) a t refl refl) shown.1,
+    )
 
 -- a write that took effect
 pub again_arrives : {R : Type 0} (prepare_gives : PrepareGives R) (apply_gives : ApplyGives R)
     (answer_of : AnswerOf R) (sends : List ℕ) (fate : Fate) (x : Option (List ℕ)) (t : ℕ) (host : HostTransferState)
     (old : DevControlState R) (after : HostTransferState) (new : DevControlState R) → let shape =
     shaped false (length sends) in ¬ (fate ≡ TokenLost)
-    → BothStand answer_of shape sends (at Status Status (Accepted x) true t) host old
+    → BothAreAt answer_of shape sends (at Status Status (Accepted x) true t) host old
     → Arrives prepare_gives apply_gives answer_of fate tries.StatusIn old.stage host.bytes host old after new
     → (new.requests ≡ old.requests)
-    × Stands answer_of shape sends
+    × TransferIsAt answer_of shape sends
     (place_after_in fate (data_pieces shape (Accepted x)) (at Status Status (Accepted x) true t)) after new
 again_arrives prepare_gives apply_gives answer_of sends fate x t host old after new lost u (mid, answer, does, e, f) =
     let shape = shaped false (length sends) in
@@ -119,10 +134,10 @@ pub effect_arrives : {R : Type 0} (prepare_gives : PrepareGives R) (apply_gives 
     (answer_of : AnswerOf R) (sends : List ℕ) (fate : Fate) (x : Option (List ℕ)) (t : ℕ) (host : HostTransferState)
     (old : DevControlState R) (after : HostTransferState) (new : DevControlState R) → let shape =
     shaped false (length sends) in ¬ (fate ≡ TokenLost)
-    → BothStand answer_of shape sends (at Status Status (Accepted x) false t) host old
+    → BothAreAt answer_of shape sends (at Status Status (Accepted x) false t) host old
     → Arrives prepare_gives apply_gives answer_of fate tries.StatusIn old.stage host.bytes host old after new
     → apply_gives old.requests sends new.requests
-    × Stands answer_of shape sends
+    × TransferIsAt answer_of shape sends
     (place_after_in fate (data_pieces shape (Accepted x)) (at Status Status (Accepted x) true t)) after new
 effect_arrives prepare_gives apply_gives answer_of sends fate x t host old after new lost u (mid, answer, does, e, f) =
     let shape = shaped false (length sends) in
@@ -142,10 +157,10 @@ pub empty_arrives : {R : Type 0} (prepare_gives : PrepareGives R) (apply_gives :
     (host : HostTransferState) (old : DevControlState R) (after : HostTransferState) (new : DevControlState R)
     → let shape =
     shaped true 0 in ¬ (fate ≡ TokenLost)
-    → BothStand answer_of shape sends (at Status Status (Accepted x) a t) host old
+    → BothAreAt answer_of shape sends (at Status Status (Accepted x) a t) host old
     → Arrives prepare_gives apply_gives answer_of fate tries.StatusIn old.stage host.bytes host old after new
     → (new.requests ≡ old.requests)
-    × Stands answer_of shape sends
+    × TransferIsAt answer_of shape sends
     (place_after_in fate (data_pieces shape (Accepted x)) (at Status Status (Accepted x) a t)) after new
 empty_arrives prepare_gives apply_gives answer_of sends fate x a t host old after new lost u (mid, answer, does, e, f) =
     let shape = shaped true 0 in

@@ -12,8 +12,8 @@ use Rattle.usb_control.specs.SetupBytes.{setup_bytes, setup_of, reads}
 use Rattle.usb_control.specs.Requests.{PrepareGives, ApplyGives, AnswerOf}
 use Rattle.usb_control.specs.Device.{DevControlState}
 use Rattle.usb_control.specs.Host.{HostTransferState, IsRunning, at_start, progress_of}
-use Rattle.usb_control.specs.Transfer.{Shape, shape_of, Decision, Refused, Accepted, decision_of, Position, Setup, Piece, Status, Past, Place, start, answered_bytes, comes_from_device, Act, Nothing, Decides, TakesEffect, Acts, act_at, act_of, place_after_try}
-use Rattle.usb_control.specs.Positions.{host_stage, Stands}
+use Rattle.usb_control.specs.Transfer.{Shape, transfer_shape, Decision, Refused, Accepted, decision_of, Position, Setup, Piece, Status, Past, Place, start, answered_bytes, comes_from_device, Act, Nothing, Decides, TakesEffect, Acts, act_at, act_of, place_after_try}
+use Rattle.usb_control.specs.Positions.{host_stage, TransferIsAt}
 use Rattle.usb_control.specs.Runs.{is_open, IsAccepted}
 use Rattle.usb_control.specs.Steps.{IsStep, Steps, IsAppliedOnce, IsOnceAtMost}
 use Rattle.usb_control.proofs.ActLemmas.{NeedsEffect, effect_needs, decision_needs}
@@ -106,7 +106,15 @@ since_at prepare_gives apply_gives answer_of request sends begun p fault q q2 a 
     subst (λ (x : Decision). Since prepare_gives apply_gives answer_of request sends begun p fault x a2 now) (sym e)
     (subst (λ (b : Bool). Since prepare_gives apply_gives answer_of request sends begun p fault q b now) (sym f) h)
 
-told_by : {R : Type 0} (prepare_gives : PrepareGives R) (apply_gives : ApplyGives R) (answer_of : AnswerOf R) (request : Request) (sends : List ℕ) (begun : R) (p d : Position) (q : Decision) (a : Bool) (t : ℕ) (act : Act) (old new : R) (after : Place) → Moves (reads request) (at p d q a t) after act → (act ≡ Nothing → p ≡ Setup → Untouched after.host after.fault) → (act ≡ TakesEffect → NeedsEffect p (shape_of request) q a) → ((d : Decision) → act ≡ Decides d → p ≡ Setup) → DecidesAgain prepare_gives request → Acts prepare_gives apply_gives answer_of request sends act old new → Told prepare_gives apply_gives answer_of request sends begun (at p d q a t) old → Told prepare_gives apply_gives answer_of request sends begun after new
+told_by : {R : Type 0} (prepare_gives : PrepareGives R) (apply_gives : ApplyGives R) (answer_of : AnswerOf R)
+    (request : Request) (sends : List ℕ) (begun : R) (p d : Position) (q : Decision) (a : Bool) (t : ℕ) (act : Act)
+    (old new : R) (after : Place) → Moves (reads request) (at p d q a t) after act
+    → (act ≡ Nothing → p ≡ Setup → Untouched after.host after.fault)
+    → (act ≡ TakesEffect → NeedsEffect p (transfer_shape request) q a)
+    → ((d : Decision) → act ≡ Decides d → p ≡ Setup) → DecidesAgain prepare_gives request
+    → Acts prepare_gives apply_gives answer_of request sends act old new
+    → Told prepare_gives apply_gives answer_of request sends begun (at p d q a t) old
+    → Told prepare_gives apply_gives answer_of request sends begun after new
 told_by prepare_gives apply_gives answer_of request sends begun p d q a t Nothing old new after m stays needs sets again acts h =
     let applied = same_count after.applied a m.applied in
     record {
@@ -145,17 +153,26 @@ open_at shape Past stage e running d q a t = let g = ap progress_of e in cc
 -- where the ends stand after some steps, and what happened meanwhile
 pub record Reached {R : Type 0} (prepare_gives : PrepareGives R) (apply_gives : ApplyGives R) (answer_of : AnswerOf R) (request : Request) (sends : List ℕ) (begun : R) (host : HostTransferState) (control : DevControlState R) : Type 0 where
   pub place : Place
-  pub stands : Stands answer_of (shape_of request) sends place host control
+  pub stands : TransferIsAt answer_of (transfer_shape request) sends place host control
   pub told : Told prepare_gives apply_gives answer_of request sends begun place control.requests
   pub asked : host.setup ≡ request
 
-told_step : {R : Type 0} (prepare_gives : PrepareGives R) (apply_gives : ApplyGives R) (answer_of : AnswerOf R) (request : Request) (sends : List ℕ) (begun : R) (fate : Fate) (p d : Position) (q : Decision) (a : Bool) (t : ℕ) (fault : Option ControlFault) (host : HostTransferState) (old : DevControlState R) (after : HostTransferState) (new : DevControlState R) → let place : Place = record { host = p; device = d; decision = q; applied = a; tries = t; fault = fault } in setup_of (setup_bytes request) ≡ request → DecidesAgain prepare_gives request → host.setup ≡ request → Stands answer_of (shape_of request) sends place host old → Told prepare_gives apply_gives answer_of request sends begun place old.requests → IsStep prepare_gives apply_gives answer_of fate host old after new → Reached prepare_gives apply_gives answer_of request sends begun after new
+told_step : {R : Type 0} (prepare_gives : PrepareGives R) (apply_gives : ApplyGives R) (answer_of : AnswerOf R)
+    (request : Request) (sends : List ℕ) (begun : R) (fate : Fate) (p d : Position) (q : Decision) (a : Bool) (t : ℕ)
+    (fault : Option ControlFault) (host : HostTransferState) (old : DevControlState R) (after : HostTransferState)
+    (new : DevControlState R) → let place : Place =
+    record { host = p; device = d; decision = q; applied = a; tries = t; fault = fault } in
+    setup_of (setup_bytes request) ≡ request → DecidesAgain prepare_gives request → host.setup ≡ request
+    → TransferIsAt answer_of (transfer_shape request) sends place host old
+    → Told prepare_gives apply_gives answer_of request sends begun place old.requests
+    → IsStep prepare_gives apply_gives answer_of fate host old after new
+    → Reached prepare_gives apply_gives answer_of request sends begun after new
 told_step prepare_gives apply_gives answer_of request sends begun fate p d q a t (Some f) host old after new back again e stands told step =
     let g = ap progress_of stands in let running = step.running in cc
 told_step prepare_gives apply_gives answer_of request sends begun fate p d q a t None host old after new back again e stands told step =
-    let shape = shape_of request in
-    let spelled = subst (λ (x : Request). setup_of (setup_bytes x) ≡ x) (sym e) back in
-    let shown = try_shown prepare_gives apply_gives answer_of shape sends fate (at p d q a t) host old after new spelled step.running stands step.transacts in
+    let shape = transfer_shape request in
+    let encoded = subst (λ (x : Request). setup_of (setup_bytes x) ≡ x) (sym e) back in
+    let shown = try_shown prepare_gives apply_gives answer_of shape sends fate (at p d q a t) host old after new encoded step.running stands step.transacts in
     let moves = moves_at (reads request) request.length fate p d shown.0 q a t None (open_at shape p host.stage stands.sender.stage step.running d q a t) told.sound in
     record {
       place = place_after_try shape fate shown.0 (at p d q a t);
@@ -194,15 +211,18 @@ accepted_now prepare_gives apply_gives answer_of request sends begun p fault q f
 
 pub read_told : {R : Type 0} (prepare_gives : PrepareGives R) (apply_gives : ApplyGives R) (answer_of : AnswerOf R) (request : Request) (sends : List ℕ) (begun : R) (host : HostTransferState) (control : DevControlState R) → reads request ≡ true → host.stage ≡ tries.Done → Reached prepare_gives apply_gives answer_of request sends begun host control → prepare_gives begun request true control.requests × (host.bytes ≡ take request.length (unwrap_or (answer_of control.requests) []))
 read_told prepare_gives apply_gives answer_of request sends begun host control is done r =
-    let ended = (done_is answer_of (shape_of request) sends r.place host control r.stands).0 done in
+    let ended = (done_is answer_of (transfer_shape request) sends r.place host control r.stands).0 done in
     let sound = ended_is (reads request) r.place.host r.place.decision r.place.applied ended.1 r.told.sound.ended in
-    let now = accepted_now prepare_gives apply_gives answer_of request sends begun r.place.host r.place.fault r.place.decision r.place.applied control.requests ended.1 sound.0 (r.told.unapplied is) r.told.since in
-    (now.0, read_is answer_of (shape_of request) sends r.place host control r.stands ended is ∙ ap (answered_bytes (shape_of request)) now.1)
+    let now = accepted_now prepare_gives apply_gives answer_of request sends begun r.place.host r.place.fault r.place.decision r.place.applied control.requests ended.1 sound.0 (r.told.unapplied is) r.told.since in (
+      now.0,
+      read_is answer_of (transfer_shape request) sends r.place host control r.stands ended is
+          ∙ ap (answered_bytes (transfer_shape request)) now.1,
+    )
 
 -- a write that is done
 pub write_told : {R : Type 0} (prepare_gives : PrepareGives R) (apply_gives : ApplyGives R) (answer_of : AnswerOf R) (request : Request) (sends : List ℕ) (begun : R) (host : HostTransferState) (control : DevControlState R) → reads request ≡ false → host.stage ≡ tries.Done → Reached prepare_gives apply_gives answer_of request sends begun host control → IsAppliedOnce prepare_gives apply_gives request sends begun control.requests
 write_told prepare_gives apply_gives answer_of request sends begun host control is done r =
-    let ended = (done_is answer_of (shape_of request) sends r.place host control r.stands).0 done in
+    let ended = (done_is answer_of (transfer_shape request) sends r.place host control r.stands).0 done in
     let sound = ended_is (reads request) r.place.host r.place.decision r.place.applied ended.1 r.told.sound.ended in
     subst (λ (b : Bool). Since prepare_gives apply_gives answer_of request sends begun r.place.host r.place.fault r.place.decision b control.requests) (sound.1 is) r.told.since
 
@@ -217,7 +237,11 @@ no_fault shape (Piece k) f e = way_no_fault shape.reads _ _ f (λ h. cc) (λ h. 
 no_fault shape Status f e = way_no_fault (comes_from_device shape Status) _ _ f (λ h. cc) (λ h. cc) e
 no_fault shape Past f e = cc
 
-fault_is : {R : Type 0} (answer_of : AnswerOf R) (shape : Shape) (sends : List ℕ) (p d : Position) (q : Decision) (a : Bool) (t : ℕ) (fault : Option ControlFault) (f : ControlFault) (host : HostTransferState) (control : DevControlState R) → let place : Place = record { host = p; device = d; decision = q; applied = a; tries = t; fault = fault } in Stands answer_of shape sends place host control → host.stage ≡ tries.Failed f → fault ≡ Some f
+fault_is : {R : Type 0} (answer_of : AnswerOf R) (shape : Shape) (sends : List ℕ) (p d : Position) (q : Decision)
+    (a : Bool) (t : ℕ) (fault : Option ControlFault) (f : ControlFault) (host : HostTransferState)
+    (control : DevControlState R) → let place : Place =
+    record { host = p; device = d; decision = q; applied = a; tries = t; fault = fault } in
+    TransferIsAt answer_of shape sends place host control → host.stage ≡ tries.Failed f → fault ≡ Some f
 fault_is answer_of shape sends p d q a t None f host control u e = absurd (no_fault shape p f (sym u.sender.stage ∙ e))
 fault_is answer_of shape sends p d q a t (Some g) f host control u e = let same = sym u ∙ e in cc
 
@@ -229,7 +253,9 @@ refused_now prepare_gives apply_gives answer_of request sends begun p fault q fa
 
 pub stall_told : {R : Type 0} (prepare_gives : PrepareGives R) (apply_gives : ApplyGives R) (answer_of : AnswerOf R) (request : Request) (sends : List ℕ) (begun : R) (host : HostTransferState) (control : DevControlState R) → host.stage ≡ tries.Failed faults.Stalled → Reached prepare_gives apply_gives answer_of request sends begun host control → prepare_gives begun request false control.requests
 stall_told prepare_gives apply_gives answer_of request sends begun host control e r =
-    let fault = fault_is answer_of (shape_of request) sends r.place.host r.place.device r.place.decision r.place.applied r.place.tries r.place.fault faults.Stalled host control r.stands e in
+    let fault =
+    fault_is answer_of
+    (transfer_shape request) sends r.place.host r.place.device r.place.decision r.place.applied r.place.tries r.place.fault faults.Stalled host control r.stands e in
     let refused : r.place.decision ≡ Refused = subst (λ (f : Option ControlFault). SoundFault f r.place.decision) fault r.told.sound.fault in
     let unapplied : r.place.applied ≡ false = subst (λ (q : Decision). SoundRefused q r.place.applied) refused r.told.sound.refused in
     refused_now prepare_gives apply_gives answer_of request sends begun r.place.host r.place.fault r.place.decision r.place.applied control.requests fault refused unapplied r.told.since

@@ -10,7 +10,7 @@ use Rattle.usb_control.specs.declared.device.LastPacket.TheVariants as last_pack
 use Rattle.usb_control.specs.SetupBytes.{setup_of, reads}
 use Rattle.usb_control.specs.Device.{DevControlState, Effect, Answers, Decides, Applies, Does, stage_after_decision, effect_of_ack}
 use Rattle.usb_control.specs.Host.{HostTransferState, asks_at, transfer_after_reply_at, acknowledges_at}
-use Rattle.usb_control.specs.Transaction.{reply_after_fate, is_clean, AckComes, Arrives, Transacts}
+use Rattle.usb_control.specs.Transaction.{reply_after_fate, loses_nothing, AckComes, Arrives, Transacts}
 use Rattle.usb_control.specs.TryFunctions.{Table, PreparesBy, AppliesBy, control_after, answer_to, effect_reached, reply_received, host_after_answer, is_acknowledged, after_ack_if, host_tried, control_tried}
 
 rebuilt :
@@ -70,13 +70,13 @@ arrives {R} t fate host old after new (mid, answer, does, took, ack) =
     (λ (a : Option Packet). transfer_after_reply_at host.stage
     (reply_after_fate fate (asks_at host.stage) a) host) answer_is in (
       host_is,
-      acks t (is_clean fate
+      acks t (loses_nothing fate
           && acknowledges_at host.stage (reply_after_fate fate (asks_at host.stage) answer) after.stage) mid new ack
           ∙ ap (λ (a : Option Packet). after_ack_if t
-          (is_clean fate
+          (loses_nothing fate
           && acknowledges_at host.stage (reply_after_fate fate (asks_at host.stage) a) after.stage) mid) answer_is
           ∙ ap (λ (h : HostTransferState). after_ack_if t
-          (is_clean fate && acknowledges_at host.stage (reply_received fate host e) h.stage) mid) host_is
+          (loses_nothing fate && acknowledges_at host.stage (reply_received fate host e) h.stage) mid) host_is
           ∙ ap (after_ack_if t (is_acknowledged fate host e)) (does_control t e old.requests mid answer does),
     )
 

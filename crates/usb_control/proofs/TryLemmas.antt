@@ -14,8 +14,8 @@ use Rattle.usb_control.specs.Requests.{PrepareGives, ApplyGives, AnswerOf}
 use Rattle.usb_control.specs.Device.{DevControlState}
 use Rattle.usb_control.specs.Host.{HostTransferState, IsRunning, asks_at, progress_of}
 use Rattle.usb_control.specs.Transaction.{TransactsAt, Transacts}
-use Rattle.usb_control.specs.Transfer.{Shape, Decision, Refused, Accepted, Position, Setup, Piece, Status, Past, Place, Act, Nothing, Acts, act_at, act_of, applies, comes_from_device, data_pieces, eights, first_position, next_position, place_after_in, place_after_out, place_after_piece, place_after_silence, shape_of, place_after_try}
-use Rattle.usb_control.specs.Positions.{piece_toggle, host_stage, DeviceStands, BothStand, Stands, GoesOn}
+use Rattle.usb_control.specs.Transfer.{Shape, Decision, Refused, Accepted, Position, Setup, Piece, Status, Past, Place, Act, Nothing, Acts, act_at, act_of, applies, comes_from_device, data_pieces, piece_count, first_position, next_position, place_after_in, place_after_out, place_after_piece, place_after_silence, transfer_shape, place_after_try}
+use Rattle.usb_control.specs.Positions.{piece_toggle, host_stage, DeviceIsAt, BothAreAt, TransferIsAt, TryLeadsOn}
 use Rattle.usb_control.proofs.StepLemmas.{at, IsAfter, Shown, setup_shown, silent_stands, moved, shaped, stands_has, first_position-piece}
 use Rattle.usb_control.proofs.RefusedLemmas.{IsPiece, none_taken, refused_place}
 use Rattle.usb_control.proofs.PlaceLemmas.{out_place}
@@ -25,7 +25,8 @@ use Rattle.usb_control.proofs.StatusLemmas.{status_out_shown, again_arrives, eff
 
 -- the shape of what is shown, where nothing is done but a try
 abbrev pub Kept : {R : Type 0} → AnswerOf R → Shape → List ℕ → Place → DevControlState R → HostTransferState → DevControlState R → Type 0
-Kept answer_of shape sends place old after new = (new.requests ≡ old.requests) × Stands answer_of shape sends place after new
+Kept answer_of shape sends place old after new =
+    (new.requests ≡ old.requests) × TransferIsAt answer_of shape sends place after new
 
 pub act_piece : (k : ℕ) (shape : Shape) (fate : Fate) (q held : Decision) (a : Bool) → act_at (Piece k) shape fate q held a ≡ Nothing
 act_piece k shape TokenLost q held a = refl
@@ -93,9 +94,9 @@ after_first (suc n) = rw (first_position-piece (suc n) (omega arith)) tt
 
 refused_idle : {R : Type 0} (answer_of : AnswerOf R) (shape : Shape) (sends : List ℕ) (d : Position) (a : Bool)
     (old : DevControlState R) → d ≡ first_position (data_pieces shape Refused)
-    → DeviceStands answer_of shape sends Refused a d old → old.stage ≡ stages.Idle
+    → DeviceIsAt answer_of shape sends Refused a d old → old.stage ≡ stages.Idle
 refused_idle answer_of shape sends d a old e h =
-    let stands = subst (λ (p : Position). DeviceStands answer_of shape sends Refused a p old) e h in
+    let stands = subst (λ (p : Position). DeviceIsAt answer_of shape sends Refused a p old) e h in
     stands_has answer_of shape sends Refused a (first_position (data_pieces shape Refused)) old (after_first _) stands
 
 out_place_is : (fate : Fate) (count : ℕ) (p d : Position) (q : Decision) (a : Bool) (t : ℕ)
@@ -110,7 +111,7 @@ piece_shown : {R : Type 0} (prepare_gives : PrepareGives R) (apply_gives : Apply
     (r : Bool) (len : ℕ) (sends : List ℕ) (fate : Fate) (k : ℕ) (d : Position) (x : Option (List ℕ)) (a : Bool)
     (t : ℕ) (host : HostTransferState) (old : DevControlState R) (after : HostTransferState) (new : DevControlState R)
     → let shape =
-    shaped r len in BothStand answer_of shape sends (at (Piece k) d (Accepted x) a t) host old
+    shaped r len in BothAreAt answer_of shape sends (at (Piece k) d (Accepted x) a t) host old
     → TransactsAt prepare_gives apply_gives answer_of fate
     (host_stage shape (Piece k)) old.stage host.bytes host old after new
     → Kept answer_of shape sends
@@ -120,7 +121,7 @@ piece_shown prepare_gives apply_gives answer_of true len sends fate k d x a t ho
     let h = read_shown prepare_gives apply_gives answer_of len sends fate k d x a t host old after new u tr in (
       h.0,
       subst
-          (λ (b : Bool). Stands answer_of shape sends
+          (λ (b : Bool). TransferIsAt answer_of shape sends
           (place_after_in fate (data_pieces shape (Accepted x)) (at (Piece k) d (Accepted x) (b || a) t)) after new)
           (sym (applies_piece shape fate k)) h.1,
     )
@@ -129,21 +130,24 @@ piece_shown prepare_gives apply_gives answer_of false len sends fate k d x a t h
     subst (λ (b : List ℕ). TransactsAt prepare_gives apply_gives answer_of fate
     (tries.DataOut (8 * k) (piece_toggle k)) old.stage b host old after new) u.sender.bytes tr in
     let h = subst
-    (λ (n : ℕ). BothStand answer_of (shaped false n) sends (at (Piece k) d (Accepted x) a t) host old
+    (λ (n : ℕ). BothAreAt answer_of (shaped false n) sends (at (Piece k) d (Accepted x) a t) host old
     → Kept answer_of (shaped false n) sends
-    (place_after_out fate (eights n) (at (Piece k) d (Accepted x) a t)) old after new) (u.whole refl)
+    (place_after_out fate (piece_count n) (at (Piece k) d (Accepted x) a t)) old after new) (u.whole refl)
     (λ v. subst
-    (λ (b : Bool). BothStand answer_of (shaped false (length sends)) sends
+    (λ (b : Bool). BothAreAt answer_of (shaped false (length sends)) sends
     (at (Piece k) d (Accepted x) b t) host old
     → Kept answer_of (shaped false (length sends)) sends
-    (place_after_out fate (eights (length sends)) (at (Piece k) d (Accepted x) b t)) old after new) (sym v.near.1)
-    (λ w. let g = write_shown prepare_gives apply_gives answer_of sends fate k d x t host old after new w tr' in
-    (g.0, subst (λ (p : Place). Stands answer_of (shaped false (length sends)) sends p after new) (out_place_is fate (eights (length sends)) (Piece k) d (Accepted x) false t) g.1)) v) u
+    (place_after_out fate (piece_count (length sends)) (at (Piece k) d (Accepted x) b t)) old after new) (sym v.near.1)
+    (λ w. let g = write_shown prepare_gives apply_gives answer_of sends fate k d x t host old after new w tr' in (
+      g.0,
+      subst (λ (p : Place). TransferIsAt answer_of (shaped false (length sends)) sends p after new)
+          (out_place_is fate (piece_count (length sends)) (Piece k) d (Accepted x) false t) g.1,
+    )) v) u
     in (
       h.0,
       subst
-          (λ (b : Bool). Stands answer_of (shaped false len) sends
-          (place_after_out fate (eights len) (at (Piece k) d (Accepted x) (b || a) t)) after new)
+          (λ (b : Bool). TransferIsAt answer_of (shaped false len) sends
+          (place_after_out fate (piece_count len) (at (Piece k) d (Accepted x) (b || a) t)) after new)
           (sym (applies_piece (shaped false len) fate k)) h.1,
     )
 
@@ -152,7 +156,7 @@ read_status_shown : {R : Type 0} (prepare_gives : PrepareGives R) (apply_gives :
     (answer_of : AnswerOf R) (len : ℕ) (sends : List ℕ) (fate : Fate) (d : Position) (x : Option (List ℕ)) (a : Bool)
     (t : ℕ) (host : HostTransferState) (old : DevControlState R) (after : HostTransferState) (new : DevControlState R)
     → let shape =
-    shaped true len in BothStand answer_of shape sends (at Status d (Accepted x) a t) host old
+    shaped true len in BothAreAt answer_of shape sends (at Status d (Accepted x) a t) host old
     → TransactsAt prepare_gives apply_gives answer_of fate
     (host_stage shape Status) old.stage host.bytes host old after new
     → Kept answer_of shape sends
@@ -164,7 +168,7 @@ read_status_shown prepare_gives apply_gives answer_of zero sends fate d x a t ho
     elim (arrives prepare_gives apply_gives answer_of fate tries.StatusIn old.stage host.bytes host old after new tr) [
       | inl h ↦ (
         ap (λ (c : DevControlState _). c.requests) h.2,
-        subst (λ (y : Fate). Stands answer_of shape sends
+        subst (λ (y : Fate). TransferIsAt answer_of shape sends
             (place_after_in y (data_pieces shape (Accepted x)) (at Status d (Accepted x) a t)) after new) (sym h.0)
             (moved answer_of shape sends (place_after_silence (at Status d (Accepted x) a t)) _ after _ new
             (h.1 ∙ none_taken tries.StatusIn host tt) h.2
@@ -174,12 +178,14 @@ read_status_shown prepare_gives apply_gives answer_of zero sends fate d x a t ho
           subst (λ (p : Position). Kept answer_of shape sends
           (place_after_in fate (data_pieces shape (Accepted x)) (at Status p (Accepted x) a t)) old after new)
           (sym u.near)
-          (empty_arrives prepare_gives apply_gives answer_of sends fate x a t host old after new h.0 (subst (λ (p : Position). BothStand answer_of shape sends (at Status p (Accepted x) a t) host old) u.near u) h.1)
+          (empty_arrives prepare_gives apply_gives answer_of sends fate x a t host old after new h.0
+          (subst (λ (p : Position). BothAreAt answer_of shape sends
+          (at Status p (Accepted x) a t) host old) u.near u) h.1)
     ]
     in (
       h.0,
       subst
-          (λ (b : Bool). Stands answer_of shape sends
+          (λ (b : Bool). TransferIsAt answer_of shape sends
           (place_after_in fate (data_pieces shape (Accepted x)) (at Status d (Accepted x) (b || a) t)) after new)
           (sym (applies_read 0 fate)) h.1,
     )
@@ -188,17 +194,18 @@ read_status_shown prepare_gives apply_gives answer_of (suc n) sends fate d x a t
     let some : (suc n == 0) ≡ false = grind (arith, nat_tests) in
     let tr' = subst (λ (b : Bool). TransactsAt prepare_gives apply_gives answer_of fate (if b then tries.StatusIn else tries.StatusOut) old.stage host.bytes host old after new) some tr in
     let g = status_out_shown prepare_gives apply_gives answer_of (suc n) sends fate d x a t host old after new some u tr' in
-    let h : Stands answer_of shape sends
+    let h : TransferIsAt answer_of shape sends
     (place_after_out fate (data_pieces shape (Accepted x)) (at Status d (Accepted x) a t)) after new =
-    subst (λ (p : Place). Stands answer_of shape sends p after new) (out_place_is fate (data_pieces shape (Accepted x)) Status d (Accepted x) a t) g.1
+    subst (λ (p : Place). TransferIsAt answer_of shape sends p after new)
+    (out_place_is fate (data_pieces shape (Accepted x)) Status d (Accepted x) a t) g.1
     in
     let h1 = subst
-    (λ (b : Bool). Stands answer_of shape sends
+    (λ (b : Bool). TransferIsAt answer_of shape sends
     (place_after_out fate (data_pieces shape (Accepted x)) (at Status d (Accepted x) (b || a) t)) after new)
     (sym (applies_read (suc n) fate)) h in (
       g.0,
       subst
-          (λ (c : Bool). Stands answer_of shape sends
+          (λ (c : Bool). TransferIsAt answer_of shape sends
           (if c then place_after_in fate (data_pieces shape (Accepted x))
           (at Status d (Accepted x) (applies shape fate Status || a) t) else place_after_out fate
           (data_pieces shape (Accepted x)) (at Status d (Accepted x) (applies shape fate Status || a) t)) after new)
@@ -210,11 +217,11 @@ write_status : {R : Type 0} (prepare_gives : PrepareGives R) (apply_gives : Appl
     (sends : List ℕ) (fate : Fate) (x : Option (List ℕ)) (a : Bool) (t : ℕ) (host : HostTransferState)
     (old : DevControlState R) (after : HostTransferState) (new : DevControlState R) → let shape =
     shaped false (length sends) in let place =
-    at Status Status (Accepted x) a t in BothStand answer_of shape sends place host old
+    at Status Status (Accepted x) a t in BothAreAt answer_of shape sends place host old
     → TransactsAt prepare_gives apply_gives answer_of fate tries.StatusIn old.stage host.bytes host old after new
     → Acts prepare_gives apply_gives answer_of host.setup sends
     (act_of shape fate (Accepted x) place) old.requests new.requests
-    × Stands answer_of shape sends (place_after_try shape fate (Accepted x) place) after new
+    × TransferIsAt answer_of shape sends (place_after_try shape fate (Accepted x) place) after new
 write_status prepare_gives apply_gives answer_of sends TokenLost x a t host old after new u (e, f) =
     let shape = shaped false (length sends) in (
       ap (λ (c : DevControlState _). c.requests) f,
@@ -233,30 +240,38 @@ write_status_shown : {R : Type 0} (prepare_gives : PrepareGives R) (apply_gives 
     (answer_of : AnswerOf R) (len : ℕ) (sends : List ℕ) (fate : Fate) (d : Position) (x : Option (List ℕ)) (a : Bool)
     (t : ℕ) (host : HostTransferState) (old : DevControlState R) (after : HostTransferState) (new : DevControlState R)
     → let shape = shaped false len in let place =
-    at Status d (Accepted x) a t in BothStand answer_of shape sends place host old
+    at Status d (Accepted x) a t in BothAreAt answer_of shape sends place host old
     → TransactsAt prepare_gives apply_gives answer_of fate tries.StatusIn old.stage host.bytes host old after new
     → Acts prepare_gives apply_gives answer_of host.setup sends
     (act_of shape fate (Accepted x) place) old.requests new.requests
-    × Stands answer_of shape sends (place_after_try shape fate (Accepted x) place) after new
+    × TransferIsAt answer_of shape sends (place_after_try shape fate (Accepted x) place) after new
 write_status_shown prepare_gives apply_gives answer_of len sends fate d x a t host old after new u tr =
-    subst (λ (n : ℕ). BothStand answer_of (shaped false n) sends (at Status d (Accepted x) a t) host old
+    subst (λ (n : ℕ). BothAreAt answer_of (shaped false n) sends (at Status d (Accepted x) a t) host old
     → Acts prepare_gives apply_gives answer_of host.setup sends
     (act_of (shaped false n) fate (Accepted x) (at Status d (Accepted x) a t)) old.requests new.requests
-    × Stands answer_of (shaped false n) sends
+    × TransferIsAt answer_of (shaped false n) sends
     (place_after_try (shaped false n) fate (Accepted x) (at Status d (Accepted x) a t)) after new) (u.whole refl)
     (λ v. subst
-    (λ (p : Position). BothStand answer_of (shaped false (length sends)) sends
+    (λ (p : Position). BothAreAt answer_of (shaped false (length sends)) sends
     (at Status p (Accepted x) a t) host old
     → Acts prepare_gives apply_gives answer_of host.setup sends
     (act_of (shaped false (length sends)) fate (Accepted x)
     (at Status p (Accepted x) a t)) old.requests new.requests
-    × Stands answer_of (shaped false (length sends)) sends
+    × TransferIsAt answer_of (shaped false (length sends)) sends
     (place_after_try (shaped false (length sends)) fate (Accepted x) (at Status p (Accepted x) a t)) after new)
     (sym v.near)
     (λ w. write_status prepare_gives apply_gives answer_of sends fate x a t host old after new w tr) v) u
 
 -- a try from any place
-shown_at : {R : Type 0} (prepare_gives : PrepareGives R) (apply_gives : ApplyGives R) (answer_of : AnswerOf R) (r : Bool) (len : ℕ) (sends : List ℕ) (fate : Fate) (p d : Position) (q : Decision) (a : Bool) (t : ℕ) (host : HostTransferState) (old : DevControlState R) (after : HostTransferState) (new : DevControlState R) → let shape = shaped r len in let place = at p d q a t in setup_of (setup_bytes host.setup) ≡ host.setup → IsRunning host.stage → BothStand answer_of shape sends place host old → TransactsAt prepare_gives apply_gives answer_of fate (host_stage shape p) old.stage host.bytes host old after new → Shown prepare_gives apply_gives answer_of shape sends fate place host old after new
+shown_at : {R : Type 0} (prepare_gives : PrepareGives R) (apply_gives : ApplyGives R) (answer_of : AnswerOf R)
+    (r : Bool) (len : ℕ) (sends : List ℕ) (fate : Fate) (p d : Position) (q : Decision) (a : Bool) (t : ℕ)
+    (host : HostTransferState) (old : DevControlState R) (after : HostTransferState) (new : DevControlState R)
+    → let shape = shaped r len in let place =
+    at p d q a t in setup_of (setup_bytes host.setup) ≡ host.setup → IsRunning host.stage
+    → BothAreAt answer_of shape sends place host old
+    → TransactsAt prepare_gives apply_gives answer_of fate
+    (host_stage shape p) old.stage host.bytes host old after new
+    → Shown prepare_gives apply_gives answer_of shape sends fate place host old after new
 shown_at prepare_gives apply_gives answer_of r len sends fate Setup d q a t host old after new back running u tr = setup_shown prepare_gives apply_gives answer_of (shaped r len) sends fate d q a t host old after new back u tr
 shown_at prepare_gives apply_gives answer_of r len sends fate Past d q a t host old after new back running u tr = let e = ap progress_of u.sender.stage in cc
 shown_at prepare_gives apply_gives answer_of r len sends fate (Piece k) d Refused a t host old after new back running u tr =
@@ -285,13 +300,27 @@ shown_at prepare_gives apply_gives answer_of false len sends fate Status d (Acce
     let h = write_status_shown prepare_gives apply_gives answer_of len sends fate d x a t host old after new u tr in
     (Accepted x, h.0, h.1)
 
-shown_unless : {R : Type 0} (prepare_gives : PrepareGives R) (apply_gives : ApplyGives R) (answer_of : AnswerOf R) (shape : Shape) (sends : List ℕ) (fate : Fate) (p d : Position) (q : Decision) (a : Bool) (t : ℕ) (fault : Option ControlFault) (host : HostTransferState) (old : DevControlState R) (after : HostTransferState) (new : DevControlState R) → let place : Place = record { host = p; device = d; decision = q; applied = a; tries = t; fault = fault } in setup_of (setup_bytes host.setup) ≡ host.setup → IsRunning host.stage → Stands answer_of shape sends place host old → Transacts prepare_gives apply_gives answer_of fate host old after new → Shown prepare_gives apply_gives answer_of shape sends fate place host old after new
+shown_unless : {R : Type 0} (prepare_gives : PrepareGives R) (apply_gives : ApplyGives R) (answer_of : AnswerOf R)
+    (shape : Shape) (sends : List ℕ) (fate : Fate) (p d : Position) (q : Decision) (a : Bool) (t : ℕ)
+    (fault : Option ControlFault) (host : HostTransferState) (old : DevControlState R) (after : HostTransferState)
+    (new : DevControlState R) → let place : Place =
+    record { host = p; device = d; decision = q; applied = a; tries = t; fault = fault } in
+    setup_of (setup_bytes host.setup) ≡ host.setup → IsRunning host.stage
+    → TransferIsAt answer_of shape sends place host old
+    → Transacts prepare_gives apply_gives answer_of fate host old after new
+    → Shown prepare_gives apply_gives answer_of shape sends fate place host old after new
 shown_unless prepare_gives apply_gives answer_of shape sends fate p d q a t None host old after new back running u tr =
     shown_at prepare_gives apply_gives answer_of shape.reads shape.length sends fate p d q a t host old after new back running u
     (subst (λ (s : HostStage). TransactsAt prepare_gives apply_gives answer_of fate s old.stage host.bytes host old after new) u.sender.stage tr)
 shown_unless prepare_gives apply_gives answer_of shape sends fate p d q a t (Some fault) host old after new back running u tr = let e = ap progress_of u in cc
 
-pub try_shown : {R : Type 0} (prepare_gives : PrepareGives R) (apply_gives : ApplyGives R) (answer_of : AnswerOf R) (shape : Shape) (sends : List ℕ) (fate : Fate) (place : Place) (host : HostTransferState) (old : DevControlState R) (after : HostTransferState) (new : DevControlState R) → setup_of (setup_bytes host.setup) ≡ host.setup → IsRunning host.stage → Stands answer_of shape sends place host old → Transacts prepare_gives apply_gives answer_of fate host old after new → Shown prepare_gives apply_gives answer_of shape sends fate place host old after new
+pub try_shown : {R : Type 0} (prepare_gives : PrepareGives R) (apply_gives : ApplyGives R) (answer_of : AnswerOf R)
+    (shape : Shape) (sends : List ℕ) (fate : Fate) (place : Place) (host : HostTransferState)
+    (old : DevControlState R) (after : HostTransferState) (new : DevControlState R)
+    → setup_of (setup_bytes host.setup) ≡ host.setup → IsRunning host.stage
+    → TransferIsAt answer_of shape sends place host old
+    → Transacts prepare_gives apply_gives answer_of fate host old after new
+    → Shown prepare_gives apply_gives answer_of shape sends fate place host old after new
 try_shown prepare_gives apply_gives answer_of shape sends fate place host old after new back running u tr =
     shown_unless prepare_gives apply_gives answer_of shape sends fate place.host place.device place.decision place.applied place.tries place.fault host old after new back running u tr
 
@@ -300,10 +329,10 @@ pub goes_on :
     (sends : List ℕ) (fate : Fate) (place : Place) (host : HostTransferState) (old : DevControlState R)
     (after : HostTransferState) (new : DevControlState R)
     → setup_of (setup_bytes host.setup) ≡ host.setup → IsRunning host.stage
-    → Stands answer_of (shape_of host.setup) sends place host old
+    → TransferIsAt answer_of (transfer_shape host.setup) sends place host old
     → Transacts prepare_gives apply_gives answer_of fate host old after new
-    → GoesOn prepare_gives apply_gives answer_of host.setup sends fate place old.requests after new
-goes_on prepare_gives apply_gives answer_of sends fate place host old after new spelled running stands transacts =
-    let shape = shape_of host.setup in
-    let shown = try_shown prepare_gives apply_gives answer_of shape sends fate place host old after new spelled running stands transacts in
+    → TryLeadsOn prepare_gives apply_gives answer_of host.setup sends fate place old.requests after new
+goes_on prepare_gives apply_gives answer_of sends fate place host old after new encoded running stands transacts =
+    let shape = transfer_shape host.setup in
+    let shown = try_shown prepare_gives apply_gives answer_of shape sends fate place host old after new encoded running stands transacts in
     (place_after_try shape fate shown.0 place, (shown.0, shown.1, refl), shown.2)

@@ -9,14 +9,14 @@ use Rattle.usb_control.specs.declared.pieces.TheConstants.{MAX_PACKET}
 use Rattle.usb_control.specs.declared.fault.ControlFault.TheVariants.{Stalled, BusFault}
 use Rattle.usb_control.specs.declared.fault.InfoFault.TheVariants as infos
 use Rattle.usb_control.specs.SetupBytes.{setup_bytes, setup_of}
-use Rattle.usb_control.specs.Transfer.{Shape, Decision, Refused, Accepted, Piece, Status, Past, start, eights, read_pieces, Nothing, Decides, TakesEffect}
+use Rattle.usb_control.specs.Transfer.{Shape, Decision, Refused, Accepted, Piece, Status, Past, start, piece_count, read_pieces, Nothing, Decides, TakesEffect}
 use Rattle.usb_control.specs.Runs.{place_after_tries, acts}
 use Rattle.usb_packet.specs.declared.packet.TokenKind.TheVariants.{Out, In}
 use Rattle.usb_packet.specs.declared.packet.Packet.TheVariants.{Token}
 use Rattle.usb_control.specs.Packets.{data_packet}
 use Rattle.usb_control.specs.Reading.{accepted_payloads}
 use Rattle.usb_control.specs.Writing.{given_data}
-use Rattle.usb_control.specs.Descriptors.{config_of, report_length}
+use Rattle.usb_control.specs.Descriptors.{configuration_of, report_length}
 
 -- the limits, in numbers: bytes of a write that is kept, tries in a row without an answer, bytes of a packet
 writes_to : MAX_WRITE ≡ 256
@@ -39,7 +39,7 @@ get_device_back : setup_of (0x80 ∷ 0x06 ∷ 0x00 ∷ 0x01 ∷ 0x00 ∷ 0x00 �
 get_device_back = refl
 
 -- nine bytes are two pieces; of 18 bytes asked for and given there are three; where 16 of 18 are given, one is empty
-two_pieces : eights 9 ≡ 2
+two_pieces : piece_count 9 ≡ 2
 two_pieces = refl
 
 whole_pieces : read_pieces 18 18 ≡ 3
@@ -125,12 +125,14 @@ endpoint = 0x07 ∷ 0x05 ∷ 0x81 ∷ 0x03 ∷ 0x40 ∷ 0x00 ∷ 0x0A ∷ []
 hid_length : report_length hid ≡ Some 63
 hid_length = refl
 
-keyboard : config_of (configuration ∷ interface ∷ hid ∷ endpoint ∷ []) ≡ Ok (record { report_length = 63; endpoint = 1; subclass = 1; protocol = 1 })
+keyboard : configuration_of (configuration ∷ interface ∷ hid ∷ endpoint ∷ [])
+    ≡ Ok (record { report_length = 63; endpoint = 1; subclass = 1; protocol = 1 })
 keyboard = refl
 
 -- the endpoint may stand before the HID descriptor, but not after the next interface
-keyboard_turned : config_of (configuration ∷ interface ∷ endpoint ∷ hid ∷ []) ≡ Ok (record { report_length = 63; endpoint = 1; subclass = 1; protocol = 1 })
+keyboard_turned : configuration_of (configuration ∷ interface ∷ endpoint ∷ hid ∷ [])
+    ≡ Ok (record { report_length = 63; endpoint = 1; subclass = 1; protocol = 1 })
 keyboard_turned = refl
 
-keyboard_cut : config_of (configuration ∷ interface ∷ hid ∷ interface ∷ endpoint ∷ []) ≡ Err infos.NoEndpoint
+keyboard_cut : configuration_of (configuration ∷ interface ∷ hid ∷ interface ∷ endpoint ∷ []) ≡ Err infos.NoEndpoint
 keyboard_cut = refl

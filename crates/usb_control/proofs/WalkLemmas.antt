@@ -6,7 +6,7 @@ use Rattle.std.proofs.lemmas.Bool.Decides.{nat_tests}
 use Rattle.std.proofs.Math.Seq.{take-append_seam}
 use Rattle.std.specs.List.{concat}
 use Rattle.std.specs.Prelude.{find, slice_index, option_and_then}
-use Rattle.usb_control.specs.Descriptors.{IsDescriptor, AreDescriptors, IsWalk, HasWalk, ReadsConfig, config_of, first_type, info_of, interface_info, interface_part, is_hid, is_hid_interface, is_interrupt_in, report_length}
+use Rattle.usb_control.specs.Descriptors.{IsDescriptor, AreDescriptors, IsWalk, HasWalk, ReadsConfig, configuration_of, first_type, info_of, interface_info, interface_part, is_hid, is_hid_interface, is_interrupt_in, report_length}
 
 same_length : (d e xs ys : List ℕ) → IsDescriptor d → IsDescriptor e → d ++ xs ≡ e ++ ys → length d ≡ length e
 same_length [] e xs ys is_d is_e h = absurd is_d
@@ -108,13 +108,16 @@ first_type_is bytes ((x ∷ y ∷ body) ∷ ds) walk first = ap (λ (xs : List �
 
 -- what is read of descriptors whose first HID interface was found
 pub config_is : (ds : List (List ℕ)) (interface : List ℕ) → (first_type ds == 2) ≡ true → find is_hid_interface ds ≡ Some interface
-    → config_of ds ≡ info_of interface (option_and_then report_length (find is_hid (interface_part ds))) (find is_interrupt_in (interface_part ds))
+    → configuration_of ds
+    ≡ info_of interface (option_and_then report_length (find is_hid (interface_part ds)))
+    (find is_interrupt_in (interface_part ds))
 config_is ds interface type found =
     rw type (ap (λ (o : Option (List ℕ)). interface_info o (interface_part ds)) found)
 
 -- descriptors of which something is read are what a host reads of their bytes
 pub reads_info : (bytes : List ℕ) (ds : List (List ℕ)) (interface : List ℕ) (len : Option ℕ) (endpoint : Option (List ℕ)) → IsWalk bytes ds
-    → 9 ≤ slice_index bytes 0 → config_of ds ≡ info_of interface len endpoint → ReadsConfig bytes (info_of interface len endpoint)
+    → 9 ≤ slice_index bytes 0 → configuration_of ds ≡ info_of interface len endpoint
+    → ReadsConfig bytes (info_of interface len endpoint)
 reads_info bytes ds interface None endpoint walk first is = (ds, walk, first, sym is)
 reads_info bytes ds interface (Some n) None walk first is = (ds, walk, first, sym is)
 reads_info bytes ds interface (Some n) (Some e) walk first is = (ds, walk, first, sym is)

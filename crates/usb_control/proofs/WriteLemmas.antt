@@ -17,8 +17,8 @@ use Rattle.usb_control.specs.Pieces.{piece_from}
 use Rattle.usb_control.specs.Device.{DevControlState, Answers, effect_of_out, effect_of_data}
 use Rattle.usb_control.specs.Host.{HostTransferState, with_stage, after_write_piece}
 use Rattle.usb_control.specs.Transaction.{TransactsAt}
-use Rattle.usb_control.specs.Transfer.{Accepted, Position, Piece, Status, eights, next_position}
-use Rattle.usb_control.specs.Positions.{piece_toggle, host_stage, write_stage, DeviceStands, Near, BothStand, Stands}
+use Rattle.usb_control.specs.Transfer.{Accepted, Position, Piece, Status, piece_count, next_position}
+use Rattle.usb_control.specs.Positions.{piece_toggle, host_stage, write_stage, DeviceIsAt, AreWithinAPiece, BothAreAt, TransferIsAt}
 use Rattle.usb_control.proofs.PieceLemmas.{take-next, length-piece, full_pieces, goes_on, is_last}
 use Rattle.usb_control.proofs.StepLemmas.{at, has_stands, stands_has, next_after, shaped}
 use Rattle.usb_control.proofs.PlaceLemmas.{out_place, out_shown}
@@ -32,12 +32,12 @@ other-piece_toggle true = refl
 other-piece_toggle false = refl
 
 -- a piece of a write that another one follows, and the last one
-more_piece : (sends : List ℕ) (k : ℕ) → suc k < eights (length sends) → (length (piece_from sends (8 * k)) ≡ 8) × (length (take (8 * k) sends) ≡ 8 * k) × (8 * k + 8 < length sends)
+more_piece : (sends : List ℕ) (k : ℕ) → suc k < piece_count (length sends) → (length (piece_from sends (8 * k)) ≡ 8) × (length (take (8 * k) sends) ≡ 8 * k) × (8 * k + 8 < length sends)
 more_piece sends k more =
     let h = goes_on (length sends) (length sends) k (omega arith) (rw (full_pieces (length sends)) more) in
     (rw (length-piece sends (8 * k)) (omega (arith, h)), rw (length-take (8 * k) sends) (omega (arith, h)), h.1)
 
-last_piece : (sends : List ℕ) (k : ℕ) → k < eights (length sends) → ¬ (suc k < eights (length sends)) → (length (piece_from sends (8 * k)) ≤ 8) × (length (take (8 * k) sends) ≡ 8 * k) × (8 * k + length (piece_from sends (8 * k)) ≡ length sends) × (suc k ≡ eights (length sends)) × (take (8 * suc k) sends ≡ sends)
+last_piece : (sends : List ℕ) (k : ℕ) → k < piece_count (length sends) → ¬ (suc k < piece_count (length sends)) → (length (piece_from sends (8 * k)) ≤ 8) × (length (take (8 * k) sends) ≡ 8 * k) × (8 * k + length (piece_from sends (8 * k)) ≡ length sends) × (suc k ≡ piece_count (length sends)) × (take (8 * suc k) sends ≡ sends)
 last_piece sends k here last =
     let h = is_last (length sends) (length sends) k (omega arith) (rw (full_pieces (length sends)) here) (rw (full_pieces (length sends)) last) in
     let len = length-piece sends (8 * k) in
@@ -55,12 +55,12 @@ data_taken len one bytes payload joined more short fits more_is joined_is =
     rw (is_within (length payload) 8 short, is_within (length bytes + length payload) len fits, more_is, joined_is) refl
 
 -- the device takes the piece that it waits for
-piece_given : (sends : List ℕ) (k : ℕ) (more : Bool) → nat_lt (suc k) (eights (length sends)) ≡ more
-    → k < eights (length sends)
+piece_given : (sends : List ℕ) (k : ℕ) (more : Bool) → nat_lt (suc k) (piece_count (length sends)) ≡ more
+    → k < piece_count (length sends)
     → effect_of_out (stages.WriteData (length sends) (piece_toggle k) (record { items = take (8 * k) sends }) true)
     (piece_toggle k) (piece_from sends (8 * k))
     ≡ Answers (Some packets.Ack)
-    (write_stage (length sends) sends (eights (length sends)) false
+    (write_stage (length sends) sends (piece_count (length sends)) false
     (if more then Piece (suc k) else Status)) last_packets.Nothing
 piece_given sends k true e here =
     let h = more_piece sends k (ltb-true _ _ e) in
@@ -76,13 +76,13 @@ piece_given sends k false e here =
     (omega (arith, all)) (rw all (grind (arith, nat_tests))) (take-next sends k ∙ h.4))
 
 -- the device throws away the piece that it has
-piece_repeated : (sends payload : List ℕ) (k : ℕ) (more : Bool) → nat_lt (suc k) (eights (length sends)) ≡ more
-    → k < eights (length sends)
+piece_repeated : (sends payload : List ℕ) (k : ℕ) (more : Bool) → nat_lt (suc k) (piece_count (length sends)) ≡ more
+    → k < piece_count (length sends)
     → effect_of_out
-    (write_stage (length sends) sends (eights (length sends)) false (if more then Piece (suc k) else Status))
+    (write_stage (length sends) sends (piece_count (length sends)) false (if more then Piece (suc k) else Status))
     (piece_toggle k) payload
     ≡ Answers (Some packets.Ack)
-    (write_stage (length sends) sends (eights (length sends)) false
+    (write_stage (length sends) sends (piece_count (length sends)) false
     (if more then Piece (suc k) else Status)) last_packets.Nothing
 piece_repeated sends payload k true e here = rw (other-piece_toggle (piece_toggle k)) refl
 piece_repeated sends payload k false e here =
@@ -90,8 +90,8 @@ piece_repeated sends payload k false e here =
     rw (ap piece_toggle (sym h.3), other-piece_toggle (piece_toggle k)) refl
 
 -- the host goes on after the ACK
-piece_sent : (sends : List ℕ) (k : ℕ) (more : Bool) → nat_lt (suc k) (eights (length sends)) ≡ more
-    → k < eights (length sends)
+piece_sent : (sends : List ℕ) (k : ℕ) (more : Bool) → nat_lt (suc k) (piece_count (length sends)) ≡ more
+    → k < piece_count (length sends)
     → after_write_piece (8 * k + length (piece_from sends (8 * k))) (length sends) (piece_toggle k)
     ≡ host_stage (shaped false (length sends)) (if more then Piece (suc k) else Status)
 piece_sent sends k true e here =
@@ -104,7 +104,9 @@ piece_sent sends k false e here =
     let test : (length sends == length sends) ≡ true = grind (arith, nat_tests) in
     rw (h.2, test) refl
 
-next_near : (sends : List ℕ) (x : Option (List ℕ)) (k : ℕ) (more : Bool) → nat_lt (suc k) (eights (length sends)) ≡ more → let n = if more then Piece (suc k) else Status in Near (shaped false (length sends)) (Accepted x) false n n
+next_near : (sends : List ℕ) (x : Option (List ℕ)) (k : ℕ) (more : Bool)
+    → nat_lt (suc k) (piece_count (length sends)) ≡ more → let n =
+    if more then Piece (suc k) else Status in AreWithinAPiece (shaped false (length sends)) (Accepted x) false n n
 next_near sends x k true e = (ltb-true _ _ e, refl, inl refl)
 next_near sends x k false e = refl
 
@@ -113,20 +115,20 @@ piece_tried : {R : Type 0} (prepare_gives : PrepareGives R) (apply_gives : Apply
     (sends : List ℕ) (fate : Fate) (k : ℕ) (d : Position) (x : Option (List ℕ)) (t : ℕ) (host : HostTransferState)
     (old : DevControlState R) (after : HostTransferState) (new : DevControlState R) (device_stage : Stage)
     → let shape = shaped false (length sends) in let n =
-    next_position (eights (length sends)) (Piece k) in k < eights (length sends)
+    next_position (piece_count (length sends)) (Piece k) in k < piece_count (length sends)
     → effect_of_out device_stage (piece_toggle k) (piece_from sends (8 * k))
-    ≡ Answers (Some packets.Ack) (write_stage (length sends) sends (eights (length sends)) false n) last_packets.Nothing
-    → BothStand answer_of shape sends (at (Piece k) d (Accepted x) false t) host old
+    ≡ Answers (Some packets.Ack) (write_stage (length sends) sends (piece_count (length sends)) false n) last_packets.Nothing
+    → BothAreAt answer_of shape sends (at (Piece k) d (Accepted x) false t) host old
     → TransactsAt prepare_gives apply_gives answer_of fate
     (tries.DataOut (8 * k) (piece_toggle k)) device_stage sends host old after new
     → (new.requests ≡ old.requests)
-    × Stands answer_of shape sends (out_place fate (Piece k) d n (Accepted x) false t) after new
+    × TransferIsAt answer_of shape sends (out_place fate (Piece k) d n (Accepted x) false t) after new
 piece_tried prepare_gives apply_gives answer_of sends fate k d x t host old after new device_stage here effect u tr =
     let shape = shaped false (length sends) in
-    let n = next_position (eights (length sends)) (Piece k) in
+    let n = next_position (piece_count (length sends)) (Piece k) in
     out_shown prepare_gives apply_gives answer_of shape sends fate (Piece k) d n (Accepted x) false t host
     (tries.DataOut (8 * k) (piece_toggle k)) (host_stage shape n) device_stage
-    (write_stage (length sends) sends (eights (length sends)) false n) sends old after new tt refl
+    (write_stage (length sends) sends (piece_count (length sends)) false n) sends old after new tt refl
     (ap (λ (s : HostStage). with_stage s host)
     (ap (λ (b : List ℕ). after_write_piece (8 * k + length (piece_from b (8 * k))) (length b)
     (piece_toggle k)) u.sender.bytes ∙ piece_sent sends k _ refl here))
@@ -150,27 +152,29 @@ pub write_shown : {R : Type 0} (prepare_gives : PrepareGives R) (apply_gives : A
     (sends : List ℕ) (fate : Fate) (k : ℕ) (d : Position) (x : Option (List ℕ)) (t : ℕ) (host : HostTransferState)
     (old : DevControlState R) (after : HostTransferState) (new : DevControlState R) → let shape =
     shaped false (length sends) in let n =
-    next_position (eights (length sends)) (Piece k) in
-    BothStand answer_of shape sends (at (Piece k) d (Accepted x) false t) host old
+    next_position (piece_count (length sends)) (Piece k) in
+    BothAreAt answer_of shape sends (at (Piece k) d (Accepted x) false t) host old
     → TransactsAt prepare_gives apply_gives answer_of fate
     (tries.DataOut (8 * k) (piece_toggle k)) old.stage sends host old after new
     → (new.requests ≡ old.requests)
-    × Stands answer_of shape sends (out_place fate (Piece k) d n (Accepted x) false t) after new
+    × TransferIsAt answer_of shape sends (out_place fate (Piece k) d n (Accepted x) false t) after new
 write_shown prepare_gives apply_gives answer_of sends fate k d x t host old after new u tr =
     let shape = shaped false (length sends) in
-    let n = next_position (eights (length sends)) (Piece k) in
+    let n = next_position (piece_count (length sends)) (Piece k) in
     elim u.near.2 [
       | inl level ↦
-          let stands = subst (λ (p : Position). DeviceStands answer_of shape sends (Accepted x) false p old) level u.device in
+          let stands =
+          subst (λ (p : Position). DeviceIsAt answer_of shape sends (Accepted x) false p old) level u.device in
           piece_tried prepare_gives apply_gives answer_of sends fate k d x t host old after new
           (stages.WriteData (length sends) (piece_toggle k) (record { items = take (8 * k) sends }) true) u.near.0
           (piece_given sends k _ refl u.near.0) u
           (subst (λ (s : Stage). TransactsAt prepare_gives apply_gives answer_of fate
           (tries.DataOut (8 * k) (piece_toggle k)) s sends host old after new) stands.0 tr)
       | inr ahead ↦
-          let stands = subst (λ (p : Position). DeviceStands answer_of shape sends (Accepted x) false p old) ahead u.device in
-          let has = stands_has answer_of shape sends (Accepted x) false n old (next_after (eights (length sends)) k) stands in
-          piece_tried prepare_gives apply_gives answer_of sends fate k d x t host old after new (write_stage (length sends) sends (eights (length sends)) false n) u.near.0 (piece_repeated sends _ k _ refl u.near.0) u
+          let stands =
+          subst (λ (p : Position). DeviceIsAt answer_of shape sends (Accepted x) false p old) ahead u.device in
+          let has = stands_has answer_of shape sends (Accepted x) false n old (next_after (piece_count (length sends)) k) stands in
+          piece_tried prepare_gives apply_gives answer_of sends fate k d x t host old after new (write_stage (length sends) sends (piece_count (length sends)) false n) u.near.0 (piece_repeated sends _ k _ refl u.near.0) u
           (subst (λ (s : Stage). TransactsAt prepare_gives apply_gives answer_of fate
           (tries.DataOut (8 * k) (piece_toggle k)) s sends host old after new) has.0 tr)
     ]

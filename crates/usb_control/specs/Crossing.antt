@@ -30,10 +30,10 @@ HearsData prepare_gives apply_gives answer_of arrivals (Some sent) old before ne
     × Receives prepare_gives apply_gives answer_of came old new answer
 
 -- the device receives what the host sends first, a token with its data, and answers
-abbrev pub Reaches :
+abbrev pub PacketReaches :
     {R : Type 0} → PrepareGives R → ApplyGives R → AnswerOf R → Arrivals → Packet → Option Packet
     → DevControlState R → DevControlState R → Option Packet → Type 0
-Reaches {R} prepare_gives apply_gives answer_of arrivals token payload old new answer =
+PacketReaches {R} prepare_gives apply_gives answer_of arrivals token payload old new answer =
     (came : Option Packet) × (mid : DevControlState R) × (before : Option Packet)
     × Carries arrivals Token token came
     × Receives prepare_gives apply_gives answer_of came old mid before
@@ -62,7 +62,7 @@ pub record Crosses {R : Type 0} (prepare_gives : PrepareGives R) (apply_gives : 
   pub answer : Option Packet
   pub reply : Option Packet
   pub reached :
-      Reaches prepare_gives apply_gives answer_of arrivals (token_of host) (payload_of host) old mid
+      PacketReaches prepare_gives apply_gives answer_of arrivals (token_of host) (payload_of host) old mid
       answer
   pub replied : Replies arrivals (phase_of (asks_at host.stage)) answer reply
   pub took_reply : host_then ≡ transfer_after_reply reply host

@@ -35,12 +35,12 @@ abbrev pub HasWalk : List ℕ → Type 0
 HasWalk bytes = (descriptors : List (List ℕ)) × IsWalk bytes descriptors
 
 -- the type of a descriptor is its second byte (9.5)
-abbrev pub type_of : List ℕ → ℕ
-type_of descriptor = slice_index descriptor 1
+abbrev pub descriptor_type : List ℕ → ℕ
+descriptor_type descriptor = slice_index descriptor 1
 
 -- an interface (table 9-5)
 abbrev pub is_interface : List ℕ → Bool
-is_interface descriptor = type_of descriptor == 4
+is_interface descriptor = descriptor_type descriptor == 4
 
 -- a whole interface of the class of human interface devices (table 9-12; HID 1.11, 4.1)
 abbrev pub is_hid_interface : List ℕ → Bool
@@ -49,13 +49,13 @@ is_hid_interface descriptor =
 
 -- a HID descriptor, with one entry at least (HID 1.11, 6.2.1 and 7.1)
 abbrev pub is_hid : List ℕ → Bool
-is_hid descriptor = nat_le 9 (length descriptor) && (type_of descriptor == 0x21)
+is_hid descriptor = nat_le 9 (length descriptor) && (descriptor_type descriptor == 0x21)
 
 -- a whole endpoint descriptor: bit 7 of the address is the direction, and 3 in the low two bits of the attributes is
 -- interrupt (table 9-13)
 abbrev pub is_interrupt_in : List ℕ → Bool
 is_interrupt_in descriptor =
-    (nat_le 7 (length descriptor) && (type_of descriptor == 5))
+    (nat_le 7 (length descriptor) && (descriptor_type descriptor == 5))
     && (nat_le 128 (slice_index descriptor 2) && (slice_index descriptor 3 % 4 == 3))
 
 -- entries of three bytes, a type and a word: the word of the first report descriptor (HID 1.11, 6.2.1 and 7.1)
@@ -93,13 +93,13 @@ interface_info (Some interface) part =
 -- the first byte after a length is the type of the whole
 abbrev pub first_type : List (List ℕ) → ℕ
 first_type [] = 0
-first_type (descriptor ∷ rest) = type_of descriptor
+first_type (descriptor ∷ rest) = descriptor_type descriptor
 
 -- what a host reads of the descriptors of a configuration, which has type 2 (table 9-5): of the first interface of class
 -- 03, up to the next interface, the length in the first entry of type 22 of its first HID descriptor, and its first
 -- interrupt-IN endpoint. Example: of a boot keyboard 63 bytes, endpoint 1, subclass 1 and protocol 1
-abbrev pub config_of : List (List ℕ) → Result ConfigInfo InfoFault
-config_of descriptors =
+abbrev pub configuration_of : List (List ℕ) → Result ConfigInfo InfoFault
+configuration_of descriptors =
     if first_type descriptors == 2
     then interface_info (find is_hid_interface descriptors) (interface_part descriptors)
     else Err WrongType
@@ -110,4 +110,4 @@ abbrev pub ReadsConfig : List ℕ → Result ConfigInfo InfoFault → Type 0
 ReadsConfig bytes (Err TooShort) = ¬ (HasWalk bytes × (9 ≤ slice_index bytes 0))
 ReadsConfig bytes result =
     (descriptors : List (List ℕ)) × IsWalk bytes descriptors × (9 ≤ slice_index bytes 0)
-    × (result ≡ config_of descriptors)
+    × (result ≡ configuration_of descriptors)

@@ -92,11 +92,12 @@ abbrev pub after_setup : Bool → ℕ → HostStage
 after_setup is_read len =
     if len == 0 then StatusIn else if is_read then DataIn true else DataOut 0 true
 
--- what follows a piece of a write, where n bytes were sent of m
+-- what follows a piece of a write, once `sent` of its `len` bytes are acknowledged
 abbrev pub after_write_piece : ℕ → ℕ → Bool → HostStage
 after_write_piece sent len one = if sent == len then StatusIn else DataOut sent (not one)
 
--- what follows a piece of a read of n bytes, by how many bytes came before, and how many in the piece
+-- what follows a piece of `count` bytes, after `got` bytes of a read of `len`: more data if the piece was full and bytes are
+-- missing, else the status
 abbrev pub after_read_piece : ℕ → ℕ → ℕ → Bool → HostStage
 after_read_piece got count len one =
     if (count == 8) && nat_lt (got + count) len then DataIn (not one) else StatusOut
@@ -112,8 +113,8 @@ with_payload one payload host =
     }
     else with_failure Overrun host
 
--- the transfer after data in the status stage: DATA0 is a repeat, DATA1 without a byte the status, and DATA1 with a
--- byte too much
+-- the transfer after data in the status stage: DATA0 is a repeat; DATA1 without a byte is the status; DATA1 with
+-- any byte is C3
 abbrev pub status_in : Bool → List ℕ → HostTransferState → HostTransferState
 status_in false payload host = with_stage StatusIn host
 status_in true [] host = with_stage Done host
@@ -179,7 +180,7 @@ abbrev pub acknowledges : Option Packet → HostTransferState → Bool
 acknowledges packet host = acknowledges_at host.stage packet (transfer_after_reply packet host).stage
 
 -- an outcome shows where the transfer stands, and the bytes of a read
-abbrev pub Shows : Outcome → HostStage → List ℕ → Type 0
-Shows outcomes.Running stage bytes = IsRunning stage
-Shows (outcomes.Done got) stage bytes = (stage ≡ Done) × (got.now ≡ bytes)
-Shows (outcomes.Failed fault) stage bytes = stage ≡ Failed fault
+abbrev pub IsOutcomeOf : Outcome → HostStage → List ℕ → Type 0
+IsOutcomeOf outcomes.Running stage bytes = IsRunning stage
+IsOutcomeOf (outcomes.Done got) stage bytes = (stage ≡ Done) × (got.now ≡ bytes)
+IsOutcomeOf (outcomes.Failed fault) stage bytes = stage ≡ Failed fault

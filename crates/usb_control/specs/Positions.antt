@@ -10,7 +10,7 @@ use Rattle.usb_control.specs.declared.host.HostStage.TheVariants as tries
 use Rattle.usb_control.specs.Requests.{PrepareGives, ApplyGives, AnswerOf}
 use Rattle.usb_control.specs.Device.{DevControlState}
 use Rattle.usb_control.specs.Host.{HostTransferState}
-use Rattle.usb_control.specs.Transfer.{Shape, shape_of, Decision, Refused, Accepted, Position, Setup, Piece, Status, Past, Place, answered_bytes, comes_from_device, data_pieces, first_position, next_position, Tries}
+use Rattle.usb_control.specs.Transfer.{Shape, transfer_shape, Decision, Refused, Accepted, Position, Setup, Piece, Status, Past, Place, answered_bytes, comes_from_device, data_pieces, first_position, next_position, Tries}
 
 -- whether a data piece goes out as DATA1: the first one does
 abbrev pub piece_toggle : ℕ → Bool
@@ -64,86 +64,88 @@ accepted_stage shape bytes count applied position =
     else write_stage shape.length bytes count applied position
 
 -- the device stands at its position, once it has the SETUP
-abbrev pub DeviceHas :
+abbrev pub DeviceIsAtAfterSetup :
     {R : Type 0} → AnswerOf R → Shape → List ℕ → Decision → Bool → Position → DevControlState R
     → Type 0
-DeviceHas answer_of shape bytes Refused applied position control = control.stage ≡ stages.Idle
-DeviceHas answer_of shape bytes (Accepted answer) applied position control =
+DeviceIsAtAfterSetup answer_of shape bytes Refused applied position control = control.stage ≡ stages.Idle
+DeviceIsAtAfterSetup answer_of shape bytes (Accepted answer) applied position control =
     (control.stage
     ≡ accepted_stage shape bytes (data_pieces shape (Accepted answer)) applied position)
     × (shape.reads ≡ true → answer_of control.requests ≡ answer)
 
 -- the device stands at its position: before it has the SETUP, anywhere
-abbrev pub DeviceStands :
+abbrev pub DeviceIsAt :
     {R : Type 0} → AnswerOf R → Shape → List ℕ → Decision → Bool → Position → DevControlState R
     → Type 0
-DeviceStands answer_of shape bytes decision applied Setup control = Unit {0}
-DeviceStands answer_of shape bytes decision applied position control =
-    DeviceHas answer_of shape bytes decision applied position control
+DeviceIsAt answer_of shape bytes decision applied Setup control = Unit {0}
+DeviceIsAt answer_of shape bytes decision applied position control =
+    DeviceIsAtAfterSetup answer_of shape bytes decision applied position control
 
 -- the device is at the piece before the k-th one
-abbrev pub IsBehind : ℕ → Position → Type 0
-IsBehind k device = (j : ℕ) × (suc j ≡ k) × (device ≡ Piece j)
+abbrev pub IsPieceBefore : ℕ → Position → Type 0
+IsPieceBefore k device = (j : ℕ) × (suc j ≡ k) × (device ≡ Piece j)
 
 -- the two ends near a piece: its receiver may have it before the sender knows
 abbrev pub NearPiece : Bool → ℕ → ℕ → Bool → Position → Type 0
-NearPiece true count k applied device = (k < count) × ((device ≡ Piece k) ⊎ IsBehind k device)
+NearPiece true count k applied device = (k < count) × ((device ≡ Piece k) ⊎ IsPieceBefore k device)
 NearPiece false count k applied device =
     (k < count) × (applied ≡ false) × ((device ≡ Piece k) ⊎ (device ≡ next_position count (Piece k)))
 
--- the two ends near the status: they are at one place where it comes, and else the device may be a piece after or ahead
+-- the two ends near the status: where the device sends it, both are at it; where the host sends it, the device may be
+-- past it, or at the last piece
 abbrev pub NearStatus : Bool → ℕ → Position → Type 0
 NearStatus true count device = device ≡ Status
-NearStatus false count device = (device ≡ Status) ⊎ (device ≡ Past) ⊎ IsBehind count device
+NearStatus false count device = (device ≡ Status) ⊎ (device ≡ Past) ⊎ IsPieceBefore count device
 
--- how far apart the two ends of a transfer may be
-abbrev pub Near : Shape → Decision → Bool → Position → Position → Type 0
-Near shape decision applied Setup device =
+-- the positions that the device may have at a position of the host: the same, or one piece before or after; after a refusal
+-- the first; any once the host has the status
+abbrev pub AreWithinAPiece : Shape → Decision → Bool → Position → Position → Type 0
+AreWithinAPiece shape decision applied Setup device =
     (device ≡ Setup) ⊎ (device ≡ first_position (data_pieces shape decision))
-Near shape Refused applied host device = device ≡ first_position (data_pieces shape Refused)
-Near shape (Accepted answer) applied (Piece k) device =
+AreWithinAPiece shape Refused applied host device = device ≡ first_position (data_pieces shape Refused)
+AreWithinAPiece shape (Accepted answer) applied (Piece k) device =
     NearPiece (shape.reads) (data_pieces shape (Accepted answer)) k applied device
-Near shape (Accepted answer) applied Status device =
+AreWithinAPiece shape (Accepted answer) applied Status device =
     NearStatus (comes_from_device shape Status) (data_pieces shape (Accepted answer)) device
-Near shape (Accepted answer) applied Past device = Unit {0}
+AreWithinAPiece shape (Accepted answer) applied Past device = Unit {0}
 
 -- the host stands at its position
-pub record HostStands (shape : Shape) (sends : List ℕ) (place : Place)
+pub record HostIsAt (shape : Shape) (sends : List ℕ) (place : Place)
     (host : HostTransferState) : Type 0 where
-  pub asked : shape_of host.setup ≡ shape
+  pub asked : transfer_shape host.setup ≡ shape
   pub stage : host.stage ≡ host_stage shape place.host
   pub bytes : host.bytes ≡ host_bytes shape sends place.decision place.host
   pub tries : host.tries ≡ place.tries
 
 -- both ends of a transfer that hasn't failed stand at their positions
-pub record BothStand {R : Type 0} (answer_of : AnswerOf R) (shape : Shape) (sends : List ℕ)
+pub record BothAreAt {R : Type 0} (answer_of : AnswerOf R) (shape : Shape) (sends : List ℕ)
     (place : Place) (host : HostTransferState) (control : DevControlState R) : Type 0 where
   pub whole : shape.reads ≡ false → length sends ≡ shape.length
-  pub sender : HostStands shape sends place host
-  pub near : Near shape place.decision place.applied place.host place.device
-  pub device : DeviceStands answer_of shape sends place.decision place.applied place.device control
+  pub sender : HostIsAt shape sends place host
+  pub near : AreWithinAPiece shape place.decision place.applied place.host place.device
+  pub device : DeviceIsAt answer_of shape sends place.decision place.applied place.device control
 
 -- both ends stand at a place with or without a fault: a transfer that failed is at its host alone
-abbrev pub StandsWith :
+abbrev pub TransferIsAtWithFault :
     {R : Type 0} → AnswerOf R → Shape → List ℕ → Place → Option ControlFault → HostTransferState
     → DevControlState R → Type 0
-StandsWith answer_of shape sends place None host control =
-    BothStand answer_of shape sends place host control
-StandsWith answer_of shape sends place (Some fault) host control = host.stage ≡ tries.Failed fault
+TransferIsAtWithFault answer_of shape sends place None host control =
+    BothAreAt answer_of shape sends place host control
+TransferIsAtWithFault answer_of shape sends place (Some fault) host control = host.stage ≡ tries.Failed fault
 
 -- a transfer of this shape, which sends these bytes if it is a write, and the device's endpoint 0 stand at the
 -- place
-abbrev pub Stands :
+abbrev pub TransferIsAt :
     {R : Type 0} → AnswerOf R → Shape → List ℕ → Place → HostTransferState → DevControlState R
     → Type 0
-Stands answer_of shape sends place host control =
-    StandsWith answer_of shape sends place place.fault host control
+TransferIsAt answer_of shape sends place host control =
+    TransferIsAtWithFault answer_of shape sends place place.fault host control
 
 -- a try with this fate leads from a place to one at which both ends then stand
-abbrev pub GoesOn :
+abbrev pub TryLeadsOn :
     {R : Type 0} → PrepareGives R → ApplyGives R → AnswerOf R → Request → List ℕ → Fate → Place → R
     → HostTransferState → DevControlState R → Type 0
-GoesOn prepare_gives apply_gives answer_of request sends fate place before host control =
+TryLeadsOn prepare_gives apply_gives answer_of request sends fate place before host control =
     (after : Place)
     × Tries prepare_gives apply_gives answer_of request sends fate place before after control.requests
-    × Stands answer_of (shape_of request) sends after host control
+    × TransferIsAt answer_of (transfer_shape request) sends after host control

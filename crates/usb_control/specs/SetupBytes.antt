@@ -14,7 +14,7 @@ setup_bytes s =
 abbrev pub word_at : List ℕ → ℕ → ℕ
 word_at bytes i = slice_index bytes i + 256 * slice_index bytes (i + 1)
 
--- the request that eight bytes spell
+-- the request that eight bytes encode
 abbrev pub setup_of : List ℕ → Setup
 setup_of bytes =
     record {
@@ -29,6 +29,6 @@ setup_of bytes =
 abbrev pub reads : Setup → Bool
 reads s = nat_le 128 s.request_type
 
--- a request is spelled by its bytes: its fields fit their bytes
-abbrev pub IsSpelled : Setup → Type 0
-IsSpelled s = setup_of (setup_bytes s) ≡ s
+-- a request is encoded by its bytes: its fields fit their bytes
+abbrev pub IsEncoded : Setup → Type 0
+IsEncoded s = setup_of (setup_bytes s) ≡ s

@@ -40,9 +40,9 @@ AckComes prepare_gives apply_gives answer_of true old new =
 AckComes prepare_gives apply_gives answer_of false old new = new ≡ old
 
 -- nothing is lost
-abbrev pub is_clean : Fate → Bool
-is_clean Clean = true
-is_clean _ = false
+abbrev pub loses_nothing : Fate → Bool
+loses_nothing Clean = true
+loses_nothing _ = false
 
 -- a transaction whose first packets arrive, where the host and the device are at these stages
 abbrev pub Arrives :
@@ -55,7 +55,7 @@ Arrives {R} prepare_gives apply_gives answer_of fate stage device bytes host old
     answer
     × (after ≡ transfer_after_reply_at stage (reply_after_fate fate (asks_at stage) answer) host)
     × AckComes prepare_gives apply_gives answer_of
-    (is_clean fate && acknowledges_at stage (reply_after_fate fate (asks_at stage) answer) after.stage)
+    (loses_nothing fate && acknowledges_at stage (reply_after_fate fate (asks_at stage) answer) after.stage)
     mid new
 
 -- a transaction of which the fate may lose the first packets, where host and device are at these stages

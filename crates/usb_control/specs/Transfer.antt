@@ -15,8 +15,8 @@ pub record Shape : Type 0 where
   pub length : ℕ
 
 -- the shape of a request
-abbrev pub shape_of : Request → Shape
-shape_of request = record { reads = reads request; length = request.length }
+abbrev pub transfer_shape : Request → Shape
+transfer_shape request = record { reads = reads request; length = request.length }
 
 -- what the device decided, with the answer that it fixed
 pub data Decision : Type 0 where
@@ -42,20 +42,20 @@ answered_bytes shape Refused = []
 answered_bytes shape (Accepted answer) = take shape.length (unwrap_or answer [])
 
 -- how many pieces of eight bytes n bytes are
-abbrev pub eights : ℕ → ℕ
-eights n = (n + 7) / 8
+abbrev pub piece_count : ℕ → ℕ
+piece_count n = (n + 7) / 8
 
 -- how many pieces the data of a read are: one empty piece more, where it is shorter than what was asked for
 -- and a multiple of eight
 abbrev pub read_pieces : ℕ → ℕ → ℕ
-read_pieces asked n = if nat_lt n asked then n / 8 + 1 else eights n
+read_pieces asked n = if nat_lt n asked then n / 8 + 1 else piece_count n
 
 -- how many data pieces a transfer has
 abbrev pub data_pieces : Shape → Decision → ℕ
 data_pieces shape decision =
     if shape.reads
     then read_pieces shape.length (length (answered_bytes shape decision))
-    else eights shape.length
+    else piece_count shape.length
 
 -- the first position after SETUP, and that after a data piece, where there are n
 abbrev pub first_position : ℕ → Position
@@ -84,14 +84,19 @@ is_same Status Status = true
 is_same Past Past = true
 is_same _ _ = false
 
--- How far the host and the device have come, what the device decided at the last SETUP that arrived, whether a write
--- took effect since, how many tries in a row had no answer, and why the transfer failed.
+-- The place of a transfer: how far its two ends have come, and what happened on the way.
 pub record Place : Type 0 where
+  -- the position of the host
   pub host : Position
+  -- the position of the device
   pub device : Position
+  -- what the device decided at the last SETUP that arrived
   pub decision : Decision
+  -- whether a write took effect since then
   pub applied : Bool
+  -- the number of tries in a row that had no answer
   pub tries : ℕ
+  -- why the transfer failed, if it did
   pub fault : Option ControlFault
 
 -- the place of a transfer before its first try
@@ -231,5 +236,5 @@ abbrev pub Tries :
 Tries prepare_gives apply_gives answer_of request sends fate place old after new =
     (decision : Decision)
     × Acts prepare_gives apply_gives answer_of request sends
-    (act_of (shape_of request) fate decision place) old new
-    × (after ≡ place_after_try (shape_of request) fate decision place)
+    (act_of (transfer_shape request) fate decision place) old new
+    × (after ≡ place_after_try (transfer_shape request) fate decision place)

@@ -12,7 +12,7 @@ use Rattle.usb_control.specs.Requests.{PrepareGives, ApplyGives, AnswerOf}
 use Rattle.usb_control.specs.Packets.{data_packet}
 use Rattle.usb_control.specs.Device.{DevControlState, Effect, Answers, Decides, Applies, stage_after_decision, effect_of_ack}
 use Rattle.usb_control.specs.Host.{HostTransferState, asks_at, transfer_after_reply_at, acknowledges_at}
-use Rattle.usb_control.specs.Transaction.{effect_of_stage, reply_after_fate, is_clean}
+use Rattle.usb_control.specs.Transaction.{effect_of_stage, reply_after_fate, loses_nothing}
 
 -- what answers requests by functions: the answer that is fixed, whether a request is accepted, what deciding on it
 -- leaves, and what a write of these bytes leaves
@@ -69,7 +69,7 @@ host_after_answer fate host effect = transfer_after_reply_at host.stage (reply_r
 -- whether the host's ACK arrives
 abbrev pub is_acknowledged : Fate → HostTransferState → Effect → Bool
 is_acknowledged fate host effect =
-    is_clean fate
+    loses_nothing fate
     && acknowledges_at host.stage (reply_received fate host effect)
     (host_after_answer fate host effect).stage
 

@@ -1,10 +1,10 @@
 //! The descriptors that a host reads (USB 2.0, 9.5 and 9.6; HID 1.11, 6.2.1).
 ghost use Rattle.std.specs.Prelude.{◌≡◌, ◌<◌, ◌≤◌, Ok, Err, IfOk, true, List, ℕ, length, slice_index, find, option_and_then};
 ghost use Rattle.std.specs.List.{before_first};
-ghost use Rattle.usb_control.specs.Descriptors.{HasWalk, IsDevice, IsWalk, ReadsConfig, config_of, device_info_of, info_of, is_hid, is_hid_interface, is_interface, is_interrupt_in, report_length};
+ghost use Rattle.usb_control.specs.Descriptors.{HasWalk, IsDevice, IsWalk, ReadsConfig, configuration_of, device_info_of, info_of, is_hid, is_hid_interface, is_interface, is_interrupt_in, report_length};
 
+use crate::descriptor_list::{Wanted, first, is_walk};
 use crate::fault::InfoFault;
-use crate::walk::{Wanted, first, is_walk};
 use usb_packet::MAX_ENDPOINT;
 
 /// In bytes, a device descriptor (USB 2.0, table 9-8).
@@ -84,7 +84,7 @@ impl ConfigInfo {
     pub fn read(bytes: &[u8]) -> Result<ConfigInfo, InfoFault>
         // What the descriptors say, and the refusals but the first.
         ensures value { (descriptors : List (List ℕ)) → IsWalk bytes.now descriptors → 9 ≤ slice_index bytes.now 0
-            → result ≡ config_of descriptors }
+            → result ≡ configuration_of descriptors }
 
         // The first refusal.
         ensures short { ¬ (HasWalk bytes.now × (9 ≤ slice_index bytes.now 0))
@@ -110,7 +110,7 @@ impl ConfigInfo {
     }
 }
 
-// What stands before the next interface, of the bytes after one.
+/// What stands before the next interface, of the bytes after one.
 fn stretch(behind: &[u8]) -> &[u8]
     ensures { (descriptors : List (List ℕ)) → IsWalk behind.now descriptors
         → IsWalk result.now (before_first is_interface descriptors) }
@@ -121,7 +121,7 @@ fn stretch(behind: &[u8]) -> &[u8]
     }
 }
 
-// What is read of an interface of class 03 and the descriptors that belong to it.
+/// What is read of an interface of class 03 and the descriptors that belong to it.
 fn config_info(interface: &[u8], stretch: &[u8]) -> Result<ConfigInfo, InfoFault>
     requires { is_hid_interface interface.now ≡ true }
     ensures info { (descriptors : List (List ℕ)) → IsWalk stretch.now descriptors
@@ -146,8 +146,8 @@ fn config_info(interface: &[u8], stretch: &[u8]) -> Result<ConfigInfo, InfoFault
     })
 }
 
-// The length that a HID descriptor gives its report descriptor: of the entries of three bytes from byte 6 on, a type
-// and a word, the first of type 22.
+/// The length that a HID descriptor gives its report descriptor: of the entries of three bytes from byte 6 on, a type
+/// and a word, the first of type 22.
 fn report_length(hid: &[u8]) -> Option<u16>
     ensures { result ≡ report_length hid.now }
 {

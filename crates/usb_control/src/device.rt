@@ -1,6 +1,6 @@
 //! The device's end of endpoint 0 (USB 2.0, 8.5.3).
 ghost use Rattle.std.specs.Prelude.{◌≡◌, ◌≤◌, ◌+◌, None, Some, Option, ℕ, Bool, true, false, length, IfSome};
-ghost use Rattle.usb_packet.specs.Spelling.{Fits};
+ghost use Rattle.usb_packet.specs.PacketEncoding.{Fits};
 ghost use Rattle.usb_control.specs.SetupBytes.{reads};
 ghost use Rattle.usb_control.specs.Device.{Answers, Does, effect, effect_of_data_packet, effect_of_in, effect_of_out, read_piece, stage_after_ack, stage_after_decision, write_length};
 
@@ -56,7 +56,7 @@ pub enum Stage {
 }
 
 impl Stage {
-    // Takes data after an OUT token, and answers them.
+    /// Takes data after an OUT token, and answers them.
     fn give(&mut self, one: bool, payload: &[u8]) -> Packet
         requires { write_length self.old ≤ MAX_WRITE }
         ensures given { effect_of_out self.old one payload.now
@@ -163,7 +163,7 @@ impl<R: Requests> DevControl<R> {
         &mut self.requests
     }
 
-    // Decides on a request.
+    /// Decides on a request.
     #[inline(never)] // no other packet makes room for what a write will bring
     fn decide(&mut self, setup: &Setup)
         ensures decided { (said : Bool) × R.prepare_gives self.old.requests setup.now said self.new.requests
@@ -184,7 +184,7 @@ impl<R: Requests> DevControl<R> {
 
     // Each stage is made where it stands, in a function of its own: else all of them make room at each decision.
 
-    // Goes on with no request.
+    /// Goes on with no request.
     #[inline(never)]
     fn refuse(&mut self)
         ensures { self.new ≡ record self.old { stage = Stage.Idle } }
@@ -192,7 +192,7 @@ impl<R: Requests> DevControl<R> {
         self.stage = Stage::Idle;
     }
 
-    // Awaits the status of a read of no bytes.
+    /// Awaits the status of a read of no bytes.
     #[inline(never)]
     fn begin_status(&mut self)
         ensures { self.new ≡ record self.old { stage = Stage.StatusIn } }
@@ -200,7 +200,7 @@ impl<R: Requests> DevControl<R> {
         self.stage = Stage::StatusIn;
     }
 
-    // Sends the data of a read.
+    /// Sends the data of a read.
     #[inline(never)]
     fn begin_read(&mut self, length: usize)
         ensures { self.new ≡ record self.old { stage = Stage.ReadData length 0 true } }
@@ -212,7 +212,7 @@ impl<R: Requests> DevControl<R> {
         };
     }
 
-    // Awaits the data of a write.
+    /// Awaits the data of a write.
     #[inline(never)]
     fn begin_write(&mut self, length: usize)
         requires { length ≤ MAX_WRITE }
@@ -226,7 +226,7 @@ impl<R: Requests> DevControl<R> {
         };
     }
 
-    // The piece of a read that begins at a place.
+    /// The piece of a read that begins at a place.
     fn read_piece(&self, limit: usize, sent: usize) -> &[u8]
         ensures value { result.now ≡ read_piece (R.answer_of self.now.requests) limit sent }
         ensures short { length result.now ≤ MAX_PACKET }
@@ -236,7 +236,7 @@ impl<R: Requests> DevControl<R> {
         piece_from(cut_to_length(answer, limit), sent)
     }
 
-    // Answers an IN token. The first for the status of a write carries the write out.
+    /// Answers an IN token. The first for the status of a write carries the write out.
     fn answer_in(&mut self) -> Packet
         ensures { Does R.prepare_gives R.apply_gives
             (effect_of_in (R.answer_of self.old.requests) self.old.stage)
@@ -273,7 +273,7 @@ impl<R: Requests> DevControl<R> {
         }
     }
 
-    // Answers data after an OUT token.
+    /// Answers data after an OUT token.
     fn answer_out(&mut self, one: bool, payload: &[u8]) -> Packet
         ensures { Does R.prepare_gives R.apply_gives (effect_of_out self.old.stage one payload.now)
             self.old.requests self.new (Some result) }
@@ -282,7 +282,7 @@ impl<R: Requests> DevControl<R> {
         self.stage.give(one, payload)
     }
 
-    // Goes on after an ACK to data.
+    /// Goes on after an ACK to data.
     fn acknowledged(&mut self)
         ensures { self.new ≡ record self.old {
           stage = stage_after_ack (R.answer_of self.old.requests) self.old.stage;
@@ -306,7 +306,7 @@ impl<R: Requests> DevControl<R> {
         }
     }
 
-    // Hears a token, and answers IN.
+    /// Hears a token, and answers IN.
     fn receive_token(&mut self, kind: TokenKind) -> Option<Packet>
         ensures does { (addr endp : ℕ) → Does R.prepare_gives R.apply_gives
             (effect (R.answer_of self.old.requests) self.old.stage self.old.last_packet (Packet.Token kind addr endp))
@@ -326,7 +326,7 @@ impl<R: Requests> DevControl<R> {
         }
     }
 
-    // Receives data, by the packet before them.
+    /// Receives data, by the packet before them.
     fn receive_data(&mut self, last_packet: LastPacket, one: bool, payload: &[u8]) -> Option<Packet>
         requires { self.old.last_packet ≡ LastPacket.Nothing }
         ensures does { Does R.prepare_gives R.apply_gives
@@ -357,9 +357,9 @@ impl<R: Requests> DevControl<R> {
         self.last_packet = LastPacket::Nothing;
     }
 
-    /// Hears any packet, and gives the answer to it, if it has one (USB 2.0, 8.5.3).
+    /// Receives any packet, and gives the answer to it, if it has one (USB 2.0, 8.5.3).
     ///
-    /// | heard | answer |
+    /// | received | answer |
     /// |---|---|
     /// | a token but IN | none |
     /// | DATA0 with eight bytes, directly after SETUP | ACK, whatever is decided |

@@ -1,10 +1,10 @@
 //! The host's end of a control transfer (USB 2.0, 8.5.3).
 ghost use Rattle.std.specs.Prelude.{◌≡◌, ◌≤◌, ◌+◌, not, IfOk, IfErr, [], length, if◌then◌else◌};
 ghost use Rattle.std.specs.Option.{option_copied};
-ghost use Rattle.usb_packet.specs.Spelling.{Fits};
-ghost use Rattle.usb_control.specs.SetupBytes.{IsSpelled, reads};
+ghost use Rattle.usb_packet.specs.PacketEncoding.{Fits};
+ghost use Rattle.usb_control.specs.SetupBytes.{IsEncoded, reads};
 ghost use Rattle.usb_control.specs.Pieces.{piece_from};
-ghost use Rattle.usb_control.specs.Host.{IsRunning, Shows, acknowledges, acknowledges_at, after_write_piece, with_stage, at_start, asks_at, data_in, handshake, after_in_answer, is_overrun, with_payload, after_other_answer, payload_of, progress_of, sent_length, after_setup_answer, status_in, token_of, transfer_after_reply, after_no_answer};
+ghost use Rattle.usb_control.specs.Host.{IsRunning, IsOutcomeOf, acknowledges, acknowledges_at, after_write_piece, with_stage, at_start, asks_at, data_in, handshake, after_in_answer, is_overrun, with_payload, after_other_answer, payload_of, progress_of, sent_length, after_setup_answer, status_in, token_of, transfer_after_reply, after_no_answer};
 
 use crate::fault::ControlFault;
 use crate::pieces::{MAX_PACKET, piece_from};
@@ -93,7 +93,7 @@ impl Model for HostTransfer {
     ghost use Rattle.std.specs.Prelude.{◌≤◌};
     ghost use Rattle.std.specs.Vec.{vec_capacity};
     ghost use Rattle.usb_packet.specs.declared.packet.TheConstants.{MAX_ADDRESS};
-    ghost use Rattle.usb_control.specs.SetupBytes.{IsSpelled};
+    ghost use Rattle.usb_control.specs.SetupBytes.{IsEncoded};
     ghost use Rattle.usb_control.specs.Host.{HostTransferState};
 
     ghost Value = { HostTransferState };
@@ -106,7 +106,7 @@ impl Model for HostTransfer {
       tries = t.tries;
     } };
 
-    ghost invariant = { λ t. (t.addr ≤ MAX_ADDRESS) × (t.setup.length ≤ vec_capacity t.bytes) × IsSpelled t.setup };
+    ghost invariant = { λ t. (t.addr ≤ MAX_ADDRESS) × (t.setup.length ≤ vec_capacity t.bytes) × IsEncoded t.setup };
 }
 
 impl HostTransfer {
@@ -189,12 +189,12 @@ impl HostTransfer {
     /// Whether the next try asks the device for data: its token is IN.
     pub(crate) fn asks(&self) -> bool
         ensures asks { result ≡ asks_at self.now.stage }
-        ensures spelled { IsSpelled self.now.setup }
+        ensures encoded { IsEncoded self.now.setup }
     {
         matches!(self.stage, HostStage::DataIn { .. } | HostStage::StatusIn)
     }
 
-    // Goes on after an answer.
+    /// Goes on after an answer.
     fn advance_to(&mut self, stage: HostStage)
         ensures { self.new ≡ with_stage stage self.old }
     {
@@ -202,7 +202,7 @@ impl HostTransfer {
         self.tries = 0;
     }
 
-    // One try more without an answer: the third in a row is the last.
+    /// One try more without an answer: the third in a row is the last.
     fn count_silence(&mut self)
         ensures { self.new ≡ after_no_answer self.old }
     {
@@ -213,7 +213,7 @@ impl HostTransfer {
         }
     }
 
-    // Takes what takes the transfer no further.
+    /// Takes what takes the transfer no further.
     fn take_other_answer(&mut self, packet: Option<&Packet>)
         ensures { self.new ≡ after_other_answer (option_copied packet.entry) self.old }
     {
@@ -224,7 +224,7 @@ impl HostTransfer {
         }
     }
 
-    // Takes a handshake for data, after whose ACK this stage follows.
+    /// Takes a handshake for data, after whose ACK this stage follows.
     fn handshake(&mut self, packet: Option<&Packet>, next: HostStage)
         ensures { self.new ≡ handshake (option_copied packet.entry) next self.old }
     {
@@ -234,7 +234,7 @@ impl HostTransfer {
         }
     }
 
-    // Takes data of a read under the toggle that is expected: whether they aren't too much.
+    /// Takes data of a read under the toggle that is expected: whether they aren't too much.
     fn join(&mut self, one: bool, payload: &[u8]) -> bool
         ensures joined { self.new ≡ with_payload one payload.now self.old }
         ensures taken { result ≡ not (is_overrun self.new.stage) }
@@ -255,7 +255,7 @@ impl HostTransfer {
         true
     }
 
-    // Takes an answer to SETUP: only ACK is one.
+    /// Takes an answer to SETUP: only ACK is one.
     fn take_setup(&mut self, packet: Option<&Packet>)
         ensures { self.new ≡ after_setup_answer (option_copied packet.entry) self.old }
     {
@@ -273,7 +273,7 @@ impl HostTransfer {
         });
     }
 
-    // What follows the piece of a write that begins at a place, under this toggle.
+    /// What follows the piece of a write that begins at a place, under this toggle.
     fn after_piece(&self, sent: usize, one: bool) -> HostStage
         ensures { result ≡ after_write_piece (sent + length (piece_from self.now.bytes sent))
             (length self.now.bytes) one }
@@ -287,7 +287,7 @@ impl HostTransfer {
         }
     }
 
-    // Takes an answer to IN in the data stage, where this toggle is expected: whether ACK is sent.
+    /// Takes an answer to IN in the data stage, where this toggle is expected: whether ACK is sent.
     fn take_data(&mut self, packet: Option<&Packet>, expected: bool) -> bool
         requires { self.old.stage ≡ HostStage.DataIn expected }
         ensures taken { self.new
@@ -310,7 +310,7 @@ impl HostTransfer {
         }
     }
 
-    // Takes an answer to IN in the status stage: whether ACK is sent.
+    /// Takes an answer to IN in the status stage: whether ACK is sent.
     fn take_status(&mut self, packet: Option<&Packet>) -> bool
         requires { self.old.stage ≡ HostStage.StatusIn }
         ensures taken { self.new ≡ after_in_answer (option_copied packet.entry) status_in self.old }
@@ -392,7 +392,7 @@ impl HostTransfer {
 
     /// How far the transfer has come, with the bytes of a read that is done.
     pub fn outcome(&self) -> Outcome<'_>
-        ensures { Shows result self.now.stage
+        ensures { IsOutcomeOf result self.now.stage
             (if reads self.now.setup then self.now.bytes else []) }
     {
         match self.stage {

@@ -8,16 +8,16 @@ ghost use Rattle.usb_control.specs.declared.fault.ControlFault.{ControlFault};
 ghost use Rattle.usb_control.specs.declared.device.Stage.{Stage};
 ghost use Rattle.usb_control.specs.declared.device.LastPacket.{LastPacket};
 ghost use Rattle.usb_control.specs.declared.host.HostStage.{HostStage};
-ghost use Rattle.usb_control.specs.SetupBytes.{IsSpelled, reads};
+ghost use Rattle.usb_control.specs.SetupBytes.{IsEncoded, reads};
 ghost use Rattle.usb_control.specs.Device.{DevControlState, effect, stage_after_decision};
 ghost use Rattle.usb_control.specs.Host.{HostTransferState, IsRunning, at_start, sent_length};
 ghost use Rattle.usb_control.specs.Reading.{IsReadOf, took_all};
 ghost use Rattle.usb_control.specs.Writing.{AnswersAll, IsApplied, IsNoWrite, given_data};
-ghost use Rattle.usb_control.specs.Transfer.{Shape, Decision, Place, answered_bytes, shape_of, start};
-ghost use Rattle.usb_control.specs.Positions.{GoesOn, Stands};
+ghost use Rattle.usb_control.specs.Transfer.{Shape, Decision, Place, answered_bytes, transfer_shape, start};
+ghost use Rattle.usb_control.specs.Positions.{TransferIsAt, TryLeadsOn};
 ghost use Rattle.usb_control.specs.Transaction.{Transacts};
 ghost use Rattle.usb_control.specs.TryFunctions.{AppliesBy, PreparesBy, Table, control_tried, host_tried};
-ghost use Rattle.usb_control.specs.Interleaving.{Ends, GoesBy, LeaveAnswers, StandAt, Turn, ends_after_turns, is_running, tries_in};
+ghost use Rattle.usb_control.specs.Interleaving.{BothEnds, EndsAreAt, GoesBy, LeaveAnswers, Turn, ends_after_turns, is_running, tries_in};
 ghost use Rattle.usb_control.specs.Runs.{IsDone, IsOnce, is_open, place_after_tries};
 ghost use Rattle.usb_control.specs.Steps.{IsAppliedOnce, IsOnceAtMost, Steps};
 
@@ -26,11 +26,11 @@ use crate::requests::Requests;
 /// What answers requests after the steps of a transfer, by what it was before the first of them: whatever was lost, and
 /// wherever endpoint 0 of the device stood. `fates` are those of the steps, with nothing done at the device between them.
 /// A request that is decided on again, since the handshake was lost, counts as decided on once.
-pub fn transfers_are_told<R: Requests>()
+pub fn outcomes_are_true<R: Requests>()
     // A read that is done was accepted, and gave the answer that was fixed then, cut to what was asked for.
     ensures read { (addr : ℕ) (request : Request) (fates : List Fate)
         (old new : DevControlState R) (host : HostTransferState)
-        → IsSpelled request → reads request ≡ true
+        → IsEncoded request → reads request ≡ true
         → Steps R.prepare_gives R.apply_gives R.answer_of fates (at_start addr request []) old host new
         → host.stage ≡ HostStage.Done
         → R.prepare_gives old.requests request true new.requests
@@ -39,7 +39,7 @@ pub fn transfers_are_told<R: Requests>()
     // A write that is done took effect exactly once.
     ensures write { (addr : ℕ) (request : Request) (sends : List ℕ) (fates : List Fate)
         (old new : DevControlState R) (host : HostTransferState)
-        → IsSpelled request → reads request ≡ false → length sends ≡ request.length
+        → IsEncoded request → reads request ≡ false → length sends ≡ request.length
         → Steps R.prepare_gives R.apply_gives R.answer_of fates (at_start addr request sends) old host new
         → host.stage ≡ HostStage.Done
         → IsAppliedOnce R.prepare_gives R.apply_gives request sends old.requests new.requests }
@@ -47,7 +47,7 @@ pub fn transfers_are_told<R: Requests>()
     // What a STALL ended was refused, and never took effect.
     ensures stalled { (addr : ℕ) (request : Request) (sends : List ℕ) (fates : List Fate)
         (old new : DevControlState R) (host : HostTransferState)
-        → IsSpelled request → length sends ≡ sent_length request
+        → IsEncoded request → length sends ≡ sent_length request
         → Steps R.prepare_gives R.apply_gives R.answer_of fates (at_start addr request sends) old host new
         → host.stage ≡ HostStage.Failed ControlFault.Stalled
         → R.prepare_gives old.requests request false new.requests }
@@ -56,7 +56,7 @@ pub fn transfers_are_told<R: Requests>()
     // decided on and nothing else was done, or a write took effect once.
     ensures any { (addr : ℕ) (request : Request) (sends : List ℕ) (fates : List Fate)
         (old new : DevControlState R) (host : HostTransferState)
-        → IsSpelled request → length sends ≡ sent_length request
+        → IsEncoded request → length sends ≡ sent_length request
         → Steps R.prepare_gives R.apply_gives R.answer_of fates (at_start addr request sends) old host new
         → IsOnceAtMost R.prepare_gives R.apply_gives request sends old.requests new.requests }
 {}
@@ -70,7 +70,7 @@ pub fn reads_are_joined()
         → IsReadOf request.length came (took_all came (at_start addr request [])).bytes }
 {}
 
-/// Whatever packets a device hears: a write takes effect with the payloads of its data stage joined, and with as many
+/// Whatever packets a device receives: a write takes effect with the payloads of its data stage joined, and with as many
 /// bytes as its SETUP announced. It does so once at most since then.
 pub fn writes_are_joined()
     // From the SETUP of an accepted write on, over packets that are only answered, up to the one that
@@ -103,34 +103,36 @@ pub fn places_are_met<R: Requests>()
     // A transfer that has yet to begin stands before its first try, whatever endpoint 0 of the device is at.
     ensures begins { (addr : ℕ) (request : Request) (sends : List ℕ) (control : DevControlState R)
         → length sends ≡ sent_length request
-        → Stands R.answer_of (shape_of request) sends start (at_start addr request sends) control }
+        → TransferIsAt R.answer_of (transfer_shape request) sends start
+        (at_start addr request sends) control }
 
     // The host is done exactly where it is past the last piece.
     ensures done { (shape : Shape) (sends : List ℕ) (place : Place)
         (host : HostTransferState) (control : DevControlState R)
-        → Stands R.answer_of shape sends place host control
+        → TransferIsAt R.answer_of shape sends place host control
         → (host.stage ≡ HostStage.Done) ↔ IsDone place }
 
     // A read that is done has the answer that was fixed, cut to what was asked for.
     ensures read { (shape : Shape) (sends : List ℕ) (place : Place)
         (host : HostTransferState) (control : DevControlState R)
-        → Stands R.answer_of shape sends place host control → IsDone place → shape.reads ≡ true
+        → TransferIsAt R.answer_of shape sends place host control → IsDone place
+        → shape.reads ≡ true
         → host.bytes ≡ answered_bytes shape place.decision }
 
     // What answers requests may change meanwhile, as long as the answer stays.
     ensures kept { (shape : Shape) (sends : List ℕ) (place : Place)
         (host : HostTransferState) (old new : DevControlState R)
-        → Stands R.answer_of shape sends place host old
+        → TransferIsAt R.answer_of shape sends place host old
         → R.answer_of new.requests ≡ R.answer_of old.requests → new.stage ≡ old.stage
-        → Stands R.answer_of shape sends place host new }
+        → TransferIsAt R.answer_of shape sends place host new }
 
     // A try leads from a place to another, whatever code makes it.
     ensures tried { (sends : List ℕ) (place : Place) (fate : Fate)
         (host after : HostTransferState) (old new : DevControlState R)
-        → IsSpelled host.setup → IsRunning host.stage
-        → Stands R.answer_of (shape_of host.setup) sends place host old
+        → IsEncoded host.setup → IsRunning host.stage
+        → TransferIsAt R.answer_of (transfer_shape host.setup) sends place host old
         → Transacts R.prepare_gives R.apply_gives R.answer_of fate host old after new
-        → GoesOn R.prepare_gives R.apply_gives R.answer_of host.setup sends fate
+        → TryLeadsOn R.prepare_gives R.apply_gives R.answer_of host.setup sends fate
         place old.requests after new }
 {}
 
@@ -147,18 +149,20 @@ pub fn tries_are_computed<R>()
 /// place to which the tries lead, each with what a SETUP that arrives in it is decided then; and what the host asked for
 /// stays.
 pub fn places_are_run<R>()
-    ensures stands { (table : Table R) (sends : List ℕ) (place : Place) (ends : Ends R) (turns : List (Turn R))
-        → IsSpelled ends.host.setup → LeaveAnswers table turns → StandAt table sends place ends
-        → StandAt table sends
-        (place_after_tries (shape_of ends.host.setup) (tries_in table ends turns) place)
+    ensures stands { (table : Table R) (sends : List ℕ) (place : Place) (ends : BothEnds R)
+        (turns : List (Turn R))
+        → IsEncoded ends.host.setup → LeaveAnswers table turns → EndsAreAt table sends place ends
+        → EndsAreAt table sends
+        (place_after_tries (transfer_shape ends.host.setup) (tries_in table ends turns) place)
         (ends_after_turns table ends turns) }
-    ensures same { (table : Table R) (ends : Ends R) (turns : List (Turn R))
+    ensures same { (table : Table R) (ends : BothEnds R) (turns : List (Turn R))
         → (ends_after_turns table ends turns).host.setup ≡ ends.host.setup }
     // The transfer runs exactly where its place is open.
-    ensures runs { (table : Table R) (sends : List ℕ) (place : Place) (ends : Ends R)
-        → StandAt table sends place ends → is_running ends.host.stage ≡ is_open place }
+    ensures runs { (table : Table R) (sends : List ℕ) (place : Place) (ends : BothEnds R)
+        → EndsAreAt table sends place ends → is_running ends.host.stage ≡ is_open place }
     // One try: it does at the device what its place says, and a write takes effect in it exactly where this says so.
-    ensures goes_by { (table : Table R) (sends : List ℕ) (place : Place) (fate : Fate) (ends : Ends R)
-        → IsSpelled ends.host.setup → IsRunning ends.host.stage → StandAt table sends place ends
+    ensures goes_by { (table : Table R) (sends : List ℕ) (place : Place) (fate : Fate)
+        (ends : BothEnds R)
+        → IsEncoded ends.host.setup → IsRunning ends.host.stage → EndsAreAt table sends place ends
         → GoesBy table sends place fate ends }
 {}

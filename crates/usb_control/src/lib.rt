@@ -33,12 +33,13 @@
 //!
 //! The promise, whatever is lost: a read that is done gave the answer as fixed at the last SETUP that arrived, cut to
 //! what was asked for; a write that is done took effect exactly once, one that failed once or not at all, and
-//! one that was refused never: `tried` on [`HostTransfer::step`], with [`laws::transfers_are_told`] for whole
+//! one that was refused never: `tried` on [`HostTransfer::step`], with [`laws::outcomes_are_true`] for whole
 //! transfers. Over any packets: `took` on [`HostTransfer::take`] and `does` on [`DevControl::on_packet`], with
 //! [`laws::reads_are_joined`] and [`laws::writes_are_joined`]. Of descriptors `value` on [`ConfigInfo::read`] and
 //! [`DeviceInfo::read`]. Only [`HostTransfer::begin`] takes memory.
 #![tactic(auto)]
 
+mod descriptor_list;
 mod descriptors;
 mod device;
 mod fault;
@@ -48,7 +49,6 @@ mod pieces;
 mod requests;
 mod setup;
 mod transaction;
-mod walk;
 
 pub use descriptors::{ConfigInfo, DeviceInfo};
 pub use device::{DevControl, MAX_WRITE};

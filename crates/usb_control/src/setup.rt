@@ -1,4 +1,4 @@
-//! A request, and the bytes that spell it (USB 2.0, 9.3).
+//! A request, and the bytes that encode it (USB 2.0, 9.3).
 ghost use Rattle.std.specs.Prelude.{◌≡◌};
 ghost use Rattle.usb_control.specs.SetupBytes.{setup_bytes, setup_of, reads};
 
@@ -18,7 +18,7 @@ pub struct Setup {
 }
 
 impl Setup {
-    /// The bytes that spell the request: its fields in order, words with their low byte first (USB 2.0, 8.1).
+    /// The bytes that encode the request: its fields in order, words with their low byte first (USB 2.0, 8.1).
     pub fn to_bytes(&self) -> [u8; 8]
         ensures value { result ≡ setup_bytes self.now }
         ensures back { setup_of result ≡ self.now }
@@ -45,7 +45,7 @@ impl Setup {
         ]
     }
 
-    /// The request that the bytes spell: any eight bytes spell one.
+    /// The request that the bytes encode: any eight bytes encode one.
     pub fn from_bytes(bytes: &[u8; 8]) -> Setup
         ensures value { result ≡ setup_of bytes.now }
         ensures back { setup_bytes result ≡ bytes.now }

@@ -1,14 +1,14 @@
 //! One transaction of endpoint 0 over a bus that may lose packets (USB 2.0, 8.5.3).
 ghost use Rattle.std.specs.Prelude.{◌≡◌, List, ℕ, IfSome};
 ghost use Rattle.std.specs.Option.{option_copied};
-ghost use Rattle.usb_packet.specs.Spelling.{Fits};
+ghost use Rattle.usb_packet.specs.PacketEncoding.{Fits};
 ghost use Rattle.usb_control.specs.Host.{IsRunning, asks_at, payload_of, progress_of, token_of};
 ghost use Rattle.usb_transact.specs.Fate.{arrives_under};
-ghost use Rattle.usb_control.specs.Crossing.{Acknowledges, Crosses, Reaches, Receives, phase_of};
+ghost use Rattle.usb_control.specs.Crossing.{Acknowledges, Crosses, PacketReaches, Receives, phase_of};
 ghost use Rattle.usb_control.specs.Transaction.{Transacts};
-ghost use Rattle.usb_control.specs.Transfer.{Place, shape_of};
-ghost use Rattle.usb_control.specs.Positions.{GoesOn, Stands};
-ghost use Rattle.usb_control.specs.SetupBytes.{IsSpelled};
+ghost use Rattle.usb_control.specs.Transfer.{Place, transfer_shape};
+ghost use Rattle.usb_control.specs.Positions.{TransferIsAt, TryLeadsOn};
+ghost use Rattle.usb_control.specs.SetupBytes.{IsEncoded};
 
 use crate::device::DevControl;
 use crate::host::{HostTransfer, Progress};
@@ -17,10 +17,10 @@ use usb_packet::Packet;
 use usb_transact::{Bus, Fate, Phase, send_packet, send_reply};
 
 impl<R: Requests> DevControl<R> {
-    // Hears the packet that came, if one did, and gives the answer to it.
+    /// Hears the packet that came, if one did, and gives the answer to it.
     #[inline(never)] // it stands where its caller wants it
     fn receive(&mut self, packet: Option<&Packet>) -> Option<Packet>
-        ensures hears { Receives R.prepare_gives R.apply_gives R.answer_of
+        ensures receives { Receives R.prepare_gives R.apply_gives R.answer_of
             (option_copied packet.entry)
             self.old self.new result }
         ensures fits { IfSome result Fits }
@@ -32,7 +32,7 @@ impl<R: Requests> DevControl<R> {
     }
 }
 
-// Sends ACK where the host does, and lets the device have what arrives of it.
+/// Sends ACK where the host does, and lets the device have what arrives of it.
 fn acknowledge<B: Bus, R: Requests>(bus: &B, control: &mut DevControl<R>, says: bool)
     ensures { Acknowledges R.prepare_gives R.apply_gives R.answer_of (B.arrives bus.now) says
         control.old control.new }
@@ -44,10 +44,10 @@ fn acknowledge<B: Bus, R: Requests>(bus: &B, control: &mut DevControl<R>, says: 
 }
 
 impl HostTransfer {
-    // The phase in which the device answers.
+    /// The phase in which the device answers.
     fn phase(&self) -> Phase
         ensures phase { result ≡ phase_of (asks_at self.now.stage) }
-        ensures spelled { IsSpelled self.now.setup }
+        ensures encoded { IsEncoded self.now.setup }
     {
         if self.asks() {
             Phase::Reply
@@ -56,10 +56,11 @@ impl HostTransfer {
         }
     }
 
-    // Sends the token, and the data that go with it. Gives the device's answer to what arrives.
+    /// Sends the token, and the data that go with it. Gives the device's answer to what arrives.
     fn reach<B: Bus, R: Requests>(&self, bus: &B, control: &mut DevControl<R>) -> Option<Packet>
         requires { IsRunning self.now.stage }
-        ensures reaches { Reaches R.prepare_gives R.apply_gives R.answer_of (B.arrives bus.now)
+        ensures reaches { PacketReaches R.prepare_gives R.apply_gives R.answer_of
+            (B.arrives bus.now)
             (token_of self.now) (payload_of self.now) control.old control.new result }
         ensures fits { IfSome result Fits }
     {
@@ -74,13 +75,13 @@ impl HostTransfer {
         }
     }
 
-    // One transaction over any bus.
+    /// One transaction over any bus.
     fn transact<B: Bus, R: Requests>(&mut self, bus: &B, control: &mut DevControl<R>)
         requires { IsRunning self.old.stage }
         ensures crosses { Crosses R.prepare_gives R.apply_gives R.answer_of (B.arrives bus.now)
             self.old control.old self.new control.new }
         ensures same { (self.new.setup ≡ self.old.setup) × (self.new.addr ≡ self.old.addr) }
-        ensures spelled { IsSpelled self.old.setup }
+        ensures encoded { IsEncoded self.old.setup }
     {
         let phase = self.phase();
         let answer = self.reach(bus, control);
@@ -105,7 +106,7 @@ impl HostTransfer {
     /// | any but SETUP, of a refused request | no answer | no answer | C1 where it came by IN, else no answer | C1 |
     ///
     /// An end that has the piece already stays where it is. A write takes effect at the first try of its status that
-    /// arrives, and not again. Where the host hears no answer it counts the try: the third in a row is C2.
+    /// arrives, and not again. Where the host gets no answer it counts the try: the third in a row is C2.
     pub fn step<R: Requests>(&mut self, control: &mut DevControl<R>, fate: Fate) -> Progress
         requires { IsRunning self.old.stage }
         ensures progress { result ≡ progress_of self.new.stage }
@@ -119,8 +120,9 @@ impl HostTransfer {
 
         // From any place at which both ends stand, the try goes on as two positions in one list of pieces do.
         ensures tried { (sends : List ℕ) (place : Place)
-            → Stands R.answer_of (shape_of self.old.setup) sends place self.old control.old
-            → GoesOn R.prepare_gives R.apply_gives R.answer_of self.old.setup sends fate
+            → TransferIsAt R.answer_of
+            (transfer_shape self.old.setup) sends place self.old control.old
+            → TryLeadsOn R.prepare_gives R.apply_gives R.answer_of self.old.setup sends fate
             place control.old.requests self.new control.new }
     {
         self.transact(&fate, control);

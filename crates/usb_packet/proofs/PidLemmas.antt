@@ -4,7 +4,7 @@ use Rattle.usb_packet.specs.declared.packet.TokenKind.{TokenKind}
 use Rattle.usb_packet.specs.declared.packet.TokenKind.TheVariants.{Out, In, Setup}
 use Rattle.usb_packet.specs.declared.packet.Packet.{Packet}
 use Rattle.usb_packet.specs.declared.packet.Packet.TheVariants.{Token, Data, Ack, Nak, Stall}
-use Rattle.usb_packet.specs.Spelling.{IsHandshake, token_pid, data_pid, pid_of}
+use Rattle.usb_packet.specs.PacketEncoding.{IsHandshake, token_pid, data_pid, pid_of}
 use Rattle.usb_packet.specs.Fault.{HasLength}
 
 pub token_pid_cases : (kind : TokenKind) → (token_pid kind ≡ 225) ⊎ ((token_pid kind ≡ 105) ⊎ (token_pid kind ≡ 45))

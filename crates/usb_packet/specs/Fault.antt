@@ -1,4 +1,4 @@
--- Why bytes spell no packet (USB 2.0, 8.3 and 8.4): five faults, of which the first that stands counts.
+-- Why bytes encode no packet (USB 2.0, 8.3 and 8.4): five faults, of which the first that stands counts.
 use Rattle.std.specs.Prelude.{◌≡◌, ℕ, ◌+◌, ◌/◌, ◌%◌, ◌^◌, ◌≤◌, List, [], ◌∷◌, length, codes, Result, MatchResult}
 use Rattle.std.specs.Int.{w16, from_le_bytes}
 use Rattle.usb_packet.specs.declared.packet.TheConstants.{MAX_PAYLOAD}
@@ -6,15 +6,15 @@ use Rattle.usb_packet.specs.declared.packet.TokenKind.{TokenKind}
 use Rattle.usb_packet.specs.declared.packet.Packet.{Packet}
 use Rattle.usb_packet.specs.declared.fault.PacketFault.{PacketFault}
 use Rattle.usb_packet.specs.declared.fault.PacketFault.TheVariants.{Empty, BadCheck, UnknownPid, BadLength, BadReserved}
-use Rattle.usb_packet.specs.Spelling.{Spells, token_pid, pid_of, body_of}
+use Rattle.usb_packet.specs.PacketEncoding.{Encodes, token_pid, pid_of, body_of}
 
 -- the code of a fault, as it is printed: P1 to P5
-abbrev pub code_of : PacketFault → List ℕ
-code_of Empty = codes "P1"
-code_of BadCheck = codes "P2"
-code_of UnknownPid = codes "P3"
-code_of BadLength = codes "P4"
-code_of BadReserved = codes "P5"
+abbrev pub packet_fault_code : PacketFault → List ℕ
+packet_fault_code Empty = codes "P1"
+packet_fault_code BadCheck = codes "P2"
+packet_fault_code UnknownPid = codes "P3"
+packet_fault_code BadLength = codes "P4"
+packet_fault_code BadReserved = codes "P5"
 
 -- the halves of the first byte are complements (8.3.1)
 abbrev pub IsChecked : ℕ → Type 0
@@ -50,7 +50,7 @@ abbrev pub IsFault : PacketFault → List ℕ → Type 0
 IsFault fault [] = fault ≡ Empty
 IsFault fault (first ∷ body) = IsFaultAt fault first body
 
--- the packet that the bytes spell, or their first fault
+-- the packet that the bytes encode, or their first fault
 abbrev pub Decodes : Result Packet PacketFault → List ℕ → Type 0
 Decodes result bytes =
-    MatchResult result (λ packet. Spells packet bytes) (λ fault. IsFault fault bytes)
+    MatchResult result (λ packet. Encodes packet bytes) (λ fault. IsFault fault bytes)

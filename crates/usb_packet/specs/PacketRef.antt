@@ -16,12 +16,12 @@ to_owned Nak = packets.Nak
 to_owned Stall = packets.Stall
 
 -- the payload of a borrowed packet is no longer than a payload may be
-abbrev pub IsShort : PacketRef → Type 0
-IsShort (Data one payload) = length payload.now ≤ MAX_PAYLOAD
-IsShort (Token kind addr endp) = Unit {0}
-IsShort Ack = Unit {0}
-IsShort Nak = Unit {0}
-IsShort Stall = Unit {0}
+abbrev pub PayloadFits : PacketRef → Type 0
+PayloadFits (Data one payload) = length payload.now ≤ MAX_PAYLOAD
+PayloadFits (Token kind addr endp) = Unit {0}
+PayloadFits Ack = Unit {0}
+PayloadFits Nak = Unit {0}
+PayloadFits Stall = Unit {0}
 
 -- what is read of bytes, as a packet with a payload of its own, or its fault
 abbrev pub to_owned_or_fault : Result PacketRef PacketFault → Result Packet PacketFault

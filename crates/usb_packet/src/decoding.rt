@@ -1,6 +1,6 @@
-//! From bytes to the packet that they spell (USB 2.0, 8.3 and 8.4).
+//! From bytes to the packet that they encode (USB 2.0, 8.3 and 8.4).
 ghost use Rattle.std.specs.Prelude.{◌≡◌, ◌∷◌, Ok, IfOk, IfErr};
-ghost use Rattle.usb_packet.specs.Spelling.{Spells, IsHandshake, token_pid, data_pid, pid_of};
+ghost use Rattle.usb_packet.specs.PacketEncoding.{Encodes, IsHandshake, token_pid, data_pid, pid_of};
 ghost use Rattle.usb_packet.specs.Fault.{Decodes, IsFault};
 ghost use Rattle.usb_packet.specs.PacketRef.{to_owned, to_owned_or_fault};
 
@@ -8,7 +8,7 @@ use crate::fault::PacketFault;
 use crate::packet::{MAX_PAYLOAD, Packet, PacketRef, TokenKind};
 use crate::pid;
 
-// A token with this kind, from what follows its PID.
+/// A token with this kind, from what follows its PID.
 fn token(kind: TokenKind, body: &[u8]) -> Result<PacketRef<'_>, PacketFault>
     ensures { Decodes (to_owned_or_fault result) (token_pid kind ∷ body.now) }
 {
@@ -26,7 +26,7 @@ fn token(kind: TokenKind, body: &[u8]) -> Result<PacketRef<'_>, PacketFault>
     })
 }
 
-// A data packet with this toggle, from what follows its PID.
+/// A data packet with this toggle, from what follows its PID.
 fn data(one: bool, body: &[u8]) -> Result<PacketRef<'_>, PacketFault>
     ensures { Decodes (to_owned_or_fault result) (data_pid one ∷ body.now) }
 {
@@ -37,7 +37,7 @@ fn data(one: bool, body: &[u8]) -> Result<PacketRef<'_>, PacketFault>
     }
 }
 
-// This handshake, from what follows its PID.
+/// This handshake, from what follows its PID.
 fn handshake<'a>(packet: PacketRef<'a>, body: &[u8]) -> Result<PacketRef<'a>, PacketFault>
     requires handshake { IsHandshake (to_owned packet) }
     ensures { Decodes (to_owned_or_fault result) (pid_of (to_owned packet.entry) ∷ body.now) }
@@ -49,14 +49,14 @@ fn handshake<'a>(packet: PacketRef<'a>, body: &[u8]) -> Result<PacketRef<'a>, Pa
     }
 }
 
-/// The packet that the bytes spell, with its payload where it stands: as [`decode`] gives it (USB 2.0, 8.3 and 8.4).
+/// The packet that the bytes encode, with its payload where it stands: as [`decode`] gives it (USB 2.0, 8.3 and 8.4).
 ///
 /// # Errors
-/// Where they spell none, the first [`PacketFault`] that stands, in the order of its variants.
+/// Where they encode none, the first [`PacketFault`] that stands, in the order of its variants.
 #[inline(always)]
 pub fn decode_ref(bytes: &[u8]) -> Result<PacketRef<'_>, PacketFault>
-    ensures found { IfOk (to_owned_or_fault result) (λ packet. Spells packet bytes.now) }
-    ensures complete { (packet : Packet) → Spells packet bytes.now
+    ensures found { IfOk (to_owned_or_fault result) (λ packet. Encodes packet bytes.now) }
+    ensures complete { (packet : Packet) → Encodes packet bytes.now
         → to_owned_or_fault result ≡ Ok packet }
     ensures fault { IfErr (to_owned_or_fault result) (λ fault. IsFault fault bytes.now) }
 {
@@ -79,14 +79,14 @@ pub fn decode_ref(bytes: &[u8]) -> Result<PacketRef<'_>, PacketFault>
     }
 }
 
-/// The packet that the bytes spell (USB 2.0, 8.3 and 8.4), for all bytes of any number.
+/// The packet that the bytes encode (USB 2.0, 8.3 and 8.4), for all bytes of any number.
 ///
 /// # Errors
-/// Where they spell none, the first [`PacketFault`] that stands, in the order of its variants.
+/// Where they encode none, the first [`PacketFault`] that stands, in the order of its variants.
 pub fn decode(bytes: &[u8]) -> Result<Packet, PacketFault>
-    // It answers `Ok` exactly on a spelling, with the one packet that it spells.
-    ensures found { IfOk result (λ packet. Spells packet bytes.now) }
-    ensures complete { (packet : Packet) → Spells packet bytes.now → result ≡ Ok packet }
+    // It answers `Ok` exactly on an encoding, with the one packet that it encodes.
+    ensures found { IfOk result (λ packet. Encodes packet bytes.now) }
+    ensures complete { (packet : Packet) → Encodes packet bytes.now → result ≡ Ok packet }
 
     // On all other bytes, the first fault.
     ensures fault { IfErr result (λ fault. IsFault fault bytes.now) }

@@ -1,7 +1,7 @@
-//! Why bytes spell no packet.
+//! Why bytes encode no packet.
 use std::fmt;
 
-/// Why bytes spell no packet: the first of these that stands. It is printed as its code.
+/// Why bytes encode no packet: the first of these that stands. It is printed as its code.
 #[derive(Clone, Copy, Debug, PartialEq, Eq)]
 pub enum PacketFault {
     /// P1: there is no PID (USB 2.0, 8.3.1).
@@ -13,15 +13,15 @@ pub enum PacketFault {
     /// P4: no packet with this PID is as long: after it a token has two bytes, data 0 to 64, a handshake none
     /// (USB 2.0, 8.4).
     BadLength,
-    /// P5: a token has a bit set above its endpoint, where this spelling has zeros (our choice: no CRC5).
+    /// P5: a token has a bit set above its endpoint, where this encoding has zeros (our choice: no CRC5).
     BadReserved,
 }
 
 impl fmt::Display for PacketFault {
     ghost use Rattle.std.specs.Prelude.{Some};
-    ghost use Rattle.usb_packet.specs.Fault.{code_of};
+    ghost use Rattle.usb_packet.specs.Fault.{packet_fault_code};
 
-    ghost output = { λ fault. Some (code_of fault) };
+    ghost output = { λ fault. Some (packet_fault_code fault) };
 
     fn fmt<W: fmt::Write>(&self, f: &mut fmt::Formatter<W>) -> fmt::Result {
         f.write_str(match self {

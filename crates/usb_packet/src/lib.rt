@@ -1,4 +1,4 @@
-//! Packets of the bus, and the bytes that spell them (USB 2.0, 8.3 and 8.4).
+//! Packets of the bus, and the bytes that encode them (USB 2.0, 8.3 and 8.4).
 //! ```text
 //!             encode                 decode
 //!   Packet ------------> bytes ------------> Packet, or the first PacketFault
@@ -15,7 +15,7 @@
 //! The rule to know: only a packet that [`fits`] has an encoding, and [`encode`] asks for one. Packets that aren't tokens
 //! fit: a payload has at most 64 bytes, of a [`Packet`] by its type, of a [`PacketRef`] where a call asks for that.
 //!
-//! The promise: `decode` accepts exactly the spellings and gives their packets: `found`, `complete` and `fault` on [`decode`].
+//! The promise: `decode` accepts exactly the encodings and gives their packets: `found`, `complete` and `fault` on [`decode`].
 //! No call takes memory.
 #![tactic(auto)]
 

@@ -1,7 +1,7 @@
 //! What a packet is (USB 2.0, 8.4).
 ghost use Rattle.std.specs.Prelude.{◌≡◌, ◌↔◌, IsTrue};
-ghost use Rattle.usb_packet.specs.PacketRef.{to_owned, IsShort};
-ghost use Rattle.usb_packet.specs.Spelling.{Fits};
+ghost use Rattle.usb_packet.specs.PacketRef.{to_owned, PayloadFits};
+ghost use Rattle.usb_packet.specs.PacketEncoding.{Fits};
 
 use arrayvec::ArrayVec;
 
@@ -84,7 +84,7 @@ impl Packet {
     #[inline(always)]
     pub fn as_ref(&self) -> PacketRef<'_>
         ensures packet { to_owned result ≡ self.now }
-        ensures short { IsShort result }
+        ensures short { PayloadFits result }
     {
         match self {
             Packet::Token { kind, addr, endp } => PacketRef::Token {
@@ -106,7 +106,7 @@ impl Packet {
 impl<'a> PacketRef<'a> {
     /// The packet, with a payload of its own.
     pub fn to_owned(self) -> Packet
-        requires { IsShort self }
+        requires { PayloadFits self }
         ensures { result ≡ to_owned self.entry }
     {
         match self {

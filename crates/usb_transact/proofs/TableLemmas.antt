@@ -3,7 +3,7 @@ use Rattle.std.proofs.Common.{◌≡◌, ◌∙◌, ℕ, Bool, true, false, if�
 use Rattle.std.specs.Bool.{beq}
 use Rattle.usb_packet.specs.declared.packet.Packet.{Packet}
 use Rattle.usb_packet.specs.declared.packet.Packet.TheVariants as packets
-use Rattle.usb_packet.specs.Spelling.{spelling}
+use Rattle.usb_packet.specs.PacketEncoding.{encoding}
 use Rattle.usb_transact.specs.declared.bus.Phase.{Phase}
 use Rattle.usb_transact.specs.declared.bus.Phase.TheVariants.{Token, Reply, Acknowledgement}
 use Rattle.usb_transact.specs.declared.host.Took.{Took}
@@ -12,23 +12,23 @@ use Rattle.usb_transact.specs.declared.transaction.Fate.{Fate}
 use Rattle.usb_transact.specs.declared.transaction.Fate.TheVariants.{Clean, TokenLost, ReplyLost, AckLost}
 use Rattle.usb_transact.specs.Host.{HostPipeState, token_to}
 use Rattle.usb_transact.specs.Device.{DevPipeState, after_acknowledgement, answer_of, answer_with}
-use Rattle.usb_transact.specs.Taken.{reply_outcome}
+use Rattle.usb_transact.specs.Replies.{reply_outcome}
 use Rattle.usb_transact.specs.Bus.{Arrivals, Carries, Replies}
 use Rattle.usb_transact.specs.Fate.{arrives_under}
 use Rattle.usb_transact.specs.Transaction.{answer_to_token, device_after_handshake, ReceivesAck, Acknowledges, Transacts}
-use Rattle.usb_transact.specs.Exchange.{outcome_when_received, took_of, device_after}
+use Rattle.usb_transact.specs.Exchange.{outcome_when_received, took_of, pipe_after}
 
 -- a packet that arrives as it was sent is read
 pub read_whole :
     (arrivals : Arrivals) (phase : Phase) (sent : Packet) (came : Option Packet)
-    → arrivals phase (spelling sent) ≡ Some (spelling sent) → Carries arrivals phase sent came
+    → arrivals phase (encoding sent) ≡ Some (encoding sent) → Carries arrivals phase sent came
     → came ≡ Some sent
 read_whole arrivals phase sent came whole c = let read = rw whole at c.read in read.1 sent c.sent
 
 -- of a packet that is lost nothing is read
 pub read_lost :
     (arrivals : Arrivals) (phase : Phase) (sent : Packet) (came : Option Packet)
-    → arrivals phase (spelling sent) ≡ None → Carries arrivals phase sent came → came ≡ None
+    → arrivals phase (encoding sent) ≡ None → Carries arrivals phase sent came → came ≡ None
 read_lost arrivals phase sent came lost c = rw lost at c.read
 
 -- a token that did not come gets no answer
@@ -48,8 +48,8 @@ full_reply arrivals host token device reply came replied = rw came at replied
 -- where token and answer arrive as they were sent, the host reads the device's answer
 pub whole_reply :
     (arrivals : Arrivals) (host : HostPipeState) (device : DevPipeState) (token reply : Option Packet)
-    → arrivals Token (spelling (token_to host)) ≡ Some (spelling (token_to host))
-    → arrivals Reply (spelling (answer_of device)) ≡ Some (spelling (answer_of device))
+    → arrivals Token (encoding (token_to host)) ≡ Some (encoding (token_to host))
+    → arrivals Reply (encoding (answer_of device)) ≡ Some (encoding (answer_of device))
     → Carries arrivals Token (token_to host) token → Replies arrivals Reply (answer_to_token token device) reply
     → reply ≡ Some (answer_of device)
 whole_reply arrivals host device token reply token_whole reply_whole polled replied =
@@ -101,7 +101,7 @@ hears_either arrivals false bytes device after h = h
 -- an ACK that arrives closes
 pub ack_closes :
     (arrivals : Arrivals) (device after : DevPipeState)
-    → arrivals Acknowledgement (spelling packets.Ack) ≡ Some (spelling packets.Ack)
+    → arrivals Acknowledgement (encoding packets.Ack) ≡ Some (encoding packets.Ack)
     → ReceivesAck arrivals device after → after ≡ after_acknowledgement device
 ack_closes arrivals device after whole (came, carries, moved) =
     moved ∙ ap (λ heard. device_after_handshake heard device)
@@ -110,7 +110,7 @@ ack_closes arrivals device after whole (came, carries, moved) =
 -- an ACK that is lost leaves the device as it was
 pub ack_lost :
     (arrivals : Arrivals) (device after : DevPipeState)
-    → arrivals Acknowledgement (spelling packets.Ack) ≡ None → ReceivesAck arrivals device after
+    → arrivals Acknowledgement (encoding packets.Ack) ≡ None → ReceivesAck arrivals device after
     → after ≡ device
 ack_lost arrivals device after lost (came, carries, moved) =
     moved ∙ ap (λ heard. device_after_handshake heard device)
@@ -122,9 +122,9 @@ pipe_with toggle armed halted = record { toggle = toggle; armed = armed; halted 
 -- the device after the host took its answer, where the ACK arrives
 pub closes :
     (arrivals : Arrivals) (expects halted toggle : Bool) (armed : Option (List ℕ)) (after : DevPipeState)
-    → arrivals Acknowledgement (spelling packets.Ack) ≡ Some (spelling packets.Ack)
+    → arrivals Acknowledgement (encoding packets.Ack) ≡ Some (encoding packets.Ack)
     → Acknowledges arrivals (outcome_when_received expects halted toggle armed) (pipe_with toggle armed halted) after
-    → after ≡ device_after Clean (pipe_with toggle armed halted)
+    → after ≡ pipe_after Clean (pipe_with toggle armed halted)
 closes arrivals expects true toggle armed after whole h = h
 closes arrivals expects false toggle None after whole h = h
 closes arrivals expects false toggle (Some bytes) after whole h =
@@ -134,7 +134,7 @@ closes arrivals expects false toggle (Some bytes) after whole h =
 -- the device after the host took its answer, where the ACK is lost
 pub stays :
     (arrivals : Arrivals) (expects halted toggle : Bool) (armed : Option (List ℕ)) (after : DevPipeState)
-    → arrivals Acknowledgement (spelling packets.Ack) ≡ None
+    → arrivals Acknowledgement (encoding packets.Ack) ≡ None
     → Acknowledges arrivals (outcome_when_received expects halted toggle armed) (pipe_with toggle armed halted) after
     → after ≡ pipe_with toggle armed halted
 stays arrivals expects true toggle armed after lost h = h
@@ -148,7 +148,7 @@ pub Transacts-device :
     (fate : Fate) (host : HostPipeState) (device : DevPipeState)
     (took : Took) (host_then : HostPipeState) (device_then : DevPipeState)
     → Transacts (arrives_under fate) host device took host_then device_then
-    → device_then ≡ device_after fate device
+    → device_then ≡ pipe_after fate device
 Transacts-device TokenLost host device took host_then device_then t =
     rw (Transacts-took TokenLost host device took host_then device_then t) at t.acknowledged
 Transacts-device ReplyLost host device took host_then device_then t =

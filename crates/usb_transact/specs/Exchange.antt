@@ -25,6 +25,6 @@ took_of Clean host device = outcome_when_received host.expects device.halted dev
 took_of AckLost host device = outcome_when_received host.expects device.halted device.toggle device.armed
 
 -- the device's pipe after a transaction: the acknowledgement arrives in a clean one alone, and STALL has none
-abbrev pub device_after : Fate → DevPipeState → DevPipeState
-device_after Clean device = if device.halted then device else after_acknowledgement device
-device_after _ device = device
+abbrev pub pipe_after : Fate → DevPipeState → DevPipeState
+pipe_after Clean device = if device.halted then device else after_acknowledgement device
+pipe_after _ device = device

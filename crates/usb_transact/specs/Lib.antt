@@ -1,6 +1,6 @@
 pub mod Host
 pub mod Device
-pub mod Taken
+pub mod Replies
 pub mod Bus
 pub mod Fate
 pub mod Transaction

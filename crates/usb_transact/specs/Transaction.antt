@@ -9,7 +9,7 @@ use Rattle.usb_transact.specs.declared.host.Took.{Took}
 use Rattle.usb_transact.specs.declared.host.Took.TheVariants.{Fresh, Again}
 use Rattle.usb_transact.specs.Host.{HostPipeState, token_to}
 use Rattle.usb_transact.specs.Device.{DevPipeState, after_acknowledgement, answer_of}
-use Rattle.usb_transact.specs.Taken.{reply_outcome, host_after}
+use Rattle.usb_transact.specs.Replies.{reply_outcome, host_after}
 use Rattle.usb_transact.specs.Bus.{Arrivals, Carries, Replies}
 
 -- the device's answer to what arrived of a token: only an IN token is answered

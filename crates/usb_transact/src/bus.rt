@@ -1,8 +1,8 @@
 //! What carries packets between the two ends: a packet goes as its bytes, and is read from the bytes that arrive.
 ghost use Rattle.std.specs.Prelude.{IfSome};
 ghost use Rattle.std.specs.Option.{option_copied, option_map};
-ghost use Rattle.usb_packet.specs.PacketRef.{to_owned, IsShort};
-ghost use Rattle.usb_packet.specs.Spelling.{Fits};
+ghost use Rattle.usb_packet.specs.PacketRef.{to_owned, PayloadFits};
+ghost use Rattle.usb_packet.specs.PacketEncoding.{Fits};
 ghost use Rattle.usb_transact.specs.Bus.{received_bytes, Carries, IsDecoded, Replies};
 
 use arrayvec::ArrayVec;
@@ -40,10 +40,10 @@ pub trait Bus {
         ensures { received_bytes result bytes.new.items ≡ arrives self.now phase bytes.old.items };
 }
 
-/// What an end reads of bytes, where they arrived; none where they spell no packet.
+/// What an end reads of bytes, where they arrived; none where they encode no packet.
 pub fn decode_received(has_arrived: bool, bytes: &[u8]) -> Option<PacketRef<'_>>
     ensures read { IsDecoded (received_bytes has_arrived bytes.now) (option_map to_owned result) }
-    ensures short { IfSome result IsShort }
+    ensures short { IfSome result PayloadFits }
 {
     if has_arrived {
         decode_ref(bytes).ok()

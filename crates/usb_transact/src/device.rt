@@ -1,8 +1,8 @@
 //! The device's end of the pipe (USB 2.0, 8.5.4, 8.6 and 9.4.5).
 ghost use Rattle.std.specs.Prelude.{◌≡◌, ◌≤◌, false, Some, IsNone, length};
 ghost use Rattle.std.specs.Option.{option_copied};
-ghost use Rattle.usb_packet.specs.PacketRef.{to_owned, IsShort};
-ghost use Rattle.usb_packet.specs.Spelling.{Fits};
+ghost use Rattle.usb_packet.specs.PacketRef.{to_owned, PayloadFits};
+ghost use Rattle.usb_packet.specs.PacketEncoding.{Fits};
 ghost use Rattle.usb_transact.specs.Device.{device_at_start, answer_of, after_acknowledgement, halted_pipe};
 
 use arrayvec::ArrayVec;
@@ -114,7 +114,7 @@ impl DevPipe {
     pub fn answer_ref(&self) -> PacketRef<'_>
         ensures answer { to_owned result ≡ answer_of self.now }
         ensures fits { Fits (to_owned result) }
-        ensures short { IsShort result }
+        ensures short { PayloadFits result }
     {
         if self.halted {
             return PacketRef::Stall;

@@ -1,10 +1,10 @@
 //! The host's end of the pipe (USB 2.0, 8.5.4 and 8.6).
 ghost use Rattle.std.specs.Prelude.{◌≡◌, ◌≤◌, false, IfSome};
 ghost use Rattle.std.specs.Option.{option_copied, option_map};
-ghost use Rattle.usb_packet.specs.PacketRef.{to_owned, IsShort};
-ghost use Rattle.usb_packet.specs.Spelling.{Fits};
+ghost use Rattle.usb_packet.specs.PacketRef.{to_owned, PayloadFits};
+ghost use Rattle.usb_packet.specs.PacketEncoding.{Fits};
 ghost use Rattle.usb_transact.specs.Host.{host_at_start, token_to};
-ghost use Rattle.usb_transact.specs.Taken.{reply_outcome, host_after};
+ghost use Rattle.usb_transact.specs.Replies.{reply_outcome, host_after};
 
 use arrayvec::ArrayVec;
 use std::marker::Model;
@@ -101,7 +101,7 @@ impl HostPipe {
 
     /// Takes a packet whose payload, of at most 64 bytes, stands elsewhere: as [`HostPipe::take`] does.
     pub fn take_ref(&mut self, packet: Option<PacketRef>) -> Took
-        requires { IfSome packet IsShort }
+        requires { IfSome packet PayloadFits }
         ensures took { result ≡ reply_outcome self.old.expects (option_map to_owned packet.entry) }
         ensures pipe { self.new ≡ host_after result self.old }
     {

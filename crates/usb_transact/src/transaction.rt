@@ -1,10 +1,10 @@
 //! One transaction over a bus that may lose packets (USB 2.0, 8.5.4).
 ghost use Rattle.std.specs.Prelude.{◌≡◌, IfSome};
 ghost use Rattle.std.specs.Option.{option_copied};
-ghost use Rattle.usb_packet.specs.Spelling.{Fits};
-ghost use Rattle.usb_transact.specs.Taken.{host_after};
+ghost use Rattle.usb_packet.specs.PacketEncoding.{Fits};
+ghost use Rattle.usb_transact.specs.Replies.{host_after};
 ghost use Rattle.usb_transact.specs.Fate.{arrives_under};
-ghost use Rattle.usb_transact.specs.Exchange.{took_of, device_after};
+ghost use Rattle.usb_transact.specs.Exchange.{took_of, pipe_after};
 ghost use Rattle.usb_transact.specs.Transaction.{Acknowledges, Transacts, answer_to_token};
 
 use crate::bus::{Bus, Phase, send_packet, send_reply};
@@ -42,7 +42,7 @@ impl Bus for Fate {
     }
 }
 
-// The device's answer, where it has read an IN token.
+/// The device's answer, where it has read an IN token.
 fn answer_token(token: Option<&Packet>, device: &DevPipe) -> Option<Packet>
     ensures answer { result ≡ answer_to_token (option_copied token.entry) device.now }
     ensures fits { IfSome result Fits }
@@ -56,7 +56,7 @@ fn answer_token(token: Option<&Packet>, device: &DevPipe) -> Option<Packet>
     }
 }
 
-// Sends ACK for data, fresh or not, and lets the device have what arrives of it.
+/// Sends ACK for data, fresh or not, and lets the device have what arrives of it.
 fn acknowledge<B: Bus>(bus: &B, took: &Took, device: &mut DevPipe)
     ensures { Acknowledges (B.arrives bus.now) took.now device.old device.new }
 {
@@ -68,7 +68,7 @@ fn acknowledge<B: Bus>(bus: &B, took: &Took, device: &mut DevPipe)
     }
 }
 
-// One transaction over any bus.
+/// One transaction over any bus.
 fn transact<B: Bus>(bus: &B, host: &mut HostPipe, device: &mut DevPipe) -> Took
     ensures { Transacts (B.arrives bus.now) host.old device.old result host.new device.new }
 {
@@ -90,7 +90,7 @@ fn transact<B: Bus>(bus: &B, host: &mut HostPipe, device: &mut DevPipe) -> Took
 /// | `Clean`, `AckLost` | nothing | `Nak` | nothing changes |
 /// | `Clean`, `AckLost` | under the expected toggle | `Fresh` with the bytes | the host's toggle changes |
 /// | `Clean`, `AckLost` | under the other toggle | `Again` | the host's toggle stays |
-/// | `Clean` | anything, and not halted | as above | the device's toggle changes, and nothing is armed |
+/// | `Clean` | data, under either toggle | as above | and the device's toggle changes, and nothing is armed |
 pub fn exchange(host: &mut HostPipe, device: &mut DevPipe, fate: Fate) -> Took
     // Packet by packet: each is sent as its bytes, and its end acts on what it reads of those that arrive.
     ensures packets { Transacts
@@ -99,7 +99,7 @@ pub fn exchange(host: &mut HostPipe, device: &mut DevPipe, fate: Fate) -> Took
     // The table.
     ensures took { result ≡ took_of fate host.old device.old }
     ensures host { host.new ≡ host_after result host.old }
-    ensures device { device.new ≡ device_after fate device.old }
+    ensures device { device.new ≡ pipe_after fate device.old }
 {
     transact(&fate, host, device)
 }

@@ -4,16 +4,16 @@
 //!   report 05 01*9                the same of its report descriptor
 //!   foreign config                a request to it, each try clean, up to its end: what the last one tells, the bytes that came,
 //!                                 and where the host stands then
-//!   front 9                       a new host asks for both where so many bytes of its configuration come and no more, as far as
+//!   front 9                       a new host asks for both where this many bytes of its configuration come and no more, as far as
 //!                                 it is answered: why it is refused, if it is, and where it stands then
 //!   changed 25 00 FF              the same where byte 25 of its configuration is another, for each of these
 //! ```
 //! A foreign device refuses what else it is asked to give, and takes a write without data.
 
-use super::{begin, step, tell_came, tell_progress, tell_state};
+use super::{begin, print_came, print_progress, print_state, step};
 use crate::ends::{Answers, Ends, cold};
-use crate::told::Told;
-use crate::words::{number, request_of, spell};
+use crate::output::Output;
+use crate::words::{number, read_bytes, request_of};
 use arrayvec::ArrayVec;
 use hid_host::{HostDevice, StackFault};
 use hid_requests::Request;
@@ -82,7 +82,7 @@ impl<'a> Requests for Foreign<'a> {
     fn apply(&mut self, _bytes: &[u8]) {}
 }
 
-/// Plays a request without losses, up to its end or through n tries: what its last try tells.
+/// Plays a request without losses, up to its end or through n tries: the result of its last try.
 fn asked(
     host: &mut HostDevice,
     control: &mut DevControl<Foreign>,
@@ -109,14 +109,19 @@ fn asked_of(
     asked(host, &mut control, request)
 }
 
-fn tell_asked(host: &mut HostDevice, answers: &Answers, request: Option<Request>, told: &mut Told) {
+fn print_asked(
+    host: &mut HostDevice,
+    answers: &Answers,
+    request: Option<Request>,
+    printed: &mut Output,
+) {
     let Some(request) = request else {
-        return told.unread();
+        return printed.unread();
     };
     let progress = asked_of(host, &answers.configuration, &answers.report, &request);
-    tell_progress(progress, told);
-    tell_came(host, told);
-    tell_state(host, told);
+    print_progress(progress, printed);
+    print_came(host, printed);
+    print_state(host, printed);
 }
 
 /// Asks for both descriptors.
@@ -129,29 +134,29 @@ fn asked_for_both(
     asked_of(host, configuration, report, &Request::Report)
 }
 
-fn tell_both_of(host: &mut HostDevice, configuration: &[u8], report: &[u8], told: &mut Told) {
+fn print_both_of(host: &mut HostDevice, configuration: &[u8], report: &[u8], printed: &mut Output) {
     if let Err(fault) = asked_for_both(host, configuration, report) {
-        told.show(fault);
+        printed.show(fault);
     }
-    tell_state(host, told);
+    print_state(host, printed);
 }
 
-/// Tells the state of a new host that has asked for both descriptors.
-fn tell_both(alloc: Global, configuration: &[u8], report: &[u8], told: &mut Told) {
+/// Appends the state of a new host that has asked for both descriptors.
+fn print_both(alloc: Global, configuration: &[u8], report: &[u8], printed: &mut Output) {
     let mut host = cold(alloc);
-    tell_both_of(&mut host, configuration, report, told);
+    print_both_of(&mut host, configuration, report, printed);
     drop(host);
 }
 
-fn tell_front(alloc: Global, answers: &Answers, end: Option<usize>, told: &mut Told) {
+fn print_front(alloc: Global, answers: &Answers, end: Option<usize>, printed: &mut Output) {
     match end {
-        Some(end) if end <= answers.configuration.len() => tell_both(
+        Some(end) if end <= answers.configuration.len() => print_both(
             alloc,
             &answers.configuration[..end],
             &answers.report,
-            told,
+            printed,
         ),
-        _ => told.unread(),
+        _ => printed.unread(),
     }
 }
 
@@ -162,59 +167,59 @@ fn changed(configuration: &[u8], at: usize, byte: u8) -> Option<ArrayVec<u8, 64>
     Some(bytes)
 }
 
-fn tell_changed(alloc: Global, answers: &Answers, at: usize, byte: u8, told: &mut Told) {
+fn print_changed(alloc: Global, answers: &Answers, at: usize, byte: u8, printed: &mut Output) {
     match changed(&answers.configuration, at, byte) {
-        Some(bytes) => tell_both(alloc, &bytes, &answers.report, told),
-        None => told.unread(),
+        Some(bytes) => print_both(alloc, &bytes, &answers.report, printed),
+        None => printed.unread(),
     }
 }
 
-fn tell_each_changed(
+fn print_each_changed(
     alloc: Global,
     answers: &Answers,
     at: Option<usize>,
     bytes: &[u8],
-    told: &mut Told,
+    printed: &mut Output,
 ) {
     let Some(at) = at else {
-        return told.unread();
+        return printed.unread();
     };
     for byte in bytes {
-        tell_changed(alloc, answers, at, *byte, told);
+        print_changed(alloc, answers, at, *byte, printed);
     }
 }
 
 /// Keeps what a foreign device answers; false where these words mean something else.
 fn is_answered(answers: &mut Answers, words: &[&str]) -> bool {
     match *words {
-        ["configuration", ref rest @ ..] => spell(&mut answers.configuration, rest),
-        ["report", ref rest @ ..] => spell(&mut answers.report, rest),
+        ["configuration", ref rest @ ..] => read_bytes(&mut answers.configuration, rest),
+        ["report", ref rest @ ..] => read_bytes(&mut answers.report, rest),
         _ => false,
     }
 }
 
 /// Does what these words mean with a host of a foreign device; false where they mean nothing of one.
-pub fn is_told(
+pub fn is_reported(
     alloc: Global,
     ends: &mut Ends,
     words: &[&str],
     bytes: &mut Vec<u8>,
-    told: &mut Told,
+    printed: &mut Output,
 ) -> bool {
     match *words {
-        ["foreign", ref rest @ ..] => tell_asked(
+        ["foreign", ref rest @ ..] => print_asked(
             &mut ends.host,
             &ends.answers,
             request_of(rest, bytes),
-            told,
+            printed,
         ),
-        ["front", end] => tell_front(alloc, &ends.answers, number(end), told),
-        ["changed", at, ref rest @ ..] if spell(bytes, rest) => tell_each_changed(
+        ["front", end] => print_front(alloc, &ends.answers, number(end), printed),
+        ["changed", at, ref rest @ ..] if read_bytes(bytes, rest) => print_each_changed(
             alloc,
             &ends.answers,
             number(at),
             bytes,
-            told,
+            printed,
         ),
         _ => return is_answered(&mut ends.answers, words),
     }

@@ -4,12 +4,12 @@ ghost use Rattle.std.specs.Prelude.{IfOk};
 ghost use Rattle.hid_host.specs.Phase.{IsReady};
 
 use super::{A_PRESSED, Given, config, event_of, is_pipe, key, keyboard};
-use crate::verdict::holds;
 use hid_device::{Boot, Device};
 use hid_layout::ControlId;
 use hid_stack::{HostDevice, StackFault, Told, poll};
 use hid_usages::{Change, ChangeFault, Event};
 use std::test::Fail;
+use test_rows::holds;
 use usb_transact::{Fate, Took};
 
 /// A boot keyboard at address 1.
@@ -32,8 +32,8 @@ fn ready_host(rt: &HostRuntime, descriptor: &[u8]) -> Result<HostDevice, Fail>
     Ok(HostDevice::ready(rt.alloc(), 1, descriptor)?)
 }
 
-/// Whether a poll told the report with the key a, as a fresh one.
-fn is_told(told: &Result<Told, StackFault>) -> bool {
+/// Whether a poll returned the report with the key a, as a fresh one.
+fn is_reported(told: &Result<Told, StackFault>) -> bool {
     match told {
         Ok(
             Told::Polled {
@@ -45,16 +45,16 @@ fn is_told(told: &Result<Told, StackFault>) -> bool {
     }
 }
 
-/// Whether a poll of a host that is ready tells and delivers the key a, though its ACK is lost.
+/// Whether a poll of a host that is ready returns and delivers the key a, though its ACK is lost.
 fn tells_the_key(rt: &HostRuntime, device: &mut Device, host: &mut HostDevice) -> Result<bool, Fail>
     requires { IsReady host.old.phase }
 {
     let mut out = Vec::with_capacity(rt.alloc(), host.max_events())?;
     let told = poll(&Fate::AckLost, device, host, &mut out);
-    Ok(is_told(&told) && out.as_slice() == [event_of(Given::Down(4))].as_slice())
+    Ok(is_reported(&told) && out.as_slice() == [event_of(Given::Down(4))].as_slice())
 }
 
-/// Whether a host that is made for it is told the key.
+/// Whether a host that is made for the device gets the key.
 fn tells_a_host(rt: &HostRuntime, device: &mut Device, descriptor: &[u8]) -> Result<bool, Fail> {
     let mut host = ready_host(rt, descriptor)?;
     tells_the_key(rt, device, &mut host)

@@ -2,12 +2,12 @@
 //! whichever growth of theirs is refused: `rt try --test --fail-alloc N` refuses the Nth one of each.
 
 use super::{Act, CLEAN, TRY, attach_to, changes, config, keyboard, step_of, take_step};
-use crate::verdict::{holds, none_is_wrong};
 use hid_device::{Boot, Device, DeviceCause, DeviceFault};
 use hid_layout::{Cause, ControlId, Layout, LayoutFault, Usage};
 use hid_stack::{Delivered, HostState, Request, Rig, StackFault, Start, Step, Told};
 use hid_usages::{Change, Event, Shown, Snapshot, View};
 use std::test::Fail;
+use test_rows::{holds, none_is_wrong};
 use usb_control::{ControlFault, HostTransfer, Outcome, Progress, Setup};
 
 const KEY: ControlId = ControlId { item: 4, index: 4 };
@@ -108,7 +108,7 @@ fn press_and_poll(rig: &mut Rig, out: &mut Vec<Delivered>) -> Result<(), StackFa
     Ok(())
 }
 
-/// Whether a keyboard is attached, and its poll tells the key.
+/// Whether a keyboard is attached, and its poll reports the key.
 fn tells_the_key(rt: &HostRuntime, rig: &mut Rig) -> Result<bool, StackFault> {
     let mut out = Vec::new(rt.alloc());
     let dev = attached(rig, Start::Ready)?;
@@ -185,9 +185,9 @@ fn lets_go(rt: &HostRuntime, rig: &mut Rig) -> Result<bool, StackFault> {
 }
 
 fn is_reset(rt: &HostRuntime, rig: &mut Rig) -> Result<(), Fail> {
-    let is_told = tells_the_key(rt, rig)?;
+    let is_reported = tells_the_key(rt, rig)?;
     let is_let_go = lets_go(rt, rig)?;
-    holds("a key and a reset", is_told && is_let_go)
+    holds("a key and a reset", is_reported && is_let_go)
 }
 
 #[test]

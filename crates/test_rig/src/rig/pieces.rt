@@ -1,11 +1,11 @@
 //! Which piece of a report of more than a packet goes out after each step (USB 2.0, 5.7.3, 8.5.4, 8.6 and 9.4.5),
-//! worked out by hand from the definitions. What these steps tell and deliver stands in tests/scripts/pieces.rows.
+//! worked out by hand from the definitions. What these steps print and deliver stands in tests/scripts/pieces.rows.
 
-use super::{Act, Asks, CLEAN, CLEAR, RequestKind, TRY, ask_all, attach_to, step_of, take_step};
-use crate::verdict::none_is_wrong;
+use super::{Act, Asks, CLEAN, CLEAR, PlainRequest, TRY, ask_all, attach_to, step_of, take_step};
 use hid_device::Boot;
 use hid_stack::{Delivered, Rig, StackFault, Start};
 use std::test::Fail;
+use test_rows::none_is_wrong;
 use usb_transact::Fate;
 
 /// 100 values of a byte each.
@@ -135,9 +135,9 @@ const SCHEDULES: [Schedule; 11] = [
 
 /// The requests that bring such a device up: its report descriptor has 14 or 15 bytes, which go in two pieces of endpoint 0.
 const BRINGS_UP: [Asks; 3] = [
-    (RequestKind::Config, 7),
-    (RequestKind::Report, 4),
-    (RequestKind::Configure, 2),
+    (PlainRequest::Config, 7),
+    (PlainRequest::Report, 4),
+    (PlainRequest::Configure, 2),
 ];
 
 /// Whether each step leaves the piece that its row says.

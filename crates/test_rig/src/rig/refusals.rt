@@ -2,15 +2,15 @@
 //! printed. By docs/FORMATS.md and docs/SCRIPT.md.
 
 use super::{
-    Act, Boots, CLEAN, CLEAR, NO_CONTROL, RequestKind, TRY, attach_all, step_of, take_step,
+    Act, Boots, CLEAN, CLEAR, NO_CONTROL, PlainRequest, TRY, attach_all, step_of, take_step,
 };
-use crate::verdict::{holds, none_is_wrong};
 use hid_device::{Boot, DeviceCause, DeviceFault};
 use hid_layout::Cause;
 use hid_stack::{Delivered, DescriptorFault, Rig, RunFault, StackFault, Start};
 use hid_usages::{ChangeFault, ReportFault};
 use std::fmt::Write;
 use std::test::Fail;
+use test_rows::{holds, none_is_wrong};
 use usb_control::ControlFault;
 use usb_transact::Fate;
 
@@ -44,26 +44,26 @@ type Answer = (u8, Act, Option<StackFault>);
 const ANSWERS: [Answer; 37] = [
     (1, CLEAN,                             NOT_READY),
     (1, TRY,                               NO_TRANSFER),
-    (1, Act::Begin(RequestKind::Configure),      NOT_READY),
-    (8, Act::Begin(RequestKind::Config),         NO_DEVICE),
+    (1, Act::Begin(PlainRequest::Configure),      NOT_READY),
+    (8, Act::Begin(PlainRequest::Config),         NO_DEVICE),
 
     (2, Act::Reset,                        None),
     (0, Act::Reset,                        NO_DEVICE),
     (8, Act::Reset,                        NO_DEVICE),
     (2, Act::Poll(Fate::TokenLost),        NOT_READY),
     (2, TRY,                               NO_TRANSFER),
-    (2, Act::Begin(RequestKind::Report),         NOT_READY),
-    (2, Act::Begin(RequestKind::Configure),      NOT_READY),
-    (2, Act::Begin(RequestKind::GetIdle),        NOT_READY),
+    (2, Act::Begin(PlainRequest::Report),         NOT_READY),
+    (2, Act::Begin(PlainRequest::Configure),      NOT_READY),
+    (2, Act::Begin(PlainRequest::GetIdle),        NOT_READY),
     (2, Act::Press(9, 0),                  Some(NO_CONTROL)),
-    (2, Act::Begin(RequestKind::Config),         None),
-    (2, Act::Begin(RequestKind::Report),         BUSY),
+    (2, Act::Begin(PlainRequest::Config),         None),
+    (2, Act::Begin(PlainRequest::Report),         BUSY),
     (2, Act::Reset,                        None),
-    (2, Act::Begin(RequestKind::Report),         NOT_READY),
+    (2, Act::Begin(PlainRequest::Report),         NOT_READY),
 
     (3, CLEAR,                             None),
     (3, CLEAN,                             NOT_READY),
-    (3, Act::Begin(RequestKind::Halt),           BUSY),
+    (3, Act::Begin(PlainRequest::Halt),           BUSY),
     (3, LOST,                              None),
     (3, LOST,                              None),
     (3, LOST,                              None),
@@ -75,9 +75,9 @@ const ANSWERS: [Answer; 37] = [
 
     (4, CLEAR,                             None),
     (4, Act::Reset,                        None),
-    (4, Act::Begin(RequestKind::Halt),           NOT_READY),
+    (4, Act::Begin(PlainRequest::Halt),           NOT_READY),
     (4, CLEAR,                             NOT_READY),
-    (4, Act::Begin(RequestKind::EndpointStatus), NOT_READY),
+    (4, Act::Begin(PlainRequest::EndpointStatus), NOT_READY),
 
     (8, CLEAN,                             NO_DEVICE),
     (8, Act::Move(2, 0, 1),                NO_DEVICE),
@@ -117,7 +117,7 @@ fn are_in_place(rt: &HostRuntime, rig: &mut Rig) -> Result<(), Fail> {
 }
 
 #[test]
-fn behind_a_refusal_steps_go_on(rt: HostRuntime) -> Result<(), Fail> {
+fn steps_go_on_after_a_refusal(rt: HostRuntime) -> Result<(), Fail> {
     let mut rig = Rig::new(rt.alloc())?;
     are_in_place(&rt, &mut rig)
 }

@@ -2,15 +2,15 @@
 //! 9.1.1.3; HID 1.11, 7.2), worked out by hand from the definitions.
 
 use super::{
-    Act, Asks, Boots, CLEAN, RequestKind, TRY, ask, ask_all, attach_all, state_of, step_of,
+    Act, Asks, Boots, CLEAN, PlainRequest, TRY, ask, ask_all, attach_all, state_of, step_of,
     take_all, take_step,
 };
-use crate::verdict::none_is_wrong;
 use arrayvec::ArrayVec;
-use hid_descriptor::ReportKind;
 use hid_device::{Boot, Device};
+use hid_report_descriptor::ReportKind;
 use hid_stack::{Delivered, HostState, Request, Rig, StackFault, Start, Step};
 use std::test::Fail;
+use test_rows::none_is_wrong;
 use usb_control::ControlFault;
 use usb_transact::Fate;
 
@@ -66,7 +66,7 @@ fn are_forgotten(rt: &HostRuntime, rig: &mut Rig) -> Result<(), Fail> {
 }
 
 #[test]
-fn behind_a_reset_the_host_knows_nothing_and_the_device_is_at_rest(
+fn after_a_reset_the_host_knows_nothing_and_the_device_is_at_rest(
     rt: HostRuntime,
 ) -> Result<(), Fail> {
     let mut rig = Rig::new(rt.alloc())?;
@@ -80,9 +80,9 @@ const COLD: [Boots; 4] = [(Boot::Keyboard, Start::Cold); 4];
 #[rattlefmt::skip]
 const FRONTS: [&[Asks]; 4] = [
     &[],
-    &[(RequestKind::Config, 7)],
-    &[(RequestKind::Config, 7), (RequestKind::Report, 10)],
-    &[(RequestKind::Config, 7), (RequestKind::Report, 10), (RequestKind::Configure, 2)],
+    &[(PlainRequest::Config, 7)],
+    &[(PlainRequest::Config, 7), (PlainRequest::Report, 10)],
+    &[(PlainRequest::Config, 7), (PlainRequest::Report, 10), (PlainRequest::Configure, 2)],
 ];
 
 /// The first of these devices, from 1, of which a reset amid a transfer leaves anything.
@@ -93,7 +93,7 @@ fn first_not_reset(
 ) -> Result<Option<usize>, StackFault> {
     for (dev, requests) in (1..8).zip(rows.iter()) {
         ask_all(rig, dev, requests, out)?;
-        ask(rig, dev, (RequestKind::Status, 1), out)?;
+        ask(rig, dev, (PlainRequest::Status, 1), out)?;
         take_step(rig, &step_of(dev, Act::Reset), out)?;
         if !is_forgotten(rig, dev)? {
             return Ok(Some(dev as usize));

@@ -1,4 +1,4 @@
-use Rattle.hid_bus.proofs.HaltLemmas.{halts_stay, clears_stay, opens_next, lived_cuts, fresh_cuts}
+use Rattle.hid_bus.proofs.AbortedRoundLemmas.{halts_stay, clears_stay, opens_next, lived_cuts, fresh_cuts}
 use Rattle.hid_bus.proofs.laws.halts_lose_nothing.Goals as goal
 
 pub returns-clause-halts : goal.returns-clause-halts

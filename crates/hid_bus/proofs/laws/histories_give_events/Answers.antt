@@ -1,5 +1,5 @@
-use Rattle.hid_bus.proofs.HistoryEventLemmas.{lives_on}
+use Rattle.hid_bus.proofs.HistoryEventLemmas.{history_goes_on}
 use Rattle.hid_bus.proofs.laws.histories_give_events.Goals as goal
 
-pub returns-clause-lives : goal.returns-clause-lives
-returns-clause-lives c = lives_on
+pub returns-clause-history : goal.returns-clause-history
+returns-clause-history c = history_goes_on

@@ -3,7 +3,7 @@ use Rattle.std.proofs.Math.ListN.{set}
 use Rattle.std.proofs.lemmas.List.{get_or_default}
 use Rattle.std.proofs.lemmas.List.Edits.{map_over_more}
 use Rattle.std.proofs.lemmas.Grind.{common_steps}
-use Rattle.hid_device.specs.ReportState.{most_frames}
+use Rattle.hid_bus.specs.ReportState.{most_frames}
 use Rattle.hid_device.proofs.frames.count_frame.Goals as goal
 
 pub loop-count-preserved : goal.loop-count-preserved

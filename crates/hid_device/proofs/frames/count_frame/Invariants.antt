@@ -1,5 +1,5 @@
 use Rattle.std.proofs.Common.{◌≡◌, ◌+◌, ◌++◌, map, min, take, drop}
-use Rattle.hid_device.specs.ReportState.{most_frames}
+use Rattle.hid_bus.specs.ReportState.{most_frames}
 use Rattle.hid_device.proofs.frames.count_frame.Given as goal
 
 abbrev pub invariant-loop-count : goal.invariant-loop-count

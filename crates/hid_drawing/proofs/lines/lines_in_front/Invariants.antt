@@ -4,4 +4,4 @@ use Rattle.hid_drawing.proofs.lines.lines_in_front.Given as goal
 
 -- the lines so far
 abbrev pub invariant-loop-k : goal.invariant-loop-k
-invariant-loop-k l = l.lines ≡ lines_in_front l.layout l.frames l.byte l.k
+invariant-loop-k l = l.lines ≡ lines_in_front l.layout l.brackets l.byte l.k

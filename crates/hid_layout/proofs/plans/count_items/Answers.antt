@@ -1,6 +1,6 @@
 use Rattle.std.proofs.Common.{length, map, ap, ◌∙◌, arith}
 use Rattle.std.proofs.lemmas.List.{take_all}
-use Rattle.hid_descriptor.specs.Faults.{upward}
+use Rattle.hid_report_descriptor.specs.Faults.{numbers_from}
 use Rattle.hid_layout.specs.Plans.{count_of}
 use Rattle.hid_layout.proofs.PlanLemmas.{item_at, item_there, count_small, count_more}
 use Rattle.hid_layout.proofs.plans.count_items.Goals as goal
@@ -23,7 +23,10 @@ pub loop-item-init : goal.loop-item-init
 loop-item-init c = c.requires.none
 
 pub returns : goal.returns
-returns c = c.loop-item.invariant ∙ ap (λ l. map (count_of l) (upward 0 (length c.args.counts.now))) (take_all c.loop-item.item-index c.args.items.now (omega arith))
+returns c =
+    c.loop-item.invariant
+    ∙ ap (λ l. map (count_of l) (numbers_from 0 (length c.args.counts.now)))
+    (take_all c.loop-item.item-index c.args.items.now (omega arith))
 
 pub bounds-items-item-index : goal.bounds-items-item-index
 bounds-items-item-index c = c.loop-item-test.true

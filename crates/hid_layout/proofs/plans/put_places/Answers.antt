@@ -1,6 +1,6 @@
 use Rattle.std.proofs.Common.{◌<◌, length, map, ap, subst, ◌∙◌, arith}
 use Rattle.std.proofs.lemmas.List.{take_all}
-use Rattle.hid_descriptor.specs.Faults.{upward}
+use Rattle.hid_report_descriptor.specs.Faults.{numbers_from}
 use Rattle.hid_layout.specs.Plans.{end_of, ArePut}
 use Rattle.hid_layout.proofs.PlanLemmas.{item_there, end_room, ends_none, ends_more, put_none, put_more}
 use Rattle.hid_layout.proofs.plans.put_places.Goals as goal
@@ -48,7 +48,10 @@ pub offset_bounds-ends-item : goal.offset_bounds-ends-item
 offset_bounds-ends-item c = record { fits = omega (arith, item_there c.args.items.now (length c.args.ends.now) c.loop-i.i c.requires.there (omega (arith, c.loop-i-test.true))) }
 
 pub returns-clause-ends : goal.returns-clause-ends
-returns-clause-ends c = c.loop-i.invariant.ends ∙ ap (λ l. map (end_of c.args.items.now l) (upward 0 (length c.args.ends.now))) (take_all c.loop-i.i c.args.items.now (omega arith))
+returns-clause-ends c =
+    c.loop-i.invariant.ends
+    ∙ ap (λ l. map (end_of c.args.items.now l) (numbers_from 0 (length c.args.ends.now)))
+    (take_all c.loop-i.i c.args.items.now (omega arith))
 
 pub returns-clause-places : goal.returns-clause-places
 returns-clause-places c = subst (λ l. ArePut (length c.args.ends.now) c.args.items.now l c.loop-i.places) (take_all c.loop-i.i c.args.items.now (omega arith)) c.loop-i.invariant.places

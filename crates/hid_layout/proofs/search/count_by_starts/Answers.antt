@@ -1,5 +1,5 @@
 use Rattle.std.proofs.Common.{ap, arith, ◌∙◌, ◌+◌, ◌-◌, length, get_or}
-use Rattle.hid_descriptor.proofs.StartLemmas.{starts-length, counted}
+use Rattle.hid_report_descriptor.proofs.StartLemmas.{starts-length, counted}
 use Rattle.hid_layout.proofs.search.count_by_starts.Goals as goal
 
 pub bounds-starts-ranges : goal.bounds-starts-ranges

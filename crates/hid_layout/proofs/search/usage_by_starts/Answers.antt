@@ -1,7 +1,7 @@
 use Rattle.std.proofs.Common.{◌≡◌, ◌≢◌, ◌≤◌, List, ℕ, ◌<◌, ◌+◌, ◌-◌, length, get_or, ap, arith, subst}
 use Rattle.std.specs.Prelude.{slice_index}
-use Rattle.hid_descriptor.specs.Usages.{Entry, starts_of}
-use Rattle.hid_descriptor.proofs.StartLemmas.{starts-length, found_by_start, past_by_start, none_by_start}
+use Rattle.hid_report_descriptor.specs.Usages.{Entry, starts_of}
+use Rattle.hid_report_descriptor.proofs.StartLemmas.{starts-length, found_by_start, past_by_start, none_by_start}
 use Rattle.hid_layout.proofs.search.usage_by_starts.Goals as goal
 
 pub returns-then-ranges-eq0 : goal.returns-then-ranges-eq0

@@ -1,6 +1,6 @@
 use Rattle.std.proofs.Common.{◌∙◌, sym, ap, subst}
 use Rattle.std.proofs.lemmas.Option.{slice_get_within}
-use Rattle.hid_descriptor.specs.Fields.{is_padding}
+use Rattle.hid_report_descriptor.specs.Fields.{is_padding}
 use Rattle.hid_snapshots.specs.Encoding.{CanSend}
 use Rattle.hid_snapshots.proofs.EncodingLemmas.{sent_there}
 use Rattle.hid_snapshots.proofs.encode.send_item.Goals as goal

@@ -10,5 +10,5 @@ returns-clause-headline c = headline
 pub returns-clause-rounds : goal.returns-clause-rounds
 returns-clause-rounds c = keeps_to_rounds
 
-pub returns-clause-lives : goal.returns-clause-lives
-returns-clause-lives c = devices_live
+pub returns-clause-history : goal.returns-clause-history
+returns-clause-history c = devices_live

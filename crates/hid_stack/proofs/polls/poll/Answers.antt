@@ -23,7 +23,7 @@ returns-clause-packets g c =
     c.in_ok-token.ensures.is_ready c.in_ok-token.ensures.token
     c.send_token-answers.ensures (search rules) back_read said
     (takes_all c.args.host.now.phase c.args.host.now c.reply_ref.new.self reply c.reply_ref.result c.args.out.now.items c.reply_ref.new.out.items
-    c.reply_ref.ensures.told c.reply_ref.ensures.after c.reply_ref.ensures.events)
+    c.reply_ref.ensures.outcome c.reply_ref.ensures.after c.reply_ref.ensures.events)
     c.in_ok-took.was c.acknowledge.ensures
 
 pub returns-in_err-token-clause-packets : goal.returns-in_err-token-clause-packets
@@ -49,5 +49,5 @@ returns-in_err-took-clause-packets g c =
     c.in_ok-token.ensures.is_ready c.in_ok-token.ensures.token
     c.send_token-answers.ensures (search rules) back_read
     (takes_all c.args.host.now.phase c.args.host.now c.reply_ref.new.self reply c.reply_ref.result c.args.out.now.items c.reply_ref.new.out.items
-    c.reply_ref.ensures.told c.reply_ref.ensures.after c.reply_ref.ensures.events)
+    c.reply_ref.ensures.outcome c.reply_ref.ensures.after c.reply_ref.ensures.events)
     c.in_err-took.was c.from_residual-in_err-took.ensures.1

@@ -14,20 +14,20 @@ use Rattle.hid_stack.proofs.DropLemmas.{told_at_try, untold_at_try}
 use Rattle.hid_stack.proofs.TryLemmas.{knows_so, steps_so}
 use Rattle.hid_stack.proofs.transfers.control_pair.Goals as goal
 
-pub tell_dropped-requires-clause-together : goal.tell_dropped-requires-clause-together
-tell_dropped-requires-clause-together c =
+pub push_dropped_motion-requires-clause-together : goal.push_dropped_motion-requires-clause-together
+push_dropped_motion-requires-clause-together c =
     let step = steps_so c.args.fate c.args.device.now c.control.result.now c.control_step-result.new.control c.args.host.now c.control_step-result.new.self c.control_step-result.result
     (some_steps c.hosts_know_their_devices.ensures.steps) c.control_steps_are_computed.ensures c.control.ensures.now c.control_step-result.ensures c.requires.together c.requires.knows c.requires.home c.is_sound.ensures in
     step.together
 
-pub tell_dropped-requires-clause-input : goal.tell_dropped-requires-clause-input
-tell_dropped-requires-clause-input c =
+pub push_dropped_motion-requires-clause-input : goal.push_dropped_motion-requires-clause-input
+push_dropped_motion-requires-clause-input c =
     let step = steps_so c.args.fate c.args.device.now c.control.result.now c.control_step-result.new.control c.args.host.now c.control_step-result.new.self c.control_step-result.result
     (some_steps c.hosts_know_their_devices.ensures.steps) c.control_steps_are_computed.ensures c.control.ensures.now c.control_step-result.ensures c.requires.together c.requires.knows c.requires.home c.is_sound.ensures in
     subst (λ (l : Contents). IfSome c.awaited_round-awaited.result (λ r. IsInput l r)) (sym step.layout) c.awaited_round-awaited.ensures.input
 
-pub tell_dropped-requires-clause-room : goal.tell_dropped-requires-clause-room
-tell_dropped-requires-clause-room c =
+pub push_dropped_motion-requires-clause-room : goal.push_dropped_motion-requires-clause-room
+push_dropped_motion-requires-clause-room c =
     let step = steps_so c.args.fate c.args.device.now c.control.result.now c.control_step-result.new.control c.args.host.now c.control_step-result.new.self c.control_step-result.result
     (some_steps c.hosts_know_their_devices.ensures.steps) c.control_steps_are_computed.ensures c.control.ensures.now c.control_step-result.ensures c.requires.together c.requires.knows c.requires.home c.is_sound.ensures in
     let room = ap (λ (l : Contents). max_events (items_of l)) step.layout in
@@ -74,7 +74,7 @@ returns-clause-events c =
     (some_steps c.hosts_know_their_devices.ensures.steps) c.control_steps_are_computed.ensures c.control.ensures.now c.control_step-result.ensures c.requires.together c.requires.knows c.requires.home c.is_sound.ensures in
     let device_then : DeviceState = record { addr = c.args.device.now.addr; control = c.control_step-result.new.control; awaits_ack = false } in
     let host_then = c.control_step-result.new.self in
-    c.tell_dropped.ensures.events
+    c.push_dropped_motion.ensures.events
     ∙ ap (λ (a : Option ℕ). drops_after_try a (round_of (core_of device_then)) host_then.phase
     (core_of device_then).reports.fixed) c.awaited_round-awaited.ensures.awaited
     ∙ told_at_try c.args.fate c.args.device.now device_then c.args.host.now host_then (running c.args.host.now.transfer) c.control_step-result.result
@@ -99,4 +99,5 @@ pub returns-clause-few : goal.returns-clause-few
 returns-clause-few c =
     let step = steps_so c.args.fate c.args.device.now c.control.result.now c.control_step-result.new.control c.args.host.now c.control_step-result.new.self c.control_step-result.result
     (some_steps c.hosts_know_their_devices.ensures.steps) c.control_steps_are_computed.ensures c.control.ensures.now c.control_step-result.ensures c.requires.together c.requires.knows c.requires.home c.is_sound.ensures in
-    subst (λ (l : Contents). length c.tell_dropped.new.events.items ≤ max_events (items_of l)) step.layout c.tell_dropped.ensures.few
+    subst (λ (l : Contents). length c.push_dropped_motion.new.events.items ≤ max_events
+    (items_of l)) step.layout c.push_dropped_motion.ensures.few

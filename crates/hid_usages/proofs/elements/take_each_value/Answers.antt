@@ -1,7 +1,7 @@
 use Rattle.std.proofs.Common.{◌≡◌, ◌∙◌, ℤ, to_z, of_z, w64, Some, sym, refl, ap, rules, arith}
 use Rattle.std.specs.List.{slice_get}
 use Rattle.std.proofs.lemmas.Int.{to_z-of_z}
-use Rattle.hid_snapshots.specs.Events.{at, usages_at, value_event}
+use Rattle.hid_snapshots.specs.Events.{control_at, usages_at, value_event}
 use Rattle.hid_usages.specs.Elements.{value_by_number}
 use Rattle.hid_usages.proofs.ElementLemmas.{values_readable, room_found, reading_found, reading_done}
 use Rattle.hid_usages.proofs.elements.take_each_value.Goals as goal
@@ -36,7 +36,7 @@ take_value-requires-clause-room g c = λ usage before here there.
     let is : v ≡ c.number-number.result = search (rules, to_z-of_z) in
     let number : slice_get c.args.numbers.now c.in-Some.index ≡ Some v = c.number-number.ensures ∙ ap (λ (n : ℤ). Some n) (sym is) in
     let can = values_readable c.args.carriable.now c.args.item us c.args.held.now c.args.numbers.now c.requires.numbers c.requires.held in
-    room_found (value_by_number c.args.carriable.now) (λ j u p. value_event (at c.args.item j) u p.0 p.1) us c.args.held.now c.args.numbers.now can _ _ c.loop-index.held c.loop-index.out c.loop-index.from c.in-Some.index usage before v c.in-Some.ensures.found c.loop-index.invariant here there number
+    room_found (value_by_number c.args.carriable.now) (λ j u p. value_event (control_at c.args.item j) u p.0 p.1) us c.args.held.now c.args.numbers.now can _ _ c.loop-index.held c.loop-index.out c.loop-index.from c.in-Some.index usage before v c.in-Some.ensures.found c.loop-index.invariant here there number
 
 pub loop-index-preserved : goal.loop-index-preserved
 loop-index-preserved g c =
@@ -45,7 +45,7 @@ loop-index-preserved g c =
     let is : v ≡ c.number-number.result = search (rules, to_z-of_z) in
     let number : slice_get c.args.numbers.now c.in-Some.index ≡ Some v = c.number-number.ensures ∙ ap (λ (n : ℤ). Some n) (sym is) in
     let can = values_readable c.args.carriable.now c.args.item us c.args.held.now c.args.numbers.now c.requires.numbers c.requires.held in
-    reading_found (value_by_number c.args.carriable.now) (λ j u p. value_event (at c.args.item j) u p.0 p.1) us c.args.held.now c.args.numbers.now can _ _ c.loop-index.held c.take_value.new.held c.loop-index.out c.take_value.new.out c.loop-index.from c.in-Some.index v c.in-Some.ensures.found c.loop-index.invariant number c.take_value.ensures.held c.take_value.ensures.told
+    reading_found (value_by_number c.args.carriable.now) (λ j u p. value_event (control_at c.args.item j) u p.0 p.1) us c.args.held.now c.args.numbers.now can _ _ c.loop-index.held c.take_value.new.held c.loop-index.out c.take_value.new.out c.loop-index.from c.in-Some.index v c.in-Some.ensures.found c.loop-index.invariant number c.take_value.ensures.held c.take_value.ensures.appends
 
 pub loop-index-smaller : goal.loop-index-smaller
 loop-index-smaller g c =
@@ -56,13 +56,13 @@ pub returns-clause-held : goal.returns-clause-held
 returns-clause-held g c =
     let us = usages_at c.args.layout.now c.args.item in
     let can = values_readable c.args.carriable.now c.args.item us c.args.held.now c.args.numbers.now c.requires.numbers c.requires.held in
-    (reading_done (value_by_number c.args.carriable.now) (λ j u p. value_event (at c.args.item j) u p.0 p.1) us c.args.held.now c.args.numbers.now can _ _ c.loop-index.held c.loop-index.out c.loop-index.from c.in_default.ensures.found c.loop-index.invariant).0
+    (reading_done (value_by_number c.args.carriable.now) (λ j u p. value_event (control_at c.args.item j) u p.0 p.1) us c.args.held.now c.args.numbers.now can _ _ c.loop-index.held c.loop-index.out c.loop-index.from c.in_default.ensures.found c.loop-index.invariant).0
 
-pub returns-clause-told : goal.returns-clause-told
-returns-clause-told g c =
+pub returns-clause-appends : goal.returns-clause-appends
+returns-clause-appends g c =
     let us = usages_at c.args.layout.now c.args.item in
     let can = values_readable c.args.carriable.now c.args.item us c.args.held.now c.args.numbers.now c.requires.numbers c.requires.held in
-    (reading_done (value_by_number c.args.carriable.now) (λ j u p. value_event (at c.args.item j) u p.0 p.1) us c.args.held.now c.args.numbers.now can _ _ c.loop-index.held c.loop-index.out c.loop-index.from c.in_default.ensures.found c.loop-index.invariant).1
+    (reading_done (value_by_number c.args.carriable.now) (λ j u p. value_event (control_at c.args.item j) u p.0 p.1) us c.args.held.now c.args.numbers.now can _ _ c.loop-index.held c.loop-index.out c.loop-index.from c.in_default.ensures.found c.loop-index.invariant).1
 
 pub returns-clause-len : goal.returns-clause-len
 returns-clause-len g c = c.loop-index.invariant.taken.same_length

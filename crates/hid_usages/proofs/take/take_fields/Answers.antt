@@ -4,7 +4,7 @@ use Rattle.hid_snapshots.specs.declared.event.Event.{Event}
 use Rattle.hid_usages.specs.Appending.{HasSpace, Appends}
 use Rattle.hid_snapshots.specs.Events.{usages_at, element_events}
 use Rattle.hid_usages.specs.Reading.{FitsFields, item_numbers}
-use Rattle.hid_usages.specs.Taking.{state_by_numbers, number_events}
+use Rattle.hid_usages.specs.Taking.{state_after_numbers_at, events_of_numbers_at}
 use Rattle.hid_usages.specs.Bits.{are_bits, read_bits}
 use Rattle.hid_usages.proofs.BoundLemmas.{numbers_fit}
 use Rattle.hid_usages.proofs.BitLemmas.{pattern_in, has_bits, reads_as_bits}
@@ -57,7 +57,8 @@ take_numbers-requires-clause-room g c =
     let item = c.args.listed.now.item.now in
     let numbers : c.new-numbers.result ≡ item_numbers layout c.args.bytes.now item = search rules in
     subst (λ (ns : List ℤ). HasSpace c.args.out.now
-    (number_events layout place item c.args.state.now (state_by_numbers layout place item c.args.state.now ns) ns))
+    (events_of_numbers_at layout place item c.args.state.now
+    (state_after_numbers_at layout place item c.args.state.now ns) ns))
     (sym numbers) c.requires.room
 
 pub returns-else-are_bits-clause-state : goal.returns-else-are_bits-clause-state
@@ -65,15 +66,16 @@ returns-else-are_bits-clause-state g c =
     let layout = c.args.listed.now.layout.now in
     let item = c.args.listed.now.item.now in
     let numbers : c.new-numbers.result ≡ item_numbers layout c.args.bytes.now item = search rules in
-    c.take_numbers.ensures.state ∙ ap (state_by_numbers layout c.args.listed.now.place item c.args.state.now) numbers
+    c.take_numbers.ensures.state
+    ∙ ap (state_after_numbers_at layout c.args.listed.now.place item c.args.state.now) numbers
 
-pub returns-else-are_bits-clause-told : goal.returns-else-are_bits-clause-told
-returns-else-are_bits-clause-told g c =
+pub returns-else-are_bits-clause-appends : goal.returns-else-are_bits-clause-appends
+returns-else-are_bits-clause-appends g c =
     let layout = c.args.listed.now.layout.now in
     let item = c.args.listed.now.item.now in
     let numbers : c.new-numbers.result ≡ item_numbers layout c.args.bytes.now item = search rules in
     subst (λ (ns : List ℤ). Appends c.args.out.now
-    (number_events layout c.args.listed.now.place item c.args.state.now c.take_numbers.new.state ns) c.take_numbers.new.out) numbers c.take_numbers.ensures.told
+    (events_of_numbers_at layout c.args.listed.now.place item c.args.state.now c.take_numbers.new.state ns) c.take_numbers.new.out) numbers c.take_numbers.ensures.appends
 
 pub get-requires-clause-some : goal.get-requires-clause-some
 get-requires-clause-some g c = (c.requires.listed.layout.elements c.args.listed.now.place c.args.listed.now.item.now c.requires.listed.with_data.listed c.requires.listed.with_data.no_padding).some
@@ -120,7 +122,7 @@ take_pattern-requires-clause-room g c =
     ap (λ (a : ControlState). element_events c.args.listed.now.place
     (usages_at c.args.listed.now.layout.now c.args.listed.now.place) c.args.state.now a) read
     ∙ reads.told
-    (state_by_numbers c.args.listed.now.layout.now c.args.listed.now.place c.args.listed.now.item.now c.args.state.now (item_numbers c.args.listed.now.layout.now c.args.bytes.now c.args.listed.now.item.now)) in
+    (state_after_numbers_at c.args.listed.now.layout.now c.args.listed.now.place c.args.listed.now.item.now c.args.state.now (item_numbers c.args.listed.now.layout.now c.args.bytes.now c.args.listed.now.item.now)) in
     omega (arith, ap (λ (es : List Event). length es) told, c.requires.room)
 
 pub returns-then-are_bits-clause-state : goal.returns-then-are_bits-clause-state
@@ -130,8 +132,8 @@ returns-then-are_bits-clause-state g c =
     let pattern : c.get.result ≡ pattern_in c.args.listed.now.layout.now c.args.bytes.now c.args.listed.now.item.now = search rules in
     c.take_pattern.ensures.state ∙ ap (λ (p : ℕ). read_bits p c.args.state.now) pattern ∙ reads.read
 
-pub returns-then-are_bits-clause-told : goal.returns-then-are_bits-clause-told
-returns-then-are_bits-clause-told g c =
+pub returns-then-are_bits-clause-appends : goal.returns-then-are_bits-clause-appends
+returns-then-are_bits-clause-appends g c =
     let on : are_bits c.args.listed.now.item.now ≡ true = search rules in
     let reads = reads_as_bits c.args.listed.now.layout.now c.args.bytes.now c.args.listed.now.place c.args.listed.now.item.now c.args.state.now c.requires.listed.layout c.requires.listed.with_data.listed c.requires.listed.input (has_bits c.args.listed.now.item.now on) c.requires.held in
-    subst (λ (es : List Event). Appends c.args.out.now es c.take_pattern.new.out) (reads.told c.take_pattern.new.state) c.take_pattern.ensures.told
+    subst (λ (es : List Event). Appends c.args.out.now es c.take_pattern.new.out) (reads.told c.take_pattern.new.state) c.take_pattern.ensures.appends

@@ -17,8 +17,8 @@ same xs ys r is on = (slice_eq-Decides booleans_Decides xs ys (pointwise beq xs 
 pub returns-else-not-is_first_of-clause-held : goal.returns-else-not-is_first_of-clause-held
 returns-else-not-is_first_of-clause-held c = same c.args.held.now (take (length c.args.held.now) c.args.named.now) c.is_first_of.result c.is_first_of.ensures (search rules)
 
-pub returns-else-not-is_first_of-clause-told : goal.returns-else-not-is_first_of-clause-told
-returns-else-not-is_first_of-clause-told c =
+pub returns-else-not-is_first_of-clause-appends : goal.returns-else-not-is_first_of-clause-appends
+returns-else-not-is_first_of-clause-appends c =
     let us = usages_at c.args.layout.now c.args.place in
     let first : c.args.held.now ≡ take (length c.args.held.now) c.args.named.now = same c.args.held.now (take (length c.args.held.now) c.args.named.now) c.is_first_of.result c.is_first_of.ensures (search rules) in
     let told = first_told c.args.place us c.args.held.now c.args.named.now (length c.args.held.now) (omega arith) in

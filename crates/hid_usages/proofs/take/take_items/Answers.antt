@@ -63,11 +63,11 @@ loop-place-preserved g c =
     record {
       along = along_step c.args.received.now.layout.now c.args.received.now.report c.loop-place.place-index _ _ _ next (record {
         states = read_next c.args.received.now.layout.now c.args.received.now.report c.args.received.now.bytes.now c.args.states.now c.loop-place.states (get_or c.args.places.now c.loop-place.place-index 0) c.index-states-i.result c.take_item.new.state next.holds.states within c.loop-place.auto.states c.take_item.ensures.state;
-        events = told _ _ _ _ _ _ step next.holds.events c.take_item.ensures.told.items;
-        fits = room_left _ _ _ _ _ _ _ step next.holds.fits c.take_item.ensures.told.len c.take_item.ensures.told.room;
+        events = told _ _ _ _ _ _ step next.holds.events c.take_item.ensures.appends.items;
+        fits = room_left _ _ _ _ _ _ _ step next.holds.fits c.take_item.ensures.appends.len c.take_item.ensures.appends.room;
       });
       named = c.take_item.ensures.named ∙ c.loop-place.invariant.named;
-      same_room = c.take_item.ensures.told.room ∙ c.loop-place.invariant.same_room;
+      same_room = c.take_item.ensures.appends.room ∙ c.loop-place.invariant.same_room;
     }
 
 pub returns-clause-view : goal.returns-clause-view
@@ -79,8 +79,8 @@ returns-clause-view g c =
     view_from_item-length c.args.received.now.layout.now c.args.received.now.report c.args.received.now.bytes.now 0 c.args.states.now in
     all.states ∙ filled target c.args.states.now (length c.args.received.now.layout.now.items) (omega (arith, c.requires.fits.one_each, c.requires.places.all)) (omega (arith, len))
 
-pub returns-clause-told : goal.returns-clause-told
-returns-clause-told g c =
+pub returns-clause-appends : goal.returns-clause-appends
+returns-clause-appends g c =
     let skips = taking_skips c.args.received.now.layout.now c.args.received.now.report c.args.received.now.bytes.now c.args.states.now c.loop-place.states c.args.out.now.items c.loop-place.out.items (vec_len c.loop-place.out) (vec_capacity c.loop-place.out) (c.requires.fits.one_each ∙ c.requires.places.all) c.loop-place.auto.states in
     let all = along_end c.args.received.now.layout.now c.args.received.now.report c.loop-place.place-index c.args.places.now _ skips c.requires.places.plan c.loop-place-test.false c.loop-place.invariant.along in
     appends _ _ _ (all_told c.args.received.now.layout.now c.args.received.now.report c.args.received.now.bytes.now c.args.states.now (length c.args.received.now.layout.now.items) c.loop-place.out.items _ (omega (arith, c.requires.fits.one_each, c.requires.places.all)) all.events) c.loop-place.invariant.same_room

@@ -3,7 +3,7 @@ use Rattle.std.specs.List.{list_any}
 use Rattle.hid_snapshots.specs.declared.control_state.ControlState.{ControlState}
 use Rattle.hid_snapshots.specs.declared.control_state.ControlState.TheVariants.{Switches}
 use Rattle.hid_snapshots.specs.declared.event.Event.{Event}
-use Rattle.hid_descriptor.specs.Usages.{usage_list}
+use Rattle.hid_report_descriptor.specs.Usages.{usage_list}
 use Rattle.hid_layout.specs.Controls.{Key}
 use Rattle.hid_snapshots.specs.Events.{usages_at, key_events, ups, downs}
 use Rattle.hid_usages.specs.Appending.{Appends}
@@ -16,7 +16,7 @@ use Rattle.hid_usages.proofs.take.take_named.Goals as goal
 
 pub read_keys-requires-clause-clear : goal.read_keys-requires-clause-clear
 read_keys-requires-clause-clear g c = record {
-  after = omega (arith, c.requires.named.places, c.requires.held, ap length c.requires.array.keys);
+  room = omega (arith, c.requires.named.places, c.requires.held, ap length c.requires.array.keys);
   none = c.requires.named.none;
 }
 
@@ -26,8 +26,8 @@ take_first-requires-clause-held g c = omega (arith, c.requires.held, c.requires.
 pub take_first-requires-clause-places : goal.take_first-requires-clause-places
 take_first-requires-clause-places g c = omega (arith, c.requires.named.places, c.read_keys.ensures.len)
 
-pub take_first-requires-clause-behind : goal.take_first-requires-clause-behind
-take_first-requires-clause-behind g c = λ i h. c.read_keys.ensures.behind i (omega (arith, h, c.requires.held, ap length c.requires.array.keys))
+pub take_first-requires-clause-others : goal.take_first-requires-clause-others
+take_first-requires-clause-others g c = λ i h. c.read_keys.ensures.others i (omega (arith, h, c.requires.held, ap length c.requires.array.keys))
 
 pub take_first-requires-clause-room : goal.take_first-requires-clause-room
 take_first-requires-clause-room g c =
@@ -36,14 +36,14 @@ take_first-requires-clause-room g c =
     let keys = keys_at c.args.layout.now c.args.place in
     let off : list_any (names_rollover item us) c.args.numbers.now ≡ false = is_not (list_any (names_rollover item us) c.args.numbers.now) c.read_keys.result c.read_keys.ensures.rolls (search rules) in
     let long : length c.args.held.now ≡ length (array_keys item us) = c.requires.held ∙ ap length c.requires.array.keys in
-    let named : take (length c.args.held.now) c.read_keys.new.after ≡ named_keys_from item c.args.numbers.now 0 keys =
-    ap (λ (n : ℕ). take n c.read_keys.new.after) long ∙ c.read_keys.ensures.keys (search rules)
+    let named : take (length c.args.held.now) c.read_keys.new.named ≡ named_keys_from item c.args.numbers.now 0 keys =
+    ap (λ (n : ℕ). take n c.read_keys.new.named) long ∙ c.read_keys.ensures.keys (search rules)
     ∙ ap (λ (ks : List Key). named_keys_from item c.args.numbers.now 0 ks) (sym c.requires.array.keys)
     in
     let read : read_keys item us keys (Switches c.args.held.now) c.args.numbers.now
-    ≡ Switches (take (length c.args.held.now) c.read_keys.new.after) =
+    ≡ Switches (take (length c.args.held.now) c.read_keys.new.named) =
     keys_named item us keys c.args.held.now c.args.numbers.now off ∙ ap Switches (sym named) in
-    let told = first_told c.args.place (usages_at c.args.layout.now c.args.place) c.args.held.now c.read_keys.new.after (length c.args.held.now) (omega arith) in
+    let told = first_told c.args.place (usages_at c.args.layout.now c.args.place) c.args.held.now c.read_keys.new.named (length c.args.held.now) (omega arith) in
     omega (
       arith,
       c.requires.room,
@@ -59,24 +59,24 @@ returns-then-read_keys-clause-held g c =
     let keys = keys_at c.args.layout.now c.args.place in
     let off : list_any (names_rollover item us) c.args.numbers.now ≡ false = is_not (list_any (names_rollover item us) c.args.numbers.now) c.read_keys.result c.read_keys.ensures.rolls (search rules) in
     let long : length c.args.held.now ≡ length (array_keys item us) = c.requires.held ∙ ap length c.requires.array.keys in
-    let named : take (length c.args.held.now) c.read_keys.new.after ≡ named_keys_from item c.args.numbers.now 0 keys =
-    ap (λ (n : ℕ). take n c.read_keys.new.after) long ∙ c.read_keys.ensures.keys (search rules)
+    let named : take (length c.args.held.now) c.read_keys.new.named ≡ named_keys_from item c.args.numbers.now 0 keys =
+    ap (λ (n : ℕ). take n c.read_keys.new.named) long ∙ c.read_keys.ensures.keys (search rules)
     ∙ ap (λ (ks : List Key). named_keys_from item c.args.numbers.now 0 ks) (sym c.requires.array.keys)
     in
     let read : read_keys item us keys (Switches c.args.held.now) c.args.numbers.now
-    ≡ Switches (take (length c.args.held.now) c.read_keys.new.after) =
+    ≡ Switches (take (length c.args.held.now) c.read_keys.new.named) =
     keys_named item us keys c.args.held.now c.args.numbers.now off ∙ ap Switches (sym named) in
     ap Switches c.take_first.ensures.held ∙ sym read
 
-pub returns-then-read_keys-clause-behind : goal.returns-then-read_keys-clause-behind
-returns-then-read_keys-clause-behind g c = λ i h. c.read_keys.ensures.behind i (omega (arith, h, c.requires.held, ap length c.requires.array.keys))
+pub returns-then-read_keys-clause-others : goal.returns-then-read_keys-clause-others
+returns-then-read_keys-clause-others g c = λ i h. c.read_keys.ensures.others i (omega (arith, h, c.requires.held, ap length c.requires.array.keys))
 
-pub returns-then-read_keys-clause-told : goal.returns-then-read_keys-clause-told
-returns-then-read_keys-clause-told g c =
+pub returns-then-read_keys-clause-appends : goal.returns-then-read_keys-clause-appends
+returns-then-read_keys-clause-appends g c =
     let us = usages_at c.args.layout.now c.args.place in
-    let told = first_told c.args.place us c.args.held.now c.read_keys.new.after (length c.args.held.now) (omega arith) in
+    let told = first_told c.args.place us c.args.held.now c.read_keys.new.named (length c.args.held.now) (omega arith) in
     let same = ap (λ (xs : List Bool). ups c.args.place us c.args.held.now xs ++ downs c.args.place us c.args.held.now xs) c.take_first.ensures.held ∙ told in
-    subst (λ (es : List Event). Appends c.args.out.now es c.take_first.new.out) (sym same) c.take_first.ensures.told
+    subst (λ (es : List Event). Appends c.args.out.now es c.take_first.new.out) (sym same) c.take_first.ensures.appends
 
 pub returns-else-read_keys-clause-held : goal.returns-else-read_keys-clause-held
 returns-else-read_keys-clause-held g c =
@@ -85,10 +85,10 @@ returns-else-read_keys-clause-held g c =
     let on : list_any (names_rollover item us) c.args.numbers.now ≡ true = is_so (list_any (names_rollover item us) c.args.numbers.now) c.read_keys.result c.read_keys.ensures.rolls (search rules) in
     sym (keys_stay item us (keys_at c.args.layout.now c.args.place) c.args.held.now c.args.numbers.now on)
 
-pub returns-else-read_keys-clause-behind : goal.returns-else-read_keys-clause-behind
-returns-else-read_keys-clause-behind g c = λ i h. c.read_keys.ensures.behind i (omega (arith, h, c.requires.held, ap length c.requires.array.keys))
+pub returns-else-read_keys-clause-others : goal.returns-else-read_keys-clause-others
+returns-else-read_keys-clause-others g c = λ i h. c.read_keys.ensures.others i (omega (arith, h, c.requires.held, ap length c.requires.array.keys))
 
-pub returns-else-read_keys-clause-told : goal.returns-else-read_keys-clause-told
-returns-else-read_keys-clause-told g c =
+pub returns-else-read_keys-clause-appends : goal.returns-else-read_keys-clause-appends
+returns-else-read_keys-clause-appends g c =
     nothing_appended c.args.out.now _
     (same_keys c.args.place (usages_at c.args.layout.now c.args.place) (Switches c.args.held.now))

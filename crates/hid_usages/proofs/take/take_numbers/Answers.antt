@@ -11,7 +11,7 @@ use Rattle.hid_snapshots.specs.Events.{element_events, key_events, usages_at}
 use Rattle.hid_snapshots.specs.Views.{motions_of}
 use Rattle.hid_usages.specs.Appending.{HasSpace, Appends}
 use Rattle.hid_usages.specs.Reading.{motion_elements}
-use Rattle.hid_usages.specs.Taking.{state_by_numbers}
+use Rattle.hid_usages.specs.Taking.{state_after_numbers_at}
 use Rattle.hid_usages.proofs.take.take_numbers.Goals as goal
 
 pub element_kind-requires-clause-some : goal.element_kind-requires-clause-some
@@ -40,7 +40,7 @@ take_elements-requires-clause-room g c =
     let told =
     ap (λ (after : ControlState). element_events place (usages_at layout place) c.args.state.now after
     ++ motions_of place (usages_at layout place) moved) reads.read
-    ∙ reads.told (state_by_numbers layout place item c.args.state.now c.args.numbers.now) in
+    ∙ reads.told (state_after_numbers_at layout place item c.args.state.now c.args.numbers.now) in
     subst (HasSpace c.args.out.now) (sym told) c.requires.room
 
 pub returns-in-Variable-clause-state : goal.returns-in-Variable-clause-state
@@ -50,12 +50,12 @@ returns-in-Variable-clause-state g c =
     let reads = reads_within c.args.listed.now.layout.now c.args.listed.now.place c.args.listed.now.item.now c.element_kind.result least greatest c.args.state.now c.args.numbers.now c.requires.listed.input (cc) c.element_kind.ensures (in_range c.args.listed.now.item.now least greatest (search (rules, to_z-of_z)) (search (rules, to_z-of_z))) c.requires.fits in
     c.take_elements.ensures.state ∙ reads.read
 
-pub returns-in-Variable-clause-told : goal.returns-in-Variable-clause-told
-returns-in-Variable-clause-told g c =
+pub returns-in-Variable-clause-appends : goal.returns-in-Variable-clause-appends
+returns-in-Variable-clause-appends g c =
     let least = to_z w64 (of_z w64 c.args.listed.now.item.now.min) in
     let greatest = to_z w64 (of_z w64 c.args.listed.now.item.now.max) in
     let reads = reads_within c.args.listed.now.layout.now c.args.listed.now.place c.args.listed.now.item.now c.element_kind.result least greatest c.args.state.now c.args.numbers.now c.requires.listed.input (cc) c.element_kind.ensures (in_range c.args.listed.now.item.now least greatest (search (rules, to_z-of_z)) (search (rules, to_z-of_z))) c.requires.fits in
-    subst (λ (es : List Event). Appends c.args.out.now es c.take_elements.new.out) (reads.told c.take_elements.new.state) c.take_elements.ensures.told
+    subst (λ (es : List Event). Appends c.args.out.now es c.take_elements.new.out) (reads.told c.take_elements.new.state) c.take_elements.ensures.appends
 
 pub entries-entries-requires : goal.entries-entries-requires
 entries-entries-requires g c = slice_get_within c.args.listed.now.layout.now.items c.args.listed.now.place c.args.listed.now.item.now c.requires.listed.there
@@ -79,13 +79,13 @@ take_array-requires-clause-room g c =
     ap (key_events c.args.listed.now.place
     (usages_at c.args.listed.now.layout.now c.args.listed.now.place) c.args.state.now) reads.read
     ∙ reads.told
-    (state_by_numbers c.args.listed.now.layout.now c.args.listed.now.place c.args.listed.now.item.now c.args.state.now c.args.numbers.now) in
+    (state_after_numbers_at c.args.listed.now.layout.now c.args.listed.now.place c.args.listed.now.item.now c.args.state.now c.args.numbers.now) in
     subst (HasSpace c.args.out.now) (sym told) c.requires.room
 
 pub returns-in-Array-clause-state : goal.returns-in-Array-clause-state
 returns-in-Array-clause-state g c = c.take_array.ensures.state ∙ (reads_keys c.args.listed.now.layout.now c.args.listed.now.place c.args.listed.now.item.now c.entries-entries.result.now c.args.state.now c.args.numbers.now c.requires.listed.input c.in-Array.is c.entries-entries.ensures c.requires.held).read
 
-pub returns-in-Array-clause-told : goal.returns-in-Array-clause-told
-returns-in-Array-clause-told g c =
+pub returns-in-Array-clause-appends : goal.returns-in-Array-clause-appends
+returns-in-Array-clause-appends g c =
     let reads = reads_keys c.args.listed.now.layout.now c.args.listed.now.place c.args.listed.now.item.now c.entries-entries.result.now c.args.state.now c.args.numbers.now c.requires.listed.input c.in-Array.is c.entries-entries.ensures c.requires.held in
-    subst (λ (es : List Event). Appends c.args.out.now es c.take_array.new.out) (reads.told c.take_array.new.state) c.take_array.ensures.told
+    subst (λ (es : List Event). Appends c.args.out.now es c.take_array.new.out) (reads.told c.take_array.new.state) c.take_array.ensures.appends

@@ -4,16 +4,16 @@ use Rattle.std.proofs.lemmas.List.{take_all}
 use Rattle.std.proofs.lemmas.Grind.{common_steps}
 use Rattle.usb_packet.specs.declared.packet.Packet.{Packet}
 use Rattle.usb_packet.specs.declared.fault.PacketFault.{PacketFault}
-use Rattle.usb_packet.specs.Spelling.{Spells}
+use Rattle.usb_packet.specs.PacketEncoding.{Encodes}
 use Rattle.usb_packet.specs.Fault.{Decodes, IsFault}
 use Rattle.usb_packet.proofs.decoding.decode_ref.Goals as goal
 
--- bytes spell one packet
-one : (bytes : List ℕ) (packet other : Packet) → Spells packet bytes → Spells other bytes → packet ≡ other
+-- bytes encode one packet
+one : (bytes : List ℕ) (packet other : Packet) → Encodes packet bytes → Encodes other bytes → packet ≡ other
 one bytes packet other here there = grind (arith, common_steps)
 
--- where a fault stands bytes spell no packet
-no_fault : (bytes : List ℕ) (fault : PacketFault) (packet : Packet) → IsFault fault bytes → Spells packet bytes → ⊥
+-- where a fault stands bytes encode no packet
+no_fault : (bytes : List ℕ) (fault : PacketFault) (packet : Packet) → IsFault fault bytes → Encodes packet bytes → ⊥
 no_fault bytes fault packet here there = grind (arith, common_steps)
 
 -- bytes are their first one and what stands after it
@@ -24,8 +24,8 @@ split (byte ∷ rest) first some is = rw (← is) (ap (λ (l : List ℕ). byte �
 
 -- what is promised of the bytes
 record IsRead (bytes : List ℕ) (result : Result Packet PacketFault) : Type 0 where
-  found : IfOk result (λ packet. Spells packet bytes)
-  complete : (packet : Packet) → Spells packet bytes → result ≡ Ok packet
+  found : IfOk result (λ packet. Encodes packet bytes)
+  complete : (packet : Packet) → Encodes packet bytes → result ≡ Ok packet
   fault : IfErr result (λ fault. IsFault fault bytes)
 
 of_bytes : (bytes : List ℕ) (result : Result Packet PacketFault) → Decodes result bytes → IsRead bytes result

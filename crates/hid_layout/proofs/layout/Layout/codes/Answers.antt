@@ -1,7 +1,7 @@
 use Rattle.std.proofs.Common.{◌≡◌, false, true, length, refl, sym, ap, ◌∙◌, arith, Some}
 use Rattle.std.specs.List.{slice_get}
 use Rattle.std.proofs.lemmas.Option.{slice_get_read}
-use Rattle.hid_descriptor.specs.Fields.{is_padding}
+use Rattle.hid_report_descriptor.specs.Fields.{is_padding}
 use Rattle.hid_layout.specs.Layout.{Contents}
 use Rattle.hid_layout.proofs.IndexLemmas.{only_item}
 use Rattle.hid_layout.proofs.layout.Layout.codes.Goals as goal

@@ -3,7 +3,7 @@ use Rattle.hid_layout.specs.Layout.{Contents}
 use Rattle.hid_layout.specs.Reports.{IsLayout}
 use Rattle.hid_layout.specs.Controls.{items_of, form_at}
 use Rattle.hid_layout.proofs.FindLemmas.{of_layout, next_range, least_here, none_there, shown_by, none_shown, other_shown, starts_at}
-use Rattle.hid_descriptor.proofs.StartLemmas.{starts-length}
+use Rattle.hid_report_descriptor.proofs.StartLemmas.{starts-length}
 use Rattle.hid_layout.proofs.layout.Layout.find_in.Goals as goal
 use Rattle.hid_layout.proofs.layout.Layout.find_in.Goals.{then-holds+in-Some+else-eq, then-holds+in_default, else-holds}
 

@@ -1,5 +1,5 @@
 use Rattle.std.proofs.Common.{◌≡◌, ◌<◌, ℕ, Some, length, take, slice_get}
-use Rattle.hid_descriptor.specs.Usages.{usage_list, starts_of}
+use Rattle.hid_report_descriptor.specs.Usages.{usage_list, starts_of}
 use Rattle.hid_layout.specs.Finding.{usage_in_form}
 use Rattle.hid_layout.specs.Controls.{items_of, form_at}
 use Rattle.hid_layout.proofs.layout.Layout.find_in.Given as goal

@@ -1,6 +1,6 @@
 use Rattle.std.proofs.Common.{length, ap, ◌∙◌, arith}
 use Rattle.hid_layout.specs.Layout.{Contents}
-use Rattle.hid_layout.specs.Index.{plan_of}
+use Rattle.hid_layout.specs.ArrayCodes.{plan_of}
 use Rattle.hid_layout.proofs.IndexLemmas.{made_at, made_length}
 use Rattle.hid_layout.proofs.layout.Layout.plan.Goals as goal
 

@@ -1,10 +1,10 @@
 use Rattle.std.proofs.Common.{◌≡◌, ◌-◌, min, length, Some, sym, ap, ◌∙◌, arith}
 use Rattle.std.specs.List.{slice_get}
 use Rattle.std.specs.Option.{option_map}
-use Rattle.hid_descriptor.specs.declared.usage.Usage.{Usage}
+use Rattle.hid_report_descriptor.specs.declared.usage.Usage.{Usage}
 use Rattle.hid_layout.specs.declared.control.Control.{Control}
 use Rattle.hid_layout.specs.declared.control.ControlKind.{ControlKind}
-use Rattle.hid_descriptor.specs.Usages.{usage_list}
+use Rattle.hid_report_descriptor.specs.Usages.{usage_list}
 use Rattle.hid_layout.specs.Controls.{element_kind}
 use Rattle.hid_layout.proofs.FormLemmas.{spread_usages-get, spread_usages-past}
 use Rattle.hid_layout.proofs.main_item.MainItem.element_control.Goals as goal

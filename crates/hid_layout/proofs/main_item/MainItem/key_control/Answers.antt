@@ -1,9 +1,9 @@
 use Rattle.std.proofs.Common.{Some, None, cond, sym, ap, ◌∙◌, arith}
 use Rattle.std.specs.Option.{option_map}
-use Rattle.hid_descriptor.specs.declared.usage.Usage.{Usage}
+use Rattle.hid_report_descriptor.specs.declared.usage.Usage.{Usage}
 use Rattle.hid_layout.specs.declared.control.Control.{Control}
 use Rattle.hid_layout.specs.declared.control.ControlKind.TheVariants.{Switch}
-use Rattle.hid_descriptor.specs.Usages.{usage_list}
+use Rattle.hid_report_descriptor.specs.Usages.{usage_list}
 use Rattle.hid_layout.specs.Controls.{is_key, control_of_key}
 use Rattle.hid_layout.proofs.FormLemmas.{key-get, key-past}
 use Rattle.hid_layout.proofs.main_item.MainItem.key_control.Goals as goal

@@ -3,5 +3,5 @@ use Rattle.hid_recording.specs.Player.{session_of}
 use Rattle.hid_recording.proofs.PlayerLemmas.{dump_described}
 use Rattle.hid_recording.proofs.player.Player.end_dump.Goals as goal
 
-pub returns-in-Descriptor-clause-told : goal.returns-in-Descriptor-clause-told
-returns-in-Descriptor-clause-told c = dump_described (session_of c.args.self.now) c.args.self.now.dump.content _ _ _ _ _ c.describe.ensures.told (search rules) (search rules) (search rules)
+pub returns-in-Descriptor-clause-outcome : goal.returns-in-Descriptor-clause-outcome
+returns-in-Descriptor-clause-outcome c = dump_described (session_of c.args.self.now) c.args.self.now.dump.content _ _ _ _ _ c.describe.ensures.outcome (search rules) (search rules) (search rules)

@@ -3,6 +3,6 @@ use Rattle.hid_recording.specs.Player.{session_of}
 use Rattle.hid_recording.proofs.PlayerLemmas.{report_refused}
 use Rattle.hid_recording.proofs.player.Player.report.Goals as goal
 
-pub returns-in-Err-Refused-clause-told : goal.returns-in-Err-Refused-clause-told
-returns-in-Err-Refused-clause-told c =
-    report_refused (session_of c.args.self.now) c.args.self.now.options c.args.time.now c.args.bytes.now c.play.new.self.current c.play.new.self.slots.items c.in-Err-Refused.refusal [] [] _ _ _ c.in-Err-Refused.ensures.current (rw c.in-Err-Refused.field-0-is at c.in-Err-Refused.ensures.played) c.refuse.ensures.told
+pub returns-in-Err-Refused-clause-outcome : goal.returns-in-Err-Refused-clause-outcome
+returns-in-Err-Refused-clause-outcome c =
+    report_refused (session_of c.args.self.now) c.args.self.now.options c.args.time.now c.args.bytes.now c.play.new.self.current c.play.new.self.slots.items c.in-Err-Refused.refusal [] [] _ _ _ c.in-Err-Refused.ensures.current (rw c.in-Err-Refused.field-0-is at c.in-Err-Refused.ensures.played) c.refuse.ensures.outcome

@@ -18,7 +18,7 @@ returns-in-Err-clause-taken g c =
 
 pub returns-in-Err-line-clause-taken : goal.returns-in-Err-line-clause-taken
 returns-in-Err-line-clause-taken g c =
-    let told = c.in-Err-line.ensures.told in
+    let told = c.in-Err-line.ensures.outcome in
     let at = stopped_at
     (session_of c.args.self.now.player) c.args.self.now.lines c.summary-played.result c.stop_at-in-Err-line.result c.summary-played.ensures.lines c.summary-played.ensures.counts c.stop_at-in-Err-line.ensures.0 c.stop_at-in-Err-line.ensures.2 in (
       told.0,
@@ -31,7 +31,7 @@ returns-in-Err-line-clause-taken g c =
 
 pub returns-clause-taken : goal.returns-clause-taken
 returns-clause-taken g c =
-    let told = c.in_default-line.ensures.told in
+    let told = c.in_default-line.ensures.outcome in
     rw c.clear.ensures (
       told.0,
       told.1,

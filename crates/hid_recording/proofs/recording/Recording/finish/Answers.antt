@@ -12,7 +12,7 @@ returns-then-is_empty-clause-ran g c = ([], Appends-nil _, no_last_line (place_o
 
 pub returns-in-Err-clause-ran : goal.returns-in-Err-clause-ran
 returns-in-Err-clause-ran g c =
-    let told = rw c.rest-line.ensures.value at c.in-Err.ensures.told in
+    let told = rw c.rest-line.ensures.value at c.in-Err.ensures.outcome in
     let at = stopped_at
     (session_of c.args.self.now.player) c.args.self.now.lines c.summary-played.result c.stop_at.result c.summary-played.ensures.lines c.summary-played.ensures.counts c.stop_at.ensures.0 c.stop_at.ensures.2 in (
       told.0,
@@ -24,5 +24,5 @@ returns-in-Err-clause-ran g c =
 
 pub returns-clause-ran : goal.returns-clause-ran
 returns-clause-ran g c =
-    let told = rw c.rest-line.ensures.value at c.in_default.ensures.told in
+    let told = rw c.rest-line.ensures.value at c.in_default.ensures.outcome in
     (told.0, told.1, last_line_told (place_of c.args.self.now) (session_of c.line.new.self) told.0 c.end-2.result c.args.self.now.buffer.unbroken (omega (arith, eqb-false _ _ (sym (rw c.rest-line.ensures.value at c.if-is_empty.ensures)))) told.2 c.end-2.ensures)

@@ -1,7 +1,7 @@
 use Rattle.std.proofs.Common.{List, ℕ}
 use Rattle.std.specs.Io.KnownBytes.{Appends}
 use Rattle.hid_script.specs.Session.{Repeats, success}
-use Rattle.hid_script.specs.LineOutput.{TellsShort}
+use Rattle.hid_script.specs.LineOutput.{ShortLinePrints}
 use Rattle.hid_script.specs.Interpreter.{session_of}
 use Rattle.hid_script.specs.Streams.{AllSucceed}
 use Rattle.hid_script.proofs.interpreter.Interpreter.repeat.Given as goal
@@ -10,5 +10,5 @@ use Rattle.hid_script.proofs.interpreter.Interpreter.repeat.Given as goal
 abbrev pub invariant-loop : goal.invariant-loop
 invariant-loop g l =
     ((written : List ℕ) × Appends (g.W.Sink.contents l.fn.writer) (g.W.Sink.contents l.writer) written
-    × Repeats l.counter (TellsShort l.line) (session_of l.fn.self) (success written (session_of l.self)))
+    × Repeats l.counter (ShortLinePrints l.line) (session_of l.fn.self) (success written (session_of l.self)))
     × AllSucceed g.W.Sink.calls l.fn.writer l.writer

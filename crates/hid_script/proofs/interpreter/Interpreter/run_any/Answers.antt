@@ -5,14 +5,14 @@ use Rattle.hid_script.proofs.SessionLemmas.{line_written, line_refused}
 use Rattle.hid_script.proofs.StreamLemmas.{from_line, ends_by, no_calls}
 use Rattle.hid_script.proofs.interpreter.Interpreter.run_any.Goals as goal
 
-pub returns-in-Ok-clause-told : goal.returns-in-Ok-clause-told
-returns-in-Ok-clause-told g c =
+pub returns-in-Ok-clause-prints : goal.returns-in-Ok-clause-prints
+returns-in-Ok-clause-prints g c =
     let is : c.read_line.result ≡ Ok c.in-Ok.line = cc in
     let says : meaning_of c.args.line.now ≡ Ok c.in-Ok.line = sym c.read_line.ensures.exact ∙ is in
-    line_written _ _ (session_of c.args.self.now) c.args.line.now c.in-Ok.line _ _ says c.carry_out.ensures.told
+    line_written _ _ (session_of c.args.self.now) c.args.line.now c.in-Ok.line _ _ says c.carry_out.ensures.prints
 
-pub returns-in-Err-clause-told : goal.returns-in-Err-clause-told
-returns-in-Err-clause-told g c =
+pub returns-in-Err-clause-prints : goal.returns-in-Err-clause-prints
+returns-in-Err-clause-prints g c =
     let is : c.read_line.result ≡ Err c.in-Err.fault = cc in
     let says : meaning_of c.args.line.now ≡ Err c.in-Err.fault = sym c.read_line.ensures.exact ∙ is in
     line_refused _ (session_of c.args.self.now) c.args.line.now c.in-Err.fault (Err c.from.result) (session_of c.args.self.now) says c.from.ensures

@@ -1,7 +1,7 @@
 use Rattle.std.proofs.Common.{List, sym, ap, ◌∙◌, subst, arith}
 use Rattle.hid_layout.specs.Controls.{items_of}
 use Rattle.hid_snapshots.specs.declared.control_state.ControlState.{ControlState}
-use Rattle.hid_snapshots.specs.ControlStates.{InPart, InSnapshot, Suits}
+use Rattle.hid_snapshots.specs.ControlStates.{FitControlStates, InPart, InSnapshot}
 use Rattle.hid_snapshots.specs.Parts.{shown_parts, without_part_motion}
 use Rattle.hid_snapshots.proofs.ShownLemmas.{taken_fits}
 use Rattle.hid_snapshots.proofs.SnapshotLemmas.{written_back}
@@ -9,12 +9,12 @@ use Rattle.hid_snapshots.proofs.snapshot.Snapshot.take_motion.Goals as goal
 
 pub take_states-requires-clause-states : goal.take_states-requires-clause-states
 take_states-requires-clause-states c =
-    subst (λ (states : List ControlState). Suits InSnapshot (items_of c.args.layout.now) states)
+    subst (λ (states : List ControlState). FitControlStates InSnapshot (items_of c.args.layout.now) states)
     (sym (c.deref_mut.ensures.value ∙ c.self.view_is)) c.requires.fits
 
 pub take_states-requires-clause-parts : goal.take_states-requires-clause-parts
 take_states-requires-clause-parts c =
-    subst (λ (states : List ControlState). Suits InPart (items_of c.args.layout.now) states)
+    subst (λ (states : List ControlState). FitControlStates InPart (items_of c.args.layout.now) states)
     (sym (c.deref.ensures.value ∙ c.part.view_is)) c.requires.part_fits
 
 pub take_states-requires-clause-part : goal.take_states-requires-clause-part
@@ -42,6 +42,6 @@ returns-clause-fits c =
     (items_of c.args.layout.now) c.args.report xs c.deref.result.now) (c.deref_mut.ensures.value ∙ c.self.view_is)
     ∙ ap (without_part_motion (items_of c.args.layout.now) c.args.report c.args.self.now)
     (c.deref.ensures.value ∙ c.part.view_is) in
-    subst (λ (states : List ControlState). Suits InSnapshot (items_of c.args.layout.now) states) (sym is)
+    subst (λ (states : List ControlState). FitControlStates InSnapshot (items_of c.args.layout.now) states) (sym is)
     (taken_fits
     (items_of c.args.layout.now) c.args.report c.args.self.now c.args.part.now c.requires.zeros c.requires.part c.requires.fits c.requires.part_fits)

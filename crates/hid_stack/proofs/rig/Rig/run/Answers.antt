@@ -54,8 +54,8 @@ pub returns-clause-rounds : goal.returns-clause-rounds
 returns-clause-rounds c =
     keeps_to_rounds c.args.self.now (bus_after_all c.args.self.now c.args.steps.now) c.args.steps.now refl
 
-pub returns-clause-lives : goal.returns-clause-lives
-returns-clause-lives c =
+pub returns-clause-history : goal.returns-clause-history
+returns-clause-history c =
     let whole : take c.loop-at.at c.args.steps.now ≡ c.args.steps.now = take_all c.loop-at.at c.args.steps.now c.loop-at-test.false in
     let told =
     c.loop-at.invariant.told
@@ -113,8 +113,8 @@ pub returns-in-Err-clause-rounds : goal.returns-in-Err-clause-rounds
 returns-in-Err-clause-rounds c =
     keeps_to_rounds c.args.self.now (bus_after_all c.args.self.now (take c.loop-at.at c.args.steps.now)) (take c.loop-at.at c.args.steps.now) refl
 
-pub returns-in-Err-clause-lives : goal.returns-in-Err-clause-lives
-returns-in-Err-clause-lives c =
+pub returns-in-Err-clause-history : goal.returns-in-Err-clause-history
+returns-in-Err-clause-history c =
     devices_live c.args.self.now (bus_after_all c.args.self.now (take c.loop-at.at c.args.steps.now)) (take c.loop-at.at c.args.steps.now) c.args.out.now.items c.step.new.out.items refl
     (c.in-Err.ensures.err_events ∙ c.loop-at.invariant.told)
 

@@ -4,7 +4,7 @@ use Rattle.hid_stack.specs.Members.{Member, Scheduled, events_of_event_if, membe
 use Rattle.hid_stack.specs.Rig.{with_device_number}
 use Rattle.hid_snapshots.specs.declared.event.Event.{Event}
 use Rattle.hid_bus.specs.declared.step.Delivered.{Delivered}
-use Rattle.hid_stack.specs.StepResult.{TellsPoll}
+use Rattle.hid_stack.specs.StepResult.{PollReturns}
 use Rattle.hid_bus.specs.Rounds.{Polls}
 use Rattle.hid_stack.proofs.SlotLemmas.{pair_together}
 use Rattle.hid_stack.proofs.slot.Slot.poll.Goals as goal
@@ -22,7 +22,7 @@ invariant_of-self c =
 
 pub returns-clause-told : goal.returns-clause-told
 returns-clause-told c =
-    subst (λ (m : Member). TellsPoll m.layout m.link c.args.fate c.poll_pair-told.result) c.self.view_is c.poll_pair-told.ensures.told
+    subst (λ (m : Member). PollReturns m.layout m.link c.args.fate c.poll_pair-told.result) c.self.view_is c.poll_pair-told.ensures.told
 
 pub returns-clause-after : goal.returns-clause-after
 returns-clause-after c = c.poll_pair-told.ensures.after ∙ ap (λ (m : Member). member_after m (Scheduled (Polls c.args.fate))) c.self.view_is

@@ -3,7 +3,7 @@ use Rattle.hid_layout.specs.Controls.{items_of}
 use Rattle.hid_snapshots.specs.declared.control_state.ControlState.{ControlState}
 use Rattle.hid_snapshots.specs.ControlStates.{FitsView, blank}
 use Rattle.hid_snapshots.specs.Views.{changes_between}
-use Rattle.hid_usages.specs.Taking.{NamesNone}
+use Rattle.hid_usages.specs.Taking.{NoFlagSet}
 use Rattle.hid_usages.proofs.BackLemmas.{changes_back_few}
 use Rattle.hid_usages.proofs.view.View.changes_back.Goals as goal
 
@@ -12,7 +12,7 @@ all_changes_back-requires-clause-before c = subst (FitsView (items_of c.args.lay
 
 pub all_changes_back-requires-clause-none : goal.all_changes_back-requires-clause-none
 all_changes_back-requires-clause-none c =
-    subst (λ (states : List ControlState). NamesNone states c.self.inside.named)
+    subst (λ (states : List ControlState). NoFlagSet states c.self.inside.named)
     (sym c.deref.ensures.value) c.self.invariant
 
 pub all_changes_back-requires-clause-room : goal.all_changes_back-requires-clause-room

@@ -4,7 +4,7 @@ use Rattle.hid_snapshots.specs.declared.control_state.ControlState.{ControlState
 use Rattle.hid_snapshots.specs.declared.event.Event.{Event}
 use Rattle.hid_snapshots.specs.ControlStates.{FitsView, blank}
 use Rattle.hid_usages.specs.Dropping.{drops_from}
-use Rattle.hid_usages.specs.Taking.{NamesNone}
+use Rattle.hid_usages.specs.Taking.{NoFlagSet}
 use Rattle.hid_usages.proofs.BackLemmas.{drops_back_few}
 use Rattle.hid_usages.proofs.DropLemmas.{drops_are}
 use Rattle.hid_usages.proofs.view.View.changes_back_and_drops.Goals as goal
@@ -14,7 +14,7 @@ all_changes_back_and_drops-requires-clause-before c = subst (FitsView (items_of 
 
 pub all_changes_back_and_drops-requires-clause-none : goal.all_changes_back_and_drops-requires-clause-none
 all_changes_back_and_drops-requires-clause-none c =
-    subst (λ (states : List ControlState). NamesNone states c.self.inside.named)
+    subst (λ (states : List ControlState). NoFlagSet states c.self.inside.named)
     (sym c.deref.ensures.value) c.self.invariant
 
 pub all_changes_back_and_drops-requires-clause-room : goal.all_changes_back_and_drops-requires-clause-room

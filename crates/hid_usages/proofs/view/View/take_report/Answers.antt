@@ -3,8 +3,8 @@ use Rattle.std.proofs.Math.Seq.{take-append_seam}
 use Rattle.hid_layout.specs.Layout.{Contents}
 use Rattle.hid_layout.specs.Controls.{items_of}
 use Rattle.hid_snapshots.specs.declared.control_state.ControlState.{ControlState}
-use Rattle.hid_snapshots.specs.ControlStates.{InView, Suits}
-use Rattle.hid_usages.specs.Taking.{read_view, read_events, NamesNone}
+use Rattle.hid_snapshots.specs.ControlStates.{FitControlStates, InView}
+use Rattle.hid_usages.specs.Taking.{read_view, read_events, NoFlagSet}
 use Rattle.hid_usages.proofs.TakeLemmas.{named_input, read_view_fits, read_events_few}
 use Rattle.hid_usages.proofs.RoomLemmas.{names_stay}
 use Rattle.hid_usages.proofs.view.View.take_report.Goals as goal
@@ -45,7 +45,7 @@ returns-in-Ok-clause-taken g c =
       c.in-Ok.report,
       sym c.input_report.ensures ∙ c.in-Ok.is,
       is,
-      c.take_items.ensures.told.items
+      c.take_items.ensures.appends.items
           ∙ ap (λ (view : List ControlState). c.args.out.now.items
           ++ read_events c.args.layout.now c.in-Ok.report c.args.bytes.now view) same,
     )
@@ -57,7 +57,7 @@ pub returns-in-Ok-clause-fits : goal.returns-in-Ok-clause-fits
 returns-in-Ok-clause-fits g c =
     let input = named_input c.args.layout.now c.args.bytes.now c.in-Ok.report (sym c.input_report.ensures ∙ c.in-Ok.is) in
     let is = view_after c.args.layout.now c.in-Ok.report c.args.bytes.now c.args.self.now c.deref_mut.result.now c.take_items.new.states c.self.inside.states.items c.self.inside.states.len (omega arith) (c.deref_mut.ensures.value ∙ c.self.view_is) c.take_items.ensures.view in
-    subst (λ (states : List ControlState). Suits InView (items_of c.args.layout.now) states) (sym is)
+    subst (λ (states : List ControlState). FitControlStates InView (items_of c.args.layout.now) states) (sym is)
     (read_view_fits c.args.layout.now c.in-Ok.report c.args.bytes.now c.args.self.now c.plan_of-places.ensures.layout input c.requires.fits)
 
 pub returns-in-Ok-clause-few : goal.returns-in-Ok-clause-few
@@ -70,7 +70,7 @@ returns-in-Ok-clause-few g c =
       few,
       ap (λ (view : List ControlState). length
           (read_events c.args.layout.now c.in-Ok.report c.args.bytes.now view)) same,
-      c.take_items.ensures.told.len,
+      c.take_items.ensures.appends.len,
     )
 
 pub invariant_of-self : goal.invariant_of-self
@@ -78,19 +78,20 @@ invariant_of-self g c =
     let input = named_input c.args.layout.now c.args.bytes.now c.in-Ok.report (sym c.input_report.ensures ∙ c.in-Ok.is) in
     let is = view_after c.args.layout.now c.in-Ok.report c.args.bytes.now c.args.self.now c.deref_mut.result.now c.take_items.new.states c.self.inside.states.items c.self.inside.states.len (omega arith) (c.deref_mut.ensures.value ∙ c.self.view_is) c.take_items.ensures.view in
     let fits =
-    subst (λ (states : List ControlState). Suits InView (items_of c.args.layout.now) states) (sym is)
+    subst (λ (states : List ControlState). FitControlStates InView (items_of c.args.layout.now) states) (sym is)
     (read_view_fits c.args.layout.now c.in-Ok.report c.args.bytes.now c.args.self.now c.plan_of-places.ensures.layout input c.requires.fits) in
     let names =
-    subst (λ (states : List ControlState). NamesNone states c.self.inside.named) c.self.view_is c.self.invariant in
+    subst (λ (states : List ControlState). NoFlagSet states c.self.inside.named) c.self.view_is c.self.invariant in
     names_stay (items_of c.args.layout.now) c.args.self.now _ c.self.inside.named c.take_items.new.named c.requires.fits fits names c.take_items.ensures.named
 
 pub take_items-requires-clause-fits : goal.take_items-requires-clause-fits
 take_items-requires-clause-fits g c =
     let same = c.deref_mut.ensures.value ∙ c.self.view_is in
-    subst (λ (states : List ControlState). Suits InView (items_of c.args.layout.now) states) (sym same) c.requires.fits
+    subst (λ (states : List ControlState). FitControlStates InView (items_of c.args.layout.now) states)
+    (sym same) c.requires.fits
 
 pub take_items-requires-clause-named : goal.take_items-requires-clause-named
 take_items-requires-clause-named g c =
     let same = c.deref_mut.ensures.value ∙ c.self.view_is in
-    subst (λ (states : List ControlState). NamesNone states c.self.inside.named)
+    subst (λ (states : List ControlState). NoFlagSet states c.self.inside.named)
     (c.self.view_is ∙ sym same) c.self.invariant

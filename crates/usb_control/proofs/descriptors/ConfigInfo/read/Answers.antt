@@ -4,7 +4,7 @@ use Rattle.std.specs.Prelude.{find, option_and_then, slice_index}
 use Rattle.std.proofs.lemmas.Bool.Decides.{nat_tests}
 use Rattle.usb_control.specs.declared.descriptors.ConfigInfo.{ConfigInfo}
 use Rattle.usb_control.specs.declared.fault.InfoFault.{InfoFault}
-use Rattle.usb_control.specs.Descriptors.{IsWalk, ReadsConfig, config_of, first_type, info_of, interface_part, is_hid, is_hid_interface, is_interrupt_in, report_length}
+use Rattle.usb_control.specs.Descriptors.{IsWalk, ReadsConfig, configuration_of, first_type, info_of, interface_part, is_hid, is_hid_interface, is_interrupt_in, report_length}
 use Rattle.usb_control.proofs.WalkLemmas.{config_is, first_type_is, no_walk, reads_info}
 use Rattle.usb_control.proofs.descriptors.ConfigInfo.read.Goals as goal
 use Rattle.usb_control.proofs.descriptors.ConfigInfo.read.Goals.{After-config_info}
@@ -23,7 +23,9 @@ made : (c : After-config_info) (ds : List (List ℕ)) → IsWalk c.args.bytes.no
 made c ds walk = c.config_info.ensures.info (interface_part ds) (c.stretch.ensures (after_first is_hid_interface ds) (c.in-Some.ensures.walks ds walk).2)
 
 read_is : (c : After-config_info) (ds : List (List ℕ)) → IsWalk c.args.bytes.now ds → 9 ≤ slice_index c.args.bytes.now 0
-    → config_of ds ≡ info_of c.in-Some.interface.found.now (option_and_then report_length (find is_hid (interface_part ds))) (find is_interrupt_in (interface_part ds))
+    → configuration_of ds
+    ≡ info_of c.in-Some.interface.found.now (option_and_then report_length (find is_hid (interface_part ds)))
+    (find is_interrupt_in (interface_part ds))
 read_is c ds walk first = config_is ds c.in-Some.interface.found.now (is_configuration c ds walk first) (c.in-Some.ensures.walks ds walk).0
 
 pub returns-clause-value : goal.returns-clause-value

@@ -9,13 +9,13 @@ returns-in-Some-clause-reaches g c = (
   c.receive-answer.new.self,
   c.receive-answer.result,
   rw c.token.ensures.token at c.send_packet-token.ensures,
-  rw c.as_ref.ensures.value at c.receive-answer.ensures.hears,
+  rw c.as_ref.ensures.value at c.receive-answer.ensures.receives,
   subst (λ (x : Option Packet). HearsData g.R.Requests.prepare_gives g.R.Requests.apply_gives g.R.Requests.answer_of
       (g.B.Bus.arrives c.args.bus.now) x c.receive-answer.new.self c.receive-answer.result c.receive.new.self c.receive.result)
       c.in-Some.ensures (
         c.send_packet-data.result,
         c.send_packet-data.ensures,
-        rw c.as_ref-in-Some.ensures.value at c.receive.ensures.hears,
+        rw c.as_ref-in-Some.ensures.value at c.receive.ensures.receives,
       ),
 )
 
@@ -25,7 +25,7 @@ returns-in-None-clause-reaches g c = (
   c.receive-answer.new.self,
   c.receive-answer.result,
   rw c.token.ensures.token at c.send_packet-token.ensures,
-  rw c.as_ref.ensures.value at c.receive-answer.ensures.hears,
+  rw c.as_ref.ensures.value at c.receive-answer.ensures.receives,
   subst (λ (x : Option Packet). HearsData g.R.Requests.prepare_gives g.R.Requests.apply_gives g.R.Requests.answer_of
       (g.B.Bus.arrives c.args.bus.now) x c.receive-answer.new.self c.receive-answer.result c.receive-answer.new.self c.receive-answer.result)
       c.in-None.ensures (refl, refl),

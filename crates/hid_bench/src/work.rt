@@ -1,0 +1,82 @@
+//! The work of a number of turns.
+
+use crate::args::{CliArgs, Work};
+use crate::fault::BenchFault;
+use crate::reading::{Reading, parsed};
+use crate::stepping::Stepping;
+use crate::writing::Writing;
+use arrayvec::ArrayVec;
+use std::alloc::Global;
+
+/// Does the work of all turns: how many items were listed, events came or bytes were written.
+///
+/// # Errors
+/// What the work gives: a fault of [`parsed`], [`Reading`], [`Writing`] or [`Stepping`]. It ends at the first one.
+pub fn done(alloc: Global, asked: &CliArgs) -> Result<u64, BenchFault> {
+    let descriptor = asked.descriptor.as_slice();
+    match asked.work {
+        Work::Parse => parses(alloc, descriptor, asked.turns),
+        Work::Read => reads(alloc, descriptor, asked.rest.as_slice(), asked.turns),
+        Work::Write => writes(alloc, descriptor, asked.rest.as_slice(), asked.turns),
+        Work::Step => steps(alloc, descriptor, asked.rest.as_slice(), asked.turns),
+    }
+}
+
+/// Parses the descriptor in each turn; returns how many items were listed in all.
+fn parses(alloc: Global, descriptor: &[u8], turns: u32) -> Result<u64, BenchFault> {
+    let mut listed: u64 = 0;
+    for _ in 0..turns {
+        let layout = parsed(alloc, descriptor)?;
+        listed = listed.wrapping_add(layout.items().len() as u64);
+    }
+    Ok(listed)
+}
+
+/// Reads all reports in each turn; returns how many events there were in all.
+fn reads(
+    alloc: Global,
+    descriptor: &[u8],
+    reports: &[Vec<u8>],
+    turns: u32,
+) -> Result<u64, BenchFault> {
+    let mut reading = Reading::open(alloc, descriptor)?;
+    let mut told: u64 = 0;
+    for _ in 0..turns {
+        for report in reports {
+            told = told.wrapping_add(reading.read(report)? as u64);
+        }
+    }
+    Ok(told)
+}
+
+/// Writes a report in each turn; returns how many bytes there were in all.
+fn writes(
+    alloc: Global,
+    descriptor: &[u8],
+    usages: &[Vec<u8>],
+    turns: u32,
+) -> Result<u64, BenchFault> {
+    let writing = Writing::open(alloc, descriptor, usages)?;
+    let mut bytes = ArrayVec::new();
+    let mut written: u64 = 0;
+    for _ in 0..turns {
+        writing.write(&mut bytes);
+        written = written.wrapping_add(bytes.len() as u64);
+    }
+    Ok(written)
+}
+
+/// Steps a device and its host in each turn; returns how many events there were in all.
+fn steps(
+    alloc: Global,
+    descriptor: &[u8],
+    usages: &[Vec<u8>],
+    turns: u32,
+) -> Result<u64, BenchFault> {
+    let mut stepping = Stepping::open(alloc, descriptor, usages)?;
+    let mut told: u64 = 0;
+    for _ in 0..turns {
+        told = told.wrapping_add(stepping.turn()? as u64);
+    }
+    Ok(told)
+}

@@ -1,6 +1,0 @@
-use Rattle.std.proofs.Common.{arith, ◌∙◌}
-use Rattle.hid_descriptor.proofs.FlagLemmas.{contains_flag}
-use Rattle.hid_descriptor.proofs.flags.MainFlags.is_relative.Goals as goal
-
-pub returns : goal.returns
-returns c = c.contains.ensures _ ∙ contains_flag c.args.self.0 2 (omega arith)

@@ -1,6 +1,0 @@
-use Rattle.std.proofs.Common.{arith, refl}
-use Rattle.hid_descriptor.proofs.KeptLemmas.{too_many_there}
-use Rattle.hid_descriptor.proofs.kept.KeptFields.keep.Goals as goal
-
-pub returns-then-len-ge-MAX_ITEMS : goal.returns-then-len-ge-MAX_ITEMS
-returns-then-len-ge-MAX_ITEMS c fs k = (refl, too_many_there fs _ c.args.self.now k (omega arith))

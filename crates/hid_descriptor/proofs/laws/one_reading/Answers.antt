@@ -1,5 +1,0 @@
-use Rattle.hid_descriptor.proofs.Refusals.{one_list}
-use Rattle.hid_descriptor.proofs.laws.one_reading.Goals as goal
-
-pub returns : goal.returns
-returns c bytes before others a b = one_list c.prefix_free.ensures bytes before others a b

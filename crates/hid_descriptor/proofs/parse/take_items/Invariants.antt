@@ -1,8 +1,0 @@
-use Rattle.std.proofs.Common.{List}
-use Rattle.hid_descriptor.specs.Items.{Spelled}
-use Rattle.hid_descriptor.specs.Parser.{HasTaken}
-use Rattle.hid_descriptor.proofs.parse.take_items.Given as goal
-
--- some items have been taken
-abbrev pub invariant-loop-next : goal.invariant-loop-next
-invariant-loop-next l = (before : List Spelled) × HasTaken l.descriptor before l.next-iterator l.parser

@@ -1,9 +1,0 @@
-use Rattle.std.proofs.Common.{refl, subst}
-use Rattle.hid_descriptor.specs.Parser.{IsOther}
-use Rattle.hid_descriptor.proofs.Frames.{locals_kept, stands_other, other_no_main}
-use Rattle.hid_descriptor.proofs.parser.Parser.take_other.Goals as goal
-
-pub returns : goal.returns
-returns c before s =
-    let o : IsOther _ = subst IsOther c.requires.prefix c.requires.other in
-    stands_other before c.args.item.now.bytes.now _ _ o s (locals_kept before c.args.item.now.bytes.now _ (other_no_main _ o) c.requires.no_usage s.locals_there) (c.set.ensures before s.globals_there.in_force_now) refl refl refl refl

@@ -1,6 +1,0 @@
-use Rattle.std.proofs.Common.{arith}
-use Rattle.hid_descriptor.proofs.Frames.{stands_pushed}
-use Rattle.hid_descriptor.proofs.parser.Parser.take_push.Goals as goal
-
-pub returns : goal.returns
-returns c before item h s = stands_pushed before item _ _ h (omega arith) s (c.in_ok-push.ensures before item h s.globals_there)

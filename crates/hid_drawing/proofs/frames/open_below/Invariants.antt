@@ -1,7 +1,0 @@
-use Rattle.std.proofs.Common.{◌≡◌, ◌≤◌}
-use Rattle.hid_drawing.specs.Frames.{open_below}
-use Rattle.hid_drawing.proofs.frames.open_below.Given as goal
-
--- those open so far
-abbrev pub invariant-loop-k : goal.invariant-loop-k
-invariant-loop-k l = record { same : l.count ≡ open_below l.items l.k; few : l.count ≤ l.k }

@@ -1,7 +1,0 @@
-use Rattle.std.proofs.Common.{◌≡◌}
-use Rattle.hid_drawing.specs.Makers.{listed_places}
-use Rattle.hid_drawing.proofs.makers.listed_places.Given as goal
-
--- the places so far
-abbrev pub invariant-loop-m : goal.invariant-loop-m
-invariant-loop-m l = l.places.items ≡ listed_places l.items l.m

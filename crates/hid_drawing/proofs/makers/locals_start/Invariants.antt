@@ -1,7 +1,0 @@
-use Rattle.std.proofs.Common.{◌≡◌, ◌-◌}
-use Rattle.hid_drawing.specs.Makers.{locals_start}
-use Rattle.hid_drawing.proofs.makers.locals_start.Given as goal
-
--- what the rest of the items answer is what all answer
-abbrev pub invariant-loop-back : goal.invariant-loop-back
-invariant-loop-back l = locals_start l.items (l.m - l.back) ≡ locals_start l.items l.m

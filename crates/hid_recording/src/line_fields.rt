@@ -1,0 +1,134 @@
+//! What a word says by itself: a byte, a count, a device, a time, whose dump it is.
+
+ghost use Rattle.std.specs.Prelude.{◌≡◌, ◌+◌, ◌*◌, ◌<◌, Some, IfOk, MatchResult, map};
+ghost use Rattle.std.specs.List.{slice_split};
+ghost use Rattle.std.specs.Option.{option_map};
+ghost use Rattle.hid_recording.specs.declared.line_fields.TheConstants.{MAX_DEVICES};
+ghost use Rattle.hid_recording.specs.Words.{byte_of_word, bytes_of, IsNoBytes, is_count, device_of_word, is_time, time_of, is_colon, address_of, content_of};
+
+use super::dump::{Address, Content};
+use super::fault::{Cause, Refusal};
+use hid_text::read_number;
+use std::alloc::{AllocError, Global};
+
+/// How many devices a recording has room for (our choice).
+pub const MAX_DEVICES: usize = 16;
+
+/// The byte that two hex digits of either case encode.
+fn read_byte(word: &[u8]) -> Option<u8>
+    ensures value { result ≡ byte_of_word word.now }
+{
+    let [high, low] = word else {
+        return None;
+    };
+    let high = char::from(*high).to_digit(16)?;
+    let low = char::from(*low).to_digit(16)?;
+    Some((high * 16 + low) as u8)
+}
+
+/// The bytes that words encode, one each.
+///
+/// # Errors
+/// R3 if a word isn't two hex digits, R10 if memory runs out for the bytes of the words before it.
+#[tactic(auto, unfolding(crate::specs::Words::bytes_of))]
+pub fn read_bytes(alloc: Global, words: &[&[u8]]) -> Result<Vec<u8>, Cause>
+    ensures { MatchResult result
+        (λ bytes. bytes_of (map (λ word. word.now) words.now) ≡ Some bytes.items)
+        (λ cause. IsNoBytes cause (bytes_of (map (λ word. word.now) words.now))) }
+{
+    let mut bytes = Vec::new(alloc);
+    for word in words {
+        match read_byte(word) {
+            None => return Err(Cause::Refused(Refusal::BadHex)),
+            Some(byte) => {
+                if bytes.push(byte).is_err() {
+                    return Err(Cause::Memory);
+                }
+            }
+        }
+    }
+    Ok(bytes)
+}
+
+/// Whether a word is this count, in decimal digits.
+pub fn is_count(word: &[u8], count: usize) -> bool
+    ensures { result ≡ is_count word.now count }
+{
+    match read_number(10, word) {
+        Some(number) => number == count as u64,
+        None => false,
+    }
+}
+
+/// The number of a device.
+#[derive(Clone, Copy)]
+pub struct DeviceNumber {
+    pub number: u8,
+    ghost small: { number < MAX_DEVICES },
+}
+
+/// The device that a word names: decimal digits, 0 to 15.
+pub fn read_device(word: &[u8]) -> Option<DeviceNumber>
+    ensures value { option_map (λ device. device.number) result ≡ device_of_word word.now }
+{
+    match read_number(10, word)? {
+        device @ 0..=15 => Some(DeviceNumber {
+            number: device as u8,
+        }),
+        _ => None,
+    }
+}
+
+/// Whether a word is digits and points alone.
+fn is_time(word: &[u8]) -> bool
+    ensures { result ≡ is_time word.now }
+{
+    word.iter().all(|byte| matches!(*byte, b'0'..=b'9' | b'.'))
+}
+
+/// The time that a word encodes: digits and points.
+pub fn read_time(word: &[u8]) -> Option<&str>
+    ensures { option_map (λ time. time.now) result ≡ time_of word.now }
+{
+    if !is_time(word) {
+        return None;
+    }
+    std::str::from_utf8(word).ok()
+}
+
+/// What stands between the colons of a word.
+///
+/// # Errors
+/// [`AllocError`] if memory runs out for the places of the parts.
+pub fn parts_of_word(alloc: Global, word: &[u8]) -> Result<Vec<&[u8]>, AllocError>
+    ensures { IfOk result (λ parts. map (λ part. part.now) parts.items ≡ slice_split is_colon word.now) }
+{
+    word.split(|byte| *byte == b':').collect(alloc)
+}
+
+/// The interface that three numbers name: of a bus, of a device on it, and of the interface.
+pub fn read_address(bus: &[u8], device: &[u8], interface: &[u8]) -> Option<Address>
+    ensures { result ≡ address_of bus.now device.now interface.now }
+{
+    let bus = read_number(10, bus)?;
+    let device = read_number(10, device)?;
+    let interface = read_number(10, interface)?;
+    Some(Address {
+        bus,
+        device,
+        interface,
+    })
+}
+
+/// What a dump is of, by its word.
+pub fn read_content(word: &[u8]) -> Option<Content>
+    ensures { result ≡ content_of word.now }
+{
+    if word == b"DESCRIPTOR".as_slice() {
+        Some(Content::Descriptor)
+    } else if word == b"STREAM".as_slice() {
+        Some(Content::Stream)
+    } else {
+        None
+    }
+}

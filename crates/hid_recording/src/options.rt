@@ -1,0 +1,16 @@
+//! What a run is asked to print.
+
+/// What is printed beside the events, and whether what is refused ends the run.
+#[derive(Clone, Copy, Debug, PartialEq, Eq)]
+pub struct Options {
+    /// The layout of each descriptor that is accepted.
+    pub layout: bool,
+    /// The values of each report.
+    pub values: bool,
+    /// The name of each event's usage, where it has one.
+    pub names: bool,
+    /// The first refusal ends the run.
+    pub strict: bool,
+    /// Events and refusals are reported as JSON.
+    pub json: bool,
+}

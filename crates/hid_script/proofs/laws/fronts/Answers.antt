@@ -1,7 +1,0 @@
-use Rattle.hid_script.proofs.LineOutputLemmas.{fronts}
-use Rattle.hid_script.proofs.laws.fronts.Goals as goal
-
-pub returns : goal.returns
-returns c =
-    fronts c.one_reading.ensures c.accepted_or_refused.ensures c.one_refusal.ensures.cause c.one_refusal.ensures.place
-    (record { tells = c.one_telling.ensures; finds = c.one_finding.ensures; attaches = c.one_attaching.ensures })

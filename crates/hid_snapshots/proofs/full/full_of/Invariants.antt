@@ -1,8 +1,0 @@
-use Rattle.std.proofs.Common.{◌≡◌, replicate, vec_capacity}
-use Rattle.hid_snapshots.proofs.full.full_of.Given as goal
-
-abbrev pub invariant-loop : goal.invariant-loop
-invariant-loop g l = record {
-  items : l.items.items ≡ replicate l.counter l.item;
-  room : vec_capacity l.items ≡ l.count;
-}

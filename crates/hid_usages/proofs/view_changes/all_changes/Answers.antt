@@ -1,0 +1,31 @@
+use Rattle.std.proofs.Common.{◌∙◌, List, drop, ap, arith}
+use Rattle.std.proofs.lemmas.List.{drop_all}
+use Rattle.hid_layout.specs.Controls.{Item, items_of}
+use Rattle.hid_snapshots.specs.Views.{changes_from}
+use Rattle.hid_usages.proofs.EventLemmas.{all_appended, room_for, room_left, told}
+use Rattle.hid_usages.proofs.ViewLemmas.{changes_from-next, room_at}
+use Rattle.hid_usages.proofs.view_changes.all_changes.Goals as goal
+
+pub item_changes-requires-clause-before : goal.item_changes-requires-clause-before
+item_changes-requires-clause-before c = room_at _ _ _ c.loop-i.i c.state_at.result.now c.requires.before (omega arith) c.state_at.ensures
+
+pub item_changes-requires-clause-after : goal.item_changes-requires-clause-after
+item_changes-requires-clause-after c = room_at _ _ _ c.loop-i.i c.state_at-in-loop-i.result.now c.requires.after (omega arith) c.state_at-in-loop-i.ensures
+
+pub item_changes-requires-clause-room : goal.item_changes-requires-clause-room
+item_changes-requires-clause-room c =
+    let step = changes_from-next (items_of c.args.layout.now) c.args.before.now c.args.after.now c.loop-i.i c.state_at.result.now c.state_at-in-loop-i.result.now (omega arith) c.state_at.ensures c.state_at-in-loop-i.ensures in
+    room_for _ _ _ _ _ step c.loop-i.invariant.room
+
+pub loop-i-preserved : goal.loop-i-preserved
+loop-i-preserved c =
+    let step = changes_from-next (items_of c.args.layout.now) c.args.before.now c.args.after.now c.loop-i.i c.state_at.result.now c.state_at-in-loop-i.result.now (omega arith) c.state_at.ensures c.state_at-in-loop-i.ensures in
+    record {
+      events = told _ _ _ _ _ _ step c.loop-i.invariant.events c.item_changes.ensures.items;
+      room = room_left _ _ _ _ _ _ _ step c.loop-i.invariant.room c.item_changes.ensures.len c.item_changes.ensures.room;
+      same_room = c.item_changes.ensures.room ∙ c.loop-i.invariant.same_room;
+    }
+
+pub returns : goal.returns
+returns c =
+    all_appended _ _ _ _ (ap (λ (items : List Item). changes_from c.loop-i.i items (drop c.loop-i.i c.args.before.now) (drop c.loop-i.i c.args.after.now)) (drop_all c.loop-i.i (items_of c.args.layout.now) (omega arith))) c.loop-i.invariant.events c.loop-i.invariant.same_room

@@ -1,0 +1,163 @@
+//! The words of the command line.
+
+use super::codes::CODES;
+use super::source::Kind;
+use clap::{Arg, ArgAction, ArgMatches, Command, Error};
+use hid_recording::Options;
+use std::alloc::{AllocError, Global};
+
+/// What the words ask for.
+#[derive(Drop)]
+pub struct CliArgs<'a> {
+    pub options: Options,
+    /// What the files are taken for.
+    pub kind: Kind,
+    /// The files in their order; `-` is standard input.
+    pub files: Vec<&'a str>,
+}
+
+/// An option without a value.
+fn flag<'a>(alloc: Global, name: &'a str, help: &'a str) -> Arg<'a> {
+    Arg::new(alloc, name)
+        .long(name)
+        .action(ArgAction::SetTrue)
+        .help(help)
+}
+
+/// The arguments FILE.
+fn files<'a>(alloc: Global) -> Arg<'a> {
+    Arg::new(alloc, "FILE")
+        .action(ArgAction::Append)
+        .num_args(0..)
+        .help(
+            "Text of hid-recorder or usbhid-dump, or a binary report descriptor; - and no FILE are standard input",
+        )
+}
+
+/// The option `--json`.
+fn json<'a>(alloc: Global) -> Result<Arg<'a>, AllocError> {
+    flag(
+        alloc,
+        "json",
+        "Print each event and refusal as a line of JSON",
+    )
+    .conflicts_with("layout")?
+    .conflicts_with("values")
+}
+
+/// The option `--text`.
+fn text<'a>(alloc: Global) -> Result<Arg<'a>, AllocError> {
+    flag(
+        alloc,
+        "text",
+        "Take each file for text, whatever its first byte is",
+    )
+    .conflicts_with("binary")
+}
+
+/// Adds an argument, if memory was there for the command and for it.
+fn add<'a>(
+    command: Result<Command<'a>, AllocError>,
+    made: Result<Arg<'a>, AllocError>,
+) -> Result<Command<'a>, AllocError> {
+    match command {
+        Ok(command) => match made {
+            Ok(arg) => command.arg(arg),
+            Err(error) => {
+                drop(command);
+                Err(error)
+            }
+        },
+        Err(error) => {
+            drop(made);
+            Err(error)
+        }
+    }
+}
+
+/// The program, and what it prints beside the events.
+fn printing<'a>(alloc: Global) -> Result<Command<'a>, AllocError> {
+    let command = Command::new(alloc, "hidplay")
+        .version("0.2.0")
+        .about("Plays recordings of USB HID devices: prints the events that a host sees")
+        .after_help(CODES)
+        .arg(flag(
+            alloc,
+            "layout",
+            "Print the layout of each report descriptor",
+        ));
+    let command = add(
+        command,
+        Ok(flag(alloc, "values", "Print the values of each report")),
+    );
+    add(
+        command,
+        Ok(flag(alloc, "names", "Print the name of each event's usage")),
+    )
+}
+
+/// The command line.
+fn command<'a>(alloc: Global) -> Result<Command<'a>, AllocError> {
+    let command = add(printing(alloc), json(alloc));
+    let command = add(
+        command,
+        Ok(flag(
+            alloc,
+            "strict",
+            "End all files at the first line that is refused",
+        )),
+    );
+    let command = add(command, text(alloc));
+    let command = add(
+        command,
+        Ok(flag(
+            alloc,
+            "binary",
+            "Take each file for a binary report descriptor",
+        )),
+    );
+    add(command, Ok(files(alloc)))
+}
+
+/// What files are taken for; one of the two at most is asked for.
+fn kind_of(is_text: bool, is_binary: bool) -> Kind {
+    if is_text {
+        Kind::Text
+    } else if is_binary {
+        Kind::Binary
+    } else {
+        Kind::Detected
+    }
+}
+
+/// What the words after the first ask for, which is the program's name.
+///
+/// # Errors
+/// The error of clap: words that it refuses, help or version that they ask for, or out of memory.
+pub fn parse_args<'a>(alloc: Global, words: &'a [String]) -> Result<CliArgs<'a>, Error> {
+    let matches = command(alloc)?.try_get_matches_from(words)?;
+    let asked = read_matches(alloc, &matches);
+    drop(matches);
+    asked
+}
+
+/// The arguments of the words that clap found.
+fn read_matches<'a>(alloc: Global, matches: &ArgMatches<'a>) -> Result<CliArgs<'a>, Error> {
+    let mut files = Vec::new(alloc);
+    if let Some(names) = matches.get_strs("FILE") {
+        for name in names {
+            files.push(*name)?;
+        }
+    }
+    Ok(CliArgs {
+        options: Options {
+            layout: matches.get_flag("layout"),
+            values: matches.get_flag("values"),
+            names: matches.get_flag("names"),
+            strict: matches.get_flag("strict"),
+            json: matches.get_flag("json"),
+        },
+        kind: kind_of(matches.get_flag("text"), matches.get_flag("binary")),
+        files,
+    })
+}
