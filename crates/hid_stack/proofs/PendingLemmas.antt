@@ -14,7 +14,7 @@ use Rattle.hid_host.specs.declared.fault.StackFault.{StackFault}
 use Rattle.hid_host.specs.declared.host.Transfer.{Transfer}
 use Rattle.hid_host.specs.declared.phase.HostPhase.{HostPhase}
 use Rattle.hid_host.specs.Host.{clearing_after, clearing_with, is_clear, running, transfer_of}
-use Rattle.hid_stack.specs.PendingClear.{IsClearDone, IsPendingUntilDone, LeavePending}
+use Rattle.hid_stack.specs.PendingClear.{IsClearDone, IsPendingUntilDone, StepsLeavePending}
 use Rattle.hid_stack.specs.HostInvariant.{asking_of}
 use Rattle.hid_stack.specs.Members.{Member, MemberStep, Scheduled, Begins, Controls, Halts, Resets, begin_refusal_at, member_after_begin, core_of_member, member_transfer_after, member_after_halt, member_after, member_after_all, polls_it, member_after_try}
 use Rattle.hid_stack.specs.Transfers.{IsCleared, IsOver, IsUndone}
@@ -129,7 +129,7 @@ on_control fate m (Some t) has undone s = elim (cases_Bool (is_running t.ends.st
 
 -- ---- whole lists
 
-stays_pending_through : (steps : List MemberStep) (m : Member) → LeavePending m steps → StaysPending m → StaysPending (member_after_all m steps)
+stays_pending_through : (steps : List MemberStep) (m : Member) → StepsLeavePending m steps → StaysPending m → StaysPending (member_after_all m steps)
 stays_pending_through [] m leave s = s
 stays_pending_through (Scheduled x ∷ steps) m leave s = stays_pending_through steps (member_after m (Scheduled x)) leave.1 (on_schedule x m s)
 stays_pending_through (Begins request ∷ steps) m leave s = stays_pending_through steps (member_after m (Begins request)) leave.1 (on_begin (begin_refusal_at m request) m request s)
@@ -160,7 +160,7 @@ even_where fate n (Some t) has s done = elim (cases_Bool (is_running t.ends.stag
 -- a clear stays pending over a list of steps, from a member that has begun it
 abbrev PendingFrom : List MemberStep → Member → Type 0
 PendingFrom steps begun =
-    let n = member_after_all begun steps in LeavePending begun steps
+    let n = member_after_all begun steps in StepsLeavePending begun steps
     → (polls_it n ≡ false) × ((fate : Fate) → IsClearDone (member_after n (Controls fate)).transfer → IsCleared (member_after n (Controls fate)))
 
 pub pending_until_done : (m : Member) (steps : List MemberStep) → ParsesTo m.descriptor m.layout

@@ -13,21 +13,21 @@ IsClearDone None = ⊥
 IsClearDone (Some t) = (t.request ≡ Clear) × (t.ends.stage ≡ Done)
 
 -- a step that leaves a Clear pending: no reset, and none by which a Clear is done
-abbrev pub LeavesPending : MemberStep → Member → Type 0
-LeavesPending Resets n = ⊥
-LeavesPending x n = IsClearDone n.transfer → ⊥
+abbrev pub StepLeavesPending : MemberStep → Member → Type 0
+StepLeavesPending Resets n = ⊥
+StepLeavesPending x n = IsClearDone n.transfer → ⊥
 
 -- each of these steps leaves a Clear pending: other requests may begin and end among them, and a Clear that failed may
 -- begin again
-abbrev pub LeavePending : Member → List MemberStep → Type 0
-LeavePending m [] = Unit {0}
-LeavePending m (x ∷ steps) = LeavesPending x (member_after m x) × LeavePending (member_after m x) steps
+abbrev pub StepsLeavePending : Member → List MemberStep → Type 0
+StepsLeavePending m [] = Unit {0}
+StepsLeavePending m (x ∷ steps) = StepLeavesPending x (member_after m x) × StepsLeavePending (member_after m x) steps
 
 -- From the begin of a Clear until one is done or the bus is reset the host polls nothing: also while the Clear has failed,
 -- and other requests begin and end. Where a try ends one, both ends start again.
 abbrev pub IsPendingUntilDone : Member → List MemberStep → Type 0
 IsPendingUntilDone m steps =
-    let begun = member_after m (Begins Clear) in let n = member_after_all begun steps in LeavePending begun steps
+    let begun = member_after m (Begins Clear) in let n = member_after_all begun steps in StepsLeavePending begun steps
     → (polls_it n ≡ false)
     × ((fate : Fate) → IsClearDone (member_after n (Controls fate)).transfer
     → IsCleared (member_after n (Controls fate)))

@@ -61,7 +61,7 @@ pub fn packets_make_polls()
 /// Each device is independent of the others, over any steps from any state of the bus. One that was just configured delivers
 /// the changes between the successive parts that crossed. One without an open round stands as its rounds say, and follows its
 /// history.
-pub fn devices_go_their_own_way()
+pub fn devices_are_independent()
     ensures isolated { ForAllRuns IsIsolated }
     ensures headline { (before : List Member) (steps : List BusStep) (old new : List Delivered)
         → new ≡ old ++ deliveries_of_steps before steps → DeliversChanges before steps old new }
@@ -75,7 +75,7 @@ pub fn devices_go_their_own_way()
 /// whatever comes before and between: how it stands with its host, and the events under its number, which are those of
 /// its history. A try at which memory runs out is one of its steps too: such a try delivers nothing if it ends no round,
 /// and it never ends a round of a device that begins without a transfer.
-pub fn devices_are_their_own()
+pub fn devices_depend_on_own_steps()
     ensures own { (before : List Action) (m : Member) (since : List Action)
         → IsItsOwn before m since }
     ensures ends { (m : Member) (actions : List DeviceAction)

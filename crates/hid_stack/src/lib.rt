@@ -28,7 +28,7 @@
 //!   holds from each configuration on: `history`.
 //! - Each step has the result of its definition: `told`, `after` and `events` on [`Rig::step`].
 //! - Each device is independent of the others: `isolated`, and over lists of attaches and steps
-//!   [`laws::devices_are_their_own`].
+//!   [`laws::devices_depend_on_own_steps`].
 //! - A halt or a clear loses no report: [`laws::halts_lose_nothing`]. Motion is neither lost nor doubled: `conserves`.
 //! - A host is ready only while its device is configured, and only with its layout: `shows` on [`Rig::host`]. The toggle that
 //!   it expects is the parity of the pieces that crossed: `toggles` on [`Rig::run`].

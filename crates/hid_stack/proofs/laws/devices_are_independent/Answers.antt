@@ -1,5 +1,5 @@
 use Rattle.hid_stack.proofs.Isolation.{isolated, headline, keeps_to_rounds, devices_live}
-use Rattle.hid_stack.proofs.laws.devices_go_their_own_way.Goals as goal
+use Rattle.hid_stack.proofs.laws.devices_are_independent.Goals as goal
 
 pub returns-clause-isolated : goal.returns-clause-isolated
 returns-clause-isolated c = isolated

@@ -1,6 +1,6 @@
 use Rattle.hid_stack.proofs.CarryLemmas.{end_no_rounds}
 use Rattle.hid_stack.proofs.BusHistoryLemmas.{its_own}
-use Rattle.hid_stack.proofs.laws.devices_are_their_own.Goals as goal
+use Rattle.hid_stack.proofs.laws.devices_depend_on_own_steps.Goals as goal
 
 pub returns-clause-own : goal.returns-clause-own
 returns-clause-own c = its_own
