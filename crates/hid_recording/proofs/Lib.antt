@@ -4,3 +4,4 @@ pub mod FlushLemmas
 pub mod WordLemmas
 pub mod PlayerLemmas
 pub mod JsonLemmas
+mod Vectors

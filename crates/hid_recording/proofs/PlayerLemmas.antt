@@ -107,12 +107,12 @@ pub report_taken : (options : Options) (time : List ℕ) (device : ℕ) (bytes :
     → after.collected ≡ member.collected → after.in_doubt ≡ member.in_doubt → none ≡ []
     → told ≡ none ++ read_events member.layout report bytes member.states → events ≡ length told
     → asked ≡ old ++ values_asked options.values time device member.layout (report_named member.layout bytes) bytes
-    → more ≡ asked ++ event_lines time device options told
+    → more ≡ asked ++ event_lines time device options after.layout told
     → TakesOne options time device bytes member old events after more
 unfolding report_text
 report_taken options time device bytes member after old asked more none told events report named same read kept doubt nothing gives count values lines =
     let asked_of = λ (n : Result ℕ ReportFault). values_asked options.values time device member.layout n bytes in
-    let shown = λ (l : List Event). event_lines time device options l in
+    let shown = λ (l : List Event). event_lines time device options member.layout l in
     let all : told ≡ read_events member.layout report bytes member.states
     = gives ∙ ap (λ l. l ++ read_events member.layout report bytes member.states) nothing in
     record {
@@ -120,7 +120,7 @@ report_taken options time device bytes member after old asked more none told eve
       named = named;
       read = is_member after member.layout (read_view member.layout report bytes member.states) member.collected member.in_doubt same read kept doubt;
       count = count ∙ ap (λ (l : List Event). length l) all;
-      told = lines ∙ ap (λ l. l ++ shown told) values ∙ append_assoc old (asked_of (report_named member.layout bytes)) (shown told) ∙ ap (λ n. old ++ (asked_of n ++ shown told)) named ∙ ap (λ l. old ++ (asked_of (Ok report) ++ shown l)) all;
+      told = lines ∙ ap (λ layout. asked ++ event_lines time device options layout told) same ∙ ap (λ l. l ++ shown told) values ∙ append_assoc old (asked_of (report_named member.layout bytes)) (shown told) ∙ ap (λ n. old ++ (asked_of n ++ shown told)) named ∙ ap (λ l. old ++ (asked_of (Ok report) ++ shown l)) all;
     }
 
 -- what stands at a place, put there, changes nothing

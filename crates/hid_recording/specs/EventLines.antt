@@ -2,9 +2,10 @@
 use Rattle.std.specs.Prelude.{ℕ, Bool, List, [], ◌∷◌, ◌++◌, if◌then◌else◌, Option, None, Some}
 use Rattle.std.specs.List.{flat_map}
 use Rattle.hid_report_descriptor.specs.declared.usage.Usage.{Usage}
+use Rattle.hid_layout.specs.Layout.{Contents}
 use Rattle.hid_snapshots.specs.declared.event.Event.{Event}
 use Rattle.hid_names.specs.Names.{Name, name_of, name_text}
-use Rattle.hid_text.specs.EventText.{event_text}
+use Rattle.hid_text.specs.EventText.{event_text, placed_event_text}
 use Rattle.hid_recording.specs.declared.options.Options.{Options}
 use Rattle.hid_recording.specs.EventJson.{usage_in, event_tokens, json_text}
 
@@ -17,18 +18,23 @@ after_space (Some name) = 32 ∷ name_text name
 abbrev pub name_words : Usage → List ℕ
 name_words usage = after_space (name_of usage.page usage.id)
 
--- an event as a line for people: TIME D EVENT, and with --names the name of its usage
-abbrev pub plain_line : List ℕ → ℕ → Bool → Event → List ℕ
-plain_line time device names event =
-    time ++ 32 ∷ event_text device event ++ (if names then name_words (usage_in event) else []) ++ 10 ∷ []
+-- an event, with its control behind the usage if places are asked for
+abbrev pub shown_event : Bool → ℕ → Event → List ℕ
+shown_event places device event = if places then placed_event_text device event else event_text device event
 
--- the line of an event: the time as it stands, the device, the event, and with names that of its usage. Example: 0.1 0
--- down 09:01 Button 1
-unfoldable pub event_line : List ℕ → ℕ → Options → Event → List ℕ
-event_line time device options event =
-    if options.json then json_text (event_tokens time device options.names event)
-    else plain_line time device options.names event
+-- an event as a line for people: TIME D EVENT, with --places its control, and with --names the name of its usage
+abbrev pub plain_line : List ℕ → ℕ → Options → Event → List ℕ
+plain_line time device options event =
+    time ++ 32 ∷ shown_event options.places device event ++ (if options.names then name_words (usage_in event) else [])
+    ++ 10 ∷ []
+
+-- the line of an event of a device with this layout: the time as it stands, the device, the event, with places its
+-- control, and with names that of its usage. Example: 0.1 0 down 09:01 @0.0 Button 1
+unfoldable pub event_line : List ℕ → ℕ → Options → Contents → Event → List ℕ
+event_line time device options layout event =
+    if options.json then json_text (event_tokens time device options.names layout event)
+    else plain_line time device options event
 
 -- a line for each event
-abbrev pub event_lines : List ℕ → ℕ → Options → List Event → List ℕ
-event_lines time device options events = flat_map (event_line time device options) events
+abbrev pub event_lines : List ℕ → ℕ → Options → Contents → List Event → List ℕ
+event_lines time device options layout events = flat_map (event_line time device options layout) events

@@ -88,7 +88,7 @@ values_asked asked time device layout named bytes =
 unfoldable pub report_text : Options → List ℕ → ℕ → PlayedDevice → ℕ → List ℕ → List ℕ
 report_text options time device member report bytes =
     values_asked options.values time device member.layout (Ok report) bytes
-    ++ event_lines time device options (member_events member report bytes)
+    ++ event_lines time device options member.layout (member_events member report bytes)
 
 -- a report that is read: its text, and the session after it
 abbrev pub outcome_of_report : Session → List ℕ → List ℕ → PlayedDevice → ℕ → Outcome

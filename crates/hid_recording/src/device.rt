@@ -192,7 +192,7 @@ impl RecordedDevice {
             Err(fault) => return Err(Cause::Refused(Refusal::Report(fault))),
         }
         let events = self.events.as_slice();
-        print_events(text, source, events)?;
+        print_events(text, source, self.receiver.layout(), events)?;
         Ok(events.len() as u64)
     }
 }

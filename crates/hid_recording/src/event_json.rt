@@ -2,13 +2,14 @@
 
 ghost use Rattle.std.specs.Prelude.{◌≡◌, ◌++◌, [], Some, OnOk, string_bytes};
 ghost use Rattle.hid_names.specs.Names.{name_of_value, name_of};
-ghost use Rattle.hid_recording.specs.EventJson.{usage_in, event_word, source_tokens, usage_tokens, number_tokens, value_tokens, named_tokens, name_tokens, event_members, event_tokens, refusal_members, refusal_tokens, json_text};
+ghost use Rattle.hid_recording.specs.EventJson.{usage_in, control_in, path_round, event_word, source_tokens, usage_tokens, place_tokens, path_tokens, control_tokens, number_tokens, value_tokens, named_tokens, name_tokens, event_members, event_tokens, refusal_members, refusal_tokens, json_text};
 ghost use Rattle.hid_recording.specs.Refusals.{refusal_text};
 
 use super::event_line::Source;
 use super::fault::Refusal;
-use hid_layout::Usage;
+use hid_layout::{Collection, ControlId, Layout, Usage};
 use hid_names::{UsageName, usage_name};
+use hid_text::print_collections;
 use hid_usages::Event;
 use json::Writer;
 use std::alloc::{AllocError, Global};
@@ -25,6 +26,30 @@ pub fn usage_in(event: &Event) -> Usage
         | Event::Motion { usage, .. }
         | Event::Dropped { usage, .. } => *usage,
     }
+}
+
+/// The control that an event is of.
+fn control_in(event: &Event) -> ControlId
+    ensures { result ≡ control_in event.now }
+{
+    match event {
+        Event::Down { control, .. }
+        | Event::Up { control, .. }
+        | Event::Value { control, .. }
+        | Event::Null { control, .. }
+        | Event::Motion { control, .. }
+        | Event::Dropped { control, .. } => *control,
+    }
+}
+
+/// The collections round the item of a control, the outermost first.
+fn path_round(layout: &Layout, control: ControlId) -> &[Collection]
+    ensures { result.now ≡ path_round layout.now control }
+{
+    if control.item >= layout.items().len() {
+        return &[];
+    }
+    layout.path(control.item)
 }
 
 /// The word for the kind of an event.
@@ -63,6 +88,42 @@ fn put_usage(json: &mut Writer, word: &str, usage: Usage) -> Result<(), AllocErr
     json.u64(u64::from(usage.page))?;
     json.key("id")?;
     json.u64(u64::from(usage.id))
+}
+
+/// Writes the places of a control's item and of itself.
+fn put_place(json: &mut Writer, control: ControlId) -> Result<(), AllocError>
+    ensures tokens { OnOk result (json.new.tokens ≡ json.old.tokens ++ place_tokens control) }
+    ensures before { json.new.before ≡ json.old.before }
+{
+    json.key("item")?;
+    json.u64(control.item as u64)?;
+    json.key("index")?;
+    json.u64(control.index as u64)
+}
+
+/// Writes the collections round a control.
+fn put_path(json: &mut Writer, alloc: Global, path: &[Collection]) -> Result<(), AllocError>
+    ensures tokens { OnOk result (json.new.tokens ≡ json.old.tokens ++ path_tokens path.now) }
+    ensures before { json.new.before ≡ json.old.before }
+{
+    let mut collections = String::new(alloc);
+    print_collections(&mut collections, path)?;
+    json.key("path")?;
+    json.string(collections.as_str())
+}
+
+/// Writes which control an event is of.
+fn put_control(
+    json: &mut Writer,
+    alloc: Global,
+    layout: &Layout,
+    control: ControlId,
+) -> Result<(), AllocError>
+    ensures tokens { OnOk result (json.new.tokens ≡ json.old.tokens ++ control_tokens layout.now control) }
+    ensures before { json.new.before ≡ json.old.before }
+{
+    put_place(json, control)?;
+    put_path(json, alloc, path_round(layout, control))
 }
 
 /// Writes a number as the value of an event.
@@ -116,27 +177,34 @@ fn put_name(json: &mut Writer, source: &Source<'_>, usage: Usage) -> Result<(), 
 fn put_event_members(
     json: &mut Writer,
     source: &Source<'_>,
+    layout: &Layout,
     event: &Event,
 ) -> Result<(), AllocError>
     ensures tokens { OnOk result (json.new.tokens ≡ json.old.tokens
-        ++ event_members source.now.time.now source.now.device source.now.options.names event.now) }
+        ++ event_members source.now.time.now source.now.device source.now.options.names layout.now event.now) }
     ensures before { json.new.before ≡ json.old.before }
 {
     let usage = usage_in(event);
     put_source(json, source.time, source.device)?;
     put_usage(json, event_word(event), usage)?;
+    put_control(json, source.alloc, layout, control_in(event))?;
     put_value(json, event)?;
     put_name(json, source, usage)
 }
 
 /// Writes an event as an object.
-fn put_event(json: &mut Writer, source: &Source<'_>, event: &Event) -> Result<(), AllocError>
+fn put_event(
+    json: &mut Writer,
+    source: &Source<'_>,
+    layout: &Layout,
+    event: &Event,
+) -> Result<(), AllocError>
     ensures tokens { OnOk result (json.new.tokens ≡ json.old.tokens
-        ++ event_tokens source.now.time.now source.now.device source.now.options.names event.now) }
+        ++ event_tokens source.now.time.now source.now.device source.now.options.names layout.now event.now) }
     ensures before { json.new.before ≡ json.old.before }
 {
     json.begin_object()?;
-    put_event_members(json, source, event)?;
+    put_event_members(json, source, layout, event)?;
     json.end_object()
 }
 
@@ -171,16 +239,21 @@ fn push_line(text: &mut String, json: Writer) -> Result<(), AllocError>
     text.push_str("\n")
 }
 
-/// Adds an event as a line of JSON.
+/// Adds an event of a device with this layout as a line of JSON.
 ///
 /// # Errors
 /// [`AllocError`] if memory runs out for the line.
-pub fn print_json(text: &mut String, source: &Source<'_>, event: &Event) -> Result<(), AllocError>
-    ensures { OnOk result (string_bytes text.new ≡ string_bytes text.old
-        ++ json_text (event_tokens source.now.time.now source.now.device source.now.options.names event.now)) }
+pub fn print_json(
+    text: &mut String,
+    source: &Source<'_>,
+    layout: &Layout,
+    event: &Event,
+) -> Result<(), AllocError>
+    ensures { OnOk result (string_bytes text.new ≡ string_bytes text.old ++ json_text
+        (event_tokens source.now.time.now source.now.device source.now.options.names layout.now event.now)) }
 {
     let mut json = Writer::new(Vec::new(source.alloc));
-    match put_event(&mut json, source, event) {
+    match put_event(&mut json, source, layout, event) {
         Ok(()) => push_line(text, json),
         Err(error) => Err(error),
     }

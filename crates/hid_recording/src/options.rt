@@ -9,6 +9,8 @@ pub struct Options {
     pub values: bool,
     /// The name of each event's usage, where it has one.
     pub names: bool,
+    /// Which control each event is of, behind its usage: the place of its item, and its place there. JSON has both in any case.
+    pub places: bool,
     /// The first refusal ends the run.
     pub strict: bool,
     /// Events and refusals are reported as JSON.

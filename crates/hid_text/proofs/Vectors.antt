@@ -6,9 +6,10 @@ use Rattle.hid_report_descriptor.specs.declared.report.ReportKind.TheVariants.{I
 use Rattle.hid_layout.specs.declared.main_item.MainItem.{MainItem}
 use Rattle.hid_report_descriptor.specs.declared.shape.Shape.TheVariants.{Variable}
 use Rattle.hid_notation.specs.Text.{hex_text, range_text}
-use Rattle.hid_text.specs.LayoutText.{item_head, item_line}
+use Rattle.hid_text.specs.LayoutText.{item_head, item_line, collections_text}
 use Rattle.hid_text.specs.ValuesText.{value_line}
-use Rattle.hid_snapshots.specs.declared.event.Event.TheVariants.{Up, Dropped}
+use Rattle.hid_snapshots.specs.declared.event.Event.TheVariants.{Up, Value, Dropped}
+use Rattle.hid_text.specs.EventText.{placed_event_text}
 use Rattle.hid_text.specs.EventLines.{event_lines}
 use Rattle.hid_text.specs.StepText.{events_text}
 use Rattle.hid_text.specs.TransferText.{transfer_text}
@@ -30,6 +31,26 @@ mouse_buttons : item_line 0 (record { kind = Input; id = 0; bits = 24 }) buttons
     ≡ codes "item 0 input 0 at 0 1x3 variable 0..1 09:01-09:03 in 1/01:02 0/-" ++ 10 ∷ []
 unfolding buttons item_head range_text hex_text digits
 mouse_buttons = refl
+
+-- a finger of a touch screen: a logical collection in an application
+a_finger : collections_text
+    (record { kind = 1; usage = Some (record { page = 0x0D; id = 0x04 }) }
+    ∷ record { kind = 2; usage = Some (record { page = 0x0D; id = 0x22 }) } ∷ [])
+    ≡ codes "1/0D:04 2/0D:22"
+unfolding hex_text digits
+a_finger = refl
+
+-- the second finger leaves the screen: its tip is the only element of its item
+a_tip : placed_event_text 0 (Up (record { item = 7; index = 0 }) (record { page = 0x0D; id = 0x42 }))
+    ≡ codes "0 up 0D:42 @7.0"
+unfolding hex_text digits
+a_tip = refl
+
+-- the place stands in front of the number
+a_placed_value : placed_event_text 0 (Value (record { item = 12; index = 1 }) (record { page = 0x01; id = 0x30 }) (negsuc 4))
+    ≡ codes "0 value 01:30 @12.1 -5"
+unfolding hex_text digits
+a_placed_value = refl
 
 -- the status of a device that was read, whatever is asked to be traced
 a_status : transfer_text false 1 Done (0x00 ∷ 0x00 ∷ []) ≡ codes "1 control done 00 00" ++ 10 ∷ []

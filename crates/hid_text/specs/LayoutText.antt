@@ -55,10 +55,19 @@ details_text Array item entries = range_words item ++ entries_text entries
 abbrev pub collection_text : Collection → List ℕ
 collection_text collection = decimal collection.kind ++ 47 ∷ usage_or_dash collection.usage
 
+-- collections, each after a space
+abbrev pub spaced_collections : List Collection → List ℕ
+spaced_collections collections = flat_map (λ c. 32 ∷ collection_text c) collections
+
 -- the collections from the outermost on, where there are some
 abbrev pub path_text : List Collection → List ℕ
 path_text [] = []
-path_text (collection ∷ inner) = codes " in" ++ flat_map (λ c. 32 ∷ collection_text c) (collection ∷ inner)
+path_text (collection ∷ inner) = codes " in" ++ spaced_collections (collection ∷ inner)
+
+-- the collections from the outermost on, with a space between two of them. Example: 1/0D:04 2/0D:22
+abbrev pub collections_text : List Collection → List ℕ
+collections_text [] = []
+collections_text (outermost ∷ inner) = collection_text outermost ++ spaced_collections inner
 
 -- item I KIND ID at BIT SIZExCOUNT SHAPE
 unfoldable pub item_head : ℕ → Report → MainItem → List ℕ

@@ -3,7 +3,7 @@
 ghost use Rattle.std.specs.Prelude.{◌≡◌, ◌++◌, ◌∷◌, ◌<◌, length, OnOk, slice_get, string_bytes, codes};
 ghost use Rattle.std.specs.Fmt.{decimal, signed_decimal};
 ghost use Rattle.hid_report_descriptor.specs.Flags.{has_flag, RELATIVE};
-ghost use Rattle.hid_text.specs.LayoutText.{kind_word, report_name, collection_text, shape_word, range_words, entries_text, details_text, path_text, item_head, item_line, report_line, report_text_at, item_text_at, layout_lines, layout_text};
+ghost use Rattle.hid_text.specs.LayoutText.{kind_word, report_name, collection_text, spaced_collections, collections_text, shape_word, range_words, entries_text, details_text, path_text, item_head, item_line, report_line, report_text_at, item_text_at, layout_lines, layout_text};
 
 use hid_layout::{Collection, Layout, MainItem, Report, ReportKind, Shape, Usage};
 use hid_notation::{print_number, print_signed, print_usage_or_dash, print_usages};
@@ -108,19 +108,46 @@ fn print_details(
     }
 }
 
-/// Adds the collections from the outermost on.
-fn print_path(text: &mut String, path: &[Collection]) -> Result<(), AllocError>
-    ensures { OnOk result (string_bytes text.new ≡ string_bytes text.old ++ path_text path.now) }
+/// Adds collections, each after a space.
+fn print_spaced(text: &mut String, collections: &[Collection]) -> Result<(), AllocError>
+    ensures { OnOk result (string_bytes text.new
+        ≡ string_bytes text.old ++ spaced_collections collections.now) }
 {
-    if path.is_empty() {
-        return Ok(());
-    }
-    text.push_str(" in")?;
-    for collection in path {
+    for collection in collections {
         text.push(' ')?;
         print_collection(text, collection)?;
     }
     Ok(())
+}
+
+/// Adds the collections round an item, the outermost first: `1/0D:04 2/0D:22`; nothing where there is none.
+///
+/// # Errors
+/// Out of memory; part of the text may be added then.
+pub fn print_collections(text: &mut String, path: &[Collection]) -> Result<(), AllocError>
+    ensures { OnOk result (string_bytes text.new
+        ≡ string_bytes text.old ++ collections_text path.now) }
+{
+    match path {
+        [] => Ok(()),
+        [outermost, inner @ ..] => {
+            print_collection(text, outermost)?;
+            print_spaced(text, inner)
+        }
+    }
+}
+
+/// Adds the collections from the outermost on.
+fn print_path(text: &mut String, path: &[Collection]) -> Result<(), AllocError>
+    ensures { OnOk result (string_bytes text.new ≡ string_bytes text.old ++ path_text path.now) }
+{
+    match path {
+        [] => Ok(()),
+        [_, ..] => {
+            text.push_str(" in")?;
+            print_spaced(text, path)
+        }
+    }
 }
 
 /// Adds an item's number, and its report's name: `item 2 input 0`.

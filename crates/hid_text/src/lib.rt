@@ -45,9 +45,9 @@ mod transfer_text;
 mod values_text;
 mod words;
 
-pub use event_text::EventText;
+pub use event_text::{EventText, PlacedEventText};
 pub use fault::LineFault;
-pub use layout_text::print_layout;
+pub use layout_text::{print_collections, print_layout};
 pub use line::{Line, read_line, says_nothing};
 pub use line_buffer::{LineBuffer, TooLong, split_line};
 pub use numbers::read_number;

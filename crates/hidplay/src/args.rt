@@ -90,6 +90,14 @@ fn printing<'a>(alloc: Global) -> Result<Command<'a>, AllocError> {
         command,
         Ok(flag(alloc, "values", "Print the values of each report")),
     );
+    let command = add(
+        command,
+        Ok(flag(
+            alloc,
+            "places",
+            "Print which control each event is of, as @ITEM.INDEX",
+        )),
+    );
     add(
         command,
         Ok(flag(alloc, "names", "Print the name of each event's usage")),
@@ -154,6 +162,7 @@ fn read_matches<'a>(alloc: Global, matches: &ArgMatches<'a>) -> Result<CliArgs<'
             layout: matches.get_flag("layout"),
             values: matches.get_flag("values"),
             names: matches.get_flag("names"),
+            places: matches.get_flag("places"),
             strict: matches.get_flag("strict"),
             json: matches.get_flag("json"),
         },

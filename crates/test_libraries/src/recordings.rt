@@ -10,6 +10,7 @@ const PLAIN: Options = Options {
     layout: false,
     values: false,
     names: false,
+    places: false,
     strict: false,
     json: false,
 };
@@ -18,6 +19,7 @@ const ALL: Options = Options {
     layout: true,
     values: true,
     names: true,
+    places: false,
     strict: false,
     json: false,
 };
@@ -26,6 +28,7 @@ const STRICT: Options = Options {
     layout: false,
     values: false,
     names: false,
+    places: false,
     strict: true,
     json: false,
 };
@@ -34,6 +37,7 @@ const JSON: Options = Options {
     layout: false,
     values: false,
     names: true,
+    places: false,
     strict: false,
     json: true,
 };
@@ -42,8 +46,18 @@ const NO_NAMES: Options = Options {
     layout: false,
     values: false,
     names: false,
+    places: false,
     strict: false,
     json: true,
+};
+
+const PLACES: Options = Options {
+    layout: false,
+    values: false,
+    names: true,
+    places: true,
+    strict: false,
+    json: false,
 };
 
 /// What a recording is about, the options, the recording, and its output.
@@ -51,13 +65,19 @@ type Recorded = (&'static str, Options, &'static str, &'static str);
 
 /// Recordings with their output.
 #[rattlefmt::skip]
-const TOLD: [Recorded; 29] = [
+const TOLD: [Recorded; 31] = [
     ("a mouse that clicks and moves", PLAIN,
         "# a mouse\nD: 0\nR: 50 05 01 09 02 A1 01 09 01 A1 00 05 09 19 01 29 03 15 00 25 01 95 03 75 01 81 02 95 01 75 05 81 01 05 01 09 30 09 31 15 81 25 7F 75 08 95 02 81 06 C0 C0\nN: mouse\nI: 3 046d c077\nE: 000000.000000 3 01 05 00\nE: 000000.010000 3 00 00 FF\n",
         "000000.000000 0 down 09:01\n000000.000000 0 motion 01:30 5\n000000.010000 0 up 09:01\n000000.010000 0 motion 01:31 -1\n"),
     ("the same with its layout, its values and names", ALL,
         "R: 50 05 01 09 02 A1 01 09 01 A1 00 05 09 19 01 29 03 15 00 25 01 95 03 75 01 81 02 95 01 75 05 81 01 05 01 09 30 09 31 15 81 25 7F 75 08 95 02 81 06 C0 C0\nE: 000000.000000 3 01 05 00\n",
         "device 0\nreport input 0 bytes 3\nitem 0 input 0 at 0 1x3 variable 0..1 09:01-09:03 in 1/01:02 0/01:01\nitem 1 input 0 at 3 5x1 padding in 1/01:02 0/01:01\nitem 2 input 0 at 8 8x2 relative -127..127 01:30 01:31 in 1/01:02 0/01:01\n000000.000000 0 report\nvalue 0.0 1 09:01\nvalue 0.1 0 09:02\nvalue 0.2 0 09:03\nvalue 2.0 5 01:30\nvalue 2.1 0 01:31\n000000.000000 0 down 09:01 Button 1\n000000.000000 0 motion 01:30 5 X\n"),
+    ("two fingers by their places", PLACES,
+        "R: 43 05 0D 09 04 A1 01 09 22 A1 02 09 42 15 00 25 01 75 01 95 01 81 02 95 07 81 01 C0 09 22 A1 02 09 42 95 01 81 02 95 07 81 01 C0 C0\nE: 1 2 01 00\nE: 2 2 01 01\nE: 3 2 00 01\nE: 4 2 00 00\n",
+        "1 0 down 0D:42 @0.0 Tip Switch\n2 0 down 0D:42 @2.0 Tip Switch\n3 0 up 0D:42 @0.0 Tip Switch\n4 0 up 0D:42 @2.0 Tip Switch\n"),
+    ("the keys of an array in a collection without a usage, as JSON", NO_NAMES,
+        "R: 24 05 07 09 06 A1 01 A1 02 19 04 29 06 15 01 25 03 75 08 95 02 81 00 C0 C0\nE: 1 2 02 00\nE: 2 2 00 02\n",
+        "{\"time\":\"1\",\"device\":0,\"event\":\"down\",\"page\":7,\"id\":5,\"item\":0,\"index\":1,\"path\":\"1/07:06 2/-\"}\n"),
     ("two devices, each with its view", PLAIN,
         "D:0\nR: 14 05 09 09 01 15 00 25 01 75 01 95 01 81 02\nD:1\nR: 14 05 09 09 02 15 00 25 01 75 01 95 01 81 02\nE: 1 1 01\nD:0\nE: 2 1 01\nD:1\nE: 3 1 01\nE: 4 1 00\n",
         "1 1 down 09:02\n2 0 down 09:01\n4 1 up 09:02\n"),
@@ -97,10 +117,10 @@ const TOLD: [Recorded; 29] = [
         "line 1: R1: no line of a recording\nline 6: R1: no line of a recording\n"),
     ("events and refusals as JSON", JSON,
         "R: 14 05 09 09 01 15 00 25 01 75 01 95 01 81 02\nE: 1.5 1 01\nE: 2 1\n",
-        "{\"time\":\"1.5\",\"device\":0,\"event\":\"down\",\"page\":9,\"id\":1,\"name\":\"Button 1\"}\n{\"line\":3,\"refused\":\"R4: the count isn't that of the bytes\"}\n"),
+        "{\"time\":\"1.5\",\"device\":0,\"event\":\"down\",\"page\":9,\"id\":1,\"item\":0,\"index\":0,\"path\":\"\",\"name\":\"Button 1\"}\n{\"line\":3,\"refused\":\"R4: the count isn't that of the bytes\"}\n"),
     ("values and motions as JSON", NO_NAMES,
         "R: 33 05 01 09 30 15 00 26 FF 00 75 08 95 01 81 02 09 31 15 81 25 7F 81 06 09 39 15 01 25 08 75 08 81 42 C0\nR: 31 05 01 09 30 15 00 26 FF 00 75 08 95 01 81 02 09 31 15 81 25 7F 81 06 09 39 15 01 25 08 81 42\nE: .1 3 09 FF 01\nE: .2 3 09 00 00\n",
-        "{\"line\":1,\"refused\":\"R4: the count isn't that of the bytes\"}\n{\"time\":\".1\",\"device\":0,\"event\":\"value\",\"page\":1,\"id\":48,\"value\":9}\n{\"time\":\".1\",\"device\":0,\"event\":\"motion\",\"page\":1,\"id\":49,\"value\":-1}\n{\"time\":\".1\",\"device\":0,\"event\":\"value\",\"page\":1,\"id\":57,\"value\":1}\n{\"time\":\".2\",\"device\":0,\"event\":\"null\",\"page\":1,\"id\":57}\n"),
+        "{\"line\":1,\"refused\":\"R4: the count isn't that of the bytes\"}\n{\"time\":\".1\",\"device\":0,\"event\":\"value\",\"page\":1,\"id\":48,\"item\":0,\"index\":0,\"path\":\"\",\"value\":9}\n{\"time\":\".1\",\"device\":0,\"event\":\"motion\",\"page\":1,\"id\":49,\"item\":1,\"index\":0,\"path\":\"\",\"value\":-1}\n{\"time\":\".1\",\"device\":0,\"event\":\"value\",\"page\":1,\"id\":57,\"item\":2,\"index\":0,\"path\":\"\",\"value\":1}\n{\"time\":\".2\",\"device\":0,\"event\":\"null\",\"page\":1,\"id\":57,\"item\":2,\"index\":0,\"path\":\"\"}\n"),
     ("dumps of seventeen interfaces", PLAIN,
         "1:1:0:DESCRIPTOR 1\n\n1:1:1:DESCRIPTOR 1\n\n1:1:2:DESCRIPTOR 1\n\n1:1:3:DESCRIPTOR 1\n\n1:1:4:DESCRIPTOR 1\n\n1:1:5:DESCRIPTOR 1\n\n1:1:6:DESCRIPTOR 1\n\n1:1:7:DESCRIPTOR 1\n\n1:1:8:DESCRIPTOR 1\n\n1:1:9:DESCRIPTOR 1\n\n1:1:10:DESCRIPTOR 1\n\n1:1:11:DESCRIPTOR 1\n\n1:1:12:DESCRIPTOR 1\n\n1:1:13:DESCRIPTOR 1\n\n1:1:14:DESCRIPTOR 1\n\n1:1:15:DESCRIPTOR 1\n\n1:1:16:DESCRIPTOR 1\n 05 01\n 09 02\n\n",
         "line 33: R14: dumps of over 16 interfaces\n"),
