@@ -43,13 +43,13 @@ with_places = record { layout = false; values = false; names = false; places = t
 -- the second finger leaves the screen, as text
 a_release : event_line (codes "1.5") 3 with_places screen (Up (record { item = 1; index = 0 }) tip)
     ≡ codes "1.5 3 up 0D:42 @1.0" ++ 10 ∷ []
-unfolding event_line with_places screen tip hex_text digits
+unfolding event_line with_places tip hex_text digits
 a_release = refl
 
 -- the same without places
 a_release_by_usage : event_line (codes "1.5") 3 (record with_places { places = false }) screen (Up (record { item = 1; index = 0 }) tip)
     ≡ codes "1.5 3 up 0D:42" ++ 10 ∷ []
-unfolding event_line with_places screen tip hex_text digits
+unfolding event_line with_places tip hex_text digits
 a_release_by_usage = refl
 
 -- the same as JSON
