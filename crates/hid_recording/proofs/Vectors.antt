@@ -46,13 +46,13 @@ a_release : event_line (codes "1.5") 3 with_places screen (Up (record { item = 1
 unfolding event_line with_places tip hex_text digits
 a_release = refl
 
--- the same without places
+-- the release without its place
 a_release_by_usage : event_line (codes "1.5") 3 (record with_places { places = false }) screen (Up (record { item = 1; index = 0 }) tip)
     ≡ codes "1.5 3 up 0D:42" ++ 10 ∷ []
 unfolding event_line with_places tip hex_text digits
 a_release_by_usage = refl
 
--- the same as JSON
+-- the release as JSON
 release_members : event_tokens (codes "1.5") 3 false screen (Up (record { item = 1; index = 0 }) tip)
     ≡ begin_object ∷ key (codes "time") ∷ string (codes "1.5") ∷ key (codes "device") ∷ number (codes "3")
     ∷ key (codes "event") ∷ string (codes "up") ∷ key (codes "page") ∷ number (codes "13") ∷ key (codes "id") ∷ number (codes "66")

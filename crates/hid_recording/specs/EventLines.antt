@@ -18,7 +18,7 @@ after_space (Some name) = 32 ∷ name_text name
 abbrev pub name_words : Usage → List ℕ
 name_words usage = after_space (name_of usage.page usage.id)
 
--- an event, with its control behind the usage if places are asked for
+-- an event, with its control after the usage if places are asked for
 abbrev pub shown_event : Bool → ℕ → Event → List ℕ
 shown_event places device event = if places then placed_event_text device event else event_text device event
 

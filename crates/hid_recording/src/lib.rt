@@ -19,7 +19,7 @@
 //! a host reassembles packets (`specs/Joining.antt`).
 //!
 //! Several controls may have one usage, as the fingers of a touch screen do. With the option `places` the text of an event has
-//! its control behind the usage, `down 0D:42 @7.0`; its JSON has the control and the collections around it in any case.
+//! its control after the usage, `down 0D:42 @7.0`; its JSON has the control and the collections around it in any case.
 //!
 //! The rule to know: each device has a view of its own, and an event is a change of the view that its earlier reports made.
 //!

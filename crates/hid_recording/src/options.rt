@@ -9,7 +9,7 @@ pub struct Options {
     pub values: bool,
     /// The name of each event's usage, where it has one.
     pub names: bool,
-    /// Which control each event is of, behind its usage: the place of its item, and its place there. JSON has both in any case.
+    /// Which control each event is of, after its usage: the place of its item, and its place there. JSON has both in any case.
     pub places: bool,
     /// The first refusal ends the run.
     pub strict: bool,

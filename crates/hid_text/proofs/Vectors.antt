@@ -46,7 +46,7 @@ a_tip : placed_event_text 0 (Up (record { item = 7; index = 0 }) (record { page 
 unfolding hex_text digits
 a_tip = refl
 
--- the place stands in front of the number
+-- the place stands before the number
 a_placed_value : placed_event_text 0 (Value (record { item = 12; index = 1 }) (record { page = 0x01; id = 0x30 }) (negsuc 4))
     ≡ codes "0 value 01:30 @12.1 -5"
 unfolding hex_text digits

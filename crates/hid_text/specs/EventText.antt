@@ -28,7 +28,7 @@ control_text control = 64 ∷ decimal control.item ++ 46 ∷ decimal control.ind
 abbrev pub placed_usage : Usage → ControlId → List ℕ
 placed_usage usage control = usage_text usage ++ 32 ∷ control_text control
 
--- what happened, with the control behind the usage
+-- what happened, with the control after the usage
 abbrev pub placed_words : Event → List ℕ
 placed_words (Down control usage) = codes " down " ++ placed_usage usage control
 placed_words (Up control usage) = codes " up " ++ placed_usage usage control
