@@ -5,4 +5,4 @@ use Rattle.hid_recording.proofs.event_line.print_events.Given as goal
 
 -- the events so far are printed
 abbrev pub invariant-loop-event : goal.invariant-loop-event
-invariant-loop-event l = string_bytes l.text ≡ string_bytes l.fn.text ++ event_lines l.source.time.now l.source.device l.source.options l.layout.now (take l.event-index l.events)
+invariant-loop-event l = string_bytes l.text ≡ string_bytes l.fn.text ++ event_lines l.source.time.now l.source.device l.source.options l.layout (take l.event-index l.events)
