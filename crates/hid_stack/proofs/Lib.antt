@@ -2,6 +2,7 @@ pub mod MemberLemmas
 pub mod Isolation
 pub mod PieceLemmas
 pub mod PollLemmas
+pub mod PollFateLemmas
 pub mod StallLemmas
 pub mod OverLemmas
 pub mod StepLemmas

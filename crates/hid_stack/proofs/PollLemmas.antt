@@ -230,7 +230,7 @@ pair_of d e h home known device_is host_is pair =
     (subst (λ (x : HostDeviceState). IsPair e x.clearing x.phase) (sym host_is) pair)
 
 -- the device's wait, after its answer
-abbrev waiting : DeviceState → CoreState → ℕ → DeviceState
+abbrev pub waiting : DeviceState → CoreState → ℕ → DeviceState
 waiting d c r = device_after_poll d (going c (Some r))
 
 -- its inside once the piece at hand is closed, by whether that was the last
@@ -297,7 +297,7 @@ abbrev link_with : CoreState → Option OpenRound → Bool → List ControlState
 link_with c current odd view =
     record { reports = c.reports; current = current; toggle = odd; view = view; halted = false }
 
-abbrev open_link : CoreState → ReadyHostState → ℕ → Bool → LinkState
+abbrev pub open_link : CoreState → ReadyHostState → ℕ → Bool → LinkState
 open_link c known r awaits = link_with c (Some (round_at c r c.piece awaits)) c.toggle known.view
 
 -- the part that a view sees, where it sees it
@@ -343,7 +343,7 @@ again_delivers : (c : CoreState) (known : ReadyHostState) (r : ℕ) (last : Bool
 again_delivers c known r last = ap (part_if c known r) (sym (and_false last))
 
 -- data that reach a host which awaits them
-record IsTaken (d : DeviceState) (home : HostDeviceState) (c : CoreState) (known : ReadyHostState) (r : ℕ)
+pub record IsTaken (d : DeviceState) (home : HostDeviceState) (c : CoreState) (known : ReadyHostState) (r : ℕ)
     (last : Bool)
     (result : Result Told StackFault) (host_then : HostDeviceState) (events : List Event) : Type 0 where
   meets : Meets d.addr (going c (Some r)) known
@@ -356,7 +356,7 @@ record IsTaken (d : DeviceState) (home : HostDeviceState) (c : CoreState) (known
   delivers : events ≡ part_if c known r last
 
 -- where the ACK arrives
-fresh_clean : (d : DeviceState) (home : HostDeviceState) (c : CoreState) (known : ReadyHostState) (r : ℕ)
+pub fresh_clean : (d : DeviceState) (home : HostDeviceState) (c : CoreState) (known : ReadyHostState) (r : ℕ)
     (last : Bool) (result : Result Told StackFault) (device_then : DeviceState) (host_then : HostDeviceState)
     (events : List Event)
     → IsTaken d home c known r last result host_then events
@@ -408,7 +408,7 @@ fresh_clean d home c known r false result device_then host_then events t hears =
     }
 
 -- where it is lost
-fresh_ack_lost : (d : DeviceState) (home : HostDeviceState) (c : CoreState) (known : ReadyHostState) (r : ℕ)
+pub fresh_ack_lost : (d : DeviceState) (home : HostDeviceState) (c : CoreState) (known : ReadyHostState) (r : ℕ)
     (last : Bool) (result : Result Told StackFault) (device_then : DeviceState) (host_then : HostDeviceState)
     (events : List Event)
     → IsTaken d home c known r last result host_then events
@@ -444,7 +444,7 @@ fresh_ack_lost d home c known r last result device_then host_then events t hears
     }
 
 -- data that a host took before
-record IsRepeated (d : DeviceState) (home : HostDeviceState) (c : CoreState) (known : ReadyHostState) (r : ℕ)
+pub record IsRepeated (d : DeviceState) (home : HostDeviceState) (c : CoreState) (known : ReadyHostState) (r : ℕ)
     (last : Bool)
     (result : Result Told StackFault) (host_then : HostDeviceState) (events : List Event) : Type 0 where
   meets : Meets d.addr (going c (Some r)) known
@@ -457,7 +457,7 @@ record IsRepeated (d : DeviceState) (home : HostDeviceState) (c : CoreState) (kn
   delivers : events ≡ []
 
 -- where the ACK arrives
-again_clean : (d : DeviceState) (home : HostDeviceState) (c : CoreState) (known : ReadyHostState) (r : ℕ)
+pub again_clean : (d : DeviceState) (home : HostDeviceState) (c : CoreState) (known : ReadyHostState) (r : ℕ)
     (last : Bool) (result : Result Told StackFault) (device_then : DeviceState) (host_then : HostDeviceState)
     (events : List Event)
     → IsRepeated d home c known r last result host_then events
@@ -506,7 +506,7 @@ again_clean d home c known r false result device_then host_then events t hears =
     }
 
 -- a repeated packet whose ACK is lost
-again_ack_lost : (d : DeviceState) (home : HostDeviceState) (c : CoreState) (known : ReadyHostState) (r : ℕ)
+pub again_ack_lost : (d : DeviceState) (home : HostDeviceState) (c : CoreState) (known : ReadyHostState) (r : ℕ)
     (last : Bool) (result : Result Told StackFault) (device_then : DeviceState) (host_then : HostDeviceState)
     (events : List Event)
     → IsRepeated d home c known r last result host_then events
@@ -660,7 +660,7 @@ comes_as fate c known d home packet took other result device_then host_then even
     subst (λ (x : Took). Comes fate c known d home packet x result device_then host_then events) is t
 
 -- a poll at which no round is open and none opens
-nak : (fate : Fate) (c : CoreState) (known : ReadyHostState) (d : DeviceState) (home : HostDeviceState)
+pub nak : (fate : Fate) (c : CoreState) (known : ReadyHostState) (d : DeviceState) (home : HostDeviceState)
     (result : Result Told StackFault) (device_then : DeviceState) (host_then : HostDeviceState) (events : List Event)
     → TogglesAgree c.toggle known.pipe.expects None → HasGot c None known → Meets d.addr (going c None) known
     → Comes fate (going c None) known d home packets.Nak Nak result device_then host_then events
@@ -686,7 +686,7 @@ nak fate c known d home result device_then host_then events even got meets t = (
 )
 
 -- the link state of an open round, by the toggles
-opens_link : (fate : Fate) (d : DeviceState) (home : HostDeviceState) (c : CoreState) (known : ReadyHostState) (r : ℕ)
+pub opens_link : (fate : Fate) (d : DeviceState) (home : HostDeviceState) (c : CoreState) (known : ReadyHostState) (r : ℕ)
     (b : Bool)
     (result : Result Told StackFault) (device_then : DeviceState) (host_then : HostDeviceState) (events : List Event)
     → beq c.toggle known.pipe.expects ≡ b
@@ -698,7 +698,7 @@ opens_link fate d home c known r b result device_then host_then events is lands 
     (open_link c known r x) result device_then host_then events) (sym is) lands
 
 -- the row of data, by the toggles
-abbrev row : Bool → List ℕ → Took
+abbrev pub row : Bool → List ℕ → Took
 row b bytes = cond b (Fresh (payload bytes)) Again
 
 -- what a host has of the open round, by the toggles
@@ -708,7 +708,7 @@ got_as c known r b is got =
     subst (λ (x : Bool). known.collected ≡ crossed_bytes (bytes_of c r) (round_at c r c.piece x)) is got
 
 -- data that a host takes
-is_taken : (fate : Fate) (d : DeviceState) (home : HostDeviceState) (c : CoreState) (known : ReadyHostState) (r : ℕ)
+pub is_taken : (fate : Fate) (d : DeviceState) (home : HostDeviceState) (c : CoreState) (known : ReadyHostState) (r : ℕ)
     (result : Result Told StackFault) (device_then : DeviceState) (host_then : HostDeviceState) (events : List Event)
     → Meets d.addr (going c (Some r)) known → HasGot c (Some r) known
     → Reads c.layout r c.reports.fixed (bytes_of c r) known.view → beq c.toggle known.pipe.expects ≡ true
@@ -734,7 +734,7 @@ is_taken fate d home c known r result device_then host_then events meets got rea
     )
 
 -- data that it took before
-is_repeated : (fate : Fate) (d : DeviceState) (home : HostDeviceState) (c : CoreState) (known : ReadyHostState)
+pub is_repeated : (fate : Fate) (d : DeviceState) (home : HostDeviceState) (c : CoreState) (known : ReadyHostState)
     (r : ℕ)
     (result : Result Told StackFault) (device_then : DeviceState) (host_then : HostDeviceState) (events : List Event)
     → Meets d.addr (going c (Some r)) known → HasGot c (Some r) known → beq c.toggle known.pipe.expects ≡ false
@@ -751,14 +751,14 @@ is_repeated fate d home c known r result device_then host_then events meets got 
 }
 
 -- a poll whose answer reaches the host
-abbrev ComesTo : Fate → DeviceState → HostDeviceState → CoreState → ReadyHostState → Option ℕ → Result Told StackFault
+abbrev pub ComesTo : Fate → DeviceState → HostDeviceState → CoreState → ReadyHostState → Option ℕ → Result Told StackFault
     → DeviceState → HostDeviceState → List Event → Type 0
 ComesTo fate d home c known current result device_then host_then events =
     Comes fate (going c current) known d home (answer_with false c.toggle (armed_at c current))
     (outcome_when_received known.pipe.expects false c.toggle
     (armed_at c current)) result device_then host_then events
 
-comes_row : (fate : Fate) (d : DeviceState) (home : HostDeviceState) (c : CoreState) (known : ReadyHostState) (r : ℕ)
+pub comes_row : (fate : Fate) (d : DeviceState) (home : HostDeviceState) (c : CoreState) (known : ReadyHostState) (r : ℕ)
     (b : Bool)
     (result : Result Told StackFault) (device_then : DeviceState) (host_then : HostDeviceState) (events : List Event)
     → beq c.toggle known.pipe.expects ≡ b → ComesTo fate d home c known (Some r) result device_then host_then events
@@ -768,52 +768,3 @@ comes_row fate d home c known r b result device_then host_then events is t =
     (outcome_when_received known.pipe.expects false c.toggle (armed_at c (Some r)))
     (row b (piece_of (bytes_of c r) c.piece))
     result device_then host_then events (ap (λ (x : Bool). row x (piece_of (bytes_of c r) c.piece)) is) t
-
-pub clean : (c : CoreState) (known : ReadyHostState) (d : DeviceState) (home : HostDeviceState) (current : Option ℕ)
-    (result : Result Told StackFault) (device_then : DeviceState) (host_then : HostDeviceState) (events : List Event)
-    → TogglesAgree c.toggle known.pipe.expects current → HasGot c current known → Meets d.addr (going c current) known
-    → ((r : ℕ) → current ≡ Some r → Reads c.layout r c.reports.fixed (bytes_of c r) known.view)
-    → ComesTo Clean d home c known current result device_then host_then events
-    → Lands Clean (ready_member d home c None)
-    (link_of_pair (going c current) known) result device_then host_then events
-clean c known d home None result device_then host_then events even got meets reads t =
-    let done = nak Clean c known d home result device_then host_then events even got meets t in
-    record { member = done.0; delivered = done.1; told = done.2; pair = done.3 }
-clean c known d home (Some r) result device_then host_then events even got meets reads t =
-    let last = is_last_piece (items_of c.layout) r c.piece in
-    elim (cases_Bool (beq c.toggle known.pipe.expects)) [
-      | inl same ↦
-          let f = is_taken Clean d home c known r result device_then host_then events meets got (reads r refl) same (comes_row Clean d home c known r true result device_then host_then events same t) in
-          opens_link Clean d home c known r true result device_then host_then events same
-          (fresh_clean d home c known r last result device_then host_then events f.0 f.1)
-      | inr differ ↦
-          let row = comes_row Clean d home c known r false result device_then host_then events differ t in
-          let f = is_repeated Clean d home c known r result device_then host_then events meets got differ row in
-          opens_link Clean d home c known r false result device_then host_then events differ
-          (again_clean d home c known r last result device_then host_then events f row.ended)
-    ]
-
-pub ack_lost_poll : (c : CoreState) (known : ReadyHostState) (d : DeviceState) (home : HostDeviceState)
-    (current : Option ℕ)
-    (result : Result Told StackFault) (device_then : DeviceState) (host_then : HostDeviceState) (events : List Event)
-    → TogglesAgree c.toggle known.pipe.expects current → HasGot c current known → Meets d.addr (going c current) known
-    → ((r : ℕ) → current ≡ Some r → Reads c.layout r c.reports.fixed (bytes_of c r) known.view)
-    → ComesTo AckLost d home c known current result device_then host_then events
-    → Lands AckLost (ready_member d home c None)
-    (link_of_pair (going c current) known) result device_then host_then events
-ack_lost_poll c known d home None result device_then host_then events even got meets reads t =
-    let done = nak AckLost c known d home result device_then host_then events even got meets t in
-    record { member = done.0; delivered = done.1; told = done.2; pair = done.3 }
-ack_lost_poll c known d home (Some r) result device_then host_then events even got meets reads t =
-    let last = is_last_piece (items_of c.layout) r c.piece in
-    elim (cases_Bool (beq c.toggle known.pipe.expects)) [
-      | inl same ↦
-          let f = is_taken AckLost d home c known r result device_then host_then events meets got (reads r refl) same (comes_row AckLost d home c known r true result device_then host_then events same t) in
-          opens_link AckLost d home c known r true result device_then host_then events same
-          (fresh_ack_lost d home c known r last result device_then host_then events f.0 f.1)
-      | inr differ ↦
-          let row = comes_row AckLost d home c known r false result device_then host_then events differ t in
-          let f = is_repeated AckLost d home c known r result device_then host_then events meets got differ row in
-          opens_link AckLost d home c known r false result device_then host_then events differ
-          (again_ack_lost d home c known r last result device_then host_then events f row.ended)
-    ]

@@ -49,7 +49,8 @@ use Rattle.hid_stack.specs.HostInvariant.{IsConsistent, LeavesTransfers}
 use Rattle.hid_stack.specs.Members.{Member, Scheduled, member_after, toggle_if_held}
 use Rattle.hid_stack.specs.StepResult.{PollReturns, piece_shown, poll_result}
 use Rattle.hid_stack.proofs.PieceLemmas.{Reads}
-use Rattle.hid_stack.proofs.PollLemmas.{opens, got_by, got_open, HasGot, Meets, Arrives, Lands, armed_at, bytes_of, going, unpending, ready_member, sharing, ready_with, member_of, pair_of, comes, clean, ack_lost_poll, reply_lost}
+use Rattle.hid_stack.proofs.PollLemmas.{opens, got_by, got_open, HasGot, Meets, Arrives, Lands, armed_at, bytes_of, going, unpending, ready_member, sharing, ready_with, member_of, pair_of, comes, reply_lost}
+use Rattle.hid_stack.proofs.PollFateLemmas.{clean, ack_lost_poll}
 use Rattle.hid_stack.proofs.StallLemmas.{stalled, stall_clean, stall_ack_lost, stall_lost}
 
 -- opening a round keeps the layout, the configuration and the toggle
