@@ -9,7 +9,7 @@ use Rattle.hid_snapshots.specs.declared.fault.ReportFault.{ReportFault}
 use Rattle.hid_snapshots.specs.ControlStates.{blank}
 use Rattle.hid_usages.specs.Reading.{report_named}
 use Rattle.hid_usages.specs.Receiving.{ReceiverState}
-pub use Rattle.hid_usages.specs.Receiving.{is_whole, view_after_report, events_of_report}
+pub use Rattle.hid_usages.specs.Receiving.{view_after_report, events_of_report}
 use Rattle.hid_usages.specs.Receiving as receiving
 use Rattle.usb_transact.specs.declared.host.Took.{Took}
 use Rattle.usb_transact.specs.declared.host.Took.TheVariants.{Fresh, Again, Nak, Stall, Silent}
@@ -45,13 +45,18 @@ ready_host_at_start addr endpoint layout = record {
 abbrev pub ready_host_after_clear : ReadyHostState → ReadyHostState
 ready_host_after_clear known = record known { pipe = record known.pipe { expects = false }; collected = [] }
 
+-- A report ends with its last byte, or with a packet that isn't full, of which `last` bytes came: the packets of the
+-- endpoint have 64 bytes at most (the size is our choice).
+abbrev pub is_whole : Contents → List ℕ → ℕ → Bool
+is_whole layout bytes last = receiving.is_whole 64 layout bytes last
+
 -- what came of a report, with the data of one more packet
 abbrev pub bytes_with : ReadyHostState → List ℕ → List ℕ
 bytes_with known payload = receiving.bytes_with (receiving_of known) payload
 
 -- whether a report ends with this packet
 abbrev pub ends_with : ReadyHostState → List ℕ → Bool
-ends_with known payload = receiving.ends_with (receiving_of known) payload
+ends_with known payload = receiving.ends_with 64 (receiving_of known) payload
 
 -- a report that ended is read, or it is refused
 abbrev pub read_or_fault : Result ℕ ReportFault → Result (Unit {0}) ReportFault
@@ -78,7 +83,7 @@ outcome_of known Silent = Ok Silent
 
 -- data before the last of their report leave the view
 abbrev pub view_with : ReadyHostState → List ℕ → List ControlState
-view_with known payload = receiving.view_with (receiving_of known) payload
+view_with known payload = receiving.view_with 64 (receiving_of known) payload
 
 -- the host's view after what came: fresh data alone change it
 abbrev pub view_after : ReadyHostState → Took → List ControlState
@@ -87,7 +92,7 @@ view_after known _ = known.view
 
 -- data before the last of their report give no events
 abbrev pub events_with : ReadyHostState → List ℕ → List Event
-events_with known payload = receiving.events_with (receiving_of known) payload
+events_with known payload = receiving.events_with 64 (receiving_of known) payload
 
 -- the events of what came: fresh data alone give any
 abbrev pub events_after : ReadyHostState → Took → List Event
@@ -96,7 +101,7 @@ events_after known _ = []
 
 -- what is kept of a report after one more packet: all that came, until it ends
 abbrev pub collected_bytes_with : ReadyHostState → List ℕ → List ℕ
-collected_bytes_with known payload = receiving.collected_with (receiving_of known) payload
+collected_bytes_with known payload = receiving.collected_with 64 (receiving_of known) payload
 
 -- what is kept of a report after what came: fresh data alone change it
 abbrev pub collected_bytes_after : ReadyHostState → Took → List ℕ

@@ -16,7 +16,7 @@ ghost use Rattle.hid_host.specs.ResetEvents.{SuitsRound, awaited_report, known_a
 use crate::fault::StackFault;
 use hid_fields::WordCodec;
 use hid_snapshots::{Event, Shown, pieces_of};
-use hid_usages::{Receiver, View, changes_and_drops};
+use hid_usages::{MAX_PIECE, Receiver, View, changes_and_drops};
 use std::marker::Model;
 use usb_packet::{MAX_ADDRESS, MAX_ENDPOINT, Packet, PacketRef};
 use usb_transact::{HostPipe, Took};
@@ -128,7 +128,10 @@ impl ReadyHost {
     {
         let took = self.pipe.take_ref(packet);
         if let Took::Fresh(payload) = &took {
-            match self.receiver.take::<WordCodec>(payload.as_slice(), out) {
+            match self
+                .receiver
+                .take::<WordCodec>(MAX_PIECE, payload.as_slice(), out)
+            {
                 Ok(_) => {}
                 Err(fault) => return Err(StackFault::Report(fault)),
             }

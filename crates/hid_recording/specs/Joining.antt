@@ -46,7 +46,7 @@ bytes_with member chunk = receiving.bytes_with (receiving_of member) chunk
 
 -- whether a report ends with this chunk, as with a packet
 abbrev pub ends_with : PlayedDevice → List ℕ → Bool
-ends_with member chunk = receiving.ends_with (receiving_of member) chunk
+ends_with member chunk = receiving.ends_with 64 (receiving_of member) chunk
 
 -- what came of a report is kept until it ends
 abbrev pub with_collected : PlayedDevice → List ℕ → PlayedDevice

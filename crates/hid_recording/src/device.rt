@@ -157,7 +157,7 @@ impl RecordedDevice {
             self.in_doubt = chunk.len() >= MAX_PIECE;
             return Ok(Joined::Doubtful);
         }
-        if !self.receiver.ends_with(chunk) {
+        if !self.receiver.ends_with(MAX_PIECE, chunk) {
             self.receiver.keep(chunk);
             return Ok(Joined::Begun);
         }

@@ -149,23 +149,33 @@ abbrev got : List ℕ → ReceiverState
 got collected = record { layout = short_and_long; view = []; collected = collected }
 
 -- 100 bytes come in two packets, of 64 and 36
-first_of_two : packet_outcome (got []) (replicate 64 2) ≡ Ok Part
+first_of_two : packet_outcome 64 (got []) (replicate 64 2) ≡ Ok Part
 first_of_two = refl
 
-last_of_two : packet_outcome (got (replicate 64 2)) (replicate 36 1) ≡ Ok Whole
+last_of_two : packet_outcome 64 (got (replicate 64 2)) (replicate 36 1) ≡ Ok Whole
 last_of_two = refl
 
 -- a packet of 63 bytes ends a report that should have more
-ended_early : packet_outcome (got []) (replicate 63 2) ≡ Err Short
+ended_early : packet_outcome 64 (got []) (replicate 63 2) ≡ Err Short
 ended_early = refl
 
+-- they come in seven packets of up to 16, and in one of an endpoint of 512: a full packet is the endpoint's
+goes_on_by_16 : packet_outcome 16 (got (replicate 80 2)) (replicate 16 2) ≡ Ok Part
+goes_on_by_16 = refl
+
+last_of_seven : packet_outcome 16 (got (replicate 96 2)) (replicate 4 2) ≡ Ok Whole
+last_of_seven = refl
+
+one_of_512 : packet_outcome 512 (got []) (replicate 100 2) ≡ Ok Whole
+one_of_512 = refl
+
 -- a full packet ends a report that has no more
-full_and_short : packet_outcome (got []) (replicate 64 1) ≡ Ok Whole
+full_and_short : packet_outcome 64 (got []) (replicate 64 1) ≡ Ok Whole
 full_and_short = refl
 
 -- no report has the number 9: 256 bytes are awaited, and refused
-unknown_goes_on : ends_with (got (replicate 128 9)) (replicate 64 9) ≡ false
+unknown_goes_on : ends_with 64 (got (replicate 128 9)) (replicate 64 9) ≡ false
 unknown_goes_on = refl
 
-unknown_ends : packet_outcome (got (replicate 192 9)) (replicate 64 9) ≡ Err UnknownReport
+unknown_ends : packet_outcome 64 (got (replicate 192 9)) (replicate 64 9) ≡ Err UnknownReport
 unknown_ends = refl

@@ -16,18 +16,21 @@ pub record ReceiverState : Type 0 where
   pub view : List ControlState
   pub collected : List ℕ
 
--- A report ends with its last byte, or with a packet that isn't full (5.7.3), of which `last` bytes came.
-abbrev pub is_whole : Contents → List ℕ → ℕ → Bool
-is_whole layout bytes last = nat_lt last 64 || nat_le (bytes_awaited layout bytes) (length bytes)
+-- A report ends with its last byte, or with a packet that isn't full (5.7.3), of which `last` bytes came. A full packet of
+-- an endpoint has as many bytes as its wMaxPacketSize says (9.6.6), which is the first number.
+abbrev pub is_whole : ℕ → Contents → List ℕ → ℕ → Bool
+is_whole packet_size layout bytes last =
+    nat_lt last packet_size || nat_le (bytes_awaited layout bytes) (length bytes)
 
 -- what came of a report, with the data of one more packet
 abbrev pub bytes_with : ReceiverState → List ℕ → List ℕ
 bytes_with receiving packet = receiving.collected ++ packet
 
 -- whether a report ends with this packet: it has its last byte, or 256 bytes if its first byte names none, or the packet
--- has under 64 bytes. Example: of 100 bytes the second packet, of 36, ends it
-abbrev pub ends_with : ReceiverState → List ℕ → Bool
-ends_with receiving packet = is_whole receiving.layout (bytes_with receiving packet) (length packet)
+-- isn't full. Example: of 100 bytes in packets of up to 64 the second, of 36, ends it
+abbrev pub ends_with : ℕ → ReceiverState → List ℕ → Bool
+ends_with packet_size receiving packet =
+    is_whole packet_size receiving.layout (bytes_with receiving packet) (length packet)
 
 -- a report that ended is read, or it is refused
 abbrev pub whole_outcome : Result ℕ ReportFault → Result Arrived ReportFault
@@ -35,9 +38,9 @@ whole_outcome (Ok r) = Ok Whole
 whole_outcome (Err fault) = Err fault
 
 -- what a packet gives: a part of a report; or the report that ends with it is read, or refused
-abbrev pub packet_outcome : ReceiverState → List ℕ → Result Arrived ReportFault
-packet_outcome receiving packet =
-    if ends_with receiving packet then whole_outcome (report_named receiving.layout (bytes_with receiving packet))
+abbrev pub packet_outcome : ℕ → ReceiverState → List ℕ → Result Arrived ReportFault
+packet_outcome packet_size receiving packet =
+    if ends_with packet_size receiving packet then whole_outcome (report_named receiving.layout (bytes_with receiving packet))
     else Ok Part
 
 -- The view after a report that ended: it is read. One that is refused leaves it.
@@ -46,9 +49,9 @@ view_after_report layout bytes view =
     elim (report_named layout bytes) [ Ok r ↦ read_view layout r bytes view | Err fault ↦ view ]
 
 -- a packet before the last of its report leaves the view
-abbrev pub view_with : ReceiverState → List ℕ → List ControlState
-view_with receiving packet =
-    if ends_with receiving packet then view_after_report receiving.layout
+abbrev pub view_with : ℕ → ReceiverState → List ℕ → List ControlState
+view_with packet_size receiving packet =
+    if ends_with packet_size receiving packet then view_after_report receiving.layout
     (bytes_with receiving packet) receiving.view else receiving.view
 
 -- The events of a report that ended: one that is refused gives none.
@@ -57,20 +60,21 @@ events_of_report layout bytes view =
     elim (report_named layout bytes) [ Ok r ↦ read_events layout r bytes view | Err fault ↦ [] ]
 
 -- a packet before the last of its report gives no events
-abbrev pub events_with : ReceiverState → List ℕ → List Event
-events_with receiving packet =
-    if ends_with receiving packet then events_of_report receiving.layout
+abbrev pub events_with : ℕ → ReceiverState → List ℕ → List Event
+events_with packet_size receiving packet =
+    if ends_with packet_size receiving packet then events_of_report receiving.layout
     (bytes_with receiving packet) receiving.view else []
 
 -- what came of a report is kept until it ends
-abbrev pub collected_with : ReceiverState → List ℕ → List ℕ
-collected_with receiving packet = if ends_with receiving packet then [] else bytes_with receiving packet
+abbrev pub collected_with : ℕ → ReceiverState → List ℕ → List ℕ
+collected_with packet_size receiving packet =
+    if ends_with packet_size receiving packet then [] else bytes_with receiving packet
 
 -- the receiver after a packet: its view, and the bytes that it keeps of a report that isn't whole
-abbrev pub after_packet : ReceiverState → List ℕ → ReceiverState
-after_packet receiving packet = record receiving {
-  view = view_with receiving packet;
-  collected = collected_with receiving packet;
+abbrev pub after_packet : ℕ → ReceiverState → List ℕ → ReceiverState
+after_packet packet_size receiving packet = record receiving {
+  view = view_with packet_size receiving packet;
+  collected = collected_with packet_size receiving packet;
 }
 
 -- the receiver without the bytes of a report that isn't whole

@@ -119,12 +119,13 @@ impl Receiver {
         self.collected.clear();
     }
 
-    /// Whether a report ends with this packet: it has its last byte, or the packet isn't full (USB 2.0, 5.7.3).
-    pub fn ends_with(&self, packet: &[u8]) -> bool
-        ensures ends { result ≡ ends_with self.now packet.now }
+    /// Whether a report ends with this packet: it has its last byte, or the packet isn't full (USB 2.0, 5.7.3). A full packet
+    /// has `packet_size` bytes: wMaxPacketSize of the endpoint (9.6.6).
+    pub fn ends_with(&self, packet_size: usize, packet: &[u8]) -> bool
+        ensures ends { result ≡ ends_with packet_size self.now packet.now }
         ensures goes_on { result ≡ false → length (bytes_with self.now packet.now) < MAX_REPORT_BYTES }
     {
-        if packet.len() < MAX_PIECE {
+        if packet.len() < packet_size {
             return true;
         }
         let begin = if self.collected.is_empty() {
@@ -144,14 +145,16 @@ impl Receiver {
     }
 
     /// Takes a packet: joins it to what came of its report before, and reads the report where it ends with it, as
-    /// [`View::take_report`](crate::View::take_report) does. A report in one packet is read where it lies. The caller has
-    /// reserved room for `max_events` more; no memory is taken.
+    /// [`View::take_report`](crate::View::take_report) does. A report in one packet is read where it lies. A full packet has
+    /// `packet_size` bytes: wMaxPacketSize of the endpoint (USB 2.0, 9.6.6). The caller has reserved room for `max_events`
+    /// more; no memory is taken.
     ///
     /// # Errors
     /// Those of [`View::take_report`](crate::View::take_report), of a report that ended: the view stays, and nothing is
     /// kept of the report.
     pub fn take<C: FieldCodec>(
         &mut self,
+        packet_size: usize,
         packet: &[u8],
         out: &mut Vec<Event>,
     ) -> Result<Arrived, ReportFault>
@@ -159,15 +162,15 @@ impl Receiver {
         requires room { vec_len out.old + max_events (items_of self.old.layout)
             ≤ vec_capacity out.old }
         // What the packet gives, what is known after it, and the events.
-        ensures given { result ≡ packet_outcome self.old packet.now }
-        ensures after { self.new ≡ after_packet self.old packet.now }
-        ensures events { out.new.items ≡ out.old.items ++ events_with self.old packet.now }
+        ensures given { result ≡ packet_outcome packet_size self.old packet.now }
+        ensures after { self.new ≡ after_packet packet_size self.old packet.now }
+        ensures events { out.new.items ≡ out.old.items ++ events_with packet_size self.old packet.now }
         // At most `max_events` events, in the room that was there.
         ensures few { length out.new.items
             ≤ length out.old.items + max_events (items_of self.old.layout) }
         ensures room { vec_capacity out.new ≡ vec_capacity out.old }
     {
-        if !self.ends_with(packet) {
+        if !self.ends_with(packet_size, packet) {
             self.keep(packet);
             return Ok(Arrived::Part);
         }

@@ -1,0 +1,11 @@
+pub mod QueueLemmas
+pub mod OnceLemmas
+pub mod ReportPieceLemmas
+pub mod TransferLemmas
+pub mod EndpointLemmas
+pub mod ReplyLemmas
+pub mod PollTransactionLemmas
+pub mod PartEncodingLemmas
+pub mod VirtualDeviceLemmas
+pub mod ScheduleLemmas
+mod Vectors

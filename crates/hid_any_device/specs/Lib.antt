@@ -1,0 +1,10 @@
+pub mod Sender
+pub mod Endpoint
+pub mod PipeSteps
+pub mod SendQueue
+pub mod Delivery
+pub mod ReportPieces
+pub mod Transfers
+pub mod Replies
+pub mod PollTransactions
+pub mod VirtualDevice
