@@ -161,9 +161,10 @@ format:  ## checks that each file is as rt fmt writes it
 	$(NEEDS_RT)
 	@find crates -name out -prune -o \( -name '*.rt' -o -name '*.antt' \) -print | xargs $(dir $(realpath $(shell command -v rt)))rattle fmt --check
 
-# Compares the proved program with the second reader, on descriptors of the examples with some bytes changed.
-descriptors: $(HIDRUN)  ## compares hidrun with the second reader: COUNT=20000
+# Compares the proved programs with the second reader, on descriptors of the examples with some bytes changed, and on made ones.
+descriptors: $(HIDRUN) $(HIDPLAY)  ## compares hidrun and hidplay with the second reader: COUNT=20000
 	tools/check/second-reader --random $(COUNT) $(HIDRUN)
+	tools/check/second-reader --recordings $(COUNT) $(HIDPLAY)
 
 # Compares hidplay, on the recordings of the examples and on some made from a seed, with Debian's Linux kernel in QEMU and
 # with tshark, and on what QEMU's own keyboard, mouse and tablet send: docs/COMPARISON.md. Not part of the gate. It needs

@@ -252,6 +252,10 @@ uint32_t hidstack_cause_text(uint32_t cause, uint8_t *out, size_t room, uint64_t
 /* The words of a cause, `a Pop without a Push` of 3; else as hidstack_cause_text. It takes no memory. */
 uint32_t hidstack_cause_words(uint32_t cause, uint8_t *out, size_t room, uint64_t *length);
 
+/* Why a descriptor is refused, and where: `L3 at 0: a Pop without a Push`; a report that is too long is named, as in `L15 at
+ * 326: Feature report 68 has 20000 bytes, over 16384`. NONE where the descriptor is accepted; else as hidstack_cause_text. */
+uint32_t hidstack_refusal_text(const uint8_t *descriptor, size_t length, uint8_t *out, size_t room, uint64_t *written);
+
 /* A usage as page and ID in hex, `01:30`, of 5 to 9 bytes; else as hidstack_cause_text. */
 uint32_t hidstack_usage_text(uint16_t page, uint16_t id, uint8_t *out, size_t room, uint64_t *length);
 

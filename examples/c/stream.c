@@ -17,7 +17,7 @@ struct stream {
     struct hidstack device;
     struct hidstack_opened opened;
     struct hidstack_event *events; /* has opened.room places */
-    uint8_t bytes[4096];           /* a report has up to 256 */
+    uint8_t bytes[16384];          /* as many as the longest report has */
     size_t have;
 };
 
@@ -53,14 +53,14 @@ static int print(const struct hidstack_event *event)
     return DONE;
 }
 
-static int refused(const struct hidstack_opened *opened)
+static int refused(const uint8_t *descriptor, size_t length, const struct hidstack_opened *opened)
 {
-    uint8_t words[80];
-    uint64_t length;
-    fprintf(stderr, "refused: L%" PRIu32 " at %" PRIu64, opened->cause, opened->at);
-    if (hidstack_cause_words(opened->cause, words, sizeof words, &length) == HIDSTACK_OK)
-        fprintf(stderr, ": %.*s", (int)length, (const char *)words);
-    fputc('\n', stderr);
+    uint8_t text[128];
+    uint64_t written;
+    if (hidstack_refusal_text(descriptor, length, text, sizeof text, &written) == HIDSTACK_OK)
+        fprintf(stderr, "refused: %.*s\n", (int)written, (const char *)text);
+    else
+        fprintf(stderr, "refused: L%" PRIu32 " at %" PRIu64 "\n", opened->cause, opened->at);
     return opened->cause == 17 ? FAILED : REFUSED; /* 17: out of memory */
 }
 
@@ -78,7 +78,7 @@ static int open_file(const char *name, struct stream *stream)
     if (error)
         return failed(name, error);
     if (hidstack_open(descriptor, length, &stream->device, &stream->opened) != HIDSTACK_OK)
-        return refused(&stream->opened);
+        return refused(descriptor, length, &stream->opened);
     stream->events = calloc(stream->opened.room + 1, sizeof *stream->events);
     return stream->events ? DONE : failed("events", ENOMEM);
 }

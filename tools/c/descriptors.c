@@ -1,13 +1,14 @@
 /* descriptors COUNT [FIRST]: opens COUNT made descriptors of up to 4,200 bytes, from the FIRSTth on, and feeds reports of 0 to
- * 257 bytes to those that are accepted. It prints how many are, and which took longest; a wrong answer ends it with 1. A number
- * always makes the same descriptor, so that one alone can be run under valgrind. */
+ * 257 bytes to those that are accepted, and to each sixteenth reports of up to 16,385. It prints how many are accepted, and which
+ * took longest; a wrong answer ends it with 1. A number always makes the same descriptor, so that one alone can be run under
+ * valgrind. */
 #include "hidstack.h"
 #include <stdio.h>
 #include <stdlib.h>
 #include <string.h>
 #include <time.h>
 
-enum { MOST = 4096, LONGER = 4200, LONGEST_REPORT = 256 };
+enum { MOST = 4096, LONGER = 4200, SHORT_REPORT = 256, LONGEST_REPORT = 16384 };
 
 static const uint8_t mouse[] = {
     0x05, 0x01, 0x09, 0x02, 0xA1, 0x01, 0x09, 0x01, 0xA1, 0x00, 0x05, 0x09, 0x19, 0x01, 0x29, 0x03, 0x15,
@@ -28,6 +29,9 @@ static const char *const units[] = {
     "\x75\x01\x95\x01\x81\x01",         /* padding */
     "\x85\x01\x85\x02",                 /* Report ID */
     "\xFE\x01\xF0\x55",                 /* a long item */
+    "\x09\x30\x75\x58\x95\x01\x81\x02", /* a field of 88 bits */
+    "\x09\x30\x75\x08\x96\xFF\x3F\x91\x02", /* 16,383 values of Output */
+    "\x75\x01\x09\x30\x96\xFF\x01\x81\x02", /* 511 bits of Input */
 };
 
 static uint64_t state;
@@ -41,15 +45,15 @@ static uint32_t any(uint32_t below)
 /* Short items that are more often right than wrong. */
 static size_t items(uint8_t *bytes, size_t most)
 {
-    static const uint8_t heads[] = {0x05, 0x09, 0x09, 0x09, 0x15, 0x19, 0x25, 0x29, 0x75, 0x81, 0x81, 0x81, 0x91,
-                                    0x95, 0xA1, 0xA4, 0xB1, 0xB4, 0xC0, 0x85, 0x35, 0x45, 0x55, 0x65, 0x26, 0x27};
+    static const uint8_t heads[] = {0x05, 0x09, 0x09, 0x09, 0x15, 0x19, 0x25, 0x29, 0x75, 0x81, 0x81, 0x81, 0x91, 0x95,
+                                    0xA1, 0xA4, 0xB1, 0xB4, 0xC0, 0x85, 0x35, 0x45, 0x55, 0x65, 0x26, 0x27, 0x96};
     size_t length = 0;
     while (length + 5 <= most) {
         uint8_t head = heads[any(sizeof heads)];
         size_t data = head == 0xA4 || head == 0xB4 || head == 0xC0 ? 0 : (size_t)(1 << ((head & 3) - 1));
         bytes[length++] = head;
         for (; data > 0; data--)
-            bytes[length++] = (uint8_t)any(head == 0x85 || head == 0x75 || head == 0x95 ? 12 : 256);
+            bytes[length++] = (uint8_t)any(head == 0x85 || head == 0x95 || (head == 0x75 && any(8)) ? 12 : head == 0x96 ? 16 : 256);
     }
     return length;
 }
@@ -82,8 +86,15 @@ static size_t made(uint64_t number, uint8_t *bytes)
     }
 }
 
+/* The length of the nth of five reports. */
+static size_t report_length(int n, int is_long)
+{
+    size_t most = is_long ? LONGEST_REPORT : SHORT_REPORT;
+    return n == 3 ? most : n == 4 ? most + 1 : any(n == 0 ? 71 : (uint32_t)most);
+}
+
 /* What is wrong with the reading of a descriptor, or null. */
-static const char *wrong_with(const uint8_t *bytes, size_t length, long *accepted)
+static const char *wrong_with(const uint8_t *bytes, size_t length, int is_long, long *accepted)
 {
     struct hidstack device = HIDSTACK_INIT;
     struct hidstack_opened opened;
@@ -97,7 +108,7 @@ static const char *wrong_with(const uint8_t *bytes, size_t length, long *accepte
             told = "a longer one is accepted";
         for (n = 0; events && n < 5; n++) {
             uint64_t count;
-            size_t at, given = n == 3 ? LONGEST_REPORT : n == 4 ? LONGEST_REPORT + 1 : any(n == 0 ? 71 : LONGEST_REPORT);
+            size_t at, given = report_length(n, is_long);
             uint8_t *report = malloc(given ? given : 1);
             if (!report)
                 exit(2);
@@ -143,7 +154,7 @@ int main(int argc, char **argv)
             return 2;
         memcpy(bytes, made_here, length);
         clock_gettime(CLOCK_PROCESS_CPUTIME_ID, &from);
-        told = wrong_with(bytes, length, &accepted);
+        told = wrong_with(bytes, length, number % 64 < 4, &accepted);
         clock_gettime(CLOCK_PROCESS_CPUTIME_ID, &to);
         took = (double)(to.tv_sec - from.tv_sec) + (double)(to.tv_nsec - from.tv_nsec) / 1e9;
         if (took > most) {

@@ -183,19 +183,23 @@ static void long_ones(struct hidstack *device, uint8_t id, struct hidstack_event
 
 static void longest_reports(void)
 {
-    /* 2,048 buttons; 255 values after an ID; both with a byte more */
+    /* 2,048 buttons; 255 values after an ID; 16,384 values; a byte more than a report has, without an ID and with one */
     static const uint8_t bits[] = {0x05, 0x09, 0x19, 0x01, 0x2A, 0x00, 0x08, 0x15, 0x00, 0x25, 0x01, 0x75, 0x01, 0x96, 0x00, 0x08, 0x81, 0x02};
     static const uint8_t named[] = {0x05, 0x01, 0x09, 0x30, 0x85, 0x09, 0x15, 0x81, 0x25, 0x7F, 0x75, 0x08, 0x95, 0xFF, 0x81, 0x02};
-    static const uint8_t over[] = {0x05, 0x01, 0x09, 0x30, 0x15, 0x81, 0x25, 0x7F, 0x75, 0x08, 0x96, 0x01, 0x01, 0x81, 0x02};
-    static const uint8_t named_over[] = {0x05, 0x01, 0x09, 0x30, 0x85, 0x09, 0x15, 0x81, 0x25, 0x7F, 0x75, 0x08, 0x96, 0x00, 0x01, 0x81, 0x02};
+    static const uint8_t over[] = {0x05, 0x01, 0x09, 0x30, 0x15, 0x81, 0x25, 0x7F, 0x75, 0x08, 0x96, 0x01, 0x40, 0x81, 0x02};
+    static const uint8_t named_over[] = {0x05, 0x01, 0x09, 0x30, 0x85, 0x09, 0x15, 0x81, 0x25, 0x7F, 0x75, 0x08, 0x96, 0x00, 0x40, 0x81, 0x02};
+    static const uint8_t longest[] = {0x05, 0x01, 0x09, 0x30, 0x15, 0x81, 0x25, 0x7F, 0x75, 0x08, 0x96, 0x00, 0x40, 0x81, 0x02};
     struct hidstack device = HIDSTACK_INIT;
     struct hidstack_opened opened;
-    struct hidstack_event *events = calloc(2048, sizeof *events);
+    struct hidstack_event *events = calloc(16384, sizeof *events);
+    uint8_t *report = calloc(1, 16384);
     uint64_t count;
     size_t i;
-    want("257 bytes", hidstack_open(over, sizeof over, &device, &opened), HIDSTACK_REFUSED);
+    if (!events || !report)
+        exit(2);
+    want("16,385 bytes", hidstack_open(over, sizeof over, &device, &opened), HIDSTACK_REFUSED);
     want("are L15 at the item", opened.cause == 15 && opened.at == 13, 1);
-    want("257 bytes with an ID", hidstack_open(named_over, sizeof named_over, &device, &opened), HIDSTACK_REFUSED);
+    want("16,385 bytes with an ID", hidstack_open(named_over, sizeof named_over, &device, &opened), HIDSTACK_REFUSED);
     want("are L15 at the item", opened.cause == 15 && opened.at == 15, 1);
     want("256 bytes", hidstack_open(bits, sizeof bits, &device, &opened), HIDSTACK_OK);
     want("room for each button", opened.room, 2048);
@@ -209,6 +213,14 @@ static void longest_reports(void)
     long_ones(&device, 9, events, 255);
     want("another ID", hidstack_feed(&device, (const uint8_t[]){8}, 1, events, 255, &count), HIDSTACK_UNKNOWN);
     hidstack_close(&device);
+    want("16,384 bytes", hidstack_open(longest, sizeof longest, &device, &opened), HIDSTACK_OK);
+    want("room for each value", opened.room, 16384);
+    memset(report, 1, 16384);
+    want("a byte too few", hidstack_feed(&device, report, 16383, events, 16384, &count), HIDSTACK_SHORT);
+    want("all bytes", hidstack_feed(&device, report, 16384, events, 16384, &count), HIDSTACK_OK);
+    want("each value", count == 16384 && events[16383].value == 1 && events[16383].index == 16383, 1);
+    hidstack_close(&device);
+    free(report);
     free(events);
 }
 
@@ -343,6 +355,27 @@ static void texts(void)
     want("no room at null", hidstack_usage_text(1, 2, NULL, 0, &told), HIDSTACK_NO_ROOM);
 }
 
+static void refusals(void)
+{
+    static const char pop[] = "L3 at 0: a Pop without a Push", truncated[] = "L1 at 0: the descriptor ends in the middle of an item";
+    static const char longest[] = "L15 at 15: Feature report 68 has 20000 bytes, over 16384";
+    /* Report ID 68, a Feature item of 19,999 bytes */
+    static const uint8_t feature[] = {0x06, 0x00, 0xFF, 0x09, 0x01, 0x85, 0x44, 0x26, 0xFF, 0x00, 0x75, 0x08, 0x96, 0x1F, 0x4E, 0xB1, 0x02};
+    static const uint8_t pops[] = {0xB4}, cut[] = {0x05};
+    uint8_t text[128];
+    uint64_t told;
+    want("a Pop", hidstack_refusal_text(pops, sizeof pops, text, sizeof text, &told), HIDSTACK_OK);
+    want("in words", told == sizeof pop - 1 && memcmp(text, pop, sizeof pop - 1) == 0, 1);
+    want("a cut item", hidstack_refusal_text(cut, sizeof cut, text, sizeof truncated - 1, &told), HIDSTACK_OK);
+    want("in words", told == sizeof truncated - 1 && memcmp(text, truncated, sizeof truncated - 1) == 0, 1);
+    want("a long report", hidstack_refusal_text(feature, sizeof feature, text, sizeof text, &told), HIDSTACK_OK);
+    want("by its name", told == sizeof longest - 1 && memcmp(text, longest, sizeof longest - 1) == 0, 1);
+    want("one byte too few", hidstack_refusal_text(feature, sizeof feature, text, sizeof longest - 2, &told), HIDSTACK_NO_ROOM);
+    want("its length is reported", told, sizeof longest - 1);
+    want("nothing is refused", hidstack_refusal_text(NULL, 0, text, sizeof text, &told), HIDSTACK_NONE);
+    want("nothing is reported", told, 0);
+}
+
 static void words(void)
 {
     static const char pop[] = "a Pop without a Push", mouse_name[] = "Mouse", button[] = "Button 65535";
@@ -359,6 +392,7 @@ static void words(void)
     want("nothing is reported", told, 0);
     want("no words of 18", hidstack_cause_words(18, text, sizeof text, &told), HIDSTACK_NONE);
     want("no words of the greatest", hidstack_cause_words(UINT32_MAX, NULL, 0, &told), HIDSTACK_NONE);
+    refusals();
     want("01:02", hidstack_usage_name(1, 2, text, sizeof mouse_name - 1, &told), HIDSTACK_OK);
     want("is a mouse", told == 5 && memcmp(text, mouse_name, 5) == 0, 1);
     want("one byte too few", hidstack_usage_name(1, 2, text, 4, &told), HIDSTACK_NO_ROOM);

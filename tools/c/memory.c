@@ -123,6 +123,22 @@ static int texts(void)
     }
 }
 
+static int refusals(void)
+{
+    static const uint8_t longer[] = {0x85, 0x44, 0x75, 0x08, 0x96, 0x1F, 0x4E, 0xB1, 0x02};
+    uint8_t text[128];
+    uint64_t told;
+    for (fails = 0;; fails++) {
+        uint32_t status;
+        calls = 0;
+        status = hidstack_refusal_text(longer, sizeof longer, text, sizeof text, &told);
+        if (calls <= fails)
+            return status != HIDSTACK_OK || told != sizeof "L15 at 7: Feature report 68 has 20000 bytes, over 16384" - 1;
+        if (status != HIDSTACK_OK && (status != HIDSTACK_MEMORY || told != 0))
+            return 1;
+    }
+}
+
 static int names(void)
 {
     uint8_t text[16];
@@ -181,7 +197,7 @@ int main(void)
     pthread_t thread;
     void *answer;
     for (all = 0; all < 2; all++)
-        if (openings(&device) || tables() || runs() || codes() || texts() || names())
+        if (openings(&device) || tables() || runs() || codes() || texts() || refusals() || names())
             return 1;
         else
             hidstack_close(&device);

@@ -106,10 +106,11 @@ def pack(folder, into, modules, does, files=()):
 
 
 def command(work, *options):
-    """The words that run the guest whose initial file system is work/initrd; it writes work/console and work/told."""
+    """The words that run the guest whose initial file system is work/initrd; it writes work/console and work/told. Beside much
+    other work its timer is late, and Linux isn't to check it."""
     return ["nice", "qemu-system-x86_64", "-accel", "tcg", "-cpu", "max", "-m", "512", "-display", "none", "-no-reboot", "-nic", "none",
             "-kernel", kernel()[0], "-initrd", work / "initrd", "-serial", "file:%s" % (work / "console"),
-            "-serial", "file:%s" % (work / "told"), "-append", "console=ttyS0 quiet panic=-1", *options]
+            "-serial", "file:%s" % (work / "told"), "-append", "console=ttyS0 quiet panic=-1 no_timer_check", *options]
 
 
 def broke_off(work):

@@ -6,6 +6,7 @@ of that code may differ from the one here. The result is compared with the kerne
 shows as a difference that isn't explained.
 """
 from linux_sides import ABS, KEY, MOST_USAGES, NULL, POWER, REL, RELATIVE, VARIABLE, usage_list
+from second_reader import NUMBER
 
 BUFFERED, HAT, TOUCH, RUBBER = 0x100, 0x10039, 0x14A, 0x141
 ERASER, INVERT, TIP, IN_RANGE = 0xD0045, 0xD003C, 0xD0042, 0xD0032
@@ -67,12 +68,12 @@ class There:
         return self.slot(item), EARLY.index(usage) if usage in EARLY else len(EARLY)
 
     def slot(self, item):
-        """The place of the item's collection among those with a Contact ID, each of which is taken as a whole; the others follow."""
+        """The place of the item's collection among those with a Contact ID, each of which is taken as a whole after all others."""
         if item.id not in self.slots:
             fields = [one for one in self.layout.fields if (one.kind, one.id) == ("input", item.id) and one.path]
             self.slots[item.id] = list(dict.fromkeys(id(one.path[-1]) for one in fields if CONTACT in usage_list(one)))
         slots = self.slots[item.id]
-        return slots.index(id(item.path[-1])) if item.path and id(item.path[-1]) in slots else len(slots)
+        return slots.index(id(item.path[-1])) if item.path and id(item.path[-1]) in slots else -1
 
     def rolls_over(self, item, numbers):
         usages = usage_list(item)
@@ -104,6 +105,8 @@ class There:
         code, usage, node = self.map.codes[item, j], self.usage(item, j), self.map.nodes[item]
         if code in (None, POWER) or code[0] not in (KEY, REL, ABS) or node is None:
             return
+        if item.size > NUMBER:
+            self.fire(item, j, "fields of over 32 bits")
         if usage in PADS or usage == HAT and item.least < item.greatest:
             self.hat(item, j, node, code[1], usage, value)
             return

@@ -15,16 +15,17 @@ AXES = ["X", "Y", "Z", "Rx", "Ry", "Rz", "Throttle", "Rudder", "Wheel", "Gas", "
         "ToolWidth", None, None, None, "Volume", None, None, None, None, None, None, None, "Misc"]
 MOTIONS = ["X", "Y", "Z", "Rx", "Ry", "Rz", "HWheel", "Dial", "Wheel", "Misc"]
 MOST_USAGES = 12288
+REPEATING = 0xFF01
 WHEELS = {0x10038: 11, 0xC0238: 12}
 SYSTEM_CONTROL, KEYBOARD, CONSUMER_CONTROL = 0x10080, 0x10006, 0xC0001
 
 
 class Layout(second_reader.Layout):
-    """The second reader's layout with every main item that has a usage, and without limits of size (L15, L16)."""
+    """The second reader's layout of a recording with every main item that has a usage, and without limits of size (L15, L16)."""
 
     def __init__(self, descriptor):
         self.fields, self.is_refused = [], False
-        super().__init__(descriptor)
+        super().__init__(descriptor, second_reader.REAL)
 
     def add(self, item, paired):
         cause = super().add(item, paired)
@@ -38,11 +39,12 @@ class Layout(second_reader.Layout):
         return cause
 
     def numbers(self, item, report):
-        """The numbers of an item's elements in the bytes of its report."""
-        value, mask = second_reader.number(report[1:] if self.has_ids else report) >> item.at, (1 << item.size) - 1
-        signed = 1 << item.size if item.least < 0 else 0
+        """The numbers of an item's elements in the bytes of its report; of wider elements the low 32 bits, as Linux reads them."""
+        size = min(item.size, second_reader.NUMBER)
+        value, mask = second_reader.number(report[1:] if self.has_ids else report) >> item.at, (1 << size) - 1
+        signed = 1 << size if item.least < 0 else 0
         elements = [value >> j * item.size & mask for j in range(item.count)]
-        return [v - signed * (v >> item.size - 1) for v in elements] if item.size else elements
+        return [v - signed * (v >> size - 1) for v in elements] if size else elements
 
 
 @functools.cache
@@ -203,10 +205,15 @@ class Map:
                 at += 1
                 self.codes[item, j] = code
                 self.nodes[item] = app
-                apps[app] = apps.get(app, False) or code not in (None, POWER)
+                apps[app] = apps.get(app, False) or code not in (None, POWER) or self.repeats(item)
         self.fits = at == len(lines) and sum(apps.values()) == len(told.nodes)
         numbers = {app: i for i, app in enumerate(app for app, is_there in apps.items() if is_there)}
         self.nodes = {item: numbers.get(app) for item, app in self.nodes.items()}
+
+    @staticmethod
+    def repeats(item):
+        """Of this vendor's page Linux makes a node that repeats keys, also if it has none of them."""
+        return item.kind == "input" and not item.has_no_data and usage_list(item)[0] >> 16 == REPEATING
 
     @staticmethod
     def application(layout, item):

@@ -2,7 +2,7 @@
 report that readers may take differently.
 
 recordings() gives names and texts, run_hidplay() and of_hidplay() give what hidplay prints for them. The descriptors are those of
-the given recordings, and some of OURS, each for something that no real one among them has.
+the given recordings, those of OURS, each for something that no real one among them has, and those that made_devices.py makes.
 """
 import collections
 import pathlib
@@ -10,6 +10,7 @@ import random
 import re
 import subprocess
 
+import made_devices
 from linux_guest import Missing
 from linux_sides import NULL, VARIABLE, Layout, usage_list
 
@@ -196,7 +197,7 @@ class Reports:
 
     def mixed_ids(self):
         for _ in range(MOST if self.layout.has_ids else 0):
-            body = self.random.randbytes(max((bits + 7) // 8 for bits in self.layout.bits.values()))
+            body = self.random.randbytes(max((bits + 7) // 8 for (kind, _), bits in self.layout.bits.items() if kind == "input"))
             yield bytes([self.random.choice(self.ids * 3 + [0, self.random.randrange(256)])]) + body
 
     def lengths(self):
@@ -232,10 +233,12 @@ def recording(descriptor, reports):
 
 
 def made(seed, real):
-    """Names and lines of recordings, of the descriptors of `real` by name."""
-    for name, descriptor in sorted({**real, **{name: bytes.fromhex(text) for name, text in OURS.items()}}.items()):
+    """Names and lines of recordings, of the descriptors of `real` by name, and of made ones."""
+    ours = {name: bytes.fromhex(text) for name, text in OURS.items()}
+    for name, descriptor in sorted({**real, **ours, **dict(made_devices.of(seed))}.items()):
         layout = Layout(descriptor)
-        for sort in SORTS:
+        # (a device that Linux refuses takes five seconds in each recording)
+        for sort in ["chords"] if name in made_devices.AT_LIMITS else SORTS:
             reports = list(getattr(Reports(layout, random.Random("%s %s %s" % (seed, name, sort)), name in real), sort)())
             if reports:
                 yield "%s.%s" % (name, sort), recording(descriptor, reports)

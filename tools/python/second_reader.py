@@ -1,14 +1,26 @@
 """A second reader of report descriptors, which shares nothing with the program: from HID 1.11, 5 and 6.2.2, and docs/.
 
-`told` gives what the `layout` and `values` lines of a script print, up to the first line of a device.
+It reads within limits (docs/FORMATS.md): BUS are those of scripts, REAL those of recordings, pictures and the C library. `told`
+gives what the `layout` and `values` lines of a script print, up to the first line of a device.
 """
+import collections
+
+Limits = collections.namedtuple("Limits", "report_bytes elements width")
+BUS = Limits(256, 4096, 32)
+REAL = Limits(16384, 65536, 8 * 16384)
+NUMBER = 32  # bits of the widest field that is read as a number
+MOST_BYTES = 4096  # of a descriptor
 KINDS = {0x80: "input", 0x90: "output", 0xB0: "feature"}
 PAGE, MINIMUM, MAXIMUM, SIZE, ID, COUNT, PUSH, POP = 0x04, 0x14, 0x24, 0x74, 0x84, 0x94, 0xA4, 0xB4
 USAGE, USAGE_MINIMUM, USAGE_MAXIMUM, DELIMITER, COLLECTION, END = 0x08, 0x18, 0x28, 0xA8, 0xA0, 0xC0
 
 
 class Refused(Exception):
-    """A line is refused, with these codes."""
+    """A line is refused, with these codes; of L15 `report` says which report has how many bytes."""
+
+    def __init__(self, codes, report=""):
+        super().__init__(codes)
+        self.report = report
 
 
 def number(data, signed=False):
@@ -37,19 +49,24 @@ class Item:
         self.size, self.count, self.id = (number(state.get(k, b"")) for k in (SIZE, COUNT, ID))
         self.least = number(state.get(MINIMUM, b""), True)
         self.greatest = number(state.get(MAXIMUM, b""), self.least < 0)
-        self.is_padding = bool(flags & 1) or not self.count or not usages
+        self.has_no_data = bool(flags & 1) or not self.count
+        self.is_padding = self.has_no_data or not usages or self.size > NUMBER
         self.at = 0
 
-    def refusal(self, paired):
+    def refusal(self, paired, limits):
         """The first cause that stands of its usages, its size and its range (6.2.2.5 to 6.2.2.8)."""
-        if not paired and not self.flags & 1 and self.count:
-            return "L13"
-        if self.is_padding:
+        if self.has_no_data:
             return None
+        if not paired:
+            return "L13"
         if any(low >> 16 != high >> 16 or low > high for low, high in self.usages):
             return "L12"
-        if not 1 <= self.size <= 32:
+        if not self.usages:
+            return None
+        if not 1 <= self.size <= limits.width:
             return "L11"
+        if self.size > NUMBER:
+            return None
         low, high = (-(1 << self.size - 1), (1 << self.size - 1) - 1) if self.least < 0 else (0, (1 << self.size) - 1)
         return "L10" if self.least > self.greatest or self.least > high or self.greatest < low else None
 
@@ -62,15 +79,17 @@ class Item:
 
 
 class Layout:
-    """What a descriptor lays out."""
+    """What a descriptor lays out within these limits."""
 
-    def __init__(self, descriptor):
-        self.items, self.bits, self.has_ids = [], {}, False
+    def __init__(self, descriptor, limits=BUS):
+        self.items, self.bits, self.has_ids, self.limits, self.too_long = [], {}, False, limits, ""
         state, saved, local, path = {}, [], [], []
+        if len(descriptor) > MOST_BYTES:
+            raise Refused("L2 at %d" % MOST_BYTES)
         for at, prefix, data in items(descriptor):
             cause = self.take(prefix, data, state, saved, local, path)
             if cause:
-                raise Refused("%s at %d" % (cause, at))
+                raise Refused("%s at %d" % (cause, at), self.too_long)
         if path:
             raise Refused("L7 at %d" % len(descriptor))
         if self.has_ids and any(not item.id for item in self.items):
@@ -105,18 +124,22 @@ class Layout:
         return None
 
     def add(self, item, paired):
-        cause = item.refusal(paired)
+        cause = item.refusal(paired, self.limits)
         item.at = self.bits.get((item.kind, item.id), 0)
         end = item.at + item.size * item.count
         if cause or not item.size * item.count:
             return cause
-        if (end + 7) // 8 + bool(item.id) > 256:
+        size = (end + 7) // 8 + bool(item.id)
+        if size > self.limits.report_bytes:
+            kind = item.kind.capitalize()
+            name = "%s report %d" % (kind, item.id) if item.id else "the %s report" % kind
+            self.too_long = "%s has %d bytes, over %d" % (name, size, self.limits.report_bytes)
             return "L15"
         self.bits[item.kind, item.id] = end
         self.items.append(item)
         elements = sum(one.count for one in self.items if not one.is_padding)
         ids = {one for _, one in self.bits if one}
-        too_many = len(self.items) > 512 or elements > 4096 or len(ids) > 64 or (not item.is_padding and len(item.usages) > 64)
+        too_many = len(self.items) > 512 or elements > self.limits.elements or len(ids) > 64 or (not item.is_padding and len(item.usages) > 64)
         return "L16" if too_many else None
 
     def text(self):

@@ -33,10 +33,15 @@ same_host host known (reply ∷ replies) is =
     (same_host (host_after_reply host known (reply_outcome known.pipe.expects reply))
     (known_after_reply known reply) replies refl)
 
+-- the events of a host that was ready from the start
+pub events_of_host : (addr : ℕ) (layout : Contents) (host : HostDeviceState) (replies : List (Option Packet)) (events : List Event) → host ≡ ready_host addr layout → events ≡ device_host_events_all host replies → events ≡ events_of_replies (ready_host_at_start addr 1 layout) replies
+events_of_host addr layout host replies events is given =
+    given ∙ same_host host (ready_host_at_start addr 1 layout) replies (ap (λ (h : HostDeviceState). h.phase) is)
+
+-- they are those of each device that may have sent what came
 pub events_are : (addr : ℕ) (layout : Contents) (host : HostDeviceState) (replies : List (Option Packet)) (events : List Event) → host ≡ ready_host addr layout → events ≡ device_host_events_all host replies → AreEventsOfDevice addr layout replies events
 events_are addr layout host replies events is given steps keeps steady came =
-    given
-    ∙ same_host host (ready_host_at_start addr 1 layout) replies (ap (λ (h : HostDeviceState). h.phase) is)
+    events_of_host addr layout host replies events is given
     ∙ sym (ap (events_of_replies (ready_host_at_start addr 1 layout)) came)
     ∙ sym (same_events (ends_at_start addr 1 layout) steps steady)
     ∙ (headline 64 addr 1 layout steps keeps).events

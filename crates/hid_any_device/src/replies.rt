@@ -6,7 +6,8 @@ ghost use Rattle.hid_layout.specs.Parsing.{ParsesTo};
 ghost use Rattle.hid_host.specs.declared.fault.StackFault.TheVariants.{Memory};
 ghost use Rattle.hid_host.specs.Conclusions.{IsNoLayout};
 ghost use Rattle.hid_host.specs.Phase.{IsReady};
-ghost use Rattle.hid_any_device.specs.Replies.{AreEventsOfDevice, device_host_after, device_host_events, device_host_events_all};
+ghost use Rattle.hid_host.specs.Ready.{ready_host_at_start};
+ghost use Rattle.hid_any_device.specs.Replies.{AreEventsOfDevice, events_of_replies, device_host_after, device_host_events, device_host_events_all};
 
 use hid_host::{HostDevice, StackFault};
 use hid_snapshots::Event;
@@ -63,7 +64,9 @@ pub fn read_replies(
 ) -> Result<Vec<Event>, StackFault>
     requires above { 0 < addr }
     requires addr { addr ≤ MAX_ADDRESS }
+    // The events of the replies, one after another; of any device that may have sent them, those of its reports.
     ensures events { IfOk result (λ events. (layout : Contents) × ParsesTo descriptor.now layout
+        × (events.items ≡ events_of_replies (ready_host_at_start addr 1 layout) replies.now)
         × AreEventsOfDevice addr layout replies.now events.items) }
     ensures refused { IfErr result (λ fault. (fault ≡ Memory) ⊎ IsNoLayout descriptor.now fault) }
 {

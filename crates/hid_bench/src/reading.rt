@@ -1,6 +1,7 @@
 //! A device whose reports are read.
 
-ghost use Rattle.std.specs.Prelude.{◌<◌};
+ghost use Rattle.std.specs.Prelude.{◌<◌, IfOk};
+ghost use Rattle.hid_layout.specs.Reports.{IsOfBus};
 
 use crate::fault::BenchFault;
 use hid_fields::WordCodec;
@@ -68,11 +69,13 @@ impl Reading {
     }
 }
 
-/// The layout of a report descriptor.
+/// The layout of a virtual device's report descriptor.
 ///
 /// # Errors
 /// [`BenchFault::Descriptor`] where the descriptor is refused, and [`BenchFault::Memory`] where memory runs out.
-pub fn parsed(alloc: Global, descriptor: &[u8]) -> Result<Layout, BenchFault> {
+pub fn parsed(alloc: Global, descriptor: &[u8]) -> Result<Layout, BenchFault>
+    ensures { IfOk result IsOfBus }
+{
     match Layout::parse(alloc, descriptor) {
         Ok(layout) => Ok(layout),
         Err(fault) => match fault.cause {

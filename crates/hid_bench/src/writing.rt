@@ -27,6 +27,7 @@ pub struct Writing {
 impl Model for Writing {
     ghost use Rattle.std.specs.Prelude.{◌≡◌, true};
     ghost use Rattle.hid_layout.specs.Controls.{items_of};
+    ghost use Rattle.hid_layout.specs.Reports.{IsOfBus};
     ghost use Rattle.hid_usages.specs.ControlStates.{FitsShown};
     ghost use Rattle.hid_snapshots.specs.Parts.{IsInput, has_zeros};
     ghost use Rattle.hid_snapshots.specs.Codes.{has_empty_codes};
@@ -37,7 +38,8 @@ impl Model for Writing {
     ghost view = { λ w. record { layout = w.layout; report = w.report; shown = w.shown } };
 
     ghost invariant = { λ w. IsInput w.layout w.report × FitsShown (items_of w.layout) w.shown
-        × (has_empty_codes w.layout ≡ true) × (has_zeros (items_of w.layout) ≡ true) };
+        × (has_empty_codes w.layout ≡ true) × (has_zeros (items_of w.layout) ≡ true)
+        × IsOfBus w.layout };
 }
 
 /// Presses a switch, moves a relative control by 5, or sets a value to 1.

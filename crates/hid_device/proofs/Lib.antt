@@ -1,3 +1,4 @@
+pub mod BusLemmas
 pub mod AckLemmas
 pub mod EndpointLemmas
 pub mod DeviceLemmas

@@ -1,6 +1,6 @@
 -- Which descriptors and configurations make a device, and why others don't (our choice).
 use Rattle.std.specs.Prelude.{◌≡◌, ℕ, true, false, List, replicate, None, Result, Ok, Err}
-use Rattle.hid_report_descriptor.specs.Faults.{Explains}
+use Rattle.hid_report_descriptor.specs.Bus.{Explains}
 use Rattle.hid_layout.specs.Layout.{Contents}
 use Rattle.hid_layout.specs.Controls.{items_of}
 use Rattle.hid_snapshots.specs.declared.control_state.ControlState.{ControlState}

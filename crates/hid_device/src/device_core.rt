@@ -548,6 +548,7 @@ impl Core {
     }
 
     /// A read has the bytes of an Input report as it is now, with every motion 0, as its answer.
+    #[tactic(auto, using(crate::proofs::BusLemmas::short_report))]
     fn read_input(&mut self, report: usize) -> bool
         requires { report < length self.old.reports.frames }
         ensures { Decides self.old (Reads (still_bytes self.old report)) result self.new }

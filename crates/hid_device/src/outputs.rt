@@ -1,7 +1,9 @@
 //! The reports of a layout by kind and ID, and what is kept of those that a host sets (HID 1.11, 7.2.1 and 7.2.2).
 
 ghost use Rattle.std.specs.Prelude.{◌≡◌, ◌<◌, ◌≤◌, length, position, IfOk, IfSome, true};
+ghost use Rattle.hid_report_descriptor.specs.declared.limits.TheConstants.{MAX_REPORT_BYTES};
 ghost use Rattle.hid_layout.specs.Controls.{is_input};
+ghost use Rattle.hid_layout.specs.Reports.{report_bytes, IsOfBus};
 ghost use Rattle.hid_report_descriptor.specs.declared.report.ReportKind.TheVariants.{Input};
 ghost use Rattle.hid_snapshots.specs.ExactCapacity.{IsFull};
 ghost use Rattle.hid_snapshots.specs.Encoding.{bare_report};
@@ -57,10 +59,11 @@ impl KeptReport {
 
 /// A report of a layout as it is at first: zeros, after its ID where it has one.
 fn bare(layout: &Layout, report: usize) -> KeptReport
-    requires { report < length layout.now.reports }
+    requires report { report < length layout.now.reports }
+    requires short { report_bytes layout.now report ≤ MAX_REPORT_BYTES }
     ensures { result ≡ bare_report layout.now report }
 {
-    // For the prover: what holds of every layout, as that a report has at most 256 bytes.
+    // For the prover: what holds of every layout.
     let _ = layout.items();
 
     let mut bytes = ArrayVec::new();
@@ -70,7 +73,8 @@ fn bare(layout: &Layout, report: usize) -> KeptReport
 
 /// Makes each of these reports what it was at first. No memory is taken.
 pub(crate) fn reset_outputs(layout: &Layout, outputs: &mut [KeptReport])
-    requires { length outputs.old ≡ length (kept_reports layout.now.reports) }
+    requires bus { IsOfBus layout.now }
+    requires each { length outputs.old ≡ length (kept_reports layout.now.reports) }
     ensures { outputs.new ≡ bare_outputs layout.now }
 {
     let first = input_count(layout);
@@ -81,6 +85,7 @@ pub(crate) fn reset_outputs(layout: &Layout, outputs: &mut [KeptReport])
 
 /// One for each Output and Feature report, in the order of the layout.
 pub(crate) fn bare_outputs(alloc: Global, layout: &Layout) -> Result<Vec<KeptReport>, AllocError>
+    requires bus { IsOfBus layout.now }
     ensures outputs { IfOk result (λ outputs. outputs.items ≡ bare_outputs layout.now) }
     ensures full { IfOk result (λ outputs. IsFull outputs) }
 {

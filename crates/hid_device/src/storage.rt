@@ -2,6 +2,7 @@
 
 ghost use Rattle.std.specs.Prelude.{◌≡◌, replicate, false, IfOk, IfErr};
 ghost use Rattle.hid_layout.specs.Controls.{items_of};
+ghost use Rattle.hid_layout.specs.Reports.{IsOfBus};
 ghost use Rattle.hid_snapshots.specs.ExactCapacity.{IsFull};
 ghost use Rattle.hid_snapshots.specs.ControlStates.{blank, FitsSnapshot, FitsShown};
 ghost use Rattle.hid_snapshots.specs.Parts.{blank_parts};
@@ -82,6 +83,7 @@ pub(crate) struct Room {
 impl Room {
     /// Reserves what a device of this layout and descriptor needs, or reports that memory ran out.
     pub(crate) fn of(alloc: Global, layout: &Layout, descriptor: &[u8]) -> Result<Room, DeviceFault>
+        requires bus { IsOfBus layout.now }
         ensures made { IfOk result (λ room. IsRoom descriptor.now layout.now room) }
         ensures memory { IfErr result (λ fault. fault ≡ no_memory) }
     {

@@ -9,6 +9,7 @@ use Rattle.std.proofs.lemmas.List.Elements.{All-nil, All-cons}
 use Rattle.std.proofs.Math.Seq.{take-suc}
 use Rattle.hid_items.specs.ItemEncoding.{IsItemEncoding, AreItems, IsTruncatedAt, IsCut, data_of, little_endian, unsigned_of}
 use Rattle.hid_items.specs.declared.encoding.Item.{Item}
+use Rattle.hid_report_descriptor.specs.declared.limits.Limits.{Limits}
 use Rattle.hid_report_descriptor.specs.Faults.{Accepts}
 use Rattle.hid_report_descriptor.specs.Fields.{Field, fields, add_field, bits_of}
 use Rattle.hid_report_descriptor.specs.Globals.{look_back, report_size, report_count}
@@ -157,31 +158,31 @@ are_whole none_cut descriptor items others read accepted = by_end read.ended
         })
         accepted)
 
-whole_items : (descriptor : List ℕ) (before : List EncodedItem) → Accepts descriptor before → AreItems descriptor (reverse before)
-whole_items descriptor before a = subst (λ l. AreItems l (reverse before)) (take_all (length descriptor) descriptor (omega arith)) a.reaches.items
+whole_items : (limits : Limits) (descriptor : List ℕ) (before : List EncodedItem) → Accepts limits descriptor before → AreItems descriptor (reverse before)
+whole_items limits descriptor before a = subst (λ l. AreItems l (reverse before)) (take_all (length descriptor) descriptor (omega arith)) a.reaches.items
 
-pub same_items : OneReading → NoneCut → (descriptor : List ℕ) (items : List Item) (before : List EncodedItem) → AreItemsOf descriptor items
-    → Accepts descriptor before → before ≡ encoded_before items (length items)
-same_items one none_cut descriptor items before read a =
+pub same_items : (limits : Limits) → OneReading → NoneCut → (descriptor : List ℕ) (items : List Item) (before : List EncodedItem) → AreItemsOf descriptor items
+    → Accepts limits descriptor before → before ≡ encoded_before items (length items)
+same_items limits one none_cut descriptor items before read a =
     sym (reverse-reverse before)
-    ∙ ap reverse (one descriptor (reverse before) (encodings items) (whole_items descriptor before a) (are_whole none_cut descriptor items (reverse before) read (whole_items descriptor before a)))
+    ∙ ap reverse (one descriptor (reverse before) (encodings items) (whole_items limits descriptor before a) (are_whole none_cut descriptor items (reverse before) read (whole_items limits descriptor before a)))
     ∙ sym (whole_spelled items)
 
 -- the fields of the descriptor
-pub all_fields : OneReading → NoneCut → (descriptor : List ℕ) (items : List Item) (before : List EncodedItem) → AreItemsOf descriptor items
-    → Accepts descriptor before → fields before ≡ map (field_from items) (listed_places items (length items))
-all_fields one none_cut descriptor items before read a =
-    ap fields (same_items one none_cut descriptor items before read a) ∙ fields_below items (length items)
+pub all_fields : (limits : Limits) → OneReading → NoneCut → (descriptor : List ℕ) (items : List Item) (before : List EncodedItem) → AreItemsOf descriptor items
+    → Accepts limits descriptor before → fields before ≡ map (field_from items) (listed_places items (length items))
+all_fields limits one none_cut descriptor items before read a =
+    ap fields (same_items limits one none_cut descriptor items before read a) ∙ fields_below items (length items)
 
 map_map : {A B C : Type 0} (g : B → C) (f : A → B) (xs : List A) → map g (map f xs) ≡ map (λ x. g (f x)) xs
 map_map g f [] = refl
 map_map g f (x ∷ xs) = ap (λ l. g (f x) ∷ l) (map_map g f xs)
 
 -- the listed items of its layout
-pub all_items : OneReading → NoneCut → (descriptor : List ℕ) (items : List Item) (before : List EncodedItem) → AreItemsOf descriptor items
-    → Accepts descriptor before
+pub all_items : (limits : Limits) → OneReading → NoneCut → (descriptor : List ℕ) (items : List Item) (before : List EncodedItem) → AreItemsOf descriptor items
+    → Accepts limits descriptor before
     → (layout_of before).items
     ≡ map (λ m. main_item (layout_of before).reports (field_from items m)) (listed_places items (length items))
-all_items one none_cut descriptor items before read a =
-    ap (map (main_item (layout_of before).reports)) (all_fields one none_cut descriptor items before read a)
+all_items limits one none_cut descriptor items before read a =
+    ap (map (main_item (layout_of before).reports)) (all_fields limits one none_cut descriptor items before read a)
     ∙ map_map (main_item (layout_of before).reports) (field_from items) (listed_places items (length items))

@@ -9,6 +9,7 @@ use Rattle.std.proofs.lemmas.Bool.{and_parts}
 use Rattle.std.proofs.lemmas.List.{take_all}
 use Rattle.std.proofs.lemmas.List.Sums.{sum_by-cons}
 use Rattle.hid_items.specs.ItemEncoding.{IsItemEncoding}
+use Rattle.hid_report_descriptor.specs.declared.limits.Limits.{Limits}
 use Rattle.hid_report_descriptor.specs.declared.report.Report.{Report}
 use Rattle.hid_report_descriptor.specs.declared.report.ReportKind.{ReportKind}
 use Rattle.hid_report_descriptor.specs.declared.shape.Shape.{Shape}
@@ -187,12 +188,12 @@ map_length f [] = refl
 map_length f (x ∷ xs) = ap suc (map_length f xs)
 
 -- one item of the report more
-item_lies : (fs : List Field) (numbered : Bool) (r : ℕ) (report : Report) → AreListed fs → IsLayout (contents_of fs numbered)
+item_lies : (limits : Limits) (fs : List Field) (numbered : Bool) (r : ℕ) (report : Report) → AreListed limits fs → IsLayout (contents_of fs numbered)
     → slice_get (reports_of fs) r ≡ Some report → (i : ℕ) (f : Field) → slice_get fs i ≡ Some f
     → LieFrom (first_bit (contents_of fs numbered) + report_bits report.kind report.id (take i fs))
     (item_pieces (contents_of fs numbered) r i (slice_get (contents_of fs numbered).items i))
     (first_bit (contents_of fs numbered) + report_bits report.kind report.id (take (suc i) fs))
-item_lies fs numbered r report a h at i f there = rw there_in (by_report (is_of report.kind report.id f) refl)
+item_lies limits fs numbered r report a h at i f there = rw there_in (by_report (is_of report.kind report.id f) refl)
   where
     layout : Contents
     layout = contents_of fs numbered
@@ -249,18 +250,18 @@ item_lies fs numbered r report a h at i f there = rw there_in (by_report (is_of 
         by_place false p = refl
 
 -- the first items of the report
-items_lie : (fs : List Field) (numbered : Bool) (r : ℕ) (report : Report) → AreListed fs → IsLayout (contents_of fs numbered)
+items_lie : (limits : Limits) (fs : List Field) (numbered : Bool) (r : ℕ) (report : Report) → AreListed limits fs → IsLayout (contents_of fs numbered)
     → slice_get (reports_of fs) r ≡ Some report → (n : ℕ) → n ≤ length fs
     → LieFrom (first_bit (contents_of fs numbered))
     (concat_lists n (λ i. item_pieces (contents_of fs numbered) r i (slice_get (contents_of fs numbered).items i)))
     (first_bit (contents_of fs numbered) + report_bits report.kind report.id (take n fs))
-items_lie fs numbered r report a h at zero within = omega arith
-items_lie fs numbered r report a h at (suc i) within =
+items_lie limits fs numbered r report a h at zero within = omega arith
+items_lie limits fs numbered r report a h at (suc i) within =
     let f = some_at fs i (omega (arith, within)) in
     behind (first_bit (contents_of fs numbered)) _ _
     (concat_lists i (λ i. item_pieces (contents_of fs numbered) r i (slice_get (contents_of fs numbered).items i))) _
-    (items_lie fs numbered r report a h at i (omega (arith, within)))
-    (item_lies fs numbered r report a h at i f.0 f.1)
+    (items_lie limits fs numbered r report a h at i (omega (arith, within)))
+    (item_lies limits fs numbered r report a h at i f.0 f.1)
 
 id_lies : (layout : Contents) → LieFrom 0 (id_pieces layout) (first_bit layout)
 id_lies layout = by_numbers layout.numbered
@@ -297,11 +298,11 @@ filler_lies layout r report at = by_rest ((report.bits % 8) == 0) refl
         (record { part = FinalPadding; bit = first_bit layout + report.bits; width = 8 - report.bits % 8 })
         (omega arith))
 
-report_filled : (fs : List Field) (numbered : Bool) (r : ℕ) (report : Report) → AreListed fs → IsLayout (contents_of fs numbered)
+report_filled : (limits : Limits) (fs : List Field) (numbered : Bool) (r : ℕ) (report : Report) → AreListed limits fs → IsLayout (contents_of fs numbered)
     → slice_get (reports_of fs) r ≡ Some report
     → LieFrom 0 (pieces_of (contents_of fs numbered) r) (8 * report_bytes (contents_of fs numbered) r)
 unfolding pieces_of
-report_filled fs numbered r report a h at =
+report_filled limits fs numbered r report a h at =
     let found = only_one (reports_of fs) r report at (λ k b e kinds ids. h.one_place k r b report e at kinds ids) in
     let bits : report_bits report.kind report.id (take (length fs) fs) ≡ report.bits =
     ap (report_bits report.kind report.id) (take_all (length fs) fs (omega arith))
@@ -318,7 +319,7 @@ report_filled fs numbered r report a h at =
     (concat_lists (length fs)
     (λ i. item_pieces (contents_of fs numbered) r i (slice_get (contents_of fs numbered).items i))) refl
     (omega (arith, bits))
-    (items_lie fs numbered r report a h at (length fs) (omega arith))))
+    (items_lie limits fs numbered r report a h at (length fs) (omega arith))))
     (filler_lies (contents_of fs numbered) r report at))
 
 -- each of some items that are all encodings, the last one first, is one
@@ -337,12 +338,12 @@ are_spelled (item ∷ before) all =
     All-right [] ys all = all
     All-right (x ∷ xs) ys all = All-right xs ys (All-tail IsItemEncoding x (xs ++ ys) all)
 
-pub reports_filled : (descriptor : List ℕ) (before : List EncodedItem) (r : ℕ) → Accepts descriptor before → r < length (layout_of before).reports
+pub reports_filled : (limits : Limits) (descriptor : List ℕ) (before : List EncodedItem) (r : ℕ) → Accepts limits descriptor before → r < length (layout_of before).reports
     → LieFrom 0 (pieces_of (layout_of before) r) (8 * report_bytes (layout_of before) r)
-reports_filled descriptor before r a there =
+reports_filled limits descriptor before r a there =
     let report = some_at (reports_of (fields before)) r there in
-    report_filled (fields before) (list_any (is REPORT_ID) before) r report.0
-    (listed before a.reaches.accepted (are_spelled before a.reaches.items.encoded)) (layout_of_accepted descriptor before a) report.1
+    report_filled limits (fields before) (list_any (is REPORT_ID) before) r report.0
+    (listed limits before a.reaches.accepted (are_spelled before a.reaches.items.encoded)) (layout_of_accepted limits descriptor before a) report.1
 
 -- which bits a piece has
 within : (bit : ℕ) (piece : ByteSlice) → has_bit bit piece ≡ true
@@ -404,7 +405,7 @@ one_in bit from to (piece ∷ pieces) lie first last =
         let not_here : has_bit bit piece ≡ false = has_not bit piece (λ a b. omega (arith, over, b)) in
         rw (not_here, later over) refl
 
-pub bits_once : (descriptor : List ℕ) (before : List EncodedItem) (r bit : ℕ) → Accepts descriptor before → r < length (layout_of before).reports
+pub bits_once : (limits : Limits) (descriptor : List ℕ) (before : List EncodedItem) (r bit : ℕ) → Accepts limits descriptor before → r < length (layout_of before).reports
     → bit < 8 * report_bytes (layout_of before) r → count_by (has_bit bit) (pieces_of (layout_of before) r) ≡ 1
-bits_once descriptor before r bit a there below =
-    one_in bit 0 (8 * report_bytes (layout_of before) r) (pieces_of (layout_of before) r) (reports_filled descriptor before r a there) (omega arith) below
+bits_once limits descriptor before r bit a there below =
+    one_in bit 0 (8 * report_bytes (layout_of before) r) (pieces_of (layout_of before) r) (reports_filled limits descriptor before r a there) (omega arith) below

@@ -1,5 +1,6 @@
 -- Laws of what is drawn (HID 1.11, 6.2.2.4 and 6.2.2.7).
 use Rattle.std.specs.Prelude.{◌≡◌, ℕ, zero, suc, ◌+◌, ◌*◌, ◌/◌, ◌%◌, ◌<◌, ◌≤◌, Bool, ◌==◌, ◌&&◌, nat_le, nat_lt, List, [], ◌∷◌, length, map, count_by}
+use Rattle.hid_report_descriptor.specs.declared.limits.Limits.{Limits}
 use Rattle.hid_report_descriptor.specs.Faults.{Accepts}
 use Rattle.hid_report_descriptor.specs.Fields.{Field, fields, field_of}
 use Rattle.hid_report_descriptor.specs.Items.{EncodedItem}
@@ -23,14 +24,14 @@ field_from items m =
 
 -- the fields of a descriptor are those that the places with bits describe, in order
 abbrev pub ListsAllFields : Type 0
-ListsAllFields = (descriptor : List ℕ) (items : List Item) (before : List EncodedItem)
-    → AreItemsOf descriptor items → Accepts descriptor before
+ListsAllFields = (limits : Limits) (descriptor : List ℕ) (items : List Item) (before : List EncodedItem)
+    → AreItemsOf descriptor items → Accepts limits descriptor before
     → fields before ≡ map (field_from items) (listed_places items (length items))
 
 -- The listed items of a descriptor's layout are those of the places with bits, in order.
 abbrev pub ListsAllItems : Type 0
-ListsAllItems = (descriptor : List ℕ) (items : List Item) (before : List EncodedItem)
-    → AreItemsOf descriptor items → Accepts descriptor before
+ListsAllItems = (limits : Limits) (descriptor : List ℕ) (items : List Item) (before : List EncodedItem)
+    → AreItemsOf descriptor items → Accepts limits descriptor before
     → (layout_of before).items
     ≡ map (λ m. main_item (layout_of before).reports (field_from items m))
     (listed_places items (length items))
@@ -44,8 +45,8 @@ LieFrom from (piece ∷ pieces) to =
 
 -- the pieces of a report lie one after another, from its first bit to the last one of its last byte
 abbrev pub FillReports : Type 0
-FillReports = (descriptor : List ℕ) (before : List EncodedItem) (r : ℕ)
-    → Accepts descriptor before → r < length (layout_of before).reports
+FillReports = (limits : Limits) (descriptor : List ℕ) (before : List EncodedItem) (r : ℕ)
+    → Accepts limits descriptor before → r < length (layout_of before).reports
     → LieFrom 0 (pieces_of (layout_of before) r) (8 * report_bytes (layout_of before) r)
 
 -- a piece has a bit of its report
@@ -54,6 +55,6 @@ has_bit bit piece = (piece.byte == bit / 8) && (nat_le piece.low (bit % 8) && na
 
 -- each bit of a report is in one piece, and in one alone
 abbrev pub HaveBitsOnce : Type 0
-HaveBitsOnce = (descriptor : List ℕ) (before : List EncodedItem) (r bit : ℕ)
-    → Accepts descriptor before → r < length (layout_of before).reports → bit < 8 * report_bytes (layout_of before) r
+HaveBitsOnce = (limits : Limits) (descriptor : List ℕ) (before : List EncodedItem) (r bit : ℕ)
+    → Accepts limits descriptor before → r < length (layout_of before).reports → bit < 8 * report_bytes (layout_of before) r
     → count_by (has_bit bit) (pieces_of (layout_of before) r) ≡ 1

@@ -1,6 +1,6 @@
 -- The places of a report's fields, byte by byte (HID 1.11, 5.8 and 8).
 use Rattle.std.specs.Prelude.{ℕ, zero, suc, ◌+◌, ◌-◌, ◌*◌, ◌/◌, ◌%◌, ◌≤◌, min, ◌==◌, List, [], ◌∷◌, ◌++◌, length, slice_get, Option, None, Some, if◌then◌else◌}
-use Rattle.hid_report_descriptor.specs.declared.limits.TheConstants.{MAX_REPORT_BYTES}
+use Rattle.hid_report_descriptor.specs.declared.limits.TheConstants.{MAX_REAL_REPORT_BYTES}
 use Rattle.hid_report_descriptor.specs.declared.report.Report.{Report}
 use Rattle.hid_report_descriptor.specs.declared.shape.Shape.{Shape}
 use Rattle.hid_report_descriptor.specs.declared.shape.Shape.TheVariants.{Padding, Variable, Array}
@@ -19,7 +19,7 @@ concat_lists (suc n) lists = concat_lists n lists ++ lists n
 
 -- an item ends within the longest report
 abbrev pub SliceLiesIn : Contents → MainItem → Type 0
-SliceLiesIn layout item = first_bit layout + (item.offset + item.size * item.count) ≤ 8 * MAX_REPORT_BYTES
+SliceLiesIn layout item = first_bit layout + (item.offset + item.size * item.count) ≤ 8 * MAX_REAL_REPORT_BYTES
 
 -- what of a stretch lies in the k-th byte that it touches
 abbrev pub piece_of : Segment → ℕ → ByteSlice

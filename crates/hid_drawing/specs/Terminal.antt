@@ -11,7 +11,7 @@ use Rattle.hid_notation.specs.Text.{concat_below}
 use Rattle.hid_drawing.specs.declared.brackets.Bracket.{Bracket}
 use Rattle.hid_drawing.specs.declared.pieces.ByteSlice.{ByteSlice}
 use Rattle.hid_drawing.specs.declared.glyphs.TheConstants as glyphs
-use Rattle.hid_drawing.specs.declared.terminal.TheConstants.{MAX_STEPS}
+use Rattle.hid_drawing.specs.declared.terminal.TheConstants.{MAX_DRAWN, MAX_STEPS, NO_PICTURE}
 use Rattle.hid_drawing.specs.Escape.{printable_byte}
 use Rattle.hid_drawing.specs.Brackets.{bracket_depth}
 use Rattle.hid_drawing.specs.Lines.{byte_at, columns_of, name_line_of, row_lines}
@@ -167,12 +167,22 @@ fields_text layout r =
 -- what the picture of a report begins with
 unfoldable pub terminal_head : Bool → ℕ → Report → List ℕ
 terminal_head numbered bytes report =
-    report_title numbered report ++ 58 ∷ 32 ∷ count_text bytes (codes "byte") ++ 10 ∷ glyphs.BIT_RULER.now
+    report_title numbered report ++ 58 ∷ 32 ∷ count_text bytes (codes "byte") ++ 10 ∷ []
 
 -- the rows of a report
 unfoldable pub rows_text : Contents → ℕ → ℕ → List Bracket → List ByteSlice → List ℕ
 rows_text layout r bytes brackets pieces =
     concat_below bytes (row_text layout r bytes brackets pieces) ++ line_above bytes brackets pieces
+
+-- the numbers of the bits, and the rows of a report
+unfoldable pub numbered_rows : Contents → ℕ → ℕ → List Bracket → List ByteSlice → List ℕ
+numbered_rows layout r bytes brackets pieces = glyphs.BIT_RULER.now ++ rows_text layout r bytes brackets pieces
+
+-- the rows of a report of at most 1,000 bytes; a longer one isn't drawn
+abbrev pub drawn_text : Contents → ℕ → ℕ → List Bracket → List ByteSlice → List ℕ
+drawn_text layout r bytes brackets pieces =
+    if nat_lt MAX_DRAWN bytes then NO_PICTURE.now
+    else numbered_rows layout r bytes brackets pieces
 
 -- the brackets of a report
 unfoldable pub bracket_lines : Contents → List Bracket → List ℕ
@@ -181,7 +191,7 @@ bracket_lines layout brackets = flat_map (λ bracket. bracket_line layout bracke
 -- the picture of a report of n bytes
 unfoldable pub terminal_of : Contents → ℕ → ℕ → List Bracket → List ByteSlice → Report → List ℕ
 terminal_of layout r bytes brackets pieces report =
-    terminal_head layout.numbered bytes report ++ rows_text layout r bytes brackets pieces
+    terminal_head layout.numbered bytes report ++ drawn_text layout r bytes brackets pieces
     ++ bracket_lines layout brackets ++ fields_text layout r
 
 -- the picture in characters of the report at a place, or nothing if there is none

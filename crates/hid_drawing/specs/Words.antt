@@ -1,9 +1,10 @@
 -- What is said of fields, collections and reports, in words (HID 1.11, 6.2.2.5 and 6.2.2.6; the words are our choice:
 -- docs/PICTURES.md).
-use Rattle.std.specs.Prelude.{ℕ, ◌+◌, ◌-◌, ◌*◌, ◌/◌, ◌%◌, Bool, true, false, ◌==◌, ◌&&◌, nat_le, min, bit_and, List, [], ◌∷◌, ◌++◌, length, slice_get, if◌then◌else◌, Option, None, Some, codes}
+use Rattle.std.specs.Prelude.{ℕ, ◌+◌, ◌-◌, ◌*◌, ◌/◌, ◌%◌, Bool, true, false, ◌==◌, ◌&&◌, nat_le, nat_lt, not, min, bit_and, List, [], ◌∷◌, ◌++◌, length, slice_get, if◌then◌else◌, Option, None, Some, codes}
 use Rattle.std.specs.List.{flat_map}
 use Rattle.std.specs.Fmt.{decimal, signed_decimal}
-use Rattle.hid_report_descriptor.specs.Flags.{has_flag, RELATIVE, NULL_STATE}
+use Rattle.hid_report_descriptor.specs.declared.limits.TheConstants.{MAX_WIDTH}
+use Rattle.hid_report_descriptor.specs.Flags.{has_flag, CONSTANT, RELATIVE, NULL_STATE}
 use Rattle.hid_report_descriptor.specs.Usages.{Entry, usage_list}
 use Rattle.hid_report_descriptor.specs.declared.collection.Collection.{Collection}
 use Rattle.hid_report_descriptor.specs.declared.report.Report.{Report}
@@ -112,15 +113,21 @@ usage_words (Some usage) = usage_label usage
 abbrev pub field_usage : Contents → ℕ → ℕ → List Entry → Option Usage
 field_usage layout i j entries = usage_of layout i (min j (length (usage_list entries) - 1))
 
+-- what fields without controls are called: of some the bits are data, but more than a number has
+unfoldable pub padding_name : MainItem → List ℕ
+padding_name item =
+    if nat_lt MAX_WIDTH item.size && not (has_flag CONSTANT item.flags.0) then codes "too wide to be a number"
+    else codes "padding"
+
 -- what a field is called
-abbrev pub name_in : Contents → ℕ → ℕ → Shape → List Entry → List ℕ
-name_in layout i j Padding entries = codes "padding"
-name_in layout i j Variable entries = usage_words (field_usage layout i j entries)
-name_in layout i j Array entries = choice_text entries
+abbrev pub name_in : Contents → ℕ → ℕ → MainItem → Shape → List Entry → List ℕ
+name_in layout i j item Padding entries = padding_name item
+name_in layout i j item Variable entries = usage_words (field_usage layout i j entries)
+name_in layout i j item Array entries = choice_text entries
 
 -- what a field of an item is called; no text where there is no item
 abbrev pub field_name : Contents → ℕ → ℕ → Option MainItem → Option (List Entry) → List ℕ
-field_name layout i j (Some item) (Some entries) = name_in layout i j item.shape entries
+field_name layout i j (Some item) (Some entries) = name_in layout i j item item.shape entries
 field_name layout i j _ _ = []
 
 -- what a part of a report is called

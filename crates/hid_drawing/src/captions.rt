@@ -2,14 +2,15 @@
 
 ghost use Rattle.std.specs.Prelude.{◌≡◌, ◌++◌, ◌*◌, ◌<◌, ◌≤◌, [], if◌then◌else◌, length, Some, OnOk, string_bytes};
 ghost use Rattle.std.specs.List.{flat_map};
-ghost use Rattle.hid_report_descriptor.specs.declared.limits.TheConstants.{MAX_ENTRIES, MAX_REPORT_BYTES};
-ghost use Rattle.hid_drawing.specs.Words.{flag_words, bit_7_words, flags_text, is_input_report, is_input_item, kind_name, report_title, count_text, collection_name, purpose_text, collection_words, entry_text, choice_from, choice_text, field_usage, usage_words, name_in, part_name, share_text, piece_name, range_words, details_in, part_details, part_flags, bit_text, place_text};
+ghost use Rattle.hid_report_descriptor.specs.declared.limits.TheConstants.{MAX_ENTRIES, MAX_REAL_REPORT_BYTES};
+ghost use Rattle.hid_drawing.specs.Words.{flag_words, bit_7_words, flags_text, is_input_report, is_input_item, kind_name, report_title, count_text, collection_name, purpose_text, collection_words, entry_text, choice_from, choice_text, field_usage, usage_words, padding_name, name_in, part_name, share_text, piece_name, range_words, details_in, part_details, part_flags, bit_text, place_text};
 
 use crate::label::UsageLabel;
 use crate::lookups::{item_at, report_at};
 use crate::pieces::{BitSource, ByteSlice};
 use hid_layout::{
-    Collection, Layout, MainFlags, MainItem, Report, ReportKind, Shape, Usage, usage_count,
+    Collection, Layout, MAX_WIDTH, MainFlags, MainItem, Report, ReportKind, Shape, Usage,
+    usage_count,
 };
 use std::alloc::AllocError;
 
@@ -260,22 +261,37 @@ fn print_usage(text: &mut String, usage: Option<Usage>) -> Result<(), AllocError
     }
 }
 
+/// Adds what fields without controls are called.
+///
+/// # Errors
+/// Out of memory; part of the text may be added then.
+#[tactic(auto, unfolding(crate::specs::Words::padding_name))]
+pub fn print_padding_name(text: &mut String, main: &MainItem) -> Result<(), AllocError>
+    ensures { OnOk result (string_bytes text.new ≡ string_bytes text.old ++ padding_name main.now) }
+{
+    if main.size > MAX_WIDTH && !main.flags.is_constant() {
+        text.push_str("too wide to be a number")
+    } else {
+        text.push_str("padding")
+    }
+}
+
 /// Adds what a field is called.
 fn print_field_name(
     text: &mut String,
     layout: &Layout,
     i: usize,
     j: usize,
-    shape: Shape,
+    main: &MainItem,
     entries: &[(Usage, Usage)],
 ) -> Result<(), AllocError>
     requires there { i < length layout.now.items }
     requires few { length entries.now ≤ MAX_ENTRIES }
     ensures { OnOk result (string_bytes text.new
-        ≡ string_bytes text.old ++ name_in layout.now i j shape entries.now) }
+        ≡ string_bytes text.old ++ name_in layout.now i j main.now main.now.shape entries.now) }
 {
-    match shape {
-        Shape::Padding => text.push_str("padding"),
+    match main.shape {
+        Shape::Padding => print_padding_name(text, main),
         Shape::Variable => print_usage(text, field_usage(layout, i, j, entries)),
         Shape::Array => print_choice(text, entries),
     }
@@ -293,8 +309,8 @@ fn print_part_name(text: &mut String, layout: &Layout, part: BitSource) -> Resul
             if item >= layout.items().len() {
                 return Ok(());
             }
-            let shape = item_at(layout, item).shape;
-            print_field_name(text, layout, item, element, shape, layout.entries(item))
+            let main = item_at(layout, item);
+            print_field_name(text, layout, item, element, main, layout.entries(item))
         }
     }
 }
@@ -346,7 +362,7 @@ fn print_range(text: &mut String, item: &MainItem) -> Result<(), AllocError>
 
 /// Adds what is said of an item's fields.
 fn print_details(text: &mut String, item: &MainItem) -> Result<(), AllocError>
-    requires { item.now.size * item.now.count ≤ 8 * MAX_REPORT_BYTES }
+    requires { item.now.size * item.now.count ≤ 8 * MAX_REAL_REPORT_BYTES }
     ensures { OnOk result (string_bytes text.new
         ≡ string_bytes text.old ++ details_in item.now.shape item.now) }
 {

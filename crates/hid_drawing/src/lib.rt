@@ -40,7 +40,7 @@ pub use areas::{RIGHT, gap_of, name_left, row_top};
 pub use brackets::{Bracket, Drawn, bracket_depth, main_at, round_at};
 pub use captions::{
     collection_name, is_input_item, print_bit, print_collection, print_count, print_entry,
-    print_flags, print_report_name,
+    print_flags, print_padding_name, print_report_name,
 };
 pub use escape::{push_escaped, words_are_inert};
 pub use items::{place_of, prefix_of, read_items};
@@ -52,4 +52,4 @@ pub use origins::{
 };
 pub use pieces::{BitSource, ByteSlice, pieces_of};
 pub use svg::print_picture;
-pub use terminal::print_terminal;
+pub use terminal::{MAX_DRAWN, print_terminal};

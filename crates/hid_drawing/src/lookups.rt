@@ -3,7 +3,7 @@
 ghost use Rattle.std.specs.Prelude.{◌≡◌, ◌+◌, ◌*◌, ◌<◌, ◌≤◌, length, slice_get, Some};
 ghost use Rattle.hid_layout.specs.Reports.{first_bit, report_bytes};
 ghost use Rattle.hid_drawing.specs.Pieces.{SliceLiesIn};
-ghost use Rattle.hid_report_descriptor.specs.declared.limits.TheConstants.{MAX_REPORT_BYTES};
+ghost use Rattle.hid_report_descriptor.specs.declared.limits.TheConstants.{MAX_REAL_REPORT_BYTES};
 
 use hid_layout::{Layout, MainItem, Report};
 
@@ -20,8 +20,8 @@ pub fn item_at(layout: &Layout, i: usize) -> &MainItem
 pub fn report_at(layout: &Layout, r: usize) -> &Report
     requires { r < length layout.now.reports }
     ensures at { slice_get layout.now.reports r ≡ Some result.now }
-    ensures short { result.now.bits ≤ 8 * MAX_REPORT_BYTES }
-    ensures bytes { report_bytes layout.now r ≤ MAX_REPORT_BYTES }
+    ensures short { result.now.bits ≤ 8 * MAX_REAL_REPORT_BYTES }
+    ensures bytes { report_bytes layout.now r ≤ MAX_REAL_REPORT_BYTES }
 {
     // For the prover: what holds of every layout, as that its reports are short.
     let _ = layout.items();

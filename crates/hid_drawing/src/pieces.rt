@@ -46,7 +46,7 @@ pub struct ByteSlice {
 
 /// What of a stretch lies in the k-th byte that it touches.
 fn piece_of(stretch: &Segment, k: u32) -> ByteSlice
-    requires small { stretch.now.bit + stretch.now.width ≤ 2 ^ 16 }
+    requires small { stretch.now.bit + stretch.now.width ≤ 2 ^ 18 }
     requires touched { k < (stretch.now.bit % 8 + stretch.now.width + 7) / 8 }
     ensures { result ≡ piece_of stretch.now k }
 {
@@ -65,7 +65,7 @@ fn piece_of(stretch: &Segment, k: u32) -> ByteSlice
 
 /// Adds the pieces of a stretch.
 fn push_pieces(pieces: &mut Vec<ByteSlice>, stretch: &Segment) -> Result<(), AllocError>
-    requires { stretch.now.bit + stretch.now.width ≤ 2 ^ 16 }
+    requires { stretch.now.bit + stretch.now.width ≤ 2 ^ 18 }
     ensures { OnOk result (pieces.new.items ≡ pieces.old.items ++ segment_pieces stretch.now) }
 {
     for k in 0..(stretch.bit % 8 + stretch.width + 7) / 8 {

@@ -4,7 +4,7 @@ ghost use Rattle.std.specs.Prelude.{◌≡◌, ◌++◌, ◌-◌, ◌<◌, min, 
 ghost use Rattle.hid_notation.specs.Text.{concat_below};
 ghost use Rattle.hid_drawing.specs.Pieces.{SliceLiesIn};
 ghost use Rattle.hid_drawing.specs.declared.terminal.TheConstants.{MAX_STEPS};
-ghost use Rattle.hid_drawing.specs.Terminal.{padded_words, is_edge, is_edge_above, end_corner, corner, corner_at, edge_line, is_held, is_held_on, bracket_corner, bracket_corner_at, bracket_corners, side_at, sides, cell_line, byte_cell, cells_line, line_number, row_line, line_above, two_columns, row_number, row_text, bracket_line, bracket_lines, usage_lines, item_lines, field_lines, fields_text, terminal_head, rows_text, terminal_of, terminal_at};
+ghost use Rattle.hid_drawing.specs.Terminal.{padded_words, is_edge, is_edge_above, end_corner, corner, corner_at, edge_line, is_held, is_held_on, bracket_corner, bracket_corner_at, bracket_corners, side_at, sides, cell_line, byte_cell, cells_line, line_number, row_line, line_above, two_columns, row_number, row_text, bracket_line, bracket_lines, usage_lines, item_lines, field_lines, fields_text, terminal_head, rows_text, numbered_rows, drawn_text, terminal_of, terminal_at};
 
 use crate::bracket_names::print_bracket_name;
 use crate::brackets::{Bracket, bracket_depth};
@@ -26,6 +26,12 @@ use std::alloc::{AllocError, Global};
 /// The name of a bracket is indented by n steps at most: the longest line, of a name of
 /// 55 columns and bytes of three digits, then has 99.
 pub const MAX_STEPS: usize = 13;
+
+/// The most bytes of a report that is drawn (our choice): the number of a byte has three columns.
+pub const MAX_DRAWN: usize = 1000;
+
+/// What stands in place of a picture.
+pub const NO_PICTURE: &str = "not drawn: a picture has up to 1000 bytes\n";
 
 /// Adds n columns of words: what has room, and spaces.
 #[tactic(auto, unfolding(crate::specs::Terminal::padded_words))]
@@ -514,8 +520,7 @@ fn print_head(
     print_report_name(text, numbered, report)?;
     text.push_str(": ")?;
     print_count(text, bytes, "byte")?;
-    text.push_str("\n")?;
-    text.push_str(BIT_RULER)
+    text.push_str("\n")
 }
 
 /// Adds the rows of a report of n bytes.
@@ -539,6 +544,46 @@ fn print_rows(
     print_line_above(text, bytes, brackets, pieces)
 }
 
+/// Adds the numbers of the bits, and the rows of a report of n bytes.
+#[tactic(auto, unfolding(crate::specs::Terminal::numbered_rows))]
+fn print_numbered_rows(
+    alloc: Global,
+    text: &mut String,
+    layout: &Layout,
+    r: usize,
+    bytes: u32,
+    brackets: &[Bracket],
+    pieces: &[ByteSlice],
+) -> Result<(), AllocError>
+    requires { r < length layout.now.reports }
+    ensures { OnOk result (string_bytes text.new
+        ≡ string_bytes text.old ++ numbered_rows layout.now r bytes brackets.now pieces.now) }
+{
+    text.push_str(BIT_RULER)?;
+    print_rows(alloc, text, layout, r, bytes, brackets, pieces)
+}
+
+/// Adds the rows of a report of n bytes, or that it isn't drawn.
+fn print_drawn(
+    alloc: Global,
+    text: &mut String,
+    layout: &Layout,
+    r: usize,
+    bytes: u32,
+    brackets: &[Bracket],
+    pieces: &[ByteSlice],
+) -> Result<(), AllocError>
+    requires { r < length layout.now.reports }
+    ensures { OnOk result (string_bytes text.new
+        ≡ string_bytes text.old ++ drawn_text layout.now r bytes brackets.now pieces.now) }
+{
+    if bytes as usize > MAX_DRAWN {
+        text.push_str(NO_PICTURE)
+    } else {
+        print_numbered_rows(alloc, text, layout, r, bytes, brackets, pieces)
+    }
+}
+
 /// Adds the picture of a report of n bytes.
 #[tactic(auto, unfolding(crate::specs::Terminal::terminal_of))]
 fn print_sized(
@@ -556,7 +601,7 @@ fn print_sized(
         ++ terminal_of layout.now r bytes brackets.now pieces.now report.now) }
 {
     print_head(text, layout.numbered(), u64::from(bytes), report)?;
-    print_rows(alloc, text, layout, r, bytes, brackets, pieces)?;
+    print_drawn(alloc, text, layout, r, bytes, brackets, pieces)?;
     print_bracket_lines(text, layout, brackets)?;
     print_fields(text, layout, r)
 }

@@ -4,7 +4,8 @@ use Rattle.std.specs.Prelude.{◌≡◌, ◌≢◌, ℕ, ◌<◌, ◌≤◌, if�
 use Rattle.hid_layout.specs.Layout.{Contents}
 use Rattle.hid_report_descriptor.specs.declared.limits.TheConstants.{MAX_DESCRIPTOR}
 use Rattle.hid_report_descriptor.specs.declared.fault.LayoutFault.{LayoutFault}
-use Rattle.hid_report_descriptor.specs.Faults.{is_memory, Refuses}
+use Rattle.hid_report_descriptor.specs.Faults.{is_memory}
+use Rattle.hid_report_descriptor.specs.Bus.{Refuses}
 use Rattle.usb_control.specs.declared.descriptors.ConfigInfo.{ConfigInfo}
 use Rattle.usb_control.specs.declared.fault.InfoFault.TheVariants.{TooShort, WrongType}
 use Rattle.usb_control.specs.Descriptors.{IsDevice, ReadsConfig}

@@ -1,6 +1,7 @@
 -- How far a host has come with its device, and what it may ask at each phase (USB 2.0, 9.1.1 and 9.4.5; the phases are
 -- our choice).
 use Rattle.std.specs.Prelude.{◌≤◌, Bool, true, false, not}
+use Rattle.hid_layout.specs.Reports.{IsOfBus}
 use Rattle.hid_requests.specs.declared.request.Request.{Request}
 use Rattle.hid_requests.specs.declared.request.Request.TheVariants.{Device, Config, Report, Configure, Status, GetConfiguration, Idle, GetIdle, Protocol, GetProtocol, GetReport, SetReport, Halt, Clear, EndpointStatus}
 use Rattle.hid_requests.specs.declared.request.Asking.{Asking}
@@ -85,5 +86,5 @@ IfReady _ holds = Unit {0}
 -- the endpoint that a configuration names has a number
 abbrev pub HasEndpoint : HostPhase → Type 0
 HasEndpoint (Described info) = info.endpoint ≤ MAX_ENDPOINT
-HasEndpoint (Parsed info layout) = info.endpoint ≤ MAX_ENDPOINT
+HasEndpoint (Parsed info layout) = (info.endpoint ≤ MAX_ENDPOINT) × IsOfBus layout
 HasEndpoint _ = Unit {0}

@@ -1,20 +1,23 @@
 -- What a ready host keeps, and what it makes of the answers to its polls (USB 2.0, 5.7.3, 8.5.4, 8.6 and 9.4.5; HID
 -- 1.11, 5.6).
-use Rattle.std.specs.Prelude.{ℕ, Bool, false, if◌then◌else◌, List, [], Result, Ok, Err}
+use Rattle.std.specs.Prelude.{ℕ, ◌<◌, ◌≤◌, Bool, false, if◌then◌else◌, List, [], length, Result, Ok, Err}
+use Rattle.hid_report_descriptor.specs.declared.limits.TheConstants.{MAX_REPORT_BYTES}
 use Rattle.hid_layout.specs.Layout.{Contents}
 use Rattle.hid_layout.specs.Controls.{items_of}
+use Rattle.hid_layout.specs.Reports.{IsOfBus}
 use Rattle.hid_snapshots.specs.declared.control_state.ControlState.{ControlState}
 use Rattle.hid_snapshots.specs.declared.event.Event.{Event}
 use Rattle.hid_snapshots.specs.declared.fault.ReportFault.{ReportFault}
 use Rattle.hid_snapshots.specs.ControlStates.{blank}
 use Rattle.hid_usages.specs.Reading.{report_named}
-use Rattle.hid_usages.specs.Receiving.{ReceiverState}
+use Rattle.hid_usages.specs.Receiving.{ReceiverState, RoomyReceiver}
 pub use Rattle.hid_usages.specs.Receiving.{view_after_report, events_of_report}
 use Rattle.hid_usages.specs.Receiving as receiving
 use Rattle.usb_transact.specs.declared.host.Took.{Took}
 use Rattle.usb_transact.specs.declared.host.Took.TheVariants.{Fresh, Again, Nak, Stall, Silent}
 use Rattle.usb_transact.specs.Host.{HostPipeState, host_at_start}
 use Rattle.usb_transact.specs.Replies.{host_after}
+use Rattle.hid_host.specs.declared.ready.TheConstants.{ROOM}
 use Rattle.hid_host.specs.declared.fault.StackFault.{StackFault}
 use Rattle.hid_host.specs.declared.fault.StackFault.TheVariants.{Report}
 
@@ -25,6 +28,12 @@ pub record ReadyHostState : Type 0 where
   pub pipe : HostPipeState
   pub view : List ControlState
   pub collected : List ℕ
+
+-- a receiver of the reports of a bus, with room for what comes of the longest one, and a packet
+pub record HasRoom (receiver : RoomyReceiver) : Type 0 where
+  pub bus : IsOfBus receiver.state.layout
+  pub short : length receiver.state.collected < MAX_REPORT_BYTES
+  pub room : ROOM ≤ receiver.room
 
 -- what a ready host has received of its device's reports
 abbrev pub receiving_of : ReadyHostState → ReceiverState

@@ -1,15 +1,16 @@
 //! What a host makes of the answer to a request that is done.
 ghost use Rattle.std.specs.Prelude.{◌≡◌, ◌≤◌, ℕ, List, [], Ok, Err, IfOk, IfErr, OnOk, OnErr};
-ghost use Rattle.hid_report_descriptor.specs.Faults.{Explains};
+ghost use Rattle.hid_report_descriptor.specs.Bus.{Explains};
 ghost use Rattle.usb_packet.specs.declared.packet.TheConstants.{MAX_ENDPOINT};
 ghost use Rattle.hid_layout.specs.Parsing.{ParsesTo};
+ghost use Rattle.hid_layout.specs.Reports.{IsOfBus};
 ghost use Rattle.hid_requests.specs.declared.request.Request.TheVariants.{Config, Configure, Report};
 ghost use Rattle.hid_host.specs.Conclusions.{Concludes, ConfigRead, DeviceRead, IsNoLayout, ReportRead, layout_refusal};
 ghost use Rattle.hid_host.specs.Phase.{HasEndpoint};
 
 use crate::fault::{DescriptorFault, StackFault};
 use crate::phase::HostPhase;
-use crate::ready::ReadyHost;
+use crate::ready::{ROOM, ReadyHost};
 use hid_layout::{Cause, Layout, LayoutFault};
 use hid_requests::Request;
 use hid_usages::{Receiver, View};
@@ -32,6 +33,7 @@ fn no_layout(fault: LayoutFault) -> StackFault
 /// The layout of a report descriptor.
 pub(crate) fn layout_of(alloc: Global, descriptor: &[u8]) -> Result<Layout, StackFault>
     ensures lays { IfOk result (λ layout. ParsesTo descriptor.now layout) }
+    ensures bus { IfOk result IsOfBus }
     ensures refused { IfErr result (λ fault. IsNoLayout descriptor.now fault) }
 {
     match Layout::parse(alloc, descriptor) {
@@ -58,7 +60,8 @@ fn read_config(bytes: &[u8]) -> Result<ConfigInfo, StackFault>
 
 /// Reads a report descriptor, which should be as long as the configuration says.
 fn read_report(alloc: Global, info: &ConfigInfo, bytes: &[u8]) -> Result<Layout, StackFault>
-    ensures { ReportRead info.now bytes.now result }
+    ensures reads { ReportRead info.now bytes.now result }
+    ensures bus { IfOk result IsOfBus }
 {
     if bytes.len() != usize::from(info.report_length) {
         return Err(StackFault::BadDescriptor(DescriptorFault::ReportLength));
@@ -114,10 +117,13 @@ fn conclude_configure(alloc: Global, addr: u8, phase: &mut HostPhase) -> Result<
         return Ok(());
     };
     let endpoint = info.endpoint;
+    let Ok(room) = Vec::with_capacity(alloc, ROOM) else {
+        return Err(StackFault::Memory);
+    };
     let view = View::initial(alloc, layout)?;
     match mem::replace(phase, HostPhase::Cold) {
         HostPhase::Parsed(_, layout) => {
-            let receiver = Receiver::new(layout, view);
+            let receiver = Receiver::new(layout, view, room);
             phase.go_on(HostPhase::Ready(ReadyHost::new(addr, endpoint, receiver)));
         }
         _ => unreachable!(),

@@ -18,7 +18,7 @@ ghost use Rattle.hid_host.specs.ResetEvents.{SuitsRound, awaited_at, reported_dr
 use crate::conclusions::{conclude, layout_of};
 use crate::fault::StackFault;
 use crate::phase::{HostPhase, HostState};
-use crate::ready::ReadyHost;
+use crate::ready::{ROOM, ReadyHost};
 use hid_requests::{REPORT_ENDPOINT, Request};
 use hid_snapshots::{Event, Shown};
 use hid_usages::{Receiver, View};
@@ -100,7 +100,12 @@ impl HostDevice {
             drop(layout);
             return Err(StackFault::Memory);
         };
-        let host = ReadyHost::new(addr, REPORT_ENDPOINT, Receiver::new(layout, view));
+        let Ok(room) = Vec::with_capacity(alloc, ROOM) else {
+            drop(layout);
+            return Err(StackFault::Memory);
+        };
+        let receiver = Receiver::new(layout, view, room);
+        let host = ReadyHost::new(addr, REPORT_ENDPOINT, receiver);
         Ok(HostDevice {
             alloc,
             addr,

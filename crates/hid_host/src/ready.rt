@@ -10,7 +10,7 @@ ghost use Rattle.usb_packet.specs.PacketEncoding.{Fits};
 ghost use Rattle.usb_transact.specs.Replies.{reply_outcome};
 ghost use Rattle.usb_transact.specs.Host.{token_to};
 ghost use Rattle.hid_snapshots.specs.Pieces.{is_last_piece};
-ghost use Rattle.hid_host.specs.Ready.{events_after, outcome_of, ready_host_after, ready_host_after_clear, ready_host_at_start};
+ghost use Rattle.hid_host.specs.Ready.{HasRoom, events_after, outcome_of, ready_host_after, ready_host_after_clear, ready_host_at_start};
 ghost use Rattle.hid_host.specs.ResetEvents.{SuitsRound, awaited_report, known_abort_events, known_release_events};
 
 use crate::fault::StackFault;
@@ -21,6 +21,9 @@ use std::marker::Model;
 use usb_packet::{MAX_ADDRESS, MAX_ENDPOINT, Packet, PacketRef};
 use usb_transact::{HostPipe, Took};
 
+/// Room for what comes of the longest report of a bus, and a packet.
+pub(crate) const ROOM: usize = 320;
+
 /// What a ready host keeps. A contract sees it as `layout`, `pipe`, `view` and `collected`.
 #[derive(Drop)]
 pub struct ReadyHost {
@@ -29,16 +32,18 @@ pub struct ReadyHost {
 }
 
 impl Model for ReadyHost {
-    ghost use Rattle.hid_host.specs.Ready.{ReadyHostState};
+    ghost use Rattle.hid_host.specs.Ready.{HasRoom, ReadyHostState};
 
     ghost Value = { ReadyHostState };
 
     ghost view = { λ h. record {
-      layout = h.receiver.layout;
+      layout = h.receiver.state.layout;
       pipe = h.pipe;
-      view = h.receiver.view;
-      collected = h.receiver.collected;
+      view = h.receiver.state.view;
+      collected = h.receiver.state.collected;
     } };
+
+    ghost invariant = { λ h. HasRoom h.receiver };
 }
 
 impl ReadyHost {
@@ -46,9 +51,10 @@ impl ReadyHost {
     pub(crate) fn new(addr: u8, endpoint: u8, receiver: Receiver) -> ReadyHost
         requires addr { addr ≤ MAX_ADDRESS }
         requires endpoint { endpoint ≤ MAX_ENDPOINT }
-        requires view { receiver.view ≡ blank (items_of receiver.layout) }
-        requires none { receiver.collected ≡ [] }
-        ensures { result ≡ ready_host_at_start addr endpoint receiver.layout }
+        requires view { receiver.state.view ≡ blank (items_of receiver.state.layout) }
+        requires none { receiver.state.collected ≡ [] }
+        requires room { HasRoom receiver }
+        ensures { result ≡ ready_host_at_start addr endpoint receiver.state.layout }
     {
         ReadyHost {
             receiver,
@@ -86,7 +92,7 @@ impl ReadyHost {
     pub(crate) fn max_events(&self) -> usize
         ensures { result ≡ max_events (items_of self.now.layout) }
     {
-        self.receiver.layout().max_events()
+        self.receiver.max_events()
     }
 
     /// The pipe that is polled.

@@ -2,7 +2,8 @@
 use Rattle.std.proofs.Common.{◌≡◌, ℕ, List, [], ◌∷◌, refl, Some, None, pos, negsuc, true, false}
 use Rattle.hid_report_descriptor.specs.Usages.{Entry}
 use Rattle.hid_report_descriptor.specs.Fields.{fields, add_field}
-use Rattle.hid_report_descriptor.specs.Faults.{fault_of, field_fault, report_limit, are_too_many, numbers_from, report_ids, first_fault, is_mixed}
+use Rattle.hid_report_descriptor.specs.Bus.{fault_of, report_limit, first_fault}
+use Rattle.hid_report_descriptor.specs.Faults.{field_fault, are_too_many, numbers_from, report_ids, is_mixed}
 use Rattle.hid_report_descriptor.specs.declared.limits.TheConstants.{MAX_DESCRIPTOR, MAX_ITEMS, MAX_ELEMENTS, MAX_ENTRIES, MAX_OPEN_PUSHES, MAX_OPEN_COLLECTIONS, MAX_REPORT_IDS, MAX_REPORT_BYTES, MAX_WIDTH, MAX_KEYS}
 use Rattle.hid_layout.specs.Layout.{layout_of}
 use Rattle.hid_report_descriptor.specs.Reporting.{reports_of, reports_of_kind}

@@ -8,7 +8,7 @@ use Rattle.std.proofs.Math.Nat.{one-le-pow, le-mul_of_pos_right, mul_comm}
 use Rattle.std.proofs.Math.Pow.{pow_mono}
 use Rattle.std.specs.Int.{int_max, int_min}
 use Rattle.hid_report_descriptor.specs.Usages.{Entry, entry_count, usages_from, usage_list, are_ranges}
-use Rattle.hid_layout.specs.Reports.{HasElements, IsLayout, first_bit, report_bytes, bits_of as bits_of_report}
+use Rattle.hid_layout.specs.Reports.{HasElements, IsLayout, KeepsTo, first_bit, report_bytes, bits_of as bits_of_report}
 use Rattle.hid_report_descriptor.proofs.Taking.{reverse_more}
 use Rattle.hid_report_descriptor.proofs.Places.{usages_from-length}
 use Rattle.std.proofs.lemmas.Grind.{common_steps}
@@ -20,6 +20,9 @@ use Rattle.hid_report_descriptor.specs.declared.report.ReportKind.TheVariants.{I
 use Rattle.hid_layout.specs.declared.main_item.MainItem.{MainItem}
 use Rattle.hid_report_descriptor.specs.Kinds.{same_kind}
 use Rattle.hid_report_descriptor.specs.Fields.{Field, bits_of, report_bits, is_padding, fields}
+use Rattle.hid_report_descriptor.specs.Limits.{longest_report}
+use Rattle.hid_report_descriptor.specs.declared.limits.Limits.{Limits}
+use Rattle.hid_report_descriptor.specs.declared.limits.Limits.TheVariants.{Bus, Real}
 use Rattle.hid_report_descriptor.specs.Faults.{numbers_from, report_limit, least_value, greatest_value, has_value, Accepts}
 use Rattle.hid_report_descriptor.specs.Reporting.{report_if_any, reports_of_kind, reports_of}
 use Rattle.hid_layout.specs.Layout.{report_place, main_item, contents_of, layout_of}
@@ -143,9 +146,8 @@ placed kind id (r ∷ rs) e = by_case (same_kind r.kind kind) (nat_eq r.id id) r
     by_case false m k n e rest = one_later r rs kind id (report_place kind id rs) (rest e)
 
 -- the report of a sound field
-field_report : (fs : List Field) (i : ℕ) (f : Field) → AreListed fs → slice_get fs i ≡ Some f
-    → StandsAt (reports_of fs) f.kind f.id (report_place f.kind f.id (reports_of fs))
-field_report fs i f a e =
+field_report : (limits : Limits) (fs : List Field) (i : ℕ) (f : Field) → AreListed limits fs → slice_get fs i ≡ Some f → StandsAt (reports_of fs) f.kind f.id (report_place f.kind f.id (reports_of fs))
+field_report limits fs i f a e =
     let sound = a.sound i f e in
     let some : 0 < report_bits f.kind f.id fs = omega (arith, up_to fs i f e, sound.some_bits) in
     placed f.kind f.id (reports_of fs) (any_report fs f.kind f.id some sound.small_id)
@@ -217,19 +219,24 @@ not_high min max width h n e =
     under true h k e = omega (arith, ints, h, k, e)
     under false h k e = omega (arith, ints, h, k, e)
 
--- no report is over 2048 bits
-limit_at_most : (id : ℕ) → report_limit id ≤ 2048
-limit_at_most id = by_id (nat_eq id 0)
+-- some bytes, and no more than any limits allow
+longest : (limits : Limits) → (1 ≤ longest_report limits) × (longest_report limits ≤ 16384)
+longest Bus = (omega arith, omega arith)
+longest Real = (omega arith, omega arith)
+
+-- no report is over the bits of the longest one
+limit_at_most : (limits : Limits) (id : ℕ) → report_limit limits id ≤ 8 * longest_report limits
+limit_at_most limits id = by_id (nat_eq id 0)
   where
-    by_id : (b : Bool) → cond b 2048 2040 ≤ 2048
+    by_id : (b : Bool) → cond b (8 * longest_report limits) (8 * (longest_report limits - 1)) ≤ 8 * longest_report limits
     by_id true = omega arith
     by_id false = omega arith
 
-few_bits : (fs : List Field) (i : ℕ) (f : Field) → AreListed fs → slice_get fs i ≡ Some f → f.offset + bits_of f ≤ 2048
-few_bits fs i f a e = omega (arith, a.offsets i f e, up_to fs i f e, a.short f.kind f.id, limit_at_most f.id)
+few_bits : (limits : Limits) (fs : List Field) (i : ℕ) (f : Field) → AreListed limits fs → slice_get fs i ≡ Some f → f.offset + bits_of f ≤ 131072
+few_bits limits fs i f a e = omega (arith, a.offsets i f e, up_to fs i f e, a.short f.kind f.id, limit_at_most limits f.id, (longest limits).1)
 
-has_elements : (fs : List Field) (rs : List Report) (i : ℕ) (f : Field) → AreListed fs → slice_get fs i ≡ Some f → is_padding f.shape ≡ false → HasElements (main_item rs f)
-has_elements fs rs i f a e p =
+has_elements : (limits : Limits) (fs : List Field) (rs : List Report) (i : ℕ) (f : Field) → AreListed limits fs → slice_get fs i ≡ Some f → is_padding f.shape ≡ false → HasElements (main_item rs f)
+has_elements limits fs rs i f a e p =
     let sound = a.sound i f e in
     let values = sound.values p in
     let count : f.count ≤ f.size * f.count = subst (λ n. f.count ≤ n) (mul_comm f.count f.size) (le-mul_of_pos_right f.count values.some_bits) in
@@ -237,7 +244,7 @@ has_elements fs rs i f a e p =
       some_bits = values.some_bits;
       narrow = values.narrow;
       some = sound.some_count p;
-      few = omega (arith, count, few_bits fs i f a e);
+      few = omega (arith, count, few_bits limits fs i f a e);
       some_value = some_value f.min f.max f.size values.some_bits values.value;
       not_low = sound.low;
       not_high = not_high f.min f.max f.size values.some_bits values.narrow values.value;
@@ -263,12 +270,12 @@ some_usage (e ∷ es) h r =
     at_most a b h = grind (arith, common_steps, nat_tests)
 
 -- items of one report lie apart
-lie_apart : (fs : List Field) (i k : ℕ) (f g : Field) → AreListed fs → i < k → slice_get fs i ≡ Some f → slice_get fs k ≡ Some g
+lie_apart : (limits : Limits) (fs : List Field) (i k : ℕ) (f g : Field) → AreListed limits fs → i < k → slice_get fs i ≡ Some f → slice_get fs k ≡ Some g
     → report_place f.kind f.id (reports_of fs) ≡ report_place g.kind g.id (reports_of fs)
     → f.offset + bits_of f ≤ g.offset
-lie_apart fs i k f g a h e d p =
-    let here = field_report fs i f a e in
-    let there = field_report fs k g a d in
+lie_apart limits fs i k f g a h e d p =
+    let here = field_report limits fs i f a e in
+    let there = field_report limits fs k g a d in
     let same : here.report ≡ there.report = some_same (sym here.there ∙ ap (slice_get (reports_of fs)) p ∙ there.there) in
     let kind : g.kind ≡ f.kind = sym there.kind_is ∙ sym (ap (λ (r : Report). r.kind) same) ∙ here.kind_is in
     let id : g.id ≡ f.id = sym there.id_is ∙ sym (ap (λ (r : Report). r.id) same) ∙ here.id_is in
@@ -282,11 +289,11 @@ bits_there : (rs : List Report) (p : ℕ) (r : Report) → slice_get rs p ≡ So
 bits_there rs p r e = rw (e, bits_of_report) refl
 
 -- a field lies inside its report
-lies_inside : (fs : List Field) (numbered : Bool) (i : ℕ) (f : Field) → AreListed fs → slice_get fs i ≡ Some f
+lies_inside : (limits : Limits) (fs : List Field) (numbered : Bool) (i : ℕ) (f : Field) → AreListed limits fs → slice_get fs i ≡ Some f
     → cond numbered 8 0 + (f.offset + bits_of f) ≤ 8 *
     ((bits_of_report (reports_of fs) (report_place f.kind f.id (reports_of fs)) + 7) / 8 + cond numbered 1 0)
-lies_inside fs numbered i f a e =
-    let here = field_report fs i f a e in
+lies_inside limits fs numbered i f a e =
+    let here = field_report limits fs i f a e in
     let whole : here.report.bits ≡ report_bits f.kind f.id fs =
     (report_at fs (reports_of fs) _ here.report (all_reports fs) here.there).0 ∙ ap (λ n. report_bits here.report.kind n fs) here.id_is ∙ ap (λ k. report_bits k f.id fs) here.kind_is in
     let bits : bits_of_report (reports_of fs) (report_place f.kind f.id (reports_of fs))
@@ -328,22 +335,22 @@ zero_id fs r report zeros e =
     let found = some_field report.kind report.id fs (omega (arith, is.0, is.1)) in
     sym (id_of report.kind report.id found.0 found.3).1 ∙ zeros found.1 found.0 found.2
 
--- no report is over 256 bytes
-all_short : (fs : List Field) (numbered : Bool) (r : ℕ) → AreListed fs → (numbered ≡ true → list_any (λ f. nat_eq f.id 0) fs ≡ false) → (bits_of_report (reports_of fs) r + 7) / 8 + cond numbered 1 0 ≤ 256
-all_short fs numbered r a unmixed = by_report (slice_get (reports_of fs) r) refl
+-- no report is longer than the limits allow
+all_short : (limits : Limits) (fs : List Field) (numbered : Bool) (r : ℕ) → AreListed limits fs → (numbered ≡ true → list_any (λ f. nat_eq f.id 0) fs ≡ false) → (bits_of_report (reports_of fs) r + 7) / 8 + cond numbered 1 0 ≤ longest_report limits
+all_short limits fs numbered r a unmixed = by_report (slice_get (reports_of fs) r) refl
   where
-    with_id : (n : Bool) (id bits : ℕ) → bits ≤ report_limit id → (n ≡ true → id ≢ 0) → (bits + 7) / 8 + cond n 1 0 ≤ 256
-    with_id false id bits h some = omega (arith, h, limit_at_most id)
+    with_id : (n : Bool) (id bits : ℕ) → bits ≤ report_limit limits id → (n ≡ true → id ≢ 0) → (bits + 7) / 8 + cond n 1 0 ≤ longest_report limits
+    with_id false id bits h some = omega (arith, h, limit_at_most limits id)
     with_id true id bits h some =
         let not_zero : nat_eq id 0 ≡ false = let s : id ≢ 0 = some refl in grind (arith, nat_tests) in
-        let limit : report_limit id ≡ 2040 = rw not_zero refl in
-        omega (arith, h, limit)
+        let limit : report_limit limits id ≡ 8 * (longest_report limits - 1) = rw not_zero refl in
+        omega (arith, h, limit, (longest limits).0)
 
-    without : (n : Bool) → (0 + 7) / 8 + cond n 1 0 ≤ 256
-    without true = omega arith
+    without : (n : Bool) → (0 + 7) / 8 + cond n 1 0 ≤ longest_report limits
+    without true = omega (arith, (longest limits).0)
     without false = omega arith
 
-    by_report : (o : Option Report) → slice_get (reports_of fs) r ≡ o → (elim o [ None ↦ 0 | Some report ↦ report.bits ] + 7) / 8 + cond numbered 1 0 ≤ 256
+    by_report : (o : Option Report) → slice_get (reports_of fs) r ≡ o → (elim o [ None ↦ 0 | Some report ↦ report.bits ] + 7) / 8 + cond numbered 1 0 ≤ longest_report limits
     by_report None e = without numbered
     by_report (Some report) e =
         let is = report_at fs (reports_of fs) r report (all_reports fs) e in
@@ -359,20 +366,20 @@ any_at p (y ∷ xs) (suc i) x e h = ap (λ b. p y || b) (any_at p xs i x e h) �
     or_true true = refl
     or_true false = refl
 
-has_item : (fs : List Field) (r : ℕ) (report : Report) → AreListed fs → slice_get (reports_of fs) r ≡ Some report → list_any (λ (item : MainItem). nat_eq item.report r) (map (main_item (reports_of fs)) fs) ≡ true
-has_item fs r report a e =
+has_item : (limits : Limits) (fs : List Field) (r : ℕ) (report : Report) → AreListed limits fs → slice_get (reports_of fs) r ≡ Some report → list_any (λ (item : MainItem). nat_eq item.report r) (map (main_item (reports_of fs)) fs) ≡ true
+has_item limits fs r report a e =
     let is = report_at fs (reports_of fs) r report (all_reports fs) e in
     let found = some_field report.kind report.id fs (omega (arith, is.0, is.1)) in
     let named = id_of report.kind report.id found.0 found.3 in
-    let here = field_report fs found.1 found.0 a found.2 in
+    let here = field_report limits fs found.1 found.0 a found.2 in
     let at : report_place found.0.kind found.0.id (reports_of fs) ≡ r =
     one_place fs _ r here.report report here.there e (here.kind_is ∙ named.0) (here.id_is ∙ named.1) in
     any_at (λ (item : MainItem). nat_eq item.report r) (map (main_item (reports_of fs)) fs) found.1 (main_item (reports_of fs) found.0) (map_get (main_item (reports_of fs)) fs found.1 found.0 found.2) (grind (arith, nat_tests, at))
 
 -- the layout of these fields
-pub well_formed : (fs : List Field) (numbered : Bool) → AreListed fs → (numbered ≡ true → list_any (λ f. nat_eq f.id 0) fs ≡ false) → (numbered ≡ false → (i : ℕ) (f : Field) → slice_get fs i ≡ Some f → f.id ≡ 0)
+pub well_formed : (limits : Limits) (fs : List Field) (numbered : Bool) → AreListed limits fs → (numbered ≡ true → list_any (λ f. nat_eq f.id 0) fs ≡ false) → (numbered ≡ false → (i : ℕ) (f : Field) → slice_get fs i ≡ Some f → f.id ≡ 0)
     → IsLayout (contents_of fs numbered)
-well_formed fs numbered a unmixed zeros = record {
+well_formed limits fs numbered a unmixed zeros = record {
   entries_there = length_map (λ (f : Field). f.entries) fs ∙ sym (length_map (main_item (reports_of fs)) fs);
   few_entries = λ i es e.
       let f = get_map (λ (f : Field). f.entries) fs i es e in
@@ -386,24 +393,24 @@ well_formed fs numbered a unmixed zeros = record {
       subst (λ (l : List Entry). 0 < length (usage_list l)) (sym (g.made ∙ ap (λ (h : Field). h.entries) same)) (some_usage f.source.entries (sound.some_entries padding) (sound.values padding).ranges);
   report_there = λ i item e.
       let f = get_map (main_item (reports_of fs)) fs i item e in
-      let here = field_report fs i f.source a f.there in
+      let here = field_report limits fs i f.source a f.there in
       subst (λ (m : MainItem). m.report < length (reports_of fs)) (sym f.made) (get_within (reports_of fs) _ here.report here.there);
-  item_there = λ r within. let report = there_at (reports_of fs) r within in has_item fs r report.0 a report.1;
+  item_there = λ r within. let report = there_at (reports_of fs) r within in has_item limits fs r report.0 a report.1;
   elements = λ i item e p.
       let f = get_map (main_item (reports_of fs)) fs i item e in
       let padding : is_padding f.source.shape ≡ false = sym (ap (λ (m : MainItem). is_padding m.shape) f.made) ∙ p in
-      subst HasElements (sym f.made) (has_elements fs (reports_of fs) i f.source a f.there padding);
+      subst HasElements (sym f.made) (has_elements limits fs (reports_of fs) i f.source a f.there padding);
   apart = λ i k x y h e d p.
       let f = get_map (main_item (reports_of fs)) fs i x e in
       let g = get_map (main_item (reports_of fs)) fs k y d in
       let same : report_place f.source.kind f.source.id (reports_of fs)
       ≡ report_place g.source.kind g.source.id (reports_of fs) =
       sym (ap (λ (m : MainItem). m.report) f.made) ∙ p ∙ ap (λ (m : MainItem). m.report) g.made in
-      subst (λ (m : MainItem). m.offset + m.size * m.count ≤ y.offset) (sym f.made) (subst (λ (m : MainItem). f.source.offset + bits_of f.source ≤ m.offset) (sym g.made) (lie_apart fs i k f.source g.source a h f.there g.there same));
+      subst (λ (m : MainItem). m.offset + m.size * m.count ≤ y.offset) (sym f.made) (subst (λ (m : MainItem). f.source.offset + bits_of f.source ≤ m.offset) (sym g.made) (lie_apart limits fs i k f.source g.source a h f.there g.there same));
   inside = λ i item e.
       let f = get_map (main_item (reports_of fs)) fs i item e in
-      subst (λ (m : MainItem). first_bit (contents_of fs numbered) + (m.offset + m.size * m.count) ≤ 8 * report_bytes (contents_of fs numbered) m.report) (sym f.made) (lies_inside fs numbered i f.source a f.there);
-  short = λ r. all_short fs numbered r a unmixed;
+      subst (λ (m : MainItem). first_bit (contents_of fs numbered) + (m.offset + m.size * m.count) ≤ 8 * report_bytes (contents_of fs numbered) m.report) (sym f.made) (lies_inside limits fs numbered i f.source a f.there);
+  short = λ r. omega (arith, all_short limits fs numbered r a unmixed, (longest limits).1);
   one_place = λ r k x y e d kinds ids. one_place fs r k x y e d kinds ids;
   byte_id = λ r report e. byte_id fs r report e;
   unnumbered = λ r report n e. zero_id fs r report (zeros n) e;
@@ -425,10 +432,19 @@ encoded_before (item ∷ before) all =
     let split = all_and_last (reverse before) item (subst (All IsItemEncoding) (reverse_more before item) all) in
     (split.1, encoded_before before split.0)
 
-pub layout_of_accepted : (bytes : List ℕ) (before : List EncodedItem) → Accepts bytes before → IsLayout (layout_of before)
-layout_of_accepted bytes before a =
-    well_formed (fields before) (list_any (is REPORT_ID) before) (listed before a.reaches.accepted (encoded_before before a.reaches.items.encoded)) (λ n. mixed_not (list_any (is REPORT_ID) before) (list_any (λ f. nat_eq f.id 0) (fields before)) n a.unmixed)
+pub layout_of_accepted : (limits : Limits) (bytes : List ℕ) (before : List EncodedItem) → Accepts limits bytes before → IsLayout (layout_of before)
+layout_of_accepted limits bytes before a =
+    well_formed limits (fields before) (list_any (is REPORT_ID) before) (listed limits before a.reaches.accepted (encoded_before before a.reaches.items.encoded)) (λ n. mixed_not (list_any (is REPORT_ID) before) (list_any (λ f. nat_eq f.id 0) (fields before)) n a.unmixed)
     (λ n. fields_unnumbered before n)
+  where
+    mixed_not : (n b : Bool) → n ≡ true → (n && b) ≡ false → b ≡ false
+    mixed_not true b t e = e
+    mixed_not false b t e = absurd cc
+
+-- no report of an accepted descriptor is longer than the limits allow
+pub accepted_keeps : (limits : Limits) (bytes : List ℕ) (before : List EncodedItem) → Accepts limits bytes before → KeepsTo limits (layout_of before)
+accepted_keeps limits bytes before a r =
+    all_short limits (fields before) (list_any (is REPORT_ID) before) r (listed limits before a.reaches.accepted (encoded_before before a.reaches.items.encoded)) (λ n. mixed_not (list_any (is REPORT_ID) before) (list_any (λ f. nat_eq f.id 0) (fields before)) n a.unmixed)
   where
     mixed_not : (n b : Bool) → n ≡ true → (n && b) ≡ false → b ≡ false
     mixed_not true b t e = e

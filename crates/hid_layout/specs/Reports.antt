@@ -1,7 +1,10 @@
 -- The reports of a layout, and what holds of every layout (HID 1.11, 5.6, 6.2.2.5, 6.2.2.7 and 8).
 use Rattle.std.specs.Prelude.{◌≡◌, ℕ, ◌+◌, ◌*◌, ◌<◌, ◌≤◌, true, false, if◌then◌else◌, Option, not, ◌&&◌, ◌==◌, nat_lt, int_lt, List, length, slice_get, Some, None, pos, neg_ℤ, ◌^◌, ◌≤ℤ◌}
 use Rattle.std.specs.List.{list_any}
-use Rattle.hid_report_descriptor.specs.declared.limits.TheConstants.{MAX_ENTRIES, MAX_REPORT_BYTES, MAX_WIDTH}
+use Rattle.hid_report_descriptor.specs.declared.limits.TheConstants.{MAX_ENTRIES, MAX_WIDTH, MAX_REAL_REPORT_BYTES}
+use Rattle.hid_report_descriptor.specs.declared.limits.Limits.{Limits}
+use Rattle.hid_report_descriptor.specs.declared.limits.Limits.TheVariants.{Bus}
+use Rattle.hid_report_descriptor.specs.Limits.{longest_report}
 use Rattle.hid_layout.specs.declared.main_item.MainItem.{MainItem}
 use Rattle.hid_report_descriptor.specs.declared.report.Report.{Report}
 use Rattle.hid_report_descriptor.specs.Fields.{is_padding}
@@ -50,7 +53,7 @@ pub record HasElements (item : MainItem) : Type 0 where
   pub some_bits : 0 < item.size
   pub narrow : item.size ≤ MAX_WIDTH
   pub some : 0 < item.count
-  pub few : item.count ≤ 8 * MAX_REPORT_BYTES
+  pub few : item.count ≤ 8 * MAX_REAL_REPORT_BYTES
   pub some_value : least_of item ≤ℤ greatest_of item
   pub not_low : neg_ℤ (pos (2 ^ 32)) ≤ℤ item.min
   pub not_high : item.min ≤ℤ pos (2 ^ 32)
@@ -75,10 +78,18 @@ pub record IsLayout (layout : Contents) : Type 0 where
       → a.offset + a.size * a.count ≤ b.offset
   pub inside : (i : ℕ) (item : MainItem) → slice_get layout.items i ≡ Some item
       → first_bit layout + (item.offset + item.size * item.count) ≤ 8 * report_bytes layout item.report
-  pub short : (r : ℕ) → report_bytes layout r ≤ MAX_REPORT_BYTES
+  pub short : (r : ℕ) → report_bytes layout r ≤ MAX_REAL_REPORT_BYTES
   pub one_place : (r k : ℕ) (a b : Report)
       → slice_get layout.reports r ≡ Some a → slice_get layout.reports k ≡ Some b → a.kind ≡ b.kind → a.id ≡ b.id
       → r ≡ k
   pub byte_id : (r : ℕ) (report : Report) → slice_get layout.reports r ≡ Some report → report.id < 256
   pub unnumbered : (r : ℕ) (report : Report) → layout.numbered ≡ false
       → slice_get layout.reports r ≡ Some report → report.id ≡ 0
+
+-- no report is longer than some limits allow
+abbrev pub KeepsTo : Limits → Contents → Type 0
+KeepsTo limits layout = (r : ℕ) → report_bytes layout r ≤ longest_report limits
+
+-- a layout of a virtual device, or of its host
+abbrev pub IsOfBus : Contents → Type 0
+IsOfBus = KeepsTo Bus

@@ -8,7 +8,7 @@ ghost use Rattle.hid_report_descriptor.specs.Usages.{Entry, usage_list, starts_o
 ghost use Rattle.hid_report_descriptor.specs.Fields.{is_padding};
 ghost use Rattle.hid_layout.specs.Codes.{AreCodes};
 ghost use Rattle.hid_layout.specs.ArrayCodes.{plan_of};
-ghost use Rattle.hid_report_descriptor.specs.Faults.{Accepts, Explains};
+ghost use Rattle.hid_report_descriptor.specs.Bus.{Accepts, Explains};
 ghost use Rattle.hid_report_descriptor.specs.Totals.{report_place, are_in_order};
 ghost use Rattle.hid_layout.specs.Layout.{item_of, layout_of};
 
@@ -19,8 +19,8 @@ use crate::main_item::{Element, MainItem};
 use crate::plans::Plans;
 use crate::search::{holds, usage_by_starts};
 use hid_report_descriptor::{
-    Collection, ItemLists, KeptField, LayoutFault, ListedFields, Report, ReportKind, Shape, Usage,
-    find_report, list_fields,
+    Collection, ItemLists, KeptField, LayoutFault, Limits, ListedFields, Report, ReportKind, Shape,
+    Usage, find_report, list_fields,
 };
 use std::alloc::{AllocError, Global};
 use std::marker::Model;
@@ -346,20 +346,28 @@ fn lay_out(alloc: Global, listed: ListedFields) -> Result<Layout, AllocError>
 }
 
 impl Layout {
-    /// The layout that a report descriptor gives.
+    ghost use Rattle.hid_report_descriptor.specs.Faults as within;
+    ghost use Rattle.hid_layout.specs.Reports.{KeepsTo, IsOfBus};
+
+    /// The layout that a report descriptor gives within limits.
     ///
     /// # Errors
     /// A descriptor that is too long is refused before its items are looked at. Otherwise the first item with a cause
     /// decides, by the first of its causes in the order in which an item is looked at ([`Cause`](crate::Cause)); after the
     /// last item Unclosed comes before MixedReportId. Where memory runs out the cause is Memory, at 0.
-    pub fn parse(alloc: Global, descriptor: &[u8]) -> Result<Layout, LayoutFault>
+    pub fn parse_within(
+        alloc: Global,
+        limits: Limits,
+        descriptor: &[u8],
+    ) -> Result<Layout, LayoutFault>
         // The descriptor's items are accepted, and the layout is theirs.
-        ensures ok { IfOk result (λ layout. (before : List EncodedItem) × Accepts descriptor.now before
-            × (layout ≡ layout_of before)) }
+        ensures ok { IfOk result (λ layout. (before : List EncodedItem)
+            × within.Accepts limits descriptor.now before × (layout ≡ layout_of before)) }
+        ensures short { IfOk result (KeepsTo limits) }
         // Memory ran out, or this is the one refusal.
-        ensures err { IfErr result (λ f. Explains descriptor.now f.cause f.at) }
+        ensures err { IfErr result (λ f. within.Explains limits descriptor.now f.cause f.at) }
     {
-        let listed = match list_fields(alloc, descriptor) {
+        let listed = match list_fields(alloc, limits, descriptor) {
             Ok(listed) => listed,
             Err(f) => return Err(f),
         };
@@ -367,5 +375,18 @@ impl Layout {
             Ok(layout) => Ok(layout),
             Err(_) => Err(LayoutFault::memory()),
         }
+    }
+
+    /// The layout that a report descriptor gives to a virtual device and its host. A refusal has the first cause in the
+    /// order of [`Cause`](crate::Cause); where memory runs out the cause is Memory, at 0.
+    pub fn parse(alloc: Global, descriptor: &[u8]) -> Result<Layout, LayoutFault>
+        // The descriptor's items are accepted, and the layout is theirs.
+        ensures ok { IfOk result (λ layout. (before : List EncodedItem) × Accepts descriptor.now before
+            × (layout ≡ layout_of before)) }
+        ensures bus { IfOk result IsOfBus }
+        // Memory ran out, or this is the one refusal.
+        ensures err { IfErr result (λ f. Explains descriptor.now f.cause f.at) }
+    {
+        Layout::parse_within(alloc, Limits::Bus, descriptor)
     }
 }

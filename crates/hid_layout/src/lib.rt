@@ -16,7 +16,8 @@
 //! a report, is computed once, when the layout is made.
 //!
 //! The promise: unless memory runs out, [`Layout::parse`] accepts exactly the descriptors in which no cause
-//! of [`Cause`] stands, and gives the layout of the definitions in `specs/` (`ok`). It refuses all others
+//! of [`Cause`] stands within the limits of a virtual device ([`Layout::parse_within`]: within other
+//! [`Limits`]), and gives the layout of the definitions in `specs/` (`ok`). It refuses all others
 //! with the cause and the place that come first in the order (`err`). By [`laws`] this leaves one result.
 //! Every reader gives the definition's value and takes no memory.
 //! ```text
@@ -43,9 +44,10 @@ pub use codes::{Codes, null_number};
 pub use control::{Control, ControlId, ControlKind, Controls};
 pub use controls::{usage_at, usage_count, usage_of_element};
 pub use hid_report_descriptor::{
-    Cause, Collection, LayoutFault, MAX_DESCRIPTOR, MAX_ELEMENTS, MAX_ENTRIES, MAX_ITEMS, MAX_KEYS,
-    MAX_OPEN_COLLECTIONS, MAX_OPEN_PUSHES, MAX_REPORT_BYTES, MAX_REPORT_IDS, MAX_WIDTH, MainFlags,
-    Report, ReportKind, Shape, Usage, laws,
+    Cause, Collection, LayoutFault, Limits, LongReport, MAX_DESCRIPTOR, MAX_ELEMENTS, MAX_ENTRIES,
+    MAX_ITEMS, MAX_KEYS, MAX_OPEN_COLLECTIONS, MAX_OPEN_PUSHES, MAX_REAL_ELEMENTS,
+    MAX_REAL_REPORT_BYTES, MAX_REPORT_BYTES, MAX_REPORT_IDS, MAX_WIDTH, MainFlags, Report,
+    ReportKind, Shape, Usage, laws, long_report,
 };
 pub use layout::Layout;
 pub use main_item::{Element, MainItem};

@@ -3,7 +3,7 @@
 ghost use Rattle.std.specs.Prelude.{◌≡◌, ◌+◌, ◌*◌, ◌≤◌};
 ghost use Rattle.hid_layout.specs.Reports.{field_at, element_in};
 
-use hid_report_descriptor::{MAX_REPORT_BYTES, MainFlags, Shape};
+use hid_report_descriptor::{MAX_REAL_REPORT_BYTES, MainFlags, Shape};
 
 /// An Input, Output or Feature item that has at least one bit.
 #[derive(Clone, Copy, Debug, PartialEq, Eq)]
@@ -44,7 +44,7 @@ pub struct Element {
 impl MainItem {
     /// The field at a place.
     fn field(&self, j: usize) -> Element
-        requires { self.now.offset + (j + 1) * self.now.size ≤ 8 * MAX_REPORT_BYTES }
+        requires { self.now.offset + (j + 1) * self.now.size ≤ 8 * MAX_REAL_REPORT_BYTES }
         ensures { result ≡ field_at self.now j }
     {
         Element {
@@ -58,7 +58,7 @@ impl MainItem {
 
     /// The data field at a place; none of padding, and none past the last.
     pub(crate) fn element(&self, j: usize) -> Option<Element>
-        requires { self.now.offset + self.now.size * self.now.count ≤ 8 * MAX_REPORT_BYTES }
+        requires { self.now.offset + self.now.size * self.now.count ≤ 8 * MAX_REAL_REPORT_BYTES }
         ensures { result ≡ element_in self.now j }
     {
         if j >= self.count as usize {

@@ -1,6 +1,6 @@
 -- The page of a descriptor: the picture of each report, its fields as a table, and the items with their places (our
 -- choice: docs/PICTURES.md).
-use Rattle.std.specs.Prelude.{ℕ, ◌+◌, Bool, ◌==◌, List, [], ◌∷◌, ◌++◌, length, slice_get, take, if◌then◌else◌, Option, None, Some, codes, pos, int_lt}
+use Rattle.std.specs.Prelude.{ℕ, ◌+◌, Bool, ◌==◌, nat_le, List, [], ◌∷◌, ◌++◌, length, slice_get, take, if◌then◌else◌, Option, None, Some, codes, pos, int_lt}
 use Rattle.std.specs.List.{flat_map}
 use Rattle.std.specs.Fmt.{decimal, signed_decimal}
 use Rattle.hid_report_descriptor.specs.Usages.{Entry}
@@ -13,8 +13,9 @@ use Rattle.hid_layout.specs.Layout.{Contents}
 use Rattle.hid_layout.specs.Reports.{first_bit, report_bytes}
 use Rattle.hid_layout.specs.declared.main_item.MainItem.{MainItem}
 use Rattle.hid_notation.specs.Text.{concat_below}
+use Rattle.hid_drawing.specs.declared.terminal.TheConstants.{MAX_DRAWN}
 use Rattle.hid_page.specs.declared.item_table.TheConstants.{TABLE_END}
-use Rattle.hid_page.specs.declared.page.TheConstants.{HEAD, ACCEPTED, REFUSED, END}
+use Rattle.hid_page.specs.declared.page.TheConstants.{HEAD, ACCEPTED, REFUSED, END, NO_PICTURE}
 use Rattle.hid_page.specs.declared.field_table.TheConstants.{FIELDS_HEAD, NEXT, MARK}
 use Rattle.hid_drawing.specs.Escape.{escaped_words}
 use Rattle.hid_drawing.specs.Brackets.{brackets_of, main_at}
@@ -25,7 +26,7 @@ use Rattle.hid_drawing.specs.Origins.{is_origin, listed_places}
 use Rattle.hid_drawing.specs.Pieces.{pieces_of}
 use Rattle.hid_drawing.specs.Svg.{picture_at}
 use Rattle.hid_drawing.specs.Terminal.{terminal_at}
-use Rattle.hid_drawing.specs.Words.{count_text, bit_text, flags_text, is_input_item, collection_words, entry_text, report_title}
+use Rattle.hid_drawing.specs.Words.{count_text, bit_text, flags_text, is_input_item, collection_words, entry_text, padding_name, report_title}
 
 -- which rows a field points at: its own, when it is pointed at or chosen
 unfoldable pub mark_head : ℕ → List ℕ
@@ -64,11 +65,11 @@ size_cell item = decimal item.count ++ codes " &times; " ++ count_text item.size
 unfoldable pub usages_cell : List Entry → List ℕ
 usages_cell entries = flat_map (λ entry. escaped_words (entry_text entry) ++ codes "<br>") entries
 
--- the usages of a field that isn't padding
-abbrev pub meaning_cell : Shape → List Entry → List ℕ
-meaning_cell Padding entries = codes "padding"
-meaning_cell Variable entries = usages_cell entries
-meaning_cell Array entries = usages_cell entries
+-- the usages of a field, or what padding is called
+abbrev pub meaning_cell : MainItem → Shape → List Entry → List ℕ
+meaning_cell item Padding entries = padding_name item
+meaning_cell item Variable entries = usages_cell entries
+meaning_cell item Array entries = usages_cell entries
 
 -- a range, and whether its numbers have a sign
 unfoldable pub limits_text : MainItem → List ℕ
@@ -106,7 +107,7 @@ place_cells layout i item =
 -- what a field means: its usages, its range and its flags
 unfoldable pub meaning_cells : Bool → MainItem → List Entry → List ℕ
 meaning_cells input item entries =
-    meaning_cell item.shape entries ++ NEXT.now ++ range_cell item.shape item ++ NEXT.now
+    meaning_cell item item.shape entries ++ NEXT.now ++ range_cell item.shape item ++ NEXT.now
     ++ flags_text input item.flags.0 ++ NEXT.now
 
 -- where a field comes from: the collections round it, and its items
@@ -157,6 +158,10 @@ unfoldable pub svg_of : Contents → List Item → List ℕ → ℕ → List ℕ
 svg_of layout items mains r =
     picture_at layout r (brackets_of layout items mains r) (pieces_of layout r) (slice_get layout.reports r)
 
+-- a report is drawn that has at most 1,000 bytes
+abbrev pub is_drawn : Contents → ℕ → Bool
+is_drawn layout r = nat_le (report_bytes layout r) MAX_DRAWN
+
 -- the picture of a report in characters
 unfoldable pub characters_of : Contents → List Item → List ℕ → ℕ → List ℕ
 characters_of layout items mains r =
@@ -166,10 +171,15 @@ characters_of layout items mains r =
 unfoldable pub windows_of : Contents → List Item → List ℕ → ℕ → List ℕ
 windows_of layout items mains r = windows layout r (brackets_of layout items mains r) (pieces_of layout r)
 
+-- the picture of a report and its windows, or that it isn't drawn
+abbrev pub figure_of : Contents → List Item → List ℕ → ℕ → List ℕ
+figure_of layout items mains r =
+    if is_drawn layout r then svg_of layout items mains r ++ windows_of layout items mains r else NO_PICTURE.now
+
 -- what a page has of a report
 unfoldable pub section : Contents → List Item → List ℕ → ℕ → List ℕ
 section layout items mains r =
-    heading_at layout r (slice_get layout.reports r) ++ svg_of layout items mains r ++ windows_of layout items mains r
+    heading_at layout r (slice_get layout.reports r) ++ figure_of layout items mains r
     ++ field_table layout items mains r
 
 -- what a page has of the reports

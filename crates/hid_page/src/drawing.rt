@@ -3,13 +3,13 @@
 ghost use Rattle.std.specs.Prelude.{◌≡◌, ◌++◌, ◌<◌, ◌≤◌, ◌^◌, All, length, IfOk, OnOk, string_bytes};
 ghost use Rattle.std.specs.Option.{option_map};
 ghost use Rattle.hid_drawing.specs.Items.{IsWholeItem};
-ghost use Rattle.hid_page.specs.Drawing.{all_characters, form_text, IsDrawn, begin_count, refusal_words, IsDrawingRefusal};
+ghost use Rattle.hid_page.specs.Drawing.{all_characters, form_text, IsDrawn, begin_count, IsDrawingRefusal};
 
-use crate::page::{print_characters, print_page, print_refused, print_svg};
+use crate::page::{is_drawn, print_characters, print_page, print_refused, print_svg};
 use hid_drawing::{listed_places, place_of, read_items};
 use hid_items::Item;
-use hid_layout::{Layout, LayoutFault};
-use hid_notation::layout_words;
+use hid_layout::Layout;
+use hid_notation::RefusalText;
 use std::alloc::{AllocError, Global};
 
 /// What is asked for.
@@ -59,7 +59,7 @@ fn draw_form(
         Form::Page => print_page(alloc, &mut text, layout, items, mains)?,
         Form::Characters => print_all_characters(alloc, &mut text, layout, items, mains)?,
         Form::Svg(r) => {
-            if r >= layout.reports().len() {
+            if r >= layout.reports().len() || !is_drawn(layout, r) {
                 return Ok(None);
             }
             print_svg(alloc, &mut text, layout, items, mains, r)?
@@ -68,7 +68,8 @@ fn draw_form(
     Ok(Some(text))
 }
 
-/// What is drawn of a layout and its descriptor; nothing of a report that there isn't.
+/// What is drawn of a layout and its descriptor. There is no picture alone of a report that there isn't, or that has over
+/// [`MAX_DRAWN`](crate::MAX_DRAWN) bytes.
 ///
 /// # Errors
 /// Out of memory.
@@ -101,16 +102,6 @@ fn begun_below(items: &[Item], at: usize) -> usize
     count
 }
 
-/// A refusal: its code and place, and words.
-fn words_of(alloc: Global, fault: LayoutFault) -> Result<String, AllocError>
-    ensures { IfOk result (λ words. string_bytes words ≡ refusal_words fault) }
-{
-    let mut text = String::new(alloc);
-    let words = layout_words(fault.cause);
-    write!(text, "{fault}: {words}")?;
-    Ok(text)
-}
-
 /// The page of a descriptor that is refused: the items up to the place of the refusal, and why.
 ///
 /// # Errors
@@ -118,14 +109,14 @@ fn words_of(alloc: Global, fault: LayoutFault) -> Result<String, AllocError>
 pub fn draw_refused(
     alloc: Global,
     descriptor: &[u8],
-    fault: LayoutFault,
+    refusal: RefusalText,
 ) -> Result<String, AllocError>
     requires { length descriptor.now < 2 ^ 64 }
-    ensures { IfOk result (λ text. IsDrawingRefusal descriptor.now fault (string_bytes text)) }
+    ensures { IfOk result (λ text. IsDrawingRefusal descriptor.now refusal (string_bytes text)) }
 {
     let items = read_items(alloc, descriptor)?;
-    let words = words_of(alloc, fault)?;
-    let count = begun_below(&items, fault.at);
+    let words = refusal.to_string(alloc)?;
+    let count = begun_below(&items, refusal.fault.at);
     let mut text = String::new(alloc);
     print_refused(alloc, &mut text, &items, count, words.as_str())?;
     Ok(text)

@@ -10,7 +10,8 @@ ghost use Rattle.hid_page.specs.Page.{mark_head, mark_at, marks_of, mark_rule, m
 use crate::item_table::TABLE_END;
 use hid_drawing::{
     InForce, first_bit_of, is_input_item, is_origin, item_at, main_at, origins_in_force, place_of,
-    print_bit, print_collection, print_count, print_entry, print_flags, push_escaped,
+    print_bit, print_collection, print_count, print_entry, print_flags, print_padding_name,
+    push_escaped,
 };
 use hid_items::Item;
 use hid_layout::{Collection, Layout, MainItem, Shape, Usage};
@@ -154,18 +155,18 @@ fn print_usages_cell(
     Ok(())
 }
 
-/// Adds the usages of a field that isn't padding.
+/// Adds the usages of a field, or what padding is called.
 fn print_meaning_cell(
     alloc: Global,
     text: &mut String,
-    shape: Shape,
+    item: &MainItem,
     entries: &[(Usage, Usage)],
 ) -> Result<(), AllocError>
     ensures { OnOk result (string_bytes text.new
-        ≡ string_bytes text.old ++ meaning_cell shape entries.now) }
+        ≡ string_bytes text.old ++ meaning_cell item.now item.now.shape entries.now) }
 {
-    match shape {
-        Shape::Padding => text.push_str("padding"),
+    match item.shape {
+        Shape::Padding => print_padding_name(text, item),
         Shape::Variable | Shape::Array => print_usages_cell(alloc, text, entries),
     }
 }
@@ -290,7 +291,7 @@ fn print_meaning_cells(
     ensures { OnOk result (string_bytes text.new
         ≡ string_bytes text.old ++ meaning_cells input item.now entries.now) }
 {
-    print_meaning_cell(alloc, text, item.shape, entries)?;
+    print_meaning_cell(alloc, text, item, entries)?;
     text.push_str(NEXT)?;
     print_range_cell(text, item)?;
     text.push_str(NEXT)?;

@@ -21,3 +21,4 @@ mod page;
 mod windows;
 
 pub use drawing::{Form, draw, draw_refused};
+pub use hid_drawing::MAX_DRAWN;

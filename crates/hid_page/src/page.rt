@@ -2,15 +2,15 @@
 
 ghost use Rattle.std.specs.Prelude.{◌≡◌, ◌++◌, ◌<◌, ◌≤◌, All, length, slice_get, OnOk, string_bytes};
 ghost use Rattle.hid_drawing.specs.Items.{IsWholeItem};
-ghost use Rattle.hid_page.specs.Page.{heading, heading_at, svg_of, characters_of, section, sections, page_of, refusal_page, refused_page};
+ghost use Rattle.hid_page.specs.Page.{heading, heading_at, svg_of, characters_of, figure_of, is_drawn, section, sections, page_of, refusal_page, refused_page};
 
 use crate::brackets::brackets_in;
 use crate::field_table::{print_field_table, print_mark_rules};
 use crate::item_table::print_item_table;
 use crate::windows::print_windows;
 use hid_drawing::{
-    pieces_of, print_count, print_picture, print_report_name, print_terminal, push_escaped,
-    report_at,
+    MAX_DRAWN, pieces_of, print_count, print_picture, print_report_name, print_terminal,
+    push_escaped, report_at,
 };
 use hid_items::Item;
 use hid_layout::{Layout, Report};
@@ -29,6 +29,17 @@ pub const REFUSED: &str =
 
 /// What a page ends with.
 pub const END: &str = "</body></html>\n";
+
+/// What stands on a page in place of a picture.
+pub const NO_PICTURE: &str = "<p>Not drawn: a picture has up to 1000 bytes.</p>\n";
+
+/// Whether the report r is drawn: it has at most [`MAX_DRAWN`] bytes.
+pub(crate) fn is_drawn(layout: &Layout, r: usize) -> bool
+    requires { r < length layout.now.reports }
+    ensures { result ≡ is_drawn layout.now r }
+{
+    layout.report_bytes(r) <= MAX_DRAWN
+}
 
 /// Adds the heading of a report.
 #[tactic(auto, unfolding(crate::specs::Page::heading))]
@@ -103,6 +114,27 @@ pub fn print_characters(
     print_terminal(alloc, text, layout, r, &brackets, &pieces)
 }
 
+/// Adds the picture of the report r and its windows, or that it isn't drawn.
+fn print_figure(
+    alloc: Global,
+    text: &mut String,
+    layout: &Layout,
+    items: &[Item],
+    mains: &[usize],
+    r: usize,
+) -> Result<(), AllocError>
+    requires { r < length layout.now.reports }
+    ensures { OnOk result (string_bytes text.new
+        ≡ string_bytes text.old ++ figure_of layout.now items.now mains.now r) }
+{
+    if is_drawn(layout, r) {
+        print_svg(alloc, text, layout, items, mains, r)?;
+        print_windows(alloc, text, layout, items, mains, r)
+    } else {
+        text.push_str(NO_PICTURE)
+    }
+}
+
 /// Adds what a page has of the report r.
 #[tactic(auto, unfolding(crate::specs::Page::section))]
 fn print_section(
@@ -118,8 +150,7 @@ fn print_section(
         ≡ string_bytes text.old ++ section layout.now items.now mains.now r) }
 {
     print_heading_at(text, layout, r)?;
-    print_svg(alloc, text, layout, items, mains, r)?;
-    print_windows(alloc, text, layout, items, mains, r)?;
+    print_figure(alloc, text, layout, items, mains, r)?;
     print_field_table(alloc, text, layout, items, mains, r)
 }
 

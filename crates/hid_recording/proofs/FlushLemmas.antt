@@ -87,7 +87,7 @@ no_gathered_text : (session : Session) (bytes : Option (List ℕ)) (content : Op
     (cause : Cause) → ended_with text cause ≡ outcome_of_dump_bytes session bytes content → text ≡ []
 no_gathered_text session bytes None text cause e = passed_text session.gathered.is_dropped _ _ _ text cause e
 no_gathered_text session None (Some content) text cause e = no_refusal_text _ _ text cause e
-no_gathered_text session (Some bytes) (Some content) text cause e = room_text (nat_lt 4096 (length session.gathered.bytes + length bytes)) _ _ _ text cause e
+no_gathered_text session (Some bytes) (Some content) text cause e = room_text (nat_lt 16384 (length session.gathered.bytes + length bytes)) _ _ _ text cause e
 
 no_chunk_text : (session : Session) (time chunk text : List ℕ) (cause : Cause) (member : PlayedDevice)
     (doubt ends : Bool) → ended_with text cause ≡ chunk_in session time chunk member doubt ends → text ≡ []
@@ -114,7 +114,7 @@ no_end_text : (session : Session) (content : Option Content) (text : List ℕ) (
     → DumpEndGives session content (ended_with text cause) → text ≡ []
 no_end_text session None text cause e = not_accepted text _ cause _ e
 no_end_text session (Some contents.Descriptor) text cause (inl h) = not_accepted text _ cause _ h.2
-no_end_text session (Some contents.Descriptor) text cause (inr h) = no_refusal_text _ _ text cause h.2
+no_end_text session (Some contents.Descriptor) text cause (inr h) = no_refusal_text _ _ text cause h.2.2
 no_end_text session (Some contents.Stream) text cause e =
     no_told_text (after_dump session) (time_of session.gathered.time) session.gathered.bytes text cause e
 
@@ -127,7 +127,7 @@ no_said_text session (Begins address content time) text cause e =
 no_said_text session (Bytes bytes) text cause e = no_gathered_text session bytes session.gathered.content text cause e
 no_said_text session (Device device) text cause e = not_accepted text _ cause _ e
 no_said_text session (Descriptor bytes) text cause (inl h) = not_accepted text _ cause _ h.2
-no_said_text session (Descriptor bytes) text cause (inr h) = no_refusal_text _ _ text cause h.2
+no_said_text session (Descriptor bytes) text cause (inr h) = no_refusal_text _ _ text cause h.2.2
 no_said_text session (Unread interface why) text cause e = no_refusal_text _ why text cause e
 no_said_text session (Report time bytes) text cause e =
     no_slot_text session time bytes text cause (member_in_slot (slice_get session.devices session.current)) e
@@ -145,7 +145,7 @@ unless_text false session line text cause h = no_meant_text (with_line_counted s
 line_begins : (session : Session) (bytes text : List ℕ) (cause : Cause)
     → LineGives session bytes (ended_with text cause) → LineBegins session bytes text
 unfolding LineGives LineBegins
-line_begins session bytes text cause h = inl (unless_text (nat_lt 16384 (length bytes)) session bytes text cause h)
+line_begins session bytes text cause h = inl (unless_text (nat_lt 65536 (length bytes)) session bytes text cause h)
 
 -- ---- a run that stopped may as well have been cut off there
 

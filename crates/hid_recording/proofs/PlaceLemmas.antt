@@ -135,17 +135,17 @@ runs_after p q bytes more written text result h k =
     (runs_more p.session q.session h.ended (lines_at q more) p.lines q.lines written text result h.all h.count k)
 
 -- a line that is too long ends the run
-pub long_stops : (place : Place) (bytes more : List ℕ) (fault : RecordingFault) → IsUnbroken place.begun → IsUnbroken bytes → 16385 < length place.begun + length bytes → fault.line ≡ place.lines + 1 → fault.cause ≡ causes.LineTooLong → PlayedTo place.session fault
+pub long_stops : (place : Place) (bytes more : List ℕ) (fault : RecordingFault) → IsUnbroken place.begun → IsUnbroken bytes → 65537 < length place.begun + length bytes → fault.line ≡ place.lines + 1 → fault.cause ≡ causes.LineTooLong → PlayedTo place.session fault
     → RunsFrom place (bytes ++ more) [] (Err fault)
 unfolding LineGives ending_of
 long_stops place bytes more fault whole apart long at is played =
-    let first = long_line 16384 place.begun bytes more whole apart long in
+    let first = long_line 65536 place.begun bytes more whole apart long in
     line_stops place.session (lines_at place (bytes ++ more)) first.1 place.lines first.0 [] causes.LineTooLong fault first.2 at is played
     (subst (λ long. GivesByLength long place.session first.0 (failure causes.LineTooLong))
-    (sym (lt-ltb 16384 (length first.0) first.3)) refl)
+    (sym (lt-ltb 65536 (length first.0) first.3)) refl)
 
 -- one whose line feed came too
-pub long_line_stops : (place : Place) (last more : List ℕ) (fault : RecordingFault) → IsUnbroken place.begun → IsUnbroken last → 16385 < length place.begun + length last → fault.line ≡ place.lines + 1 → fault.cause ≡ causes.LineTooLong → PlayedTo place.session fault
+pub long_line_stops : (place : Place) (last more : List ℕ) (fault : RecordingFault) → IsUnbroken place.begun → IsUnbroken last → 65537 < length place.begun + length last → fault.line ≡ place.lines + 1 → fault.cause ≡ causes.LineTooLong → PlayedTo place.session fault
     → RunsFrom place ((last ++ 10 ∷ []) ++ more) [] (Err fault)
 long_line_stops place last more fault whole apart long at is played =
     subst (λ all. RunsFrom place all [] (Err fault)) (sym (append_assoc last (10 ∷ []) more)) (long_stops place last (10 ∷ more) fault whole apart long at is played)

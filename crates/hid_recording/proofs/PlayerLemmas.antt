@@ -7,7 +7,11 @@ use Rattle.std.proofs.lemmas.Bool.{lt-ltb, le-ltb}
 use Rattle.hid_report_descriptor.specs.declared.fault.Cause as layouts
 use Rattle.hid_report_descriptor.specs.declared.fault.Cause.TheVariants as whys
 use Rattle.hid_report_descriptor.specs.declared.fault.LayoutFault.{LayoutFault}
-use Rattle.hid_report_descriptor.specs.Faults.{is_memory, Explains, Refuses}
+use Rattle.hid_report_descriptor.specs.declared.limits.Limits.TheVariants.{Real}
+use Rattle.hid_report_descriptor.specs.declared.long_reports.LongReport.{LongReport}
+use Rattle.hid_report_descriptor.specs.LongReports.{NamesReport}
+use Rattle.hid_report_descriptor.specs.Faults.{is_memory}
+use Rattle.hid_report_descriptor.specs.Real.{Explains, Refuses}
 use Rattle.hid_layout.specs.Layout.{Contents}
 use Rattle.hid_snapshots.specs.declared.control_state.ControlState.{ControlState}
 use Rattle.hid_snapshots.specs.declared.event.Event.{Event}
@@ -28,7 +32,7 @@ use Rattle.hid_recording.specs.EventLines.{event_lines}
 use Rattle.hid_recording.specs.declared.device.Joined.{Joined}
 use Rattle.hid_recording.specs.declared.device.Joined.TheVariants.{Unknown, Doubtful, Begun, Whole}
 use Rattle.hid_recording.specs.Joining.{IsRefusedAs, Joins, past_chunk, bytes_with, ends_with, with_collected}
-use Rattle.hid_recording.specs.LineOutput.{outcome_of_refusal, with_device, DescriptorGives, RecordGives, values_asked, report_text, outcome_of_named_report, outcome_of_report_of, member_in_slot, report_outcome, chunk_in, chunk_of, chunk_outcome, after_dump, DumpEndGives, MeaningGives, GivesByLength, LineGives, LineBegins}
+use Rattle.hid_recording.specs.LineOutput.{outcome_of_refusal, with_device, DescriptorGives, DescriptorIsRefused, RecordGives, values_asked, report_text, outcome_of_named_report, outcome_of_report_of, member_in_slot, report_outcome, chunk_in, chunk_of, chunk_outcome, after_dump, DumpEndGives, MeaningGives, GivesByLength, LineGives, LineBegins}
 use Rattle.hid_recording.specs.Gathering.{EndsIn, Gathers, IsCauseOfLine}
 use Rattle.hid_recording.specs.Playing.{TakesOne, SlotTakesNone, PlaysAt}
 use Rattle.hid_recording.specs.Runs.{ending_of, Ends}
@@ -58,12 +62,21 @@ explained why bytes at other h = h
 
 -- a descriptor that is refused for another cause than out of memory
 pub descriptor_refused : (session : Session) (bytes : List ℕ) (fault : LayoutFault) (r : Result (Unit {0}) Cause) (text : List ℕ) (next : Session) → is_memory fault.cause ≡ false → Explains bytes fault.cause fault.at
-    → Gathers (λ o. o ≡ outcome_of_refusal (with_device session None) (refusals.Layout fault)) r text next
+    → Gathers (DescriptorIsRefused bytes fault session) r text next
     → Gathers (DescriptorGives bytes session) r text next
 descriptor_refused session bytes fault r text next other told h =
-    gathers_so (λ o. o ≡ outcome_of_refusal (with_device session None) (refusals.Layout fault))
+    gathers_so (DescriptorIsRefused bytes fault session)
     (DescriptorGives bytes session) r text next
     (λ o e. inr (fault, explained fault.cause bytes fault.at other told, e)) h
+
+-- a descriptor that is refused for this report, or for another cause
+pub refused_for : (session : Session) (bytes : List ℕ) (fault : LayoutFault) (long : Option LongReport)
+    (r : Result (Unit {0}) Cause) (text : List ℕ) (next : Session) → NamesReport Real bytes fault long
+    → Gathers (λ o. o ≡ outcome_of_refusal (with_device session None) (refusals.Layout fault long)) r text next
+    → Gathers (DescriptorIsRefused bytes fault session) r text next
+refused_for session bytes fault long r text next names h =
+    gathers_so (λ o. o ≡ outcome_of_refusal (with_device session None) (refusals.Layout fault long))
+    (DescriptorIsRefused bytes fault session) r text next (λ o e. (long, names, e)) h
 
 -- a dump of a descriptor, told in the session that its end leaves
 pub dump_described : (session : Session) (content : Option Content) (bytes : List ℕ) (now : Session)
@@ -233,26 +246,26 @@ whole_told session time chunk bytes member after slot certain ends all behind =
 
 -- ---- lines
 
-short_line : (session : Session) (line : List ℕ) (lines' : ℕ) (o : Outcome) → length line ≤ 16384
+short_line : (session : Session) (line : List ℕ) (lines' : ℕ) (o : Outcome) → length line ≤ 65536
     → lines' ≡ saturating_sum session.lines 1 → MeaningGives (record session { lines = lines' }) (record_of line) o
     → LineGives session line o
 unfolding LineGives
 short_line session line lines' o short count h =
-    subst (λ long. GivesByLength long session line o) (sym (le-ltb 16384 (length line) short))
+    subst (λ long. GivesByLength long session line o) (sym (le-ltb 65536 (length line) short))
     (subst (λ n. MeaningGives (record session { lines = n }) (record_of line) o) count h)
 
 -- a line that is too long
-pub long_line_ends : (old : Option (List ℕ)) (session : Session) (line : List ℕ) → 16384 < length line
+pub long_line_ends : (old : Option (List ℕ)) (session : Session) (line : List ℕ) → 65536 < length line
     → (x : List ℕ) × Appends old old x
     × Ends (LineGives session line) (LineBegins session line) x causes.LineTooLong
 unfolding LineGives ending_of
 long_line_ends old session line long = (
   [],
   Appends-nil old,
-  subst (λ b. GivesByLength b session line (failure causes.LineTooLong)) (sym (lt-ltb 16384 (length line) long)) refl,
+  subst (λ b. GivesByLength b session line (failure causes.LineTooLong)) (sym (lt-ltb 65536 (length line) long)) refl,
 )
 
-gathered_ends : (session : Session) (line : List ℕ) (lines' : ℕ) (cause : Cause) → length line ≤ 16384
+gathered_ends : (session : Session) (line : List ℕ) (lines' : ℕ) (cause : Cause) → length line ≤ 65536
     → lines' ≡ saturating_sum session.lines 1
     → EndsIn (MeaningGives (record session { lines = lines' }) (record_of line)) cause
     → Ends (LineGives session line) (LineBegins session line) [] cause
@@ -268,7 +281,7 @@ gathered_ends session line lines' causes.Unended short count h = absurd h
 
 -- nothing was gathered
 pub line_ends : (old : Option (List ℕ)) (session : Session) (line : List ℕ) (lines' : ℕ) (cause : Cause)
-    (r : Result (Unit {0}) Cause) (next : Session) → length line ≤ 16384 → lines' ≡ saturating_sum session.lines 1
+    (r : Result (Unit {0}) Cause) (next : Session) → length line ≤ 65536 → lines' ≡ saturating_sum session.lines 1
     → EndsIn (MeaningGives (record session { lines = lines' }) (record_of line)) cause → IsErrAnd r (λ e. e ≡ cause)
     → AppendsOutput old old (LineGives session line) (LineBegins session line) r next
 line_ends old session line lines' cause (Ok u) next short count h is = absurd is
@@ -281,7 +294,7 @@ line_ends old session line lines' cause (Err e) next short count h is = (
 
 -- what was gathered is written, or a prefix of it
 pub line_written : (old new : Option (List ℕ)) (session : Session) (line : List ℕ) (lines' : ℕ)
-    (gathered text : List ℕ) (r : Result (Unit {0}) Cause) (next : Session) → length line ≤ 16384
+    (gathered text : List ℕ) (r : Result (Unit {0}) Cause) (next : Session) → length line ≤ 65536
     → lines' ≡ saturating_sum session.lines 1
     → MeaningGives (record session { lines = lines' }) (record_of line) (success gathered next) → text ≡ gathered
     → OnOk r (Appends old new text) → IfErr r (λ cause. cause ≡ causes.Write) → AppendsPrefix old new text
@@ -331,7 +344,7 @@ line_cause session line lines' cause (Err e) count h is =
 
 -- a line whose text the writer refuses
 pub written_cause : (session : Session) (line : List ℕ) (lines' : ℕ) (gathered text : List ℕ) (r : Result (Unit {0}) Cause) (next : Session)
-    → length line ≤ 16384 → lines' ≡ saturating_sum session.lines 1
+    → length line ≤ 65536 → lines' ≡ saturating_sum session.lines 1
     → MeaningGives (record session { lines = lines' }) (record_of line) (success gathered next) → text ≡ gathered
     → IfErr r (λ cause. cause ≡ causes.Write) → (text ≡ [] → r ≡ Ok tt) → IfErr r (λ e. IsCauseOfLine session line e)
 written_cause session line lines' gathered text (Ok u) next short count told same cause nothing = tt

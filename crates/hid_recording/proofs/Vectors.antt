@@ -2,7 +2,7 @@
 use Rattle.std.proofs.Common.{◌≡◌, ℕ, List, [], ◌∷◌, ◌++◌, Some, true, false, refl, pos}
 use Rattle.std.specs.Prelude.{codes}
 use Rattle.std.specs.Fmt.{digits}
-use Rattle.json.specs.Token.{Token, begin_object, end_object, key, string, number}
+use Rattle.json.specs.Token.{begin_object, end_object, key, string, number}
 use Rattle.hid_report_descriptor.specs.declared.collection.Collection.{Collection}
 use Rattle.hid_report_descriptor.specs.declared.shape.Shape.TheVariants.{Variable}
 use Rattle.hid_report_descriptor.specs.declared.usage.Usage.{Usage}

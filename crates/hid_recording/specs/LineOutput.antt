@@ -2,8 +2,11 @@
 use Rattle.std.specs.Prelude.{◌≡◌, ◌⊎◌, ℕ, ◌+◌, nat_lt, Bool, true, false, List, [], ◌∷◌, ◌++◌, length, if◌then◌else◌, Option, None, Some, Result, Ok, Err, slice_get, set, map, codes}
 use Rattle.std.specs.Fmt.{decimal}
 use Rattle.hid_report_descriptor.specs.Items.{EncodedItem}
-use Rattle.hid_report_descriptor.specs.Faults.{Accepts, Refuses}
+use Rattle.hid_report_descriptor.specs.Real.{Accepts, Refuses}
 use Rattle.hid_report_descriptor.specs.declared.fault.LayoutFault.{LayoutFault}
+use Rattle.hid_report_descriptor.specs.declared.limits.Limits.TheVariants.{Real}
+use Rattle.hid_report_descriptor.specs.declared.long_reports.LongReport.{LongReport}
+use Rattle.hid_report_descriptor.specs.LongReports.{NamesReport}
 use Rattle.hid_layout.specs.Layout.{Contents, layout_of}
 use Rattle.hid_snapshots.specs.declared.fault.ReportFault.{ReportFault}
 use Rattle.hid_usages.specs.Reading.{report_named}
@@ -63,13 +66,18 @@ outcome_of_device session member =
       descriptors = saturating_sum session.descriptors 1;
     })
 
+-- a descriptor is refused, and the device has none
+abbrev pub DescriptorIsRefused : List ℕ → LayoutFault → Session → Outcome → Type 0
+DescriptorIsRefused bytes fault session o =
+    (long : Option LongReport) × NamesReport Real bytes fault long
+    × (o ≡ outcome_of_refusal (with_device session None) (refusals.Layout fault long))
+
 -- the descriptor is accepted, with these items; or it is refused, and the device has none
 abbrev pub DescriptorGives : List ℕ → Session → Outcome → Type 0
 DescriptorGives bytes session o =
     ((items : List EncodedItem) × Accepts bytes items
     × (o ≡ outcome_of_device session (fresh_device (layout_of items))))
-    ⊎ ((fault : LayoutFault) × Refuses bytes fault.cause fault.at
-    × (o ≡ outcome_of_refusal (with_device session None) (refusals.Layout fault)))
+    ⊎ ((fault : LayoutFault) × Refuses bytes fault.cause fault.at × DescriptorIsRefused bytes fault session o)
 
 -- ---- reports
 
@@ -200,7 +208,7 @@ outcome_of_dump_bytes session bytes None = outcome_of_stray_bytes session
 outcome_of_dump_bytes session None (Some content) =
     outcome_of_refusal (with_dropped_dump session) refusals.BadHex
 outcome_of_dump_bytes session (Some bytes) (Some content) =
-    if nat_lt 4096 (length session.gathered.bytes + length bytes)
+    if nat_lt 16384 (length session.gathered.bytes + length bytes)
     then outcome_of_refusal (with_dropped_dump session) refusals.DumpTooLong else success []
     (with_dump_bytes session bytes)
 
@@ -271,7 +279,7 @@ GivesByLength false session line o = MeaningGives (with_line_counted session) (r
 -- The outcome of a line of these bytes: its text and the session that it leaves. Example: E: 1 1 00 as the first line
 -- is R7
 unfoldable pub LineGives : Session → List ℕ → Outcome → Type 0
-LineGives session line o = GivesByLength (nat_lt 16384 (length line)) session line o
+LineGives session line o = GivesByLength (nat_lt 65536 (length line)) session line o
 
 -- what may be printed of a line that running out of memory or the writer ends: nothing, or all
 unfoldable pub LineBegins : Session → List ℕ → List ℕ → Type 0

@@ -1,5 +1,7 @@
 -- Which calls take memory: of these alone the cause may be that it ran out (our choice: docs/RECORDINGS.md, R10).
 use Rattle.std.specs.Prelude.{◌≡◌, ℕ, ◌==◌, ◌+◌, nat_lt, Bool, true, false, not, ◌&&◌, ◌||◌, List, [], ◌∷◌, length, if◌then◌else◌, Option, None, Some, Result, Ok, Err, is_ok, slice_get}
+use Rattle.hid_report_descriptor.specs.declared.fault.Cause.{Cause as LayoutCause}
+use Rattle.hid_report_descriptor.specs.declared.fault.Cause.TheVariants.{ReportTooLong}
 use Rattle.hid_usages.specs.Reading.{report_named}
 use Rattle.hid_recording.specs.declared.dump.Address.{Address}
 use Rattle.hid_recording.specs.declared.dump.Content.{Content}
@@ -8,7 +10,6 @@ use Rattle.hid_recording.specs.declared.fault.Cause.{Cause}
 use Rattle.hid_recording.specs.declared.fault.Cause.TheVariants.{Memory}
 use Rattle.hid_recording.specs.declared.fault.Refusal.{Refusal}
 use Rattle.hid_recording.specs.Dumps.{number_of_address}
-use Rattle.hid_recording.specs.Joining.{ends_with}
 use Rattle.hid_recording.specs.LineOutput.{member_in_slot, after_dump}
 use Rattle.hid_recording.specs.Records.{LineMeaning, Nothing, Blank, Device, Descriptor, Unread, Report, Begins, Bytes, is_digit, record_of}
 use Rattle.hid_recording.specs.Session.{Session, PlayedDevice}
@@ -23,6 +24,15 @@ abbrev pub refusal_allocates : Session → Bool
 refusal_allocates session = not session.options.strict
 
 -- ---- descriptors
+
+-- whether a cause is that of a report that is too long, which its refusal names
+abbrev pub is_long_report : LayoutCause → Bool
+is_long_report ReportTooLong = true
+is_long_report _ = false
+
+-- the refusal of a descriptor takes memory for its line, and to name a report
+abbrev pub layout_refusal_allocates : Session → LayoutCause → Bool
+layout_refusal_allocates session cause = refusal_allocates session || is_long_report cause
 
 -- a descriptor takes memory unless it is too long, which is a refusal
 abbrev pub descriptor_allocates : Session → List ℕ → Bool
@@ -69,30 +79,29 @@ abbrev pub dump_bytes_allocate : Session → Option (List ℕ) → Option Conten
 dump_bytes_allocate session bytes None = stray_bytes_allocate session
 dump_bytes_allocate session None (Some content) = refusal_allocates session
 dump_bytes_allocate session (Some bytes) (Some content) =
-    if nat_lt 4096 (length session.gathered.bytes + length bytes) then refusal_allocates session else true
+    if nat_lt 16384 (length session.gathered.bytes + length bytes) then refusal_allocates session else true
 
--- whether a chunk ends a report of which no part may be missing; false where there is no device
-abbrev pub ends_report : List ℕ → Option PlayedDevice → Bool
-ends_report chunk None = false
-ends_report chunk (Some member) = not member.in_doubt && ends_with member chunk
+-- whether chunks of a device are joined: there is one, of which no part of a report may be missing
+abbrev pub is_joined : Option PlayedDevice → Bool
+is_joined None = false
+is_joined (Some member) = not member.in_doubt
 
--- a chunk takes memory where it ends a report, and for a refusal
-abbrev pub chunk_allocates : Session → List ℕ → Bool
-chunk_allocates session chunk =
-    ends_report chunk (member_in_slot (slice_get session.devices session.current))
-    || refusal_allocates session
+-- a chunk takes memory where it is joined to what came before, and for a refusal
+abbrev pub chunk_allocates : Session → Bool
+chunk_allocates session =
+    is_joined (member_in_slot (slice_get session.devices session.current)) || refusal_allocates session
 
 -- whether the chunk of a dump takes memory; a dump without a valid time is refused
-abbrev pub stream_allocates : Session → List ℕ → Option (List ℕ) → Bool
-stream_allocates session chunk None = refusal_allocates session
-stream_allocates session chunk (Some time) = chunk_allocates session chunk
+abbrev pub stream_allocates : Session → Option (List ℕ) → Bool
+stream_allocates session None = refusal_allocates session
+stream_allocates session (Some time) = chunk_allocates session
 
 -- the end of a dump takes memory if one is open, for what it is
 abbrev pub dump_end_allocates : Session → Option Content → Bool
 dump_end_allocates session None = false
 dump_end_allocates session (Some contents.Descriptor) = descriptor_allocates session session.gathered.bytes
 dump_end_allocates session (Some contents.Stream) =
-    stream_allocates (after_dump session) session.gathered.bytes (time_of session.gathered.time)
+    stream_allocates (after_dump session) (time_of session.gathered.time)
 
 -- ---- lines
 
@@ -125,4 +134,4 @@ short_line_allocates session line = has_words line || record_allocates session (
 
 -- a line takes memory unless it is too long
 abbrev pub line_allocates : Session → List ℕ → Bool
-line_allocates session line = if nat_lt 16384 (length line) then false else short_line_allocates session line
+line_allocates session line = if nat_lt 65536 (length line) then false else short_line_allocates session line

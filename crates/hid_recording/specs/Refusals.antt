@@ -1,10 +1,9 @@
 -- Refusals as they are printed (our choice: docs/RECORDINGS.md).
 use Rattle.std.specs.Prelude.{ℕ, Bool, List, [], ◌∷◌, ◌++◌, if◌then◌else◌, codes}
 use Rattle.std.specs.Fmt.{decimal}
-use Rattle.hid_report_descriptor.specs.Codes.{layout_fault_text}
 use Rattle.hid_snapshots.specs.declared.fault.ReportFault.{ReportFault}
 use Rattle.hid_snapshots.specs.declared.fault.ReportFault.TheVariants.{Short, UnknownReport}
-use Rattle.hid_notation.specs.Causes.{layout_words}
+use Rattle.hid_notation.specs.Causes.{layout_refusal_text}
 use Rattle.hid_usages.specs.Faults.{report_code}
 use Rattle.hid_recording.specs.EventJson.{refusal_tokens, json_text}
 use Rattle.hid_recording.specs.declared.fault.Refusal.{Refusal}
@@ -26,16 +25,16 @@ refusal_text BadDevice = codes "R5: the device isn't a number from 0 to 15"
 refusal_text BadTime = codes "R6: the time isn't digits and points"
 refusal_text NoLayout = codes "R7: the device has no descriptor"
 refusal_text Unended = codes "R12: no empty line ends the dump before"
-refusal_text DumpTooLong = codes "R13: a dump of over 4096 bytes"
+refusal_text DumpTooLong = codes "R13: a dump of over 16384 bytes"
 refusal_text TooManyDevices = codes "R14: dumps of over 16 interfaces"
 refusal_text PartMissing = codes "R15: a part of the report may be missing"
-refusal_text (Layout fault) = layout_fault_text fault ++ codes ": " ++ layout_words fault.cause
+refusal_text (Layout fault report) = layout_refusal_text fault report
 refusal_text (Report fault) = report_code fault ++ codes ": " ++ report_words fault
 
 -- what ends a run, as its code and words
 abbrev pub cause_text : Cause → List ℕ
 cause_text (causes.Refused refusal) = refusal_text refusal
-cause_text causes.LineTooLong = codes "R2: a line of over 16384 bytes"
+cause_text causes.LineTooLong = codes "R2: a line of over 65536 bytes"
 cause_text causes.Read = codes "R8: the recording can't be read"
 cause_text causes.Write = codes "R9: its text can't be written"
 cause_text causes.Memory = codes "R10: out of memory"

@@ -3,20 +3,20 @@
 ghost use Rattle.std.specs.Prelude.{◌≡◌, ◌++◌, ◌&&◌, true, false, Some, Ok, Err, IfOk, IfErr, IfSome, OnOk, is_ok, List, [], string_bytes};
 ghost use Rattle.std.specs.Option.{IfNone};
 ghost use Rattle.hid_report_descriptor.specs.Items.{EncodedItem};
-ghost use Rattle.hid_report_descriptor.specs.Faults.{Accepts, Explains};
+ghost use Rattle.hid_report_descriptor.specs.Real.{Accepts, Explains};
 ghost use Rattle.hid_layout.specs.Layout.{Contents, layout_of};
 ghost use Rattle.hid_recording.specs.Session.{fresh_device};
 ghost use Rattle.hid_report_descriptor.specs.declared.fault.Cause.TheVariants.{Memory};
 ghost use Rattle.hid_recording.specs.LineOutput.{values_output, values_asked};
 ghost use Rattle.hid_recording.specs.Playing.{PlaysMember};
-ghost use Rattle.hid_recording.specs.MemoryUse.{RunsOutIf, ends_report};
+ghost use Rattle.hid_recording.specs.MemoryUse.{RunsOutIf, is_joined};
 ghost use Rattle.hid_recording.specs.Joining.{is_long, has_long, member_after_doubt, Joins, IsRefusedAs};
 ghost use Rattle.hid_usages.specs.Reading.{report_named};
 
 use super::event_line::{Source, print_events};
 use super::fault::{Cause, Refusal};
 use hid_fields::WordCodec;
-use hid_layout::{Layout, LayoutFault, Report, ReportKind};
+use hid_layout::{Layout, LayoutFault, Limits, Report, ReportKind};
 use hid_text::print_values;
 use hid_usages::{Event, MAX_PIECE, Receiver, first_view, input_report};
 use std::alloc::{AllocError, Global};
@@ -25,6 +25,7 @@ use std::marker::Model;
 /// The receiver of a device's reports, and room for the events of one of them. A contract sees all but the room.
 #[derive(Drop)]
 pub struct RecordedDevice {
+    /// With as much room as came: a descriptor alone takes no memory for reports.
     receiver: Receiver,
     events: Vec<Event>,
     /// Whether a part of a report may be missing in front of the next chunk.
@@ -71,13 +72,13 @@ impl Model for RecordedDevice {
     ghost Value = { PlayedDevice };
 
     ghost view = { λ r. record {
-      layout = r.receiver.layout;
-      states = r.receiver.view;
-      collected = r.receiver.collected;
+      layout = r.receiver.state.layout;
+      states = r.receiver.state.view;
+      collected = r.receiver.state.collected;
       in_doubt = r.in_doubt;
     } };
 
-    ghost invariant = { λ r. max_events (items_of r.receiver.layout) ≤ vec_capacity r.events };
+    ghost invariant = { λ r. max_events (items_of r.receiver.state.layout) ≤ vec_capacity r.events };
 }
 
 /// The bytes of a report that ends with a chunk.
@@ -93,13 +94,13 @@ impl RecordedDevice {
     /// A device of which no report came yet.
     ///
     /// # Errors
-    /// Those of [`Layout::parse`], L1 to L16, or L17 if memory runs out.
+    /// Those of [`Layout::parse_within`] at [`Limits::Real`], L1 to L16, or L17 if memory runs out.
     pub fn new(alloc: Global, descriptor: &[u8]) -> Result<RecordedDevice, LayoutFault>
         ensures ok { IfOk result (λ recorded. (before : List EncodedItem) × Accepts descriptor.now before
             × (recorded ≡ fresh_device (layout_of before))) }
         ensures err { IfErr result (λ f. Explains descriptor.now f.cause f.at) }
     {
-        RecordedDevice::of_layout(alloc, Layout::parse(alloc, descriptor))
+        RecordedDevice::of_layout(alloc, Layout::parse_within(alloc, Limits::Real, descriptor))
     }
 
     /// A device of this layout, of which no report came yet. It takes what parsing gave, so that its proof
@@ -119,7 +120,7 @@ impl RecordedDevice {
         };
         match first_view(alloc, &layout) {
             Some((view, events)) => Ok(RecordedDevice {
-                receiver: Receiver::new(layout, view),
+                receiver: Receiver::new(layout, view, Vec::new(alloc)),
                 events,
                 in_doubt: false,
             }),
@@ -145,19 +146,20 @@ impl RecordedDevice {
         self.in_doubt = has_long(self.receiver.layout());
     }
 
-    /// Joins a chunk to what came of its report before.
+    /// Joins a chunk to what came of its report before, as a host joins packets of 64 bytes.
     ///
     /// # Errors
-    /// [`AllocError`] if memory runs out for the report that the chunk ends; never where a part of it may be missing.
+    /// [`AllocError`] if memory runs out for what came of the report; never where a part of it may be missing.
     pub fn join(&mut self, alloc: Global, chunk: &[u8]) -> Result<Joined, AllocError>
         ensures joined { IfOk result (λ joined. Joins (Some self.old) chunk.now joined (Some self.new)) }
-        ensures memory { IfErr result (λ _. ends_report chunk.now (Some self.old) ≡ true) }
+        ensures memory { IfErr result (λ _. is_joined (Some self.old) ≡ true) }
     {
         if self.in_doubt {
             self.in_doubt = chunk.len() >= MAX_PIECE;
             return Ok(Joined::Doubtful);
         }
         if !self.receiver.ends_with(MAX_PIECE, chunk) {
+            self.receiver.reserve(chunk.len())?;
             self.receiver.keep(chunk);
             return Ok(Joined::Begun);
         }

@@ -6,7 +6,7 @@ ghost use Rattle.hid_recording.specs.Session.{PlayedDevice, no_devices};
 ghost use Rattle.hid_recording.specs.Joining.{slot_after_doubt, Joins};
 ghost use Rattle.hid_recording.specs.LineOutput.{member_in_slot, devices_without};
 ghost use Rattle.hid_recording.specs.Playing.{PlaysAt, PlaysReport};
-ghost use Rattle.hid_recording.specs.MemoryUse.{RunsOutIf, ends_report, names_report};
+ghost use Rattle.hid_recording.specs.MemoryUse.{RunsOutIf, is_joined, names_report};
 ghost use Rattle.hid_recording.specs.declared.line_fields.TheConstants.{MAX_DEVICES};
 
 use super::device::{Joined, RecordedDevice};
@@ -89,14 +89,14 @@ impl Devices {
     /// Joins a chunk of the current device to what came of its report before.
     ///
     /// # Errors
-    /// [`AllocError`] if memory runs out for a report that the chunk ends: there is a device, and no part of its report may be
+    /// [`AllocError`] if memory runs out for what came of a report: there is a device, and no part of its report may be
     /// missing.
     pub fn join(&mut self, alloc: Global, chunk: &[u8]) -> Result<Joined, AllocError>
         ensures joined { IfOk result (λ joined. (after : Option PlayedDevice)
             × Joins (member_in_slot
             (slice_get self.old.slots.items self.old.current)) chunk.now joined after
             × (self.new.slots.items ≡ set self.old.slots.items self.old.current after)) }
-        ensures memory { IfErr result (λ _. ends_report chunk.now
+        ensures memory { IfErr result (λ _. is_joined
             (member_in_slot (slice_get self.old.slots.items self.old.current)) ≡ true) }
         ensures current { self.new.current ≡ self.old.current }
     {
@@ -166,7 +166,7 @@ fn join_chunk(
     chunk: &[u8],
 ) -> Result<Joined, AllocError>
     ensures joined { IfOk result (λ joined. Joins slot.old chunk.now joined slot.new) }
-    ensures memory { IfErr result (λ _. ends_report chunk.now slot.old ≡ true) }
+    ensures memory { IfErr result (λ _. is_joined slot.old ≡ true) }
 {
     match slot {
         None => Ok(Joined::Unknown),

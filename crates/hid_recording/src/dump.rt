@@ -8,8 +8,8 @@ ghost use Rattle.hid_recording.specs.declared.line_fields.TheConstants.{MAX_DEVI
 use super::line_fields::{DeviceNumber, MAX_DEVICES};
 use std::alloc::{AllocError, Global};
 
-/// The most bytes of a dump (our choice): as many as a descriptor has.
-pub const MAX_DUMP: usize = 4096;
+/// The most bytes of a dump (our choice): as many as the longest report has.
+pub const MAX_DUMP: usize = 16_384;
 
 /// An interface of a device on a bus, by the numbers that the system gave them.
 #[derive(Clone, Copy, Debug, PartialEq, Eq)]

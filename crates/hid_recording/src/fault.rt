@@ -3,7 +3,7 @@
 ghost use Rattle.std.specs.Prelude.{◌≡◌};
 
 use super::summary::Summary;
-use hid_layout::LayoutFault;
+use hid_layout::{LayoutFault, LongReport};
 use hid_usages::ReportFault;
 use std::alloc::AllocError;
 use thiserror::Error;
@@ -25,14 +25,14 @@ pub enum Refusal {
     NoLayout,
     /// R12: a dump begins, and no empty line has ended the one before.
     Unended,
-    /// R13: a dump of over 4,096 bytes.
+    /// R13: a dump of over 16,384 bytes.
     DumpTooLong,
     /// R14: a dump of a seventeenth interface.
     TooManyDevices,
     /// R15: a chunk of a dump, and a part of its report may be missing.
     PartMissing,
-    /// L1 to L16: the descriptor is refused.
-    Layout(LayoutFault),
+    /// L1 to L16: the descriptor is refused, of L15 for this report.
+    Layout(LayoutFault, Option<LongReport>),
     /// U8, U9: the bytes are no Input report of the device.
     Report(ReportFault),
 }
@@ -42,7 +42,7 @@ pub enum Refusal {
 pub enum Cause {
     /// A line of a strict run is refused.
     Refused(Refusal),
-    /// R2: a line of over 16,384 bytes, without its end.
+    /// R2: a line of over 65,536 bytes, without its end.
     LineTooLong,
     /// R8: the reader failed.
     Read,

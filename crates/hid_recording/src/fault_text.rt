@@ -4,7 +4,7 @@ ghost use Rattle.std.specs.Prelude.{◌≡◌, Some};
 ghost use Rattle.hid_recording.specs.Refusals.{report_words, refusal_text, cause_text};
 
 use super::fault::{Cause, Refusal};
-use hid_notation::layout_words;
+use hid_notation::RefusalText;
 use hid_usages::ReportFault;
 use std::fmt;
 
@@ -30,12 +30,15 @@ impl fmt::Display for Refusal {
             Refusal::BadTime => "R6: the time isn't digits and points",
             Refusal::NoLayout => "R7: the device has no descriptor",
             Refusal::Unended => "R12: no empty line ends the dump before",
-            Refusal::DumpTooLong => "R13: a dump of over 4096 bytes",
+            Refusal::DumpTooLong => "R13: a dump of over 16384 bytes",
             Refusal::TooManyDevices => "R14: dumps of over 16 interfaces",
             Refusal::PartMissing => "R15: a part of the report may be missing",
-            Refusal::Layout(fault) => {
-                let words = layout_words(fault.cause);
-                return write!(f, "{fault}: {words}");
+            Refusal::Layout(fault, report) => {
+                let text = RefusalText {
+                    fault: *fault,
+                    report: *report,
+                };
+                return write!(f, "{text}");
             }
             Refusal::Report(fault) => {
                 let words = report_words(*fault);
@@ -52,7 +55,7 @@ impl fmt::Display for Cause {
     fn fmt<W: fmt::Write>(&self, f: &mut fmt::Formatter<W>) -> fmt::Result {
         let text = match self {
             Cause::Refused(refusal) => return write!(f, "{refusal}"),
-            Cause::LineTooLong => "R2: a line of over 16384 bytes",
+            Cause::LineTooLong => "R2: a line of over 65536 bytes",
             Cause::Read => "R8: the recording can't be read",
             Cause::Write => "R9: its text can't be written",
             Cause::Memory => "R10: out of memory",

@@ -2,14 +2,15 @@
 
 ghost use Rattle.std.specs.Prelude.{◌≡◌, ◌++◌, true, None, Option, IfOk, IfErr, OnOk, is_some, string_bytes};
 ghost use Rattle.std.specs.Option.{option_map};
+ghost use Rattle.hid_report_descriptor.specs.Real.{Explains};
 ghost use Rattle.hid_recording.specs.Session.{at_first};
 ghost use Rattle.hid_recording.specs.Records.{record_of};
-ghost use Rattle.hid_recording.specs.LineOutput.{described_text, LineGives, LineBegins, MeaningGives, DescriptorGives, DumpEndGives, with_device, outcome_of_device, outcome_of_refusal, with_dropped_dump, outcome_of_unread_descriptor, outcome_of_dump_head, outcome_of_dump_bytes, outcome_of_stray_bytes, chunk_outcome, stream_outcome, report_outcome};
+ghost use Rattle.hid_recording.specs.LineOutput.{described_text, LineGives, LineBegins, MeaningGives, DescriptorGives, DumpEndGives, with_device, outcome_of_device, outcome_of_refusal, DescriptorIsRefused, with_dropped_dump, outcome_of_unread_descriptor, outcome_of_dump_head, outcome_of_dump_bytes, outcome_of_stray_bytes, chunk_outcome, stream_outcome, report_outcome};
 ghost use Rattle.hid_recording.specs.Words.{time_of};
 ghost use Rattle.hid_recording.specs.Player.{summary_of};
 ghost use Rattle.hid_recording.specs.Refusals.{refusal_line};
 ghost use Rattle.hid_recording.specs.Gathering.{Gathers, IsCauseOfLine};
-ghost use Rattle.hid_recording.specs.MemoryUse.{RunsOutIf, refusal_allocates, descriptor_allocates, unread_descriptor_allocates, report_allocates, dump_head_allocates, stray_bytes_allocate, dump_bytes_allocate, chunk_allocates, stream_allocates, dump_end_allocates, short_line_allocates, line_allocates};
+ghost use Rattle.hid_recording.specs.MemoryUse.{RunsOutIf, refusal_allocates, layout_refusal_allocates, descriptor_allocates, unread_descriptor_allocates, report_allocates, dump_head_allocates, stray_bytes_allocate, dump_bytes_allocate, chunk_allocates, stream_allocates, dump_end_allocates, short_line_allocates, line_allocates};
 ghost use Rattle.hid_recording.specs.Dumps.{number_of_address};
 ghost use Rattle.hid_recording.specs.declared.fault.Refusal.TheVariants as refusals;
 ghost use Rattle.hid_recording.specs.Place.{AppendsOutput};
@@ -24,14 +25,14 @@ use super::options::Options;
 use super::output::write_text;
 use super::record::{Record, read_record};
 use super::summary::Summary;
-use hid_layout::{Layout, LayoutFault};
+use hid_layout::{Layout, LayoutFault, Limits, long_report};
 use hid_text::print_layout;
 use std::alloc::{AllocError, Global};
 use std::io::Write;
 use std::mem;
 
-/// The longest line, without its end (our choice): a descriptor of 4,096 bytes has 12,295.
-pub const MAX_LINE: usize = 16_384;
+/// The longest line, without its end (our choice): a report of 16,384 bytes has some 49,200.
+pub const MAX_LINE: usize = 65_536;
 
 /// The devices with what is known of them, counts, and room for the output of a line.
 #[derive(Drop)]
@@ -239,21 +240,22 @@ impl Player {
                 if fault.cause.is_memory() {
                     return Err(Cause::Memory);
                 }
-                self.forget(fault)
+                self.forget(descriptor, fault)
             }
         }
     }
 
     /// The descriptor of the current device is refused: it has none.
-    fn forget(&mut self, fault: LayoutFault) -> Result<(), Cause>
-        ensures outcome { Gathers
-            (λ o. o ≡ outcome_of_refusal (with_device (session_of self.old) None)
-            (refusals.Layout fault)) result
+    fn forget(&mut self, descriptor: &[u8], fault: LayoutFault) -> Result<(), Cause>
+        requires { Explains descriptor.now fault.cause fault.at }
+        ensures outcome { Gathers (DescriptorIsRefused descriptor.now fault (session_of self.old)) result
             (string_bytes self.new.text) (session_of self.new) }
-        ensures memory { RunsOutIf (refusal_allocates (session_of self.old)) result }
+        ensures memory { RunsOutIf
+            (layout_refusal_allocates (session_of self.old) fault.cause) result }
     {
         self.devices.put(None);
-        self.refuse(Refusal::Layout(fault))
+        let report = long_report(self.alloc, Limits::Real, descriptor, fault)?;
+        self.refuse(Refusal::Layout(fault, report))
     }
 
     /// The current device is this one from now on.
@@ -379,7 +381,7 @@ impl Player {
             (λ o. o ≡ stream_outcome (time_of time.now) bytes.now (session_of self.old)) result
             (string_bytes self.new.text) (session_of self.new) }
         ensures memory { RunsOutIf
-            (stream_allocates (session_of self.old) bytes.now (time_of time.now)) result }
+            (stream_allocates (session_of self.old) (time_of time.now)) result }
     {
         match read_time(time) {
             Some(time) => self.chunk(time, bytes),
@@ -391,7 +393,7 @@ impl Player {
     fn chunk(&mut self, time: &str, chunk: &[u8]) -> Result<(), Cause>
         ensures outcome { Gathers (λ o. o ≡ chunk_outcome time.now chunk.now (session_of self.old)) result
             (string_bytes self.new.text) (session_of self.new) }
-        ensures memory { RunsOutIf (chunk_allocates (session_of self.old) chunk.now) result }
+        ensures memory { RunsOutIf (chunk_allocates (session_of self.old)) result }
     {
         let joined = self.devices.join(self.alloc, chunk)?;
         match joined.into_report() {

@@ -12,7 +12,7 @@ use hid_text::{LineBuffer, TooLong, split_line};
 use std::io::Write;
 
 /// One byte more than a line has: a carriage return may stand before the end.
-const ROOM: usize = 16_385;
+const ROOM: usize = 65_537;
 
 /// The session, the line that has begun, and how many lines came before it.
 #[derive(Drop)]

@@ -2,6 +2,7 @@
 use Rattle.std.proofs.Common.{◌≡◌, ℕ, Bool, true, false, ◌&&◌, List, [], ◌∷◌, length, map, refl, sym, ◌∙◌, ap, arith, nat_eq, inr}
 use Rattle.std.specs.List.{list_any}
 use Rattle.std.proofs.lemmas.Grind.{common_steps}
+use Rattle.hid_report_descriptor.specs.declared.limits.Limits.{Limits}
 use Rattle.hid_report_descriptor.specs.declared.fault.Cause.TheVariants.{MixedReportId}
 use Rattle.hid_report_descriptor.specs.declared.field.KeptField.{KeptField}
 use Rattle.hid_report_descriptor.specs.declared.parser.Parser.{Parser}
@@ -23,12 +24,8 @@ mixed_there before parser s =
     (ap (list_any (λ (f : KeptField). nat_eq f.id 0)) s.fields_there.heads
     ∙ any_map (λ (f : KeptField). nat_eq f.id 0) kept_field_of (fields before))
 
-pub mixed_refused : (bytes : List ℕ) (before : List EncodedItem) (parser : Parser)
-    → Reaches bytes (length bytes) before → HasStateAfter before parser → length parser.collections.open.items ≡ 0
-    → is_mixed before ≡ true → Refuses bytes MixedReportId (length bytes)
-mixed_refused bytes before parser r s c m = inr (before, r, refl, sym (ap length s.path_there) ∙ c, m)
+pub mixed_refused : (limits : Limits) (bytes : List ℕ) (before : List EncodedItem) (parser : Parser) → Reaches limits bytes (length bytes) before → HasStateAfter before parser → length parser.collections.open.items ≡ 0 → is_mixed before ≡ true → Refuses limits bytes MixedReportId (length bytes)
+mixed_refused limits bytes before parser r s c m = inr (before, r, refl, sym (ap length s.path_there) ∙ c, m)
 
-pub all_accepted : (bytes : List ℕ) (before : List EncodedItem) (parser : Parser)
-    → Reaches bytes (length bytes) before → HasStateAfter before parser → length parser.collections.open.items ≡ 0
-    → is_mixed before ≡ false → Accepts bytes before
-all_accepted bytes before parser r s c m = record { reaches = r; closed = sym (ap length s.path_there) ∙ c; unmixed = m }
+pub all_accepted : (limits : Limits) (bytes : List ℕ) (before : List EncodedItem) (parser : Parser) → Reaches limits bytes (length bytes) before → HasStateAfter before parser → length parser.collections.open.items ≡ 0 → is_mixed before ≡ false → Accepts limits bytes before
+all_accepted limits bytes before parser r s c m = record { reaches = r; closed = sym (ap length s.path_there) ∙ c; unmixed = m }

@@ -3,6 +3,8 @@ use Rattle.std.proofs.Common.{◌≡◌, ℕ, zero, suc, ◌*◌, ◌-◌, ◌%�
 use Rattle.std.specs.Prelude.{pos, neg_ℤ, ◌-ℤ◌, ◌≤ℤ◌}
 use Rattle.std.specs.List.{slice_get}
 use Rattle.std.proofs.lemmas.Int.{ints}
+use Rattle.hid_report_descriptor.specs.Limits.{longest_report, widest_field}
+use Rattle.hid_report_descriptor.specs.declared.limits.Limits.{Limits}
 use Rattle.hid_report_descriptor.specs.declared.report.ReportKind.{ReportKind}
 use Rattle.std.proofs.lemmas.Grind.{common_steps}
 use Rattle.std.proofs.lemmas.Bool.Decides.{nat_tests}
@@ -56,8 +58,17 @@ four_unmet a b c d i j k l e =
     let s = not_met d l None r.1 in
     (p.0, q.0, r.0, s.0)
 
-size_fits : (size : ℕ) → (nat_eq size 0 || nat_lt 32 size) ≡ false → (0 < size) × (size ≤ 32)
-size_fits size e = (grind (arith, common_steps, nat_tests), grind (arith, common_steps, nat_tests))
+size_fits : (size : ℕ) (wide : Bool) → (nat_eq size 0 || wide) ≡ false → 0 < size
+size_fits size true e = absurd (by_zero (nat_eq size 0) e)
+  where
+    by_zero : (b : Bool) → (b || true) ≡ false → ⊥
+    by_zero true e = cc
+    by_zero false e = cc
+size_fits size false e = grind (arith, common_steps, nat_tests)
+
+-- a field that isn't wide is as narrow as a number
+narrow : (size : ℕ) → nat_lt 32 size ≡ false → (size ≤ 32) × (nat_le size 32 ≡ true)
+narrow size e = (grind (arith, nat_tests), grind (arith, nat_tests))
 
 true_and : (u b : Bool) → u ≡ true → (u && b) ≡ false → b ≡ false
 true_and true b t e = e
@@ -66,13 +77,18 @@ true_and false b t e = absurd cc
 are_some : (e : Entry) (es : List Entry) → not (nat_eq (length (e ∷ es)) 0) ≡ true
 are_some e es = grind (arith, common_steps, nat_tests)
 
-pub values_of : (f : Field) (paired : Bool) (e : Entry) (es : List Entry) → first_met (value_tests f paired (e ∷ es)) ≡ None → HasValues (e ∷ es) f.min f.max f.size
-values_of f paired e es h =
+pub values_of : (limits : Limits) (f : Field) (paired : Bool) (e : Entry) (es : List Entry) → nat_lt 32 f.size ≡ false → first_met (value_tests limits f paired (e ∷ es)) ≡ None → HasValues (e ∷ es) f.min f.max f.size
+values_of limits f paired e es n h =
     let u : Bool = not (nat_eq (length (e ∷ es)) 0) in
     let some = are_some e es in
-    let unmet = four_unmet (not paired) (not (are_ranges (e ∷ es))) (u && (nat_eq f.size 0 || nat_lt 32 f.size)) (u && not (has_value f.min f.max f.size)) UnpairedUsage BadUsageRange BadSize BadRange h in
-    let fits = size_fits f.size (true_and u (nat_eq f.size 0 || nat_lt 32 f.size) some unmet.2) in
-    record { ranges = of_not (are_ranges (e ∷ es)) unmet.1; some_bits = fits.0; narrow = fits.1; value = of_not (has_value f.min f.max f.size) (true_and u (not (has_value f.min f.max f.size)) some unmet.3) }
+    let unmet = four_unmet (not paired) (not (are_ranges (e ∷ es))) (u && (nat_eq f.size 0 || nat_lt (widest_field limits) f.size)) (u && (nat_le f.size 32 && not (has_value f.min f.max f.size))) UnpairedUsage BadUsageRange BadSize BadRange h in
+    let small = narrow f.size n in
+    record {
+      ranges = of_not (are_ranges (e ∷ es)) unmet.1;
+      some_bits = size_fits f.size (nat_lt (widest_field limits) f.size) (true_and u (nat_eq f.size 0 || nat_lt (widest_field limits) f.size) some unmet.2);
+      narrow = small.0;
+      value = of_not (has_value f.min f.max f.size) (true_and (nat_le f.size 32) (not (has_value f.min f.max f.size)) small.1 (true_and u (nat_le f.size 32 && not (has_value f.min f.max f.size)) some unmet.3));
+    }
 
 -- What holds of each listed field: it has bits, few entries, and a small report ID; where it isn't padding it has
 -- usages, elements, and a range with values.
@@ -86,17 +102,18 @@ pub record IsSound (field : Field) : Type 0 where
   pub values : is_padding field.shape ≡ false → HasValues field.entries field.min field.max field.size
 
 -- the tests on the values of an item that is no padding
-pub data_item : (flags count : ℕ) (es : List Entry) → is_padding (shape_of flags count es) ≡ false → (has_flag CONSTANT flags || nat_eq count 0) ≡ false
-data_item flags count [] e = absurd cc
-data_item flags count (x ∷ xs) e = by_case (has_flag CONSTANT flags || nat_eq count 0) e
+pub data_item : (flags size count : ℕ) (es : List Entry) → is_padding (shape_of flags size count es) ≡ false → ((has_flag CONSTANT flags || nat_eq count 0) ≡ false) × (nat_lt 32 size ≡ false)
+data_item flags size count [] e = absurd cc
+data_item flags size count (x ∷ xs) e = by_case (has_flag CONSTANT flags || nat_eq count 0) (nat_lt 32 size) e
   where
-    by_case : (b : Bool) → is_padding (cond b Padding (cond (has_flag VARIABLE flags) Variable Array)) ≡ false → b ≡ false
-    by_case true e = absurd cc
-    by_case false e = refl
+    by_case : (b w : Bool) → is_padding (cond (b || w) Padding (cond (has_flag VARIABLE flags) Variable Array)) ≡ false → (b ≡ false) × (w ≡ false)
+    by_case true w e = absurd cc
+    by_case false true e = absurd cc
+    by_case false false e = (refl, refl)
 
-pub data_entries : (flags count : ℕ) (es : List Entry) → is_padding (shape_of flags count es) ≡ false → shown_entries (shape_of flags count es) es ≡ es
-data_entries flags count [] e = absurd cc
-data_entries flags count (x ∷ xs) e = by_shape (shape_of flags count (x ∷ xs)) e
+pub data_entries : (flags size count : ℕ) (es : List Entry) → is_padding (shape_of flags size count es) ≡ false → shown_entries (shape_of flags size count es) es ≡ es
+data_entries flags size count [] e = absurd cc
+data_entries flags size count (x ∷ xs) e = by_shape (shape_of flags size count (x ∷ xs)) e
   where
     by_shape : (s : Shape) → is_padding s ≡ false → shown_entries s (x ∷ xs) ≡ x ∷ xs
     by_shape Padding e = absurd cc
@@ -116,9 +133,9 @@ fifth_unmet a b c d e i j k l m o h =
     (not_met e m o s.1).0
 
 -- an accepted Report ID has at most 255
-id_unmet : (before : List EncodedItem) (item : EncodedItem) → fault_of before item ≡ None → is REPORT_ID item ≡ true → unsigned_of (data_of item) < 256
-id_unmet before item e r =
-    let other : other_fault before item ≡ None = subst (λ b. cond b (field_fault before item) (other_fault before item) ≡ None) (no_field item r) e in
+id_unmet : (limits : Limits) (before : List EncodedItem) (item : EncodedItem) → fault_of limits before item ≡ None → is REPORT_ID item ≡ true → unsigned_of (data_of item) < 256
+id_unmet limits before item e r =
+    let other : other_fault before item ≡ None = subst (λ b. cond b (field_fault limits before item) (other_fault before item) ≡ None) (no_field item r) e in
     let n : ℕ = unsigned_of (data_of item) in
     let bad : (is REPORT_ID item && (nat_eq n 0 || nat_lt 255 n)) ≡ false =
     fifth_unmet (is POP item && nat_eq (length (open_pushes before)) 0) (is PUSH item && nat_le 8 (length (open_pushes before))) (is COLLECTION item && nat_le 16 (length (path before))) (is END_COLLECTION item && nat_eq (length (path before)) 0)
@@ -129,9 +146,9 @@ id_unmet before item e r =
     small_of n h = grind (arith, common_steps, nat_tests)
 
 -- going back over accepted items, the Report ID in force has at most 255
-pub small_ids : (waiting : ℕ) (before : List EncodedItem) → AreAccepted before → unsigned_of (look_back REPORT_ID waiting before) < 256
-small_ids waiting [] a = omega arith
-small_ids waiting (item ∷ before) a = by_case (nat_eq waiting 0) (is REPORT_ID item) refl (id_unmet before item a.1) (small_ids (waiting_after PUSH POP waiting item) before a.0)
+pub small_ids : (limits : Limits) (waiting : ℕ) (before : List EncodedItem) → AreAccepted limits before → unsigned_of (look_back REPORT_ID waiting before) < 256
+small_ids limits waiting [] a = omega arith
+small_ids limits waiting (item ∷ before) a = by_case (nat_eq waiting 0) (is REPORT_ID item) refl (id_unmet limits before item a.1) (small_ids limits (waiting_after PUSH POP waiting item) before a.0)
   where
     by_case : (w b : Bool) → is REPORT_ID item ≡ b → (is REPORT_ID item ≡ true → unsigned_of (data_of item) < 256) → unsigned_of (look_back REPORT_ID (waiting_after PUSH POP waiting item) before) < 256
         → unsigned_of (cond (w && b) (data_of item) (look_back REPORT_ID (waiting_after PUSH POP waiting item) before)) < 256
@@ -187,19 +204,19 @@ short_minimum waiting (item ∷ before) s = by_case (nat_eq waiting 0) (is LOGIC
 
 -- What is known of the fields that accepted items list: each is sound and lies after the earlier ones of its report,
 -- and no report is over its limit.
-pub record AreListed (fs : List Field) : Type 0 where
+pub record AreListed (limits : Limits) (fs : List Field) : Type 0 where
   pub sound : (i : ℕ) (f : Field) → slice_get fs i ≡ Some f → IsSound f
   pub offsets : (i : ℕ) (f : Field) → slice_get fs i ≡ Some f → f.offset ≡ report_bits f.kind f.id (take i fs)
-  pub short : (kind : ReportKind) (id : ℕ) → report_bits kind id fs ≤ report_limit id
+  pub short : (kind : ReportKind) (id : ℕ) → report_bits kind id fs ≤ report_limit limits id
   pub few : length fs ≤ 512
 
-pub none_listed : AreListed []
-none_listed = record {
+pub none_listed : (limits : Limits) → AreListed limits []
+none_listed limits = record {
   sound = λ i f e. absurd (cc);
   offsets = λ i f e. absurd (cc);
   short = λ kind id. small_limit id (nat_eq id 0);
   few = omega arith;
 }
   where
-    small_limit : (id : ℕ) (b : Bool) → 0 ≤ cond b 2048 2040
+    small_limit : (id : ℕ) (b : Bool) → 0 ≤ cond b (8 * longest_report limits) (8 * (longest_report limits - 1))
     small_limit id b = omega arith

@@ -2,6 +2,7 @@
 use Rattle.std.proofs.Common.{◌≡◌, ◌≢◌, ◌+◌, Bool, true, false, cond, ◌||◌, List, [], ◌∷◌, ◌++◌, length, refl, sym, ap, subst, ◌∙◌, arith, nat_eq, nat_lt, Option, Some, None, Result, Ok, Err}
 use Rattle.std.proofs.lemmas.Grind.{common_steps}
 use Rattle.std.proofs.lemmas.Bool.Decides.{nat_tests}
+use Rattle.hid_report_descriptor.specs.declared.limits.Limits.{Limits}
 use Rattle.hid_report_descriptor.specs.declared.fault.Cause.{Cause}
 use Rattle.hid_report_descriptor.specs.declared.fault.Cause.TheVariants.{Memory, ReportTooLong, TooMany}
 use Rattle.hid_report_descriptor.specs.declared.field_list.KeptFields.{KeptFields}
@@ -40,23 +41,17 @@ bits_listed fs field = by_case (nat_eq (bits_of field) 0) refl
     by_case false e = bits_more fs field
 
 -- the limit of the report, and the others
-limits : (fs : List Field) (field : Field) (long many : Bool) → field.offset ≡ report_bits field.kind field.id fs → nat_lt (report_limit field.id) (field.offset + bits_of field) ≡ long → (are_too_many (list_field fs field) || nat_lt 64 (length field.entries)) ≡ many
-    → first_met (limit_tests (list_field fs field) field) ≡ cond long (Some ReportTooLong) (cond many (Some TooMany) None)
-limits fs field long many at l m =
-    let t : nat_lt (report_limit field.id) (report_bits field.kind field.id (list_field fs field)) ≡ long = ap (nat_lt (report_limit field.id)) (bits_listed fs field ∙ ap (λ n. n + bits_of field) (sym at)) ∙ l in
-    ap (λ b. cond b (Some ReportTooLong) (cond (are_too_many (list_field fs field) || nat_lt 64 (length field.entries)) (Some TooMany) None)) t ∙ ap (λ b. cond long (Some ReportTooLong) (cond b (Some TooMany) None)) m
+limited : (limits : Limits) (fs : List Field) (field : Field) (long many : Bool) → field.offset ≡ report_bits field.kind field.id fs → nat_lt (report_limit limits field.id) (field.offset + bits_of field) ≡ long → (are_too_many limits (list_field fs field) || nat_lt 64 (length field.entries)) ≡ many
+    → first_met (limit_tests limits (list_field fs field) field) ≡ cond long (Some ReportTooLong) (cond many (Some TooMany) None)
+limited limits fs field long many at l m =
+    let t : nat_lt (report_limit limits field.id) (report_bits field.kind field.id (list_field fs field)) ≡ long = ap (nat_lt (report_limit limits field.id)) (bits_listed fs field ∙ ap (λ n. n + bits_of field) (sym at)) ∙ l in
+    ap (λ b. cond b (Some ReportTooLong) (cond (are_too_many limits (list_field fs field) || nat_lt 64 (length field.entries)) (Some TooMany) None)) t ∙ ap (λ b. cond long (Some ReportTooLong) (cond b (Some TooMany) None)) m
 
-pub told_too_long : (fs : List Field) (field : Field) (new : KeptFields)
-    → field.offset ≡ report_bits field.kind field.id fs
-    → nat_lt (report_limit field.id) (field.offset + bits_of field) ≡ true
-    → AddsField fs field (Err ReportTooLong) new
-told_too_long fs field new at l = limits fs field true _ at l refl
+pub told_too_long : (limits : Limits) (fs : List Field) (field : Field) (new : KeptFields) → field.offset ≡ report_bits field.kind field.id fs → nat_lt (report_limit limits field.id) (field.offset + bits_of field) ≡ true → AddsField limits fs field (Err ReportTooLong) new
+told_too_long limits fs field new at l = limited limits fs field true _ at l refl
 
-pub told_entries : (fs : List Field) (field : Field) (new : KeptFields)
-    → field.offset ≡ report_bits field.kind field.id fs
-    → nat_lt (report_limit field.id) (field.offset + bits_of field) ≡ false → nat_lt 64 (length field.entries) ≡ true
-    → AddsField fs field (Err TooMany) new
-told_entries fs field new at l e = limits fs field false true at l (ap (λ b. are_too_many (list_field fs field) || b) e ∙ or_true (are_too_many (list_field fs field)))
+pub told_entries : (limits : Limits) (fs : List Field) (field : Field) (new : KeptFields) → field.offset ≡ report_bits field.kind field.id fs → nat_lt (report_limit limits field.id) (field.offset + bits_of field) ≡ false → nat_lt 64 (length field.entries) ≡ true → AddsField limits fs field (Err TooMany) new
+told_entries limits fs field new at l e = limited limits fs field false true at l (ap (λ b. are_too_many limits (list_field fs field) || b) e ∙ or_true (are_too_many limits (list_field fs field)))
   where
     or_true : (b : Bool) → (b || true) ≡ true
     or_true true = refl
@@ -67,24 +62,24 @@ or_false true = refl
 or_false false = refl
 
 -- a field without bits isn't listed
-pub told_unlisted : (fs : List Field) (field : Field) (many : Bool) → field.offset ≡ report_bits field.kind field.id fs → nat_lt (report_limit field.id) (field.offset + bits_of field) ≡ false → nat_lt 64 (length field.entries) ≡ false → bits_of field ≡ 0 → many ≡ are_too_many fs
-    → first_met (limit_tests (list_field fs field) field) ≡ cond many (Some TooMany) None
-told_unlisted fs field many at l e z m =
+pub told_unlisted : (limits : Limits) (fs : List Field) (field : Field) (many : Bool) → field.offset ≡ report_bits field.kind field.id fs → nat_lt (report_limit limits field.id) (field.offset + bits_of field) ≡ false → nat_lt 64 (length field.entries) ≡ false → bits_of field ≡ 0 → many ≡ are_too_many limits fs
+    → first_met (limit_tests limits (list_field fs field) field) ≡ cond many (Some TooMany) None
+told_unlisted limits fs field many at l e z m =
     let n : nat_eq (bits_of field) 0 ≡ true = grind (arith, nat_tests) in
-    limits fs field false many at l (ap (λ b. are_too_many (list_field fs field) || b) e ∙ or_false _ ∙ rw n (sym m))
+    limited limits fs field false many at l (ap (λ b. are_too_many limits (list_field fs field) || b) e ∙ or_false _ ∙ rw n (sym m))
 
 pub unlisted : (fs : List Field) (field : Field) → bits_of field ≡ 0 → list_field fs field ≡ fs
 unlisted fs field z = let n : nat_eq (bits_of field) 0 ≡ true = grind (arith, nat_tests) in rw n refl
 
 -- a field with bits is listed, as keeping it tells
-pub told_kept : (fs : List Field) (field : Field) (r : Result Unit Cause) (new : KeptFields) → field.offset ≡ report_bits field.kind field.id fs → nat_lt (report_limit field.id) (field.offset + bits_of field) ≡ false → nat_lt 64 (length field.entries) ≡ false → bits_of field ≢ 0
-    → Keeps fs field r new → AddsField fs field r new
-told_kept fs field (Ok done) new at l e some k =
+pub told_kept : (limits : Limits) (fs : List Field) (field : Field) (r : Result Unit Cause) (new : KeptFields) → field.offset ≡ report_bits field.kind field.id fs → nat_lt (report_limit limits field.id) (field.offset + bits_of field) ≡ false → nat_lt 64 (length field.entries) ≡ false → bits_of field ≢ 0
+    → Keeps limits fs field r new → AddsField limits fs field r new
+told_kept limits fs field (Ok done) new at l e some k =
     let n : nat_eq (bits_of field) 0 ≡ false = grind (arith, nat_tests) in
     let listed : list_field fs field ≡ fs ++ field ∷ [] = rw n refl in
-    (subst (λ xs. AreKept xs new) (sym listed) k.0, limits fs field false false at l (ap (λ b. are_too_many (list_field fs field) || b) e ∙ or_false _ ∙ ap are_too_many listed ∙ k.1))
-told_kept fs field (Err Memory) new at l e some k = tt
-told_kept fs field (Err cause) new at l e some k =
+    (subst (λ xs. AreKept xs new) (sym listed) k.0, limited limits fs field false false at l (ap (λ b. are_too_many limits (list_field fs field) || b) e ∙ or_false _ ∙ ap (are_too_many limits) listed ∙ k.1))
+told_kept limits fs field (Err Memory) new at l e some k = tt
+told_kept limits fs field (Err cause) new at l e some k =
     let n : nat_eq (bits_of field) 0 ≡ false = grind (arith, nat_tests) in
     let listed : list_field fs field ≡ fs ++ field ∷ [] = rw n refl in
-    limits fs field false true at l (ap (λ b. are_too_many (list_field fs field) || b) e ∙ or_false _ ∙ ap are_too_many listed ∙ k.1) ∙ ap Some (sym k.0)
+    limited limits fs field false true at l (ap (λ b. are_too_many limits (list_field fs field) || b) e ∙ or_false _ ∙ ap (are_too_many limits) listed ∙ k.1) ∙ ap Some (sym k.0)

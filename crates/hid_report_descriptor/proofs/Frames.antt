@@ -5,6 +5,7 @@ use Rattle.std.proofs.lemmas.Grind.{common_steps}
 use Rattle.std.proofs.lemmas.Bool.Decides.{nat_tests}
 use Rattle.std.proofs.lemmas.List.{length-map}
 use Rattle.hid_items.specs.ItemEncoding.{prefix_of, data_of, unsigned_of}
+use Rattle.hid_report_descriptor.specs.declared.limits.Limits.{Limits}
 use Rattle.hid_report_descriptor.specs.declared.globals.SavedGlobals.{SavedGlobals}
 use Rattle.hid_report_descriptor.specs.declared.locals.Locals.{Locals}
 use Rattle.hid_report_descriptor.specs.declared.parser.Parser.{Parser}
@@ -40,8 +41,8 @@ fields_kept before item h = rw h refl
 pub fields_same : (before : List EncodedItem) (item : EncodedItem) (old new : KeptFields) → is_field item ≡ false → new ≡ old → AreKept (fields before) old → AreKept (fields (item ∷ before)) new
 fields_same before item old new h e k = subst (AreKept (fields (item ∷ before))) (sym e) (subst (λ fs. AreKept fs old) (sym (fields_kept before item h)) k)
 
-pub push_accepted : (before : List EncodedItem) (item : EncodedItem) → prefix_of item ≡ PUSH → length (open_pushes before) < 8 → fault_of before item ≡ None
-push_accepted before item h lt = grind (arith, common_steps, nat_tests)
+pub push_accepted : (limits : Limits) (before : List EncodedItem) (item : EncodedItem) → prefix_of item ≡ PUSH → length (open_pushes before) < 8 → fault_of limits before item ≡ None
+push_accepted limits before item h lt = grind (arith, common_steps, nat_tests)
 
 pub locals_kept : (before : List EncodedItem) (item : EncodedItem) (kept : Locals) → is_main item ≡ false → names_usage item ≡ false → AreLocals before kept → AreLocals (item ∷ before) kept
 locals_kept before item kept m u k = locals_added before item kept kept m k (record { entries_after = grind (arith, common_steps, nat_tests); minima_after = grind (arith, common_steps, nat_tests); maxima_after = grind (arith, common_steps, nat_tests) })
@@ -96,31 +97,25 @@ stands_global before item old new m u d s g e1 e2 e3 e4 = record {
 pub depth_kept : (before : List EncodedItem) (g : SavedGlobals) → AreGlobals before g → length (open_pushes before) ≡ length g.saved.items
 depth_kept before g a = sym (ap length a.at_pushes ∙ length-map (open_pushes before) (λ push. globals_at (push.0)))
 
-pub stands_pushed : (before : List EncodedItem) (item : EncodedItem) (old : Parser) (g : SavedGlobals)
-    → prefix_of item ≡ PUSH → length old.globals.saved.items < 8 → HasStateAfter before old
-    → AreGlobals (item ∷ before) g
-    → (fault_of before item ≡ None) × HasStateAfter (item ∷ before) (record old { globals = g })
-stands_pushed before item old g h lt s a =
+pub stands_pushed : (limits : Limits) (before : List EncodedItem) (item : EncodedItem) (old : Parser) (g : SavedGlobals) → prefix_of item ≡ PUSH → length old.globals.saved.items < 8 → HasStateAfter before old → AreGlobals (item ∷ before) g → (fault_of limits before item ≡ None) × HasStateAfter (item ∷ before) (record old { globals = g })
+stands_pushed limits before item old g h lt s a =
     let n : length (open_pushes before) < 8 = omega (arith, depth_kept before old.globals s.globals_there) in (
-      push_accepted before item h n,
+      push_accepted limits before item h n,
       stands_global before item old (record old { globals = g }) (grind (arith, common_steps, nat_tests)) (grind (arith, common_steps, nat_tests)) (λ e. absurd (omega arith)) s a refl refl refl refl,
     )
 
-pop_accepted : (before : List EncodedItem) (item : EncodedItem) → prefix_of item ≡ POP → 0 < length (open_pushes before) → fault_of before item ≡ None
-pop_accepted before item h lt = grind (arith, common_steps, nat_tests)
+pop_accepted : (limits : Limits) (before : List EncodedItem) (item : EncodedItem) → prefix_of item ≡ POP → 0 < length (open_pushes before) → fault_of limits before item ≡ None
+pop_accepted limits before item h lt = grind (arith, common_steps, nat_tests)
 
-pub stands_popped : (before : List EncodedItem) (item : EncodedItem) (old : Parser) (g : SavedGlobals)
-    → prefix_of item ≡ POP → 0 < length (open_pushes before) → HasStateAfter before old → AreGlobals (item ∷ before) g
-    → (fault_of before item ≡ None) × HasStateAfter (item ∷ before) (record old { globals = g })
-stands_popped before item old g h lt s a = (
-  pop_accepted before item h lt,
+pub stands_popped : (limits : Limits) (before : List EncodedItem) (item : EncodedItem) (old : Parser) (g : SavedGlobals) → prefix_of item ≡ POP → 0 < length (open_pushes before) → HasStateAfter before old → AreGlobals (item ∷ before) g → (fault_of limits before item ≡ None) × HasStateAfter (item ∷ before) (record old { globals = g })
+stands_popped limits before item old g h lt s a = (
+  pop_accepted limits before item h lt,
   stands_global before item old (record old { globals = g }) (grind (arith, common_steps, nat_tests)) (grind (arith, common_steps, nat_tests)) (λ e. absurd (omega arith)) s a refl refl refl refl,
 )
 
 -- an item that does nothing
-pub stands_idle : (before : List EncodedItem) (item : EncodedItem) (old : Parser) → prefix_of item ≡ 0xFC
-    → HasStateAfter before old → (fault_of before item ≡ None) × HasStateAfter (item ∷ before) old
-stands_idle before item old h s = (
+pub stands_idle : (limits : Limits) (before : List EncodedItem) (item : EncodedItem) (old : Parser) → prefix_of item ≡ 0xFC → HasStateAfter before old → (fault_of limits before item ≡ None) × HasStateAfter (item ∷ before) old
+stands_idle limits before item old h s = (
   grind (arith, common_steps, nat_tests),
   stands_global before item old old (grind (arith, common_steps, nat_tests)) (grind (arith, common_steps, nat_tests)) (λ e. absurd (omega arith)) s
       (globals_set before item old.globals old.globals (λ e. absurd (omega arith)) (λ e. absurd (omega arith)) s.globals_there
@@ -132,16 +127,12 @@ stands_idle before item old h s = (
 pub other_no_main : (item : EncodedItem) → IsOtherPrefix (prefix_of item) → is_main item ≡ false
 other_no_main item o = grind (arith, common_steps, nat_tests, o.no_input, o.no_output, o.no_feature, o.no_collection, o.no_end)
 
-other_accepted : (before : List EncodedItem) (item : EncodedItem) → IsOtherPrefix (prefix_of item) → fault_of before item ≡ None
-other_accepted before item o = grind (arith, common_steps, nat_tests, o.no_input, o.no_output, o.no_feature, o.no_collection, o.no_end, o.no_push, o.no_pop, o.no_id, o.no_delimiter)
+other_accepted : (limits : Limits) (before : List EncodedItem) (item : EncodedItem) → IsOtherPrefix (prefix_of item) → fault_of limits before item ≡ None
+other_accepted limits before item o = grind (arith, common_steps, nat_tests, o.no_input, o.no_output, o.no_feature, o.no_collection, o.no_end, o.no_push, o.no_pop, o.no_id, o.no_delimiter)
 
-pub stands_other : (before : List EncodedItem) (item : EncodedItem) (old new : Parser)
-    → IsOtherPrefix (prefix_of item) → HasStateAfter before old → AreLocals (item ∷ before) new.locals
-    → new.globals.now ≡ globals_at (item ∷ before) → new.globals.saved.items ≡ old.globals.saved.items
-    → new.collections ≡ old.collections → new.fields ≡ old.fields → new.numbered ≡ old.numbered
-    → (fault_of before item ≡ None) × HasStateAfter (item ∷ before) new
-stands_other before item old new o s l g sv e2 e3 e4 = (
-  other_accepted before item o,
+pub stands_other : (limits : Limits) (before : List EncodedItem) (item : EncodedItem) (old new : Parser) → IsOtherPrefix (prefix_of item) → HasStateAfter before old → AreLocals (item ∷ before) new.locals → new.globals.now ≡ globals_at (item ∷ before) → new.globals.saved.items ≡ old.globals.saved.items → new.collections ≡ old.collections → new.fields ≡ old.fields → new.numbered ≡ old.numbered → (fault_of limits before item ≡ None) × HasStateAfter (item ∷ before) new
+stands_other limits before item old new o s l g sv e2 e3 e4 = (
+  other_accepted limits before item o,
   record {
     globals_there = globals_set before item old.globals new.globals o.no_push o.no_pop s.globals_there g sv;
     locals_there = l;
@@ -171,26 +162,19 @@ pub usage_no_main : (item : EncodedItem) → names_usage item ≡ true → is_ma
 usage_no_main item u = other_no_main item (usage_is_other item u)
 
 -- a Usage, a Usage Minimum or a Usage Maximum leaves all but the locals
-pub stands_usage : (before : List EncodedItem) (item : EncodedItem) (old new : Parser) → names_usage item ≡ true
-    → HasStateAfter before old → AreLocals (item ∷ before) new.locals → new.globals ≡ old.globals
-    → new.collections ≡ old.collections → new.fields ≡ old.fields → new.numbered ≡ old.numbered
-    → (fault_of before item ≡ None) × HasStateAfter (item ∷ before) new
-stands_usage before item old new u s l e1 e2 e3 e4 =
+pub stands_usage : (limits : Limits) (before : List EncodedItem) (item : EncodedItem) (old new : Parser) → names_usage item ≡ true → HasStateAfter before old → AreLocals (item ∷ before) new.locals → new.globals ≡ old.globals → new.collections ≡ old.collections → new.fields ≡ old.fields → new.numbered ≡ old.numbered → (fault_of limits before item ≡ None) × HasStateAfter (item ∷ before) new
+stands_usage limits before item old new u s l e1 e2 e3 e4 =
     let kept : globals_at (item ∷ before) ≡ globals_at before = globals_at_kept before item (usage_is_not item PUSH refl u) (usage_is_not item POP refl u) (usage_is_not item USAGE_PAGE refl u) (usage_is_not item LOGICAL_MINIMUM refl u) (usage_is_not item LOGICAL_MAXIMUM refl u) (usage_is_not item REPORT_SIZE refl u) (usage_is_not item REPORT_COUNT refl u) (usage_is_not item REPORT_ID refl u) in
-    stands_other before item old new (usage_is_other item u) s l (ap (λ g. g.now) e1 ∙ s.globals_there.in_force_now ∙ sym kept) (ap (λ g. g.saved.items) e1) e2 e3 e4
+    stands_other limits before item old new (usage_is_other item u) s l (ap (λ g. g.now) e1 ∙ s.globals_there.in_force_now ∙ sym kept) (ap (λ g. g.saved.items) e1) e2 e3 e4
 
 -- a Report ID that isn't refused
-id_accepted : (before : List EncodedItem) (item : EncodedItem) → prefix_of item ≡ REPORT_ID → 0 < unsigned_of (data_of item) → unsigned_of (data_of item) ≤ 255 → fault_of before item ≡ None
-id_accepted before item h a b = grind (arith, common_steps, nat_tests)
+id_accepted : (limits : Limits) (before : List EncodedItem) (item : EncodedItem) → prefix_of item ≡ REPORT_ID → 0 < unsigned_of (data_of item) → unsigned_of (data_of item) ≤ 255 → fault_of limits before item ≡ None
+id_accepted limits before item h a b = grind (arith, common_steps, nat_tests)
 
-pub stands_id : (before : List EncodedItem) (item : EncodedItem) (old new : Parser) → prefix_of item ≡ REPORT_ID
-    → 0 < unsigned_of (data_of item) → unsigned_of (data_of item) ≤ 255 → HasStateAfter before old
-    → new.globals.now ≡ globals_at (item ∷ before) → new.globals.saved.items ≡ old.globals.saved.items
-    → new.locals ≡ old.locals → new.collections ≡ old.collections → new.fields ≡ old.fields → new.numbered ≡ true
-    → (fault_of before item ≡ None) × HasStateAfter (item ∷ before) new
-stands_id before item old new h a b s g sv e1 e2 e3 e4 =
+pub stands_id : (limits : Limits) (before : List EncodedItem) (item : EncodedItem) (old new : Parser) → prefix_of item ≡ REPORT_ID → 0 < unsigned_of (data_of item) → unsigned_of (data_of item) ≤ 255 → HasStateAfter before old → new.globals.now ≡ globals_at (item ∷ before) → new.globals.saved.items ≡ old.globals.saved.items → new.locals ≡ old.locals → new.collections ≡ old.collections → new.fields ≡ old.fields → new.numbered ≡ true → (fault_of limits before item ≡ None) × HasStateAfter (item ∷ before) new
+stands_id limits before item old new h a b s g sv e1 e2 e3 e4 =
     let m : is_main item ≡ false = grind (arith, common_steps, nat_tests) in (
-      id_accepted before item h a b,
+      id_accepted limits before item h a b,
       record {
         globals_there = globals_set before item old.globals new.globals (λ e. absurd (omega arith)) (λ e. absurd (omega arith)) s.globals_there g sv;
         locals_there = subst (AreLocals (item ∷ before)) (sym e1) (locals_kept before item old.locals m (grind (arith, common_steps, nat_tests)) s.locals_there);
@@ -206,11 +190,11 @@ globals_main before item old m g =
     globals_set before item old old (main_not item PUSH refl m) (main_not item POP refl m) g
     (g.in_force_now ∙ sym (globals_at_kept before item (main_not item PUSH refl m) (main_not item POP refl m) (main_not item USAGE_PAGE refl m) (main_not item LOGICAL_MINIMUM refl m) (main_not item LOGICAL_MAXIMUM refl m) (main_not item REPORT_SIZE refl m) (main_not item REPORT_COUNT refl m) (main_not item REPORT_ID refl m))) refl
 
-collection_accepted : (before : List EncodedItem) (item : EncodedItem) → prefix_of item ≡ COLLECTION → length (path before) < 16 → fault_of before item ≡ None
-collection_accepted before item h lt = grind (arith, common_steps, nat_tests)
+collection_accepted : (limits : Limits) (before : List EncodedItem) (item : EncodedItem) → prefix_of item ≡ COLLECTION → length (path before) < 16 → fault_of limits before item ≡ None
+collection_accepted limits before item h lt = grind (arith, common_steps, nat_tests)
 
-end_accepted : (before : List EncodedItem) (item : EncodedItem) → prefix_of item ≡ END_COLLECTION → 0 < length (path before) → fault_of before item ≡ None
-end_accepted before item h lt = grind (arith, common_steps, nat_tests)
+end_accepted : (limits : Limits) (before : List EncodedItem) (item : EncodedItem) → prefix_of item ≡ END_COLLECTION → 0 < length (path before) → fault_of limits before item ≡ None
+end_accepted limits before item h lt = grind (arith, common_steps, nat_tests)
 
 -- a Collection or an End Collection ends the locals, and leaves globals and fields
 pub stands_main : (before : List EncodedItem) (item : EncodedItem) (old new : Parser) → is_main item ≡ true
@@ -225,21 +209,13 @@ stands_main before item old new m f s e1 l p e3 e4 = record {
   numbered_there = e4 ∙ s.numbered_there ∙ sym (numbered_kept before item (main_not item REPORT_ID refl m));
 }
 
-pub stands_collection : (before : List EncodedItem) (item : EncodedItem) (old new : Parser)
-    → prefix_of item ≡ COLLECTION → length old.collections.open.items < 16 → HasStateAfter before old
-    → new.globals ≡ old.globals → AreLocals (item ∷ before) new.locals
-    → new.collections.open.items ≡ path (item ∷ before) → new.fields ≡ old.fields → new.numbered ≡ old.numbered
-    → (fault_of before item ≡ None) × HasStateAfter (item ∷ before) new
-stands_collection before item old new h lt s e1 l p e3 e4 =
-    (collection_accepted before item h (omega (arith, ap length s.path_there)), stands_main before item old new (rw h refl) (rw h refl) s e1 l p e3 e4)
+pub stands_collection : (limits : Limits) (before : List EncodedItem) (item : EncodedItem) (old new : Parser) → prefix_of item ≡ COLLECTION → length old.collections.open.items < 16 → HasStateAfter before old → new.globals ≡ old.globals → AreLocals (item ∷ before) new.locals → new.collections.open.items ≡ path (item ∷ before) → new.fields ≡ old.fields → new.numbered ≡ old.numbered → (fault_of limits before item ≡ None) × HasStateAfter (item ∷ before) new
+stands_collection limits before item old new h lt s e1 l p e3 e4 =
+    (collection_accepted limits before item h (omega (arith, ap length s.path_there)), stands_main before item old new (rw h refl) (rw h refl) s e1 l p e3 e4)
 
-pub stands_end : (before : List EncodedItem) (item : EncodedItem) (old new : Parser) → prefix_of item ≡ END_COLLECTION
-    → 0 < length old.collections.open.items → HasStateAfter before old → new.globals ≡ old.globals
-    → AreLocals (item ∷ before) new.locals → new.collections.open.items ≡ path (item ∷ before)
-    → new.fields ≡ old.fields → new.numbered ≡ old.numbered
-    → (fault_of before item ≡ None) × HasStateAfter (item ∷ before) new
-stands_end before item old new h lt s e1 l p e3 e4 =
-    (end_accepted before item h (omega (arith, ap length s.path_there)), stands_main before item old new (rw h refl) (rw h refl) s e1 l p e3 e4)
+pub stands_end : (limits : Limits) (before : List EncodedItem) (item : EncodedItem) (old new : Parser) → prefix_of item ≡ END_COLLECTION → 0 < length old.collections.open.items → HasStateAfter before old → new.globals ≡ old.globals → AreLocals (item ∷ before) new.locals → new.collections.open.items ≡ path (item ∷ before) → new.fields ≡ old.fields → new.numbered ≡ old.numbered → (fault_of limits before item ≡ None) × HasStateAfter (item ∷ before) new
+stands_end limits before item old new h lt s e1 l p e3 e4 =
+    (end_accepted limits before item h (omega (arith, ap length s.path_there)), stands_main before item old new (rw h refl) (rw h refl) s e1 l p e3 e4)
 
 -- the usages kept, on the page in force, are the entries of a main item that comes now
 pub usages_there : (before : List EncodedItem) (p : Parser) → HasStateAfter before p

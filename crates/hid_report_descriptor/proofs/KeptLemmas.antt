@@ -7,6 +7,8 @@ use Rattle.std.proofs.lemmas.Bool.Decides.{nat_tests}
 use Rattle.std.proofs.lemmas.List.{map-append, length-map}
 use Rattle.std.proofs.lemmas.List.Sums.{sum_by-append}
 use Rattle.std.proofs.lemmas.List.Folds.{list_any-append}
+use Rattle.hid_report_descriptor.specs.Limits.{most_elements}
+use Rattle.hid_report_descriptor.specs.declared.limits.Limits.{Limits}
 use Rattle.hid_report_descriptor.specs.declared.field.KeptField.{KeptField}
 use Rattle.hid_report_descriptor.specs.declared.field_list.KeptFields.{KeptFields}
 use Rattle.hid_report_descriptor.specs.Fields.{Field, is_padding, bits_of, report_bits}
@@ -133,17 +135,16 @@ id_there fs kind id old k small some =
     by_case false false h false e = absurd (cc)
 
 -- the elements of a field that is not too long
-pub few_elements : (f : KeptField) → f.size * f.count ≢ 0 → f.offset + f.size * f.count ≤ 2048 → cond (is_padding f.shape) 0 f.count ≤ 2048
+pub few_elements : (f : KeptField) → f.size * f.count ≢ 0 → f.offset + f.size * f.count ≤ 131072 → cond (is_padding f.shape) 0 f.count ≤ 131072
 few_elements f some short = by_case f.size f.count (is_padding f.shape) some (omega (arith, short))
   where
-    by_case : (size count : ℕ) (b : Bool) → size * count ≢ 0 → size * count ≤ 2048 → cond b 0 count ≤ 2048
+    by_case : (size count : ℕ) (b : Bool) → size * count ≢ 0 → size * count ≤ 131072 → cond b 0 count ≤ 131072
     by_case size count true some short = omega arith
     by_case zero count false some short = absurd (some (omega arith))
     by_case (suc size) count false some short = omega (arith, short)
 
-placed_more : (heads : List KeptField) (f : KeptField) → AreFieldsPlaced heads → f.offset + f.size * f.count ≤ 2048
-    → AreFieldsPlaced (heads ++ f ∷ [])
-placed_more [] f w h zero g e = let same : f ≡ g = some_is f g e in subst (λ (x : KeptField). x.offset + x.size * x.count ≤ 2048) same h
+placed_more : (heads : List KeptField) (f : KeptField) → AreFieldsPlaced heads → f.offset + f.size * f.count ≤ 131072 → AreFieldsPlaced (heads ++ f ∷ [])
+placed_more [] f w h zero g e = let same : f ≡ g = some_is f g e in subst (λ (x : KeptField). x.offset + x.size * x.count ≤ 131072) same h
 placed_more [] f w h (suc i) g e = absurd (cc)
 placed_more (x ∷ xs) f w h zero g e = w zero g e
 placed_more (x ∷ xs) f w h (suc i) g e = placed_more xs f (λ k a b. w (suc k) a b) h i g e
@@ -183,7 +184,7 @@ ids_told id other old new there o n = by_case (nat_eq id other) refl
     by_case false e = n ∙ ap (λ x. x || (not (nat_eq id 0) && nat_eq id other)) o ∙ rw e (none (nat_eq other 0) (nat_eq id 0))
 
 -- one more field with its usages and its collections
-pub kept_more : (fs : List Field) (f : KeptField) (es : List Entry) (path : List Collection) (old new : KeptFields) → AreKept fs old → f.size * f.count ≢ 0 → f.id < 256 → f.offset + f.size * f.count ≤ 2048
+pub kept_more : (fs : List Field) (f : KeptField) (es : List Entry) (path : List Collection) (old new : KeptFields) → AreKept fs old → f.size * f.count ≢ 0 → f.id < 256 → f.offset + f.size * f.count ≤ 131072
     → new.list.items ≡ old.list.items ++ f ∷ [] → new.lists ≡ lists_with old.lists es path
     → new.reports.list.items ≡ with_bits f.kind f.id (f.size * f.count) old.reports.list.items
     → new.elements ≡ old.elements + cond (is_padding f.shape) 0 f.count → new.ids.list.items ≡ with_id f.id old.ids.list.items → AreKept (fs ++ whole_field f es path ∷ []) new
@@ -231,16 +232,16 @@ kept_none new l ls r n i = record {
     by_case false = refl
 
 -- the limits, by what is kept
-pub too_many_kept : (fs : List Field) (kept : KeptFields) → AreKept fs kept → length kept.list.items ≤ 512 → are_too_many fs ≡ (nat_lt 4096 kept.elements || nat_lt 64 (length kept.ids.list.items))
+pub too_many_kept : (limits : Limits) (fs : List Field) (kept : KeptFields) → AreKept fs kept → length kept.list.items ≤ 512 → are_too_many limits fs ≡ (nat_lt (most_elements limits) kept.elements || nat_lt 64 (length kept.ids.list.items))
 unfolding are_too_many
-too_many_kept fs kept k few =
+too_many_kept limits fs kept k few =
     let n : length fs ≡ length kept.list.items = sym (ap length k.heads ∙ length-map fs kept_field_of) in
     let b : nat_lt 512 (length fs) ≡ false = grind (arith, nat_tests) in
-    rw b (ap (λ m. nat_lt 4096 m || nat_lt 64 (length (report_ids fs))) (sym k.elements) ∙ ap (λ m. nat_lt 4096 kept.elements || nat_lt 64 m) (sym k.id_count))
+    rw b (ap (λ m. nat_lt (most_elements limits) m || nat_lt 64 (length (report_ids fs))) (sym k.elements) ∙ ap (λ m. nat_lt (most_elements limits) kept.elements || nat_lt 64 m) (sym k.id_count))
 
-pub too_many_there : (fs : List Field) (field : Field) (kept : KeptFields) → AreKept fs kept → 512 ≤ length kept.list.items → are_too_many (fs ++ field ∷ []) ≡ true
+pub too_many_there : (limits : Limits) (fs : List Field) (field : Field) (kept : KeptFields) → AreKept fs kept → 512 ≤ length kept.list.items → are_too_many limits (fs ++ field ∷ []) ≡ true
 unfolding are_too_many
-too_many_there fs field kept k h =
+too_many_there limits fs field kept k h =
     let n : length fs ≡ length kept.list.items = sym (ap length k.heads ∙ length-map fs kept_field_of) in
     let b : nat_lt 512 (length (fs ++ field ∷ [])) ≡ true = grind (arith, common_steps, nat_tests, length-append) in
     rw b refl

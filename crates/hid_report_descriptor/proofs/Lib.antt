@@ -23,3 +23,5 @@ pub mod ListedLemmas
 pub mod ReportIdLemmas
 pub mod StartLemmas
 pub mod ItemListLemmas
+pub mod WiderLimits
+pub mod LongReportLemmas

@@ -2,6 +2,7 @@
 use Rattle.std.proofs.Common.{◌≡◌, ◌%◌, ◌^◌, ◌<◌, Bool, true, List, ◌∷◌, length, refl, sym, ◌∙◌, ap, subst, nat_eq, Option, Some, None, Result, Ok, Err}
 use Rattle.std.proofs.lemmas.List.{length-map}
 use Rattle.hid_items.specs.ItemEncoding.{data_of, unsigned_of}
+use Rattle.hid_report_descriptor.specs.declared.limits.Limits.{Limits}
 use Rattle.hid_report_descriptor.specs.declared.fault.Cause.{Cause}
 use Rattle.hid_report_descriptor.specs.declared.fault.Cause.TheVariants.{Memory}
 use Rattle.hid_report_descriptor.specs.declared.field.KeptField.{KeptField}
@@ -47,7 +48,7 @@ field_there before item p head es s kind k small e d =
     let min : head.min ≡ logical_minimum before = d.min ∙ ap (λ g. g.minimum) g in
     let max : head.max ≡ logical_maximum before = d.max ∙ ap maximum_of g in
     let flags : head.flags.0 ≡ unsigned_of (data_of item) % 2 ^ 9 = d.flags in
-    let shape : head.shape ≡ shape_of head.flags.0 head.count es = d.shape in
+    let shape : head.shape ≡ shape_of head.flags.0 head.size head.count es = d.shape in
     let offset : head.offset ≡ report_bits head.kind head.id (fields before) =
     d.offset ∙ ap (λ x. bits_in_report x p.globals.now.id p.fields.reports.list.items) (sym d.same_kind)
     ∙ ap (λ n. bits_in_report head.kind n p.fields.reports.list.items) (sym d.id)
@@ -64,67 +65,55 @@ paired_there before old s =
     cc
 
 -- the fault of a field item by what stands at it
-fault_by : (before : List EncodedItem) (item : EncodedItem) (field : Field) (limits : Option Cause) → is_field item ≡ true → field ≡ field_of (fields before) before item → first_met (checked_values field (are_paired before) (entries before)) ≡ None → first_met (limit_tests (list_field (fields before) field) field) ≡ limits → fault_of before item ≡ limits
+fault_by : (l : Limits) (before : List EncodedItem) (item : EncodedItem) (field : Field) (told : Option Cause) → is_field item ≡ true → field ≡ field_of (fields before) before item → first_met (checked_values l field (are_paired before) (entries before)) ≡ None → first_met (limit_tests l (list_field (fields before) field) field) ≡ told → fault_of l before item ≡ told
 unfolding field_fault
-fault_by before item field limits i d n l =
-    rw i (ap (λ (f : Field). first_met (field_tests (fields before) before f)) (sym d) ∙ met_behind (checked_values field (are_paired before) (entries before)) (limit_tests (list_field (fields before) field) field) n ∙ l)
+fault_by l before item field told i d n k =
+    rw i (ap (λ (f : Field). first_met (field_tests l (fields before) before f)) (sym d) ∙ met_behind (checked_values l field (are_paired before) (entries before)) (limit_tests l (list_field (fields before) field) field) n ∙ k)
 
-refused_by_values : (before : List EncodedItem) (item : EncodedItem) (field : Field) (cause : Cause) → is_field item ≡ true → field ≡ field_of (fields before) before item → first_met (checked_values field (are_paired before) (entries before)) ≡ Some cause → fault_of before item ≡ Some cause
+refused_by_values : (l : Limits) (before : List EncodedItem) (item : EncodedItem) (field : Field) (cause : Cause) → is_field item ≡ true → field ≡ field_of (fields before) before item → first_met (checked_values l field (are_paired before) (entries before)) ≡ Some cause → fault_of l before item ≡ Some cause
 unfolding field_fault
-refused_by_values before item field cause i d n = rw i (ap (λ (f : Field). first_met (field_tests (fields before) before f)) (sym d) ∙ met_before (checked_values field (are_paired before) (entries before)) (limit_tests (list_field (fields before) field) field) cause n)
+refused_by_values l before item field cause i d n = rw i (ap (λ (f : Field). first_met (field_tests l (fields before) before f)) (sym d) ∙ met_before (checked_values l field (are_paired before) (entries before)) (limit_tests l (list_field (fields before) field) field) cause n)
 
-took_refused : (before : List EncodedItem) (item : EncodedItem) (cause : Cause) (parser : Parser)
-    → fault_of before item ≡ Some cause → StepGives before item (Err cause) parser
-took_refused before item Memory parser f = tt
-took_refused before item cause parser f = f
+took_refused : (l : Limits) (before : List EncodedItem) (item : EncodedItem) (cause : Cause) (parser : Parser) → fault_of l before item ≡ Some cause → StepGives l before item (Err cause) parser
+took_refused l before item Memory parser f = tt
+took_refused l before item cause parser f = f
 
 fields_more : (before : List EncodedItem) (item : EncodedItem) → is_field item ≡ true → fields (item ∷ before) ≡ list_field (fields before) (field_of (fields before) before item)
 unfolding add_field
 fields_more before item i = rw i refl
 
-checked_there : (before : List EncodedItem) (field : Field) (es : List Entry) (paired : Bool) (told : Option Cause) → es ≡ entries before → paired ≡ are_paired before → first_met (checked_values field paired es) ≡ told → first_met (checked_values field (are_paired before) (entries before)) ≡ told
-checked_there before field es paired told e q n = ap (λ u. first_met (checked_values field (are_paired before) u)) (sym e) ∙ ap (λ b. first_met (checked_values field b es)) (sym q) ∙ n
+checked_there : (l : Limits) (before : List EncodedItem) (field : Field) (es : List Entry) (paired : Bool) (told : Option Cause) → es ≡ entries before → paired ≡ are_paired before → first_met (checked_values l field paired es) ≡ told → first_met (checked_values l field (are_paired before) (entries before)) ≡ told
+checked_there l before field es paired told e q n = ap (λ u. first_met (checked_values l field (are_paired before) u)) (sym e) ∙ ap (λ b. first_met (checked_values l field b es)) (sym q) ∙ n
 
 -- a field item whose values are wrong
-pub field_refused : (before : List EncodedItem) (item : EncodedItem) (field : Field) (es : List Entry) (paired : Bool)
-    (cause : Cause) (new : Parser) → is_field item ≡ true → field ≡ field_of (fields before) before item
-    → es ≡ entries before → paired ≡ are_paired before → first_met (checked_values field paired es) ≡ Some cause
-    → StepGives before item (Err cause) new
-field_refused before item field es paired cause new i d e q n = took_refused before item cause new (refused_by_values before item field cause i d (checked_there before field es paired (Some cause) e q n))
+pub field_refused : (l : Limits) (before : List EncodedItem) (item : EncodedItem) (field : Field) (es : List Entry) (paired : Bool) (cause : Cause) (new : Parser) → is_field item ≡ true → field ≡ field_of (fields before) before item → es ≡ entries before → paired ≡ are_paired before → first_met (checked_values l field paired es) ≡ Some cause → StepGives l before item (Err cause) new
+field_refused l before item field es paired cause new i d e q n = took_refused l before item cause new (refused_by_values l before item field cause i d (checked_there l before field es paired (Some cause) e q n))
 
 -- a field item that a limit refuses
-pub field_limited : (before : List EncodedItem) (item : EncodedItem) (field : Field) (es : List Entry) (paired : Bool) (cause : Cause) (kept : KeptFields) (new : Parser) → is_field item ≡ true → field ≡ field_of (fields before) before item → es ≡ entries before → paired ≡ are_paired before → first_met (checked_values field paired es) ≡ None
-    → AddsField (fields before) field (Err cause) kept → StepGives before item (Err cause) new
-field_limited before item field es paired Memory kept new i d e q n l = tt
-field_limited before item field es paired cause kept new i d e q n l = fault_by before item field (Some cause) i d (checked_there before field es paired None e q n) l
+pub field_limited : (l : Limits) (before : List EncodedItem) (item : EncodedItem) (field : Field) (es : List Entry) (paired : Bool) (cause : Cause) (kept : KeptFields) (new : Parser) → is_field item ≡ true → field ≡ field_of (fields before) before item → es ≡ entries before → paired ≡ are_paired before → first_met (checked_values l field paired es) ≡ None
+    → AddsField l (fields before) field (Err cause) kept → StepGives l before item (Err cause) new
+field_limited l before item field es paired Memory kept new i d e q n k = tt
+field_limited l before item field es paired cause kept new i d e q n k = fault_by l before item field (Some cause) i d (checked_there l before field es paired None e q n) k
 
 -- a field item that is taken
-pub field_taken : (before : List EncodedItem) (item : EncodedItem) (field : Field) (es : List Entry) (paired : Bool)
-    (old new : Parser) → is_field item ≡ true → HasStateAfter before old
-    → field ≡ field_of (fields before) before item → es ≡ entries before → paired ≡ are_paired before
-    → first_met (checked_values field paired es) ≡ None
-    → AreKept (list_field (fields before) field) new.fields × (first_met (limit_tests (list_field (fields before) field) field) ≡ None) → new.globals ≡ old.globals → new.collections ≡ old.collections → new.numbered ≡ old.numbered → AreLocals (item ∷ before) new.locals
-    → (fault_of before item ≡ None) × HasStateAfter (item ∷ before) new
-field_taken before item field es paired old new i s d e q n l g p m locals = (
-  fault_by before item field None i d (checked_there before field es paired None e q n) l.1,
+pub field_taken : (l : Limits) (before : List EncodedItem) (item : EncodedItem) (field : Field) (es : List Entry) (paired : Bool) (old new : Parser) → is_field item ≡ true → HasStateAfter before old → field ≡ field_of (fields before) before item → es ≡ entries before → paired ≡ are_paired before → first_met (checked_values l field paired es) ≡ None
+    → AreKept (list_field (fields before) field) new.fields × (first_met (limit_tests l (list_field (fields before) field) field) ≡ None) → new.globals ≡ old.globals → new.collections ≡ old.collections → new.numbered ≡ old.numbered → AreLocals (item ∷ before) new.locals
+    → (fault_of l before item ≡ None) × HasStateAfter (item ∷ before) new
+field_taken l before item field es paired old new i s d e q n k g p m locals = (
+  fault_by l before item field None i d (checked_there l before field es paired None e q n) k.1,
   record {
     globals_there = subst (AreGlobals (item ∷ before)) (sym g) (globals_main before item old.globals (field_is_main item i) s.globals_there);
     locals_there = locals;
     path_there = ap (λ x. x.open.items) p ∙ s.path_there ∙ sym (field_path_kept before item i);
-    fields_there = subst (λ fs. AreKept fs new.fields) (ap (list_field (fields before)) d ∙ sym (fields_more before item i)) l.0;
+    fields_there = subst (λ fs. AreKept fs new.fields) (ap (list_field (fields before)) d ∙ sym (fields_more before item i)) k.0;
     numbered_there = m ∙ s.numbered_there ∙ sym (field_no_id before item i);
   },
 )
 
 -- a field item whose values are right, as listing it tells
-pub field_told : (before : List EncodedItem) (item : EncodedItem) (field : Field) (es : List Entry) (paired : Bool)
-    (old mid new : Parser) (r : Result Unit Cause) → is_field item ≡ true → HasStateAfter before old
-    → field ≡ field_of (fields before) before item → es ≡ entries before → paired ≡ are_paired before
-    → first_met (checked_values field paired es) ≡ None
-    → AddsField (fields before) field r new.fields → new ≡ record mid { fields = new.fields }
-    → mid.globals ≡ old.globals → mid.collections ≡ old.collections → mid.numbered ≡ old.numbered
-    → AreLocals (item ∷ before) mid.locals → StepGives before item r new
-field_told before item field es paired old mid new (Ok done) i s d e q n l o g p m locals =
-    field_taken before item field es paired old new i s d e q n l (ap (λ (x : Parser). x.globals) o ∙ g) (ap (λ (x : Parser). x.collections) o ∙ p) (ap (λ (x : Parser). x.numbered) o ∙ m) (subst (AreLocals (item ∷ before)) (sym (ap (λ (x : Parser). x.locals) o)) locals)
-field_told before item field es paired old mid new (Err Memory) i s d e q n l o g p m locals = tt
-field_told before item field es paired old mid new (Err cause) i s d e q n l o g p m locals = field_limited before item field es paired cause new.fields new i d e q n l
+pub field_told : (l : Limits) (before : List EncodedItem) (item : EncodedItem) (field : Field) (es : List Entry) (paired : Bool) (old mid new : Parser) (r : Result Unit Cause) → is_field item ≡ true → HasStateAfter before old → field ≡ field_of (fields before) before item → es ≡ entries before → paired ≡ are_paired before → first_met (checked_values l field paired es) ≡ None
+    → AddsField l (fields before) field r new.fields → new ≡ record mid { fields = new.fields } → mid.globals ≡ old.globals → mid.collections ≡ old.collections → mid.numbered ≡ old.numbered → AreLocals (item ∷ before) mid.locals → StepGives l before item r new
+field_told l before item field es paired old mid new (Ok done) i s d e q n k o g p m locals =
+    field_taken l before item field es paired old new i s d e q n k (ap (λ (x : Parser). x.globals) o ∙ g) (ap (λ (x : Parser). x.collections) o ∙ p) (ap (λ (x : Parser). x.numbered) o ∙ m) (subst (AreLocals (item ∷ before)) (sym (ap (λ (x : Parser). x.locals) o)) locals)
+field_told l before item field es paired old mid new (Err Memory) i s d e q n k o g p m locals = tt
+field_told l before item field es paired old mid new (Err cause) i s d e q n k o g p m locals = field_limited l before item field es paired cause new.fields new i d e q n k

@@ -4,7 +4,9 @@ use Rattle.std.specs.Prelude.{◌≡◌, ℕ, zero, suc, ◌+◌, ◌-◌, ◌*�
 use Rattle.std.specs.List.{list_any}
 use Rattle.std.specs.Option.{option_map}
 use Rattle.hid_items.specs.ItemEncoding.{data_of, unsigned_of, IsItemEncoding, AreItems, IsCut}
-use Rattle.hid_report_descriptor.specs.declared.limits.TheConstants.{MAX_DESCRIPTOR, MAX_ITEMS, MAX_ELEMENTS, MAX_ENTRIES, MAX_OPEN_PUSHES, MAX_OPEN_COLLECTIONS, MAX_REPORT_IDS, MAX_REPORT_BYTES, MAX_WIDTH}
+use Rattle.hid_report_descriptor.specs.declared.limits.TheConstants.{MAX_DESCRIPTOR, MAX_ITEMS, MAX_ENTRIES, MAX_OPEN_PUSHES, MAX_OPEN_COLLECTIONS, MAX_REPORT_IDS, MAX_WIDTH}
+use Rattle.hid_report_descriptor.specs.declared.limits.Limits.{Limits}
+use Rattle.hid_report_descriptor.specs.Limits.{longest_report, most_elements, widest_field}
 use Rattle.hid_report_descriptor.specs.declared.fault.Cause.{Cause}
 use Rattle.hid_report_descriptor.specs.declared.fault.Cause.TheVariants.{Truncated, TooLong, PopEmpty, PushDepth, CollectionDepth, EndWithout, Unclosed, BadReportId, MixedReportId, BadRange, BadSize, BadUsageRange, UnpairedUsage, Delimiter, ReportTooLong, TooMany, Memory}
 use Rattle.hid_report_descriptor.specs.Items.{EncodedItem, is, is_field, PUSH, POP, REPORT_ID, DELIMITER, COLLECTION, END_COLLECTION}
@@ -55,46 +57,46 @@ abbrev pub element_count : List Field → ℕ
 element_count fs = sum_by (λ field. if is_padding field.shape then 0 else field.count) fs
 
 -- the fields are more than the limits allow
-unfoldable pub are_too_many : List Field → Bool
-are_too_many fs =
+unfoldable pub are_too_many : Limits → List Field → Bool
+are_too_many limits fs =
     nat_lt MAX_ITEMS (length fs)
-    || (nat_lt MAX_ELEMENTS (element_count fs) || nat_lt MAX_REPORT_IDS (length (report_ids fs)))
+    || (nat_lt (most_elements limits) (element_count fs) || nat_lt MAX_REPORT_IDS (length (report_ids fs)))
 
 -- the most bits of a report after its ID, which takes a byte where it isn't 0
-abbrev pub report_limit : ℕ → ℕ
-report_limit id = if id == 0 then 8 * MAX_REPORT_BYTES else 8 * (MAX_REPORT_BYTES - 1)
+abbrev pub report_limit : Limits → ℕ → ℕ
+report_limit limits id = if id == 0 then 8 * longest_report limits else 8 * (longest_report limits - 1)
 
 -- what is wrong with the usages, the range and the size of an item that is neither Constant nor without elements
-abbrev pub value_tests : Field → Bool → List Entry → List (Bool × Cause)
-value_tests field paired es =
+abbrev pub value_tests : Limits → Field → Bool → List Entry → List (Bool × Cause)
+value_tests limits field paired es =
     let used = not (length es == 0) in
     (not paired, UnpairedUsage)
     ∷ (not (are_ranges es), BadUsageRange)
-    ∷ (used && ((field.size == 0) || nat_lt MAX_WIDTH field.size), BadSize)
-    ∷ (used && not (has_value field.min field.max field.size), BadRange)
+    ∷ (used && ((field.size == 0) || nat_lt (widest_field limits) field.size), BadSize)
+    ∷ (used && (nat_le field.size MAX_WIDTH && not (has_value field.min field.max field.size)), BadRange)
     ∷ []
 
 -- what is wrong with the values of an item, with no test if it is Constant or has no elements
-abbrev pub checked_values : Field → Bool → List Entry → List (Bool × Cause)
-checked_values field paired es =
-    if has_flag CONSTANT field.flags || (field.count == 0) then [] else value_tests field paired es
+abbrev pub checked_values : Limits → Field → Bool → List Entry → List (Bool × Cause)
+checked_values limits field paired es =
+    if has_flag CONSTANT field.flags || (field.count == 0) then [] else value_tests limits field paired es
 
 -- what is wrong with an item whatever its values are, once the fields are these
-abbrev pub limit_tests : List Field → Field → List (Bool × Cause)
-limit_tests fs field =
-    (nat_lt (report_limit field.id) (report_bits field.kind field.id fs), ReportTooLong)
-    ∷ (are_too_many fs || nat_lt MAX_ENTRIES (length field.entries), TooMany)
+abbrev pub limit_tests : Limits → List Field → Field → List (Bool × Cause)
+limit_tests limits fs field =
+    (nat_lt (report_limit limits field.id) (report_bits field.kind field.id fs), ReportTooLong)
+    ∷ (are_too_many limits fs || nat_lt MAX_ENTRIES (length field.entries), TooMany)
     ∷ []
 
 -- all tests of a field, in the order in which a cause is reported
-abbrev pub field_tests : List Field → List EncodedItem → Field → List (Bool × Cause)
-field_tests earlier before field =
-    checked_values field (are_paired before) (entries before) ++ limit_tests (list_field earlier field) field
+abbrev pub field_tests : Limits → List Field → List EncodedItem → Field → List (Bool × Cause)
+field_tests limits earlier before field =
+    checked_values limits field (are_paired before) (entries before) ++ limit_tests limits (list_field earlier field) field
 
 -- the cause for which an Input, Output or Feature item is refused after the items before it
-unfoldable pub field_fault : List EncodedItem → EncodedItem → Option Cause
-field_fault before item =
-    first_met (field_tests (fields before) before (field_of (fields before) before item))
+unfoldable pub field_fault : Limits → List EncodedItem → EncodedItem → Option Cause
+field_fault limits before item =
+    first_met (field_tests limits (fields before) before (field_of (fields before) before item))
 
 -- the cause for which another item is refused
 abbrev pub other_fault : List EncodedItem → EncodedItem → Option Cause
@@ -108,61 +110,61 @@ other_fault before item = first_met (
     ∷ [])
 
 -- the cause for which an item is refused
-abbrev pub fault_of : List EncodedItem → EncodedItem → Option Cause
-fault_of before item = if is_field item then field_fault before item else other_fault before item
+abbrev pub fault_of : Limits → List EncodedItem → EncodedItem → Option Cause
+fault_of limits before item = if is_field item then field_fault limits before item else other_fault before item
 
 -- no item of these (the last one first) is refused
-abbrev pub AreAccepted : List EncodedItem → Type 0
-AreAccepted [] = Unit {0}
-AreAccepted (item ∷ before) = AreAccepted before × (fault_of before item ≡ None)
+abbrev pub AreAccepted : Limits → List EncodedItem → Type 0
+AreAccepted limits [] = Unit {0}
+AreAccepted limits (item ∷ before) = AreAccepted limits before × (fault_of limits before item ≡ None)
 
 -- some field has no ID, though some item sets one
 abbrev pub is_mixed : List EncodedItem → Bool
 is_mixed before = list_any (is REPORT_ID) before && list_any (λ field. field.id == 0) (fields before)
 
 -- a descriptor that isn't too long begins with these items (the last one first), which take `at` bytes and are accepted
-pub record Reaches (bytes : List ℕ) (at : ℕ) (before : List EncodedItem) : Type 0 where
+pub record Reaches (limits : Limits) (bytes : List ℕ) (at : ℕ) (before : List EncodedItem) : Type 0 where
   pub short : length bytes ≤ MAX_DESCRIPTOR
   pub within : at ≤ length bytes
   pub items : AreItems (take at bytes) (reverse before)
-  pub accepted : AreAccepted before
+  pub accepted : AreAccepted limits before
 
 -- the item after these is refused for this cause, at this place of the descriptor
-pub record IsRefused (bytes : List ℕ) (cause : Cause) (at : ℕ) (before : List EncodedItem) (item : EncodedItem) : Type 0 where
-  pub reaches : Reaches bytes at before
+pub record IsRefused (limits : Limits) (bytes : List ℕ) (cause : Cause) (at : ℕ) (before : List EncodedItem) (item : EncodedItem) : Type 0 where
+  pub reaches : Reaches limits bytes at before
   pub encoded : IsItemEncoding item
   pub next : (more : List ℕ) × (drop at bytes ≡ item ++ more)
-  pub fault : fault_of before item ≡ Some cause
+  pub fault : fault_of limits before item ≡ Some cause
 
 -- an item of the descriptor is refused for this cause at this place
-abbrev pub IsRefusedAtItem : List ℕ → Cause → ℕ → Type 0
-IsRefusedAtItem bytes cause at = (before : List EncodedItem) × (item : EncodedItem) × IsRefused bytes cause at before item
+abbrev pub IsRefusedAtItem : Limits → List ℕ → Cause → ℕ → Type 0
+IsRefusedAtItem limits bytes cause at = (before : List EncodedItem) × (item : EncodedItem) × IsRefused limits bytes cause at before item
 
 -- The descriptor is refused as a whole: it is too long, cut off after its items, or its items are accepted
 -- and a collection is open at the end, or an item has no report ID though some item sets one.
-abbrev pub IsRefusedAsWhole : List ℕ → Cause → ℕ → Type 0
-IsRefusedAsWhole bytes TooLong at = (MAX_DESCRIPTOR < length bytes) × (at ≡ MAX_DESCRIPTOR)
-IsRefusedAsWhole bytes Truncated at = (before : List EncodedItem) × Reaches bytes at before × IsCut (drop at bytes)
-IsRefusedAsWhole bytes Unclosed at =
-    (before : List EncodedItem) × Reaches bytes at before × (at ≡ length bytes) × (0 < length (path before))
-IsRefusedAsWhole bytes MixedReportId at =
-    (before : List EncodedItem) × Reaches bytes at before × (at ≡ length bytes)
+abbrev pub IsRefusedAsWhole : Limits → List ℕ → Cause → ℕ → Type 0
+IsRefusedAsWhole limits bytes TooLong at = (MAX_DESCRIPTOR < length bytes) × (at ≡ MAX_DESCRIPTOR)
+IsRefusedAsWhole limits bytes Truncated at = (before : List EncodedItem) × Reaches limits bytes at before × IsCut (drop at bytes)
+IsRefusedAsWhole limits bytes Unclosed at =
+    (before : List EncodedItem) × Reaches limits bytes at before × (at ≡ length bytes) × (0 < length (path before))
+IsRefusedAsWhole limits bytes MixedReportId at =
+    (before : List EncodedItem) × Reaches limits bytes at before × (at ≡ length bytes)
     × (length (path before) ≡ 0) × (is_mixed before ≡ true)
-IsRefusedAsWhole bytes cause at = ⊥
+IsRefusedAsWhole limits bytes cause at = ⊥
 
 -- the descriptor is refused for this cause at this place, at an item or as a whole
-abbrev pub Refuses : List ℕ → Cause → ℕ → Type 0
-Refuses bytes cause at = IsRefusedAtItem bytes cause at ⊎ IsRefusedAsWhole bytes cause at
+abbrev pub Refuses : Limits → List ℕ → Cause → ℕ → Type 0
+Refuses limits bytes cause at = IsRefusedAtItem limits bytes cause at ⊎ IsRefusedAsWhole limits bytes cause at
 
 -- Why parse gave no layout: out of memory, which is reported at 0 and of no descriptor that is too long, or the one
 -- refusal, the first cause in their order at the earliest item.
-abbrev pub Explains : List ℕ → Cause → ℕ → Type 0
-Explains bytes Memory at = (length bytes ≤ MAX_DESCRIPTOR) × (at ≡ 0)
-Explains bytes cause at = Refuses bytes cause at
+abbrev pub Explains : Limits → List ℕ → Cause → ℕ → Type 0
+Explains limits bytes Memory at = (length bytes ≤ MAX_DESCRIPTOR) × (at ≡ 0)
+Explains limits bytes cause at = Refuses limits bytes cause at
 
 -- the descriptor is accepted, with these items (the last one first)
-pub record Accepts (bytes : List ℕ) (before : List EncodedItem) : Type 0 where
-  pub reaches : Reaches bytes (length bytes) before
+pub record Accepts (limits : Limits) (bytes : List ℕ) (before : List EncodedItem) : Type 0 where
+  pub reaches : Reaches limits bytes (length bytes) before
   pub closed : length (path before) ≡ 0
   pub unmixed : is_mixed before ≡ false
 
@@ -172,8 +174,8 @@ or_else None other = other
 or_else (Some x) other = Some x
 
 -- the first refused item after the items before it, with its cause and its place
-abbrev pub first_fault : List EncodedItem → ℕ → List EncodedItem → Option (Cause × ℕ)
-first_fault before at [] = None
-first_fault before at (item ∷ items) =
-    or_else (option_map (λ cause. (cause, at)) (fault_of before item))
-    (first_fault (item ∷ before) (at + length item) items)
+abbrev pub first_fault : Limits → List EncodedItem → ℕ → List EncodedItem → Option (Cause × ℕ)
+first_fault limits before at [] = None
+first_fault limits before at (item ∷ items) =
+    or_else (option_map (λ cause. (cause, at)) (fault_of limits before item))
+    (first_fault limits (item ∷ before) (at + length item) items)

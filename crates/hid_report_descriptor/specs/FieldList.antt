@@ -3,6 +3,7 @@ use Rattle.std.specs.Prelude.{◌≡◌, ℕ, List, [], ◌∷◌, ◌++◌, len
 use Rattle.std.specs.List.{list_any}
 use Rattle.hid_report_descriptor.specs.declared.fault.Cause.{Cause}
 use Rattle.hid_report_descriptor.specs.declared.fault.Cause.TheVariants.{Memory, TooMany}
+use Rattle.hid_report_descriptor.specs.declared.limits.Limits.{Limits}
 use Rattle.hid_report_descriptor.specs.declared.field_list.KeptFields.{KeptFields}
 use Rattle.hid_report_descriptor.specs.Fields.{Field}
 use Rattle.hid_report_descriptor.specs.Faults.{are_too_many, element_count, report_ids}
@@ -22,7 +23,7 @@ pub record AreKept (fs : List Field) (kept : KeptFields) : Type 0 where
       ≡ (not (id == 0) && list_any (λ field. field.id == id) fs)
 
 -- the field is listed and the fields aren't too many, or they are, or memory ran out
-abbrev pub Keeps : List Field → Field → Result Unit Cause → KeptFields → Type 0
-Keeps fs field (Ok done) new = AreKept (fs ++ field ∷ []) new × (are_too_many (fs ++ field ∷ []) ≡ false)
-Keeps fs field (Err Memory) new = Unit {0}
-Keeps fs field (Err cause) new = (cause ≡ TooMany) × (are_too_many (fs ++ field ∷ []) ≡ true)
+abbrev pub Keeps : Limits → List Field → Field → Result Unit Cause → KeptFields → Type 0
+Keeps limits fs field (Ok done) new = AreKept (fs ++ field ∷ []) new × (are_too_many limits (fs ++ field ∷ []) ≡ false)
+Keeps limits fs field (Err Memory) new = Unit {0}
+Keeps limits fs field (Err cause) new = (cause ≡ TooMany) × (are_too_many limits (fs ++ field ∷ []) ≡ true)

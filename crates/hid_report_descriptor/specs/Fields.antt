@@ -1,8 +1,9 @@
 -- What the Input, Output and Feature items put into the reports: fields of one kind and ID lie one after the other in
 -- descriptor order, and the bits of a report are their sum (HID 1.11, 6.2.2.4, 6.2.2.5, 6.2.2.7, 6.2.2.9 and 8).
-use Rattle.std.specs.Prelude.{ℕ, ◌*◌, ◌%◌, Bool, true, false, List, [], ◌∷◌, ◌++◌, filter, sum_by, ◌==◌, ◌&&◌, ◌||◌, if◌then◌else◌, ℤ}
+use Rattle.std.specs.Prelude.{ℕ, ◌*◌, ◌%◌, Bool, true, false, List, [], ◌∷◌, ◌++◌, filter, sum_by, ◌==◌, nat_lt, ◌&&◌, ◌||◌, if◌then◌else◌, ℤ}
 use Rattle.hid_items.specs.ItemEncoding.{data_of, unsigned_of}
 use Rattle.hid_report_descriptor.specs.declared.collection.Collection.{Collection}
+use Rattle.hid_report_descriptor.specs.declared.limits.TheConstants.{MAX_WIDTH}
 use Rattle.hid_report_descriptor.specs.declared.report.ReportKind.{ReportKind}
 use Rattle.hid_report_descriptor.specs.declared.report.ReportKind.TheVariants.{Input, Output, Feature}
 use Rattle.hid_report_descriptor.specs.declared.shape.Shape.{Shape}
@@ -40,11 +41,11 @@ bits_of field = field.size * field.count
 abbrev pub report_bits : ReportKind → ℕ → List Field → ℕ
 report_bits kind id fields = sum_by bits_of (filter (λ field. same_kind field.kind kind && (field.id == id)) fields)
 
--- padding: Constant, or no elements, or no usage
-abbrev pub shape_of : ℕ → ℕ → List Entry → Shape
-shape_of flags count [] = Padding
-shape_of flags count (e ∷ es) =
-    if has_flag CONSTANT flags || (count == 0) then Padding
+-- padding: Constant, or no elements, or no usage, or wider than a number
+abbrev pub shape_of : ℕ → ℕ → ℕ → List Entry → Shape
+shape_of flags size count [] = Padding
+shape_of flags size count (e ∷ es) =
+    if (has_flag CONSTANT flags || (count == 0)) || nat_lt MAX_WIDTH size then Padding
     else (if has_flag VARIABLE flags then Variable else Array)
 
 -- whether a field is padding (6.2.2.9)
@@ -63,7 +64,7 @@ shown_entries Array es = es
 abbrev pub field_of : List Field → List EncodedItem → EncodedItem → Field
 field_of earlier before item =
     let flags = unsigned_of (data_of item) % FLAGS in
-    let shape = shape_of flags (report_count before) (entries before) in
+    let shape = shape_of flags (report_size before) (report_count before) (entries before) in
     record {
       kind = kind_of item;
       id = report_id_in_force before;

@@ -1,6 +1,6 @@
 -- Fields as the parser keeps them (our choice): without their usages and collections.
 use Rattle.std.specs.Prelude.{◌≡◌, ℕ, ◌+◌, ◌*◌, ◌≤◌, List, slice_get, Some}
-use Rattle.hid_report_descriptor.specs.declared.limits.TheConstants.{MAX_REPORT_BYTES}
+use Rattle.hid_report_descriptor.specs.declared.limits.TheConstants.{MAX_REAL_REPORT_BYTES}
 use Rattle.hid_report_descriptor.specs.declared.collection.Collection.{Collection}
 use Rattle.hid_report_descriptor.specs.declared.field.KeptField.{KeptField}
 use Rattle.hid_report_descriptor.specs.Usages.{Entry}
@@ -36,7 +36,7 @@ whole_field head es path = record {
   path = path;
 }
 
--- no field reaches past the bits of the longest report
+-- no field reaches past the bits of the longest report that any limits allow
 abbrev pub AreFieldsPlaced : List KeptField → Type 0
 AreFieldsPlaced heads = (i : ℕ) (head : KeptField) → slice_get heads i ≡ Some head
-    → head.offset + head.size * head.count ≤ 8 * MAX_REPORT_BYTES
+    → head.offset + head.size * head.count ≤ 8 * MAX_REAL_REPORT_BYTES

@@ -2,29 +2,35 @@
 use Rattle.std.specs.Prelude.{◌≡◌, ◌≢◌, ℕ, List, ◌∷◌, ◌++◌, true}
 use Rattle.hid_items.specs.ItemEncoding.{prefix_of}
 use Rattle.hid_report_descriptor.specs.declared.fault.Cause.{Cause}
+use Rattle.hid_report_descriptor.specs.declared.limits.Limits.{Limits}
+use Rattle.hid_report_descriptor.specs.declared.limits.Limits.TheVariants.{Bus, Real}
 use Rattle.hid_report_descriptor.specs.Items.{EncodedItem, is, PUSH, POP}
 use Rattle.hid_report_descriptor.specs.Globals.{in_force, IsBetween}
 use Rattle.hid_report_descriptor.specs.Faults.{Accepts, Refuses}
 
 -- a descriptor is accepted with one list of items at most
-abbrev pub HasOneReading : Type 0
-HasOneReading = (bytes : List ℕ) (before others : List EncodedItem)
-    → Accepts bytes before → Accepts bytes others → before ≡ others
+abbrev pub HasOneReading : Limits → Type 0
+HasOneReading limits = (bytes : List ℕ) (before others : List EncodedItem)
+    → Accepts limits bytes before → Accepts limits bytes others → before ≡ others
 
 -- what is accepted is not refused
-abbrev pub AcceptsNoRefused : Type 0
-AcceptsNoRefused = (bytes : List ℕ) (before : List EncodedItem) (cause : Cause) (at : ℕ)
-    → Accepts bytes before → Refuses bytes cause at → ⊥
+abbrev pub AcceptsNoRefused : Limits → Type 0
+AcceptsNoRefused limits = (bytes : List ℕ) (before : List EncodedItem) (cause : Cause) (at : ℕ)
+    → Accepts limits bytes before → Refuses limits bytes cause at → ⊥
 
 -- a descriptor is refused for one cause at most
-abbrev pub HasOneCause : Type 0
-HasOneCause = (bytes : List ℕ) (cause other : Cause) (at there : ℕ)
-    → Refuses bytes cause at → Refuses bytes other there → cause ≡ other
+abbrev pub HasOneCause : Limits → Type 0
+HasOneCause limits = (bytes : List ℕ) (cause other : Cause) (at there : ℕ)
+    → Refuses limits bytes cause at → Refuses limits bytes other there → cause ≡ other
 
 -- a descriptor is refused at one place at most
-abbrev pub HasOnePlace : Type 0
-HasOnePlace = (bytes : List ℕ) (cause other : Cause) (at there : ℕ)
-    → Refuses bytes cause at → Refuses bytes other there → at ≡ there
+abbrev pub HasOnePlace : Limits → Type 0
+HasOnePlace limits = (bytes : List ℕ) (cause other : Cause) (at there : ℕ)
+    → Refuses limits bytes cause at → Refuses limits bytes other there → at ≡ there
+
+-- what is accepted within the limits of the bus is accepted, with the same items, within those of real devices
+abbrev pub AcceptsAllOfBus : Type 0
+AcceptsAllOfBus = (bytes : List ℕ) (before : List EncodedItem) → Accepts Bus bytes before → Accepts Real bytes before
 
 -- a global after a Pop is the one that was in force before the matching Push (6.2.2.7)
 abbrev pub PopRestores : Type 0

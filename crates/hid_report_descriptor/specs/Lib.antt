@@ -1,4 +1,5 @@
 pub mod Items
+pub mod Limits
 pub mod Matching
 pub mod Globals
 pub mod Usages
@@ -10,6 +11,8 @@ pub mod ListSpans
 pub mod Totals
 pub mod Fields
 pub mod Faults
+pub mod Bus
+pub mod Real
 pub mod Reporting
 pub mod State
 pub mod Locals
@@ -17,5 +20,6 @@ pub mod KeptFields
 pub mod FieldList
 pub mod Parser
 pub mod Laws
+pub mod LongReports
 pub mod ItemLists
 pub mod Listing

@@ -7,6 +7,7 @@ use Rattle.hid_items.specs.declared.ItemFault.{ItemFault}
 use Rattle.hid_items.specs.declared.ItemFault.TheVariants.{Truncated}
 use Rattle.hid_report_descriptor.specs.declared.fault.Cause.{Cause}
 use Rattle.hid_report_descriptor.specs.declared.fault.Cause.TheVariants.{Memory}
+use Rattle.hid_report_descriptor.specs.declared.limits.Limits.{Limits}
 use Rattle.hid_report_descriptor.specs.declared.parser.Parser.{Parser}
 use Rattle.hid_report_descriptor.specs.Items.{EncodedItem, is, INPUT, OUTPUT, FEATURE, COLLECTION, END_COLLECTION, PUSH, POP, REPORT_ID, DELIMITER}
 use Rattle.hid_report_descriptor.specs.Path.{path}
@@ -33,10 +34,10 @@ pub record HasStateAfter (before : List EncodedItem) (parser : Parser) : Type 0 
 
 -- One step: the item is accepted, and the state moves after it, or it is refused for this cause. Memory may run out
 -- at any item.
-abbrev pub StepGives : List EncodedItem → EncodedItem → Result Unit Cause → Parser → Type 0
-StepGives before item (Ok done) parser = (fault_of before item ≡ None) × HasStateAfter (item ∷ before) parser
-StepGives before item (Err Memory) parser = Unit {0}
-StepGives before item (Err cause) parser = fault_of before item ≡ Some cause
+abbrev pub StepGives : Limits → List EncodedItem → EncodedItem → Result Unit Cause → Parser → Type 0
+StepGives limits before item (Ok done) parser = (fault_of limits before item ≡ None) × HasStateAfter (item ∷ before) parser
+StepGives limits before item (Err Memory) parser = Unit {0}
+StepGives limits before item (Err cause) parser = fault_of limits before item ≡ Some cause
 
 -- an item with this prefix is no main item, no Push, Pop, Report ID or Delimiter
 pub record IsOtherPrefix (prefix : ℕ) : Type 0 where
@@ -56,11 +57,11 @@ fault_place Memory at = 0
 fault_place cause at = at
 
 -- the parser has taken these items, and the rest is to come
-pub record HasTaken (bytes : List ℕ) (before : List EncodedItem) (rest : Items) (parser : Parser) : Type 0 where
+pub record HasTaken (limits : Limits) (bytes : List ℕ) (before : List EncodedItem) (rest : Items) (parser : Parser) : Type 0 where
   pub joined : flat_map (λ item. item) (reverse before) ++ rest.rest.now ≡ bytes
   pub place : rest.at ≡ length (flat_map (λ item. item) (reverse before))
   pub encoded : All IsItemEncoding (reverse before)
-  pub accepted : AreAccepted before
+  pub accepted : AreAccepted limits before
   pub stands : HasStateAfter before parser
 
 -- the place of the item that is cut off
@@ -78,12 +79,12 @@ pub record IsDescribed (kind : ReportKind) (item : EncodedItem) (globals : Globa
   pub flags : field.flags.0 ≡ unsigned_of (data_of item) % FLAGS
   pub min : field.min ≡ globals.minimum
   pub max : field.max ≡ maximum_of globals
-  pub shape : field.shape ≡ shape_of field.flags.0 field.count es
+  pub shape : field.shape ≡ shape_of field.flags.0 field.size field.count es
 
 -- The field is listed where it has bits, and no limit is passed, or the tests of the limits say which.
 -- Memory may run out.
-abbrev pub AddsField : List Field → Field → Result Unit Cause → KeptFields → Type 0
-AddsField fs field (Ok done) new =
-    AreKept (list_field fs field) new × (first_met (limit_tests (list_field fs field) field) ≡ None)
-AddsField fs field (Err Memory) new = Unit {0}
-AddsField fs field (Err cause) new = first_met (limit_tests (list_field fs field) field) ≡ Some cause
+abbrev pub AddsField : Limits → List Field → Field → Result Unit Cause → KeptFields → Type 0
+AddsField limits fs field (Ok done) new =
+    AreKept (list_field fs field) new × (first_met (limit_tests limits (list_field fs field) field) ≡ None)
+AddsField limits fs field (Err Memory) new = Unit {0}
+AddsField limits fs field (Err cause) new = first_met (limit_tests limits (list_field fs field) field) ≡ Some cause

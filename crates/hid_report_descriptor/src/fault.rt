@@ -32,7 +32,7 @@ pub enum Cause {
     MixedReportId,
     /// L10: the minimum is over the maximum, or no pattern of the width is in the range (HID 1.11, 6.2.2.7).
     BadRange,
-    /// L11: data fields of 0 or over 32 bits (HID 1.11, 6.2.2.7; the limit is our choice).
+    /// L11: data fields of 0 bits, or of more than the limits allow (HID 1.11, 6.2.2.7; the limit is our choice).
     BadSize,
     /// L12: a Usage Minimum over its Usage Maximum, or the two on different pages (HID 1.11, 6.2.2.8).
     BadUsageRange,
@@ -40,9 +40,10 @@ pub enum Cause {
     UnpairedUsage,
     /// L14: a Delimiter item (HID 1.11, 6.2.2.8), which this reader doesn't know.
     Delimiter,
-    /// L15: a report of more than 256 bytes with its ID (our choice).
+    /// L15: a report of more bytes with its ID than the limits allow (our choice).
     ReportTooLong,
-    /// L16: more than 512 listed items, 4,096 data fields, 64 usage entries of one item or 64 report IDs (our choice).
+    /// L16: more than 512 listed items, 64 usage entries of one item or 64 report IDs, or more data fields than the limits
+    /// allow (our choice).
     TooMany,
     /// L17: memory ran out.
     Memory,

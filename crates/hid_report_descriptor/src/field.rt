@@ -9,7 +9,7 @@ ghost use Rattle.hid_report_descriptor.specs.Faults.{report_limit, has_value, fi
 
 use crate::fault::Cause;
 use crate::flags::MainFlags;
-use crate::limits::{MAX_REPORT_BYTES, MAX_WIDTH};
+use crate::limits::{Limits, MAX_REAL_REPORT_BYTES, MAX_WIDTH};
 use crate::locals::{Locals, NamedUsage, entry_on_page};
 use crate::report::ReportKind;
 use crate::shape::Shape;
@@ -53,14 +53,14 @@ impl KeptField {
     }
 
     /// Whether the report is too long with these fields.
-    pub(crate) fn is_too_long(&self) -> bool
-        ensures value { result
-            ≡ nat_lt (report_limit self.now.id) (self.now.offset + self.now.size * self.now.count) }
+    pub(crate) fn is_too_long(&self, limits: Limits) -> bool
+        ensures value { result ≡ nat_lt (report_limit limits self.now.id)
+            (self.now.offset + self.now.size * self.now.count) }
         ensures short { OnFalse result (self.now.offset + self.now.size * self.now.count
-            ≤ 8 * MAX_REPORT_BYTES) }
+            ≤ 8 * MAX_REAL_REPORT_BYTES) }
     {
         let id_bytes = if self.id == 0 { 0 } else { 1 };
-        let limit = 8 * (MAX_REPORT_BYTES - id_bytes);
+        let limit = 8 * (limits.report_bytes() - id_bytes);
         match self.size.checked_mul(self.count) {
             Some(bits) => u64::from(self.offset) + u64::from(bits) > u64::from(limit),
             None => true,
@@ -79,9 +79,9 @@ impl KeptField {
     }
 
     /// Checks the usages, the size and the range, and returns the first fault.
-    fn test_values(&self, locals: &Locals, page: u16) -> Result<(), Cause>
+    fn test_values(&self, limits: Limits, locals: &Locals, page: u16) -> Result<(), Cause>
         ensures { IsCauseOf result (first_met
-            (value_tests (whole_field self.now [] [])
+            (value_tests limits (whole_field self.now [] [])
             (length locals.now.minima == length locals.now.maxima)
             (map (entry_on_page page) locals.now.entries.items))) }
     {
@@ -94,10 +94,10 @@ impl KeptField {
         if locals.entries.is_empty() {
             return Ok(());
         }
-        if self.size == 0 || self.size > MAX_WIDTH {
+        if self.size == 0 || self.size > limits.width() {
             return Err(Cause::BadSize);
         }
-        if self.has_value() {
+        if self.size > MAX_WIDTH || self.has_value() {
             Ok(())
         } else {
             Err(Cause::BadRange)
@@ -106,16 +106,21 @@ impl KeptField {
 
     /// Refuses wrong usages, a wrong size and a wrong range, unless the item is Constant or has no fields.
     #[inline(always)] // a call costs more than its few tests
-    pub(crate) fn check_values(&self, locals: &Locals, page: u16) -> Result<(), Cause>
+    pub(crate) fn check_values(
+        &self,
+        limits: Limits,
+        locals: &Locals,
+        page: u16,
+    ) -> Result<(), Cause>
         ensures { IsCauseOf result (first_met
-            (checked_values (whole_field self.now [] [])
+            (checked_values limits (whole_field self.now [] [])
             (length locals.now.minima == length locals.now.maxima)
             (map (entry_on_page page) locals.now.entries.items))) }
     {
         if self.flags.is_constant() || self.count == 0 {
             return Ok(());
         }
-        self.test_values(locals, page)
+        self.test_values(limits, locals, page)
     }
 }
 
@@ -138,14 +143,19 @@ fn is_range(e: &(Usage, Usage)) -> bool
     e.0.page == e.1.page && e.0.id <= e.1.id
 }
 
-/// What the fields are: padding, where the item is Constant or has no fields or no usage.
-pub(crate) fn shape_of(flags: MainFlags, count: u32, entries: &[(NamedUsage, NamedUsage)]) -> Shape
-    ensures { (page : ℕ) → result ≡ shape_of flags.0 count (map (entry_on_page page) entries.now) }
+/// What the fields are: padding, where the item is Constant or has no fields or no usage, or they are wider than a number.
+pub(crate) fn shape_of(
+    flags: MainFlags,
+    size: u32,
+    count: u32,
+    entries: &[(NamedUsage, NamedUsage)],
+) -> Shape
+    ensures { (page : ℕ) → result ≡ shape_of flags.0 size count (map (entry_on_page page) entries.now) }
 {
     if entries.is_empty() {
         return Shape::Padding;
     }
-    if flags.is_constant() || count == 0 {
+    if flags.is_constant() || count == 0 || size > MAX_WIDTH {
         Shape::Padding
     } else if flags.is_variable() {
         Shape::Variable

@@ -3,7 +3,7 @@
 ghost use Rattle.std.specs.Prelude.{◌≡◌, ◌≢◌, ◌≤◌, ◌+◌, ◌*◌, List, [], ◌∷◌, ◌++◌, ◌<◌, ◌==◌, IfOk, OnOk, vec_len, length, map};
 ghost use Rattle.std.specs.List.{list_any};
 ghost use Rattle.hid_report_descriptor.specs.Totals.{bits_in_report};
-ghost use Rattle.hid_report_descriptor.specs.declared.limits.TheConstants.{MAX_ITEMS, MAX_REPORT_BYTES};
+ghost use Rattle.hid_report_descriptor.specs.declared.limits.TheConstants.{MAX_ITEMS, MAX_REAL_REPORT_BYTES};
 ghost use Rattle.hid_report_descriptor.specs.KeptFields.{whole_field};
 ghost use Rattle.hid_report_descriptor.specs.Locals.{entry_on_page};
 
@@ -11,7 +11,7 @@ use crate::collection::Collection;
 use crate::fault::Cause;
 use crate::field::KeptField;
 use crate::item_lists::ItemLists;
-use crate::limits::{MAX_ELEMENTS, MAX_ENTRIES, MAX_ITEMS, MAX_REPORT_BYTES, MAX_REPORT_IDS};
+use crate::limits::{Limits, MAX_ENTRIES, MAX_ITEMS, MAX_REAL_REPORT_BYTES, MAX_REPORT_IDS};
 use crate::locals::NamedUsage;
 use crate::totals::{ReportIds, ReportTotals};
 use std::alloc::{AllocError, Global};
@@ -32,7 +32,7 @@ pub(crate) struct KeptFields {
     pub(crate) elements: u32,
     pub(crate) ids: ReportIds,
     ghost bounded: { vec_len list ≤ MAX_ITEMS },
-    ghost counted: { elements ≤ 8 * MAX_REPORT_BYTES * vec_len list },
+    ghost counted: { elements ≤ 8 * MAX_REAL_REPORT_BYTES * vec_len list },
 }
 
 impl KeptFields {
@@ -71,10 +71,10 @@ impl KeptFields {
     }
 
     /// Whether the fields are more than the limits allow.
-    pub(crate) fn are_too_many(&self) -> bool
-        ensures { (fs : List Field) → AreKept fs self.now → result ≡ are_too_many fs }
+    pub(crate) fn are_too_many(&self, limits: Limits) -> bool
+        ensures { (fs : List Field) → AreKept fs self.now → result ≡ are_too_many limits fs }
     {
-        self.elements > MAX_ELEMENTS || self.ids.list.len() > MAX_REPORT_IDS
+        self.elements > limits.elements() || self.ids.list.len() > MAX_REPORT_IDS
     }
 
     /// Lists fields with their usages and collections.
@@ -89,7 +89,7 @@ impl KeptFields {
         requires few { length entries.now ≤ MAX_ENTRIES }
         requires some { field.now.size * field.now.count ≢ 0 }
         requires short { field.now.offset + field.now.size * field.now.count
-            ≤ 8 * MAX_REPORT_BYTES }
+            ≤ 8 * MAX_REAL_REPORT_BYTES }
         requires place { field.now.offset
             ≡ bits_in_report field.now.kind field.now.id self.old.reports.list.items }
         ensures { OnOk result ((fs : List Field) → AreKept fs self.old
@@ -111,6 +111,7 @@ impl KeptFields {
     /// Lists fields with their usages and collections, unless the fields are too many with them.
     pub(crate) fn keep(
         &mut self,
+        limits: Limits,
         field: &KeptField,
         entries: &[(NamedUsage, NamedUsage)],
         page: u16,
@@ -119,18 +120,18 @@ impl KeptFields {
         requires few { length entries.now ≤ MAX_ENTRIES }
         requires some { field.now.size * field.now.count ≢ 0 }
         requires short { field.now.offset + field.now.size * field.now.count
-            ≤ 8 * MAX_REPORT_BYTES }
+            ≤ 8 * MAX_REAL_REPORT_BYTES }
         requires place { field.now.offset
             ≡ bits_in_report field.now.kind field.now.id self.old.reports.list.items }
         ensures { (fs : List Field) → AreKept fs self.old
-            → Keeps fs (whole_field field.now (map (entry_on_page page) entries.now) path.now)
+            → Keeps limits fs (whole_field field.now (map (entry_on_page page) entries.now) path.now)
             result self.new }
     {
         if self.list.len() >= MAX_ITEMS {
             return Err(Cause::TooMany);
         }
         self.add(field, entries, page, path)?;
-        if self.are_too_many() {
+        if self.are_too_many(limits) {
             return Err(Cause::TooMany);
         }
         Ok(())

@@ -60,7 +60,7 @@ impl MainFlags {
     }
 
     /// Whether the fields are padding, or else data.
-    pub(crate) fn is_constant(self) -> bool
+    pub fn is_constant(self) -> bool
         ensures { result ≡ has_flag CONSTANT self.0 }
     {
         self.contains(MainFlags::CONSTANT)

@@ -15,7 +15,7 @@
 //! brings back the globals of its matching Push, but never a usage.
 //!
 //! The promise: unless memory runs out, [`list_fields`] accepts exactly the descriptors in which no cause of
-//! [`Cause`] stands, and gives the fields of the definitions in `specs/` (`ok`). It refuses all others with
+//! [`Cause`] stands within its [`Limits`], and gives the fields of the definitions in `specs/` (`ok`). It refuses all others with
 //! the cause and the place that come first in the order (`err`). By [`laws`] this leaves one result. The
 //! reports and controls that the fields make are defined in `hid_layout`, and never here.
 #![tactic(auto)]
@@ -31,6 +31,7 @@ pub mod laws;
 mod limits;
 mod listing;
 mod locals;
+mod long_reports;
 mod parse;
 mod parser;
 mod path;
@@ -49,10 +50,12 @@ pub use field::KeptField;
 pub use flags::MainFlags;
 pub use item_lists::ItemLists;
 pub use limits::{
-    MAX_DESCRIPTOR, MAX_ELEMENTS, MAX_ENTRIES, MAX_ITEMS, MAX_KEYS, MAX_OPEN_COLLECTIONS,
-    MAX_OPEN_PUSHES, MAX_REPORT_BYTES, MAX_REPORT_IDS, MAX_WIDTH,
+    Limits, MAX_DESCRIPTOR, MAX_ELEMENTS, MAX_ENTRIES, MAX_ITEMS, MAX_KEYS, MAX_OPEN_COLLECTIONS,
+    MAX_OPEN_PUSHES, MAX_REAL_ELEMENTS, MAX_REAL_REPORT_BYTES, MAX_REPORT_BYTES, MAX_REPORT_IDS,
+    MAX_WIDTH,
 };
 pub use listing::{ListedFields, list_fields};
+pub use long_reports::{LongReport, long_report};
 pub use report::{Report, ReportKind};
 pub use shape::Shape;
 pub use totals::find_report;

@@ -1,6 +1,7 @@
 //! The fields that a report descriptor lists, or why it is refused (HID 1.11, 6.2.2).
 
 ghost use Rattle.std.specs.Prelude.{List, length, IfOk, IfErr, OnOk};
+ghost use Rattle.hid_report_descriptor.specs.declared.limits.Limits.{Limits};
 ghost use Rattle.hid_report_descriptor.specs.Items.{EncodedItem};
 ghost use Rattle.hid_report_descriptor.specs.Faults.{Reaches, Accepts, Explains};
 ghost use Rattle.hid_report_descriptor.specs.Parser.{HasStateAfter};
@@ -10,7 +11,7 @@ use crate::fault::{Cause, LayoutFault};
 use crate::field::KeptField;
 use crate::field_list::KeptFields;
 use crate::item_lists::ItemLists;
-use crate::limits::MAX_DESCRIPTOR;
+use crate::limits::{Limits, MAX_DESCRIPTOR};
 use crate::parse::parse_items;
 use crate::parser::Parser;
 use crate::report::Report;
@@ -55,11 +56,13 @@ fn into_fields(parser: Parser) -> ListedFields
 
 /// Refuses a descriptor whose items leave a collection open, or of which only some have a report ID.
 fn check_end(parser: &Parser, descriptor: &[u8]) -> Result<(), LayoutFault>
-    ensures ok { (before : List EncodedItem) → Reaches descriptor.now (length descriptor.now) before
-        → HasStateAfter before parser.now → OnOk result (Accepts descriptor.now before) }
-    ensures err { (before : List EncodedItem) → Reaches descriptor.now (length descriptor.now) before
+    ensures ok { (limits : Limits) (before : List EncodedItem)
+        → Reaches limits descriptor.now (length descriptor.now) before
+        → HasStateAfter before parser.now → OnOk result (Accepts limits descriptor.now before) }
+    ensures err { (limits : Limits) (before : List EncodedItem)
+        → Reaches limits descriptor.now (length descriptor.now) before
         → HasStateAfter before parser.now
-        → IfErr result (λ f. Explains descriptor.now f.cause f.at) }
+        → IfErr result (λ f. Explains limits descriptor.now f.cause f.at) }
 {
     let at = descriptor.len();
     if parser.collections.open.len() != 0 {
@@ -77,18 +80,22 @@ fn check_end(parser: &Parser, descriptor: &[u8]) -> Result<(), LayoutFault>
     Ok(())
 }
 
-/// The fields that a report descriptor lists.
+/// The fields that a report descriptor lists within limits.
 ///
 /// # Errors
 /// A descriptor that is too long is refused before its items are looked at. Otherwise the first item with a cause decides,
 /// by the first of its causes in the order in which an item is looked at ([`Cause`]); after the last item Unclosed
 /// comes before MixedReportId. Where memory runs out the cause is Memory, at 0.
-pub fn list_fields(alloc: Global, descriptor: &[u8]) -> Result<ListedFields, LayoutFault>
+pub fn list_fields(
+    alloc: Global,
+    limits: Limits,
+    descriptor: &[u8],
+) -> Result<ListedFields, LayoutFault>
     // The descriptor's items are accepted, and the fields are theirs.
-    ensures ok { IfOk result (λ listed. (before : List EncodedItem) × Accepts descriptor.now before
+    ensures ok { IfOk result (λ listed. (before : List EncodedItem) × Accepts limits descriptor.now before
         × ListsFields before listed) }
     // Memory ran out, or this is the one refusal.
-    ensures err { IfErr result (λ f. Explains descriptor.now f.cause f.at) }
+    ensures err { IfErr result (λ f. Explains limits descriptor.now f.cause f.at) }
 {
     if descriptor.len() > MAX_DESCRIPTOR {
         return Err(LayoutFault {
@@ -96,7 +103,7 @@ pub fn list_fields(alloc: Global, descriptor: &[u8]) -> Result<ListedFields, Lay
             at: MAX_DESCRIPTOR,
         });
     }
-    let parser = parse_items(alloc, descriptor)?;
+    let parser = parse_items(alloc, limits, descriptor)?;
     match check_end(&parser, descriptor) {
         Ok(()) => Ok(into_fields(parser)),
         Err(f) => Err(f),

@@ -6,7 +6,7 @@ ghost use Rattle.hid_report_descriptor.specs.Faults.{Reaches, Explains};
 ghost use Rattle.hid_report_descriptor.specs.Parser.{HasStateAfter, cut_item_place, fault_place};
 
 use crate::fault::{Cause, LayoutFault};
-use crate::limits::MAX_DESCRIPTOR;
+use crate::limits::{Limits, MAX_DESCRIPTOR};
 use crate::parser::Parser;
 use hid_items::{Item, ItemFault, Items};
 use std::alloc::Global;
@@ -33,12 +33,12 @@ fn truncated_at(e: ItemFault) -> usize
 }
 
 /// Takes all items, by a parser that has taken none.
-fn take_items(parser: &mut Parser, descriptor: &[u8]) -> Result<(), LayoutFault>
+fn take_items(parser: &mut Parser, limits: Limits, descriptor: &[u8]) -> Result<(), LayoutFault>
     requires short { length descriptor.now ≤ MAX_DESCRIPTOR }
     requires fresh { HasStateAfter [] parser.old }
     ensures ok { OnOk result ((before : List EncodedItem)
-        × Reaches descriptor.now (length descriptor.now) before × HasStateAfter before parser.new) }
-    ensures err { IfErr result (λ f. Explains descriptor.now f.cause f.at) }
+        × Reaches limits descriptor.now (length descriptor.now) before × HasStateAfter before parser.new) }
+    ensures err { IfErr result (λ f. Explains limits descriptor.now f.cause f.at) }
 {
     if parser.make_room(descriptor.len()).is_err() {
         return Err(fault(Cause::Memory, 0));
@@ -46,7 +46,7 @@ fn take_items(parser: &mut Parser, descriptor: &[u8]) -> Result<(), LayoutFault>
     for next in Items::new(descriptor) {
         match next {
             Ok(item) => {
-                match parser.take(&item) {
+                match parser.take(limits, &item) {
                     Ok(()) => {}
                     Err(cause) => return Err(fault(cause, item.at)),
                 }
@@ -58,17 +58,21 @@ fn take_items(parser: &mut Parser, descriptor: &[u8]) -> Result<(), LayoutFault>
 }
 
 /// The parser after all items.
-pub(crate) fn parse_items(alloc: Global, descriptor: &[u8]) -> Result<Parser, LayoutFault>
+pub(crate) fn parse_items(
+    alloc: Global,
+    limits: Limits,
+    descriptor: &[u8],
+) -> Result<Parser, LayoutFault>
     requires { length descriptor.now ≤ MAX_DESCRIPTOR }
     ensures ok { IfOk result (λ parser. (before : List EncodedItem)
-        × Reaches descriptor.now (length descriptor.now) before × HasStateAfter before parser) }
-    ensures err { IfErr result (λ f. Explains descriptor.now f.cause f.at) }
+        × Reaches limits descriptor.now (length descriptor.now) before × HasStateAfter before parser) }
+    ensures err { IfErr result (λ f. Explains limits descriptor.now f.cause f.at) }
 {
     let mut parser = match Parser::new(alloc) {
         Ok(parser) => parser,
         Err(_) => return Err(LayoutFault::memory()),
     };
-    match take_items(&mut parser, descriptor) {
+    match take_items(&mut parser, limits, descriptor) {
         Ok(()) => Ok(parser),
         Err(f) => Err(f),
     }

@@ -5,7 +5,7 @@ use Rattle.hid_report_descriptor.specs.declared.fault.LayoutFault.{LayoutFault}
 use Rattle.hid_report_descriptor.specs.declared.usage.Usage.{Usage}
 use Rattle.hid_layout.specs.declared.control.ControlId.{ControlId}
 use Rattle.hid_layout.specs.Layout.{Contents, layout_of}
-use Rattle.hid_report_descriptor.specs.Laws.{HasOneReading, AcceptsNoRefused, HasOneCause, HasOnePlace}
+use Rattle.hid_report_descriptor.specs.Bus.{HasOneReading, AcceptsNoRefused, HasOneCause, HasOnePlace}
 use Rattle.hid_requests.specs.declared.boot.Boot.{Boot}
 use Rattle.hid_bus.specs.declared.start.Start.{Start}
 use Rattle.hid_device.specs.declared.config.Config.{Config}

@@ -12,7 +12,7 @@ use Rattle.hid_layout.specs.declared.control.ControlId.{ControlId}
 use Rattle.hid_report_descriptor.specs.Items.{EncodedItem}
 use Rattle.hid_layout.specs.Layout.{Contents, layout_of}
 use Rattle.hid_layout.specs.Reports.{report_bytes}
-use Rattle.hid_report_descriptor.specs.Faults.{Accepts, Explains}
+use Rattle.hid_report_descriptor.specs.Bus.{Accepts, Explains}
 use Rattle.hid_snapshots.specs.declared.fault.ReportFault.{ReportFault}
 use Rattle.hid_snapshots.specs.declared.fault.ReportFault.TheVariants.{Short}
 use Rattle.hid_usages.specs.Reading.{first_byte, is_input_with, whole_report, report_named}

@@ -2,7 +2,7 @@
 use Rattle.std.specs.Prelude.{◌≡◌, ◌≢◌, ◌⊎◌, ◌∷◌, ◌++◌, ℕ, ◌+◌, ◌-◌, ◌^◌, min, List, [], length, if◌then◌else◌, Option, None, Some, Result, Ok, Err}
 use Rattle.hid_report_descriptor.specs.Items.{EncodedItem}
 use Rattle.hid_layout.specs.Layout.{Contents, layout_of}
-use Rattle.hid_report_descriptor.specs.Faults.{Accepts, Refuses}
+use Rattle.hid_report_descriptor.specs.Bus.{Accepts, Refuses}
 use Rattle.hid_report_descriptor.specs.declared.fault.LayoutFault.{LayoutFault}
 use Rattle.hid_report_descriptor.specs.declared.usage.Usage.{Usage}
 use Rattle.hid_layout.specs.declared.control.ControlId.{ControlId}

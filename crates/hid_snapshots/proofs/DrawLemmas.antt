@@ -14,8 +14,8 @@ front k = omega arith
 pub left_within : {A : Type 0} (xs : List A) (k n : ℕ) → n ≡ length (drop k xs) → 0 < n → k < length xs
 left_within xs k n is some = omega (arith, is, some, length-drop k xs)
 
--- the place after one of at most 2,048 is one that a program can count
-pub next_fits : (k n : ℕ) → k < n → n ≤ 2048 → Fits w64 (k + 1)
+-- the place after one of at most 131,072 is one that a program can count
+pub next_fits : (k n : ℕ) → k < n → n ≤ 131072 → Fits w64 (k + 1)
 next_fits k n within few = omega arith
 
 -- what is drawn from a list's rest

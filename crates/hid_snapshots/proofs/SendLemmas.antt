@@ -286,7 +286,7 @@ few_places m us Variable (Switches ps) has some room = by_kind (element_kind m) 
     by_kind : (kind : ControlKind)
         → HasRoom (controls_of_form (Elements kind (least_of m) (greatest_of m) (spread_usages m.count us)))
         (Switches ps)
-        → length ps ≤ 65536
+        → length ps ≤ 131072
     by_kind Switch h = omega (arith, h, spread_usages-length m.count us (some refl), (has refl).few)
     by_kind Value h = absurd h
     by_kind NullValue h = absurd h

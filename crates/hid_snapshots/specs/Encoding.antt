@@ -2,7 +2,7 @@
 use Rattle.std.specs.Prelude.{◌≡◌, ◌==◌, ◌&&◌, not, Bool, ℕ, ◌+◌, ◌-◌, ◌*◌, ◌<◌, ◌≤◌, false, if◌then◌else◌, List, [], ◌∷◌, length, replicate, slice_get, Some, None, ℤ, All}
 use Rattle.hid_fields.specs.Field.{bit_of, IsOutside}
 use Rattle.hid_fields.specs.Value.{is_negative, FitsField}
-use Rattle.hid_report_descriptor.specs.declared.limits.TheConstants.{MAX_KEYS}
+use Rattle.hid_snapshots.specs.declared.numbers.TheConstants.{MAX_NUMBERS}
 use Rattle.hid_layout.specs.declared.main_item.MainItem.{MainItem}
 use Rattle.hid_report_descriptor.specs.Fields.{is_padding}
 use Rattle.hid_layout.specs.Layout.{Contents}
@@ -89,9 +89,9 @@ pub record CanSend (item : MainItem) (numbers : List ℤ) : Type 0 where
   pub one_each : length numbers ≡ item.count
   pub fit : All (λ v. FitsField v item.size (is_negative item.min)) numbers
 
--- an array has no key beyond these places
+-- what is pressed has no place beyond the numbers of an item
 abbrev pub HasFewPlaces : ControlState → Type 0
-HasFewPlaces (Switches ps) = length ps ≤ MAX_KEYS
+HasFewPlaces (Switches ps) = length ps ≤ MAX_NUMBERS
 HasFewPlaces Absent = Unit {0}
 HasFewPlaces (Values vs) = Unit {0}
 HasFewPlaces (Motions ms) = Unit {0}

@@ -1,6 +1,5 @@
 -- The numbers that are drawn from what is kept of an item (our choice).
 use Rattle.std.specs.Prelude.{◌^◌, ◌≤◌, List, ◌++◌, drop, map, length, replicate, unwrap_or, ℤ, pos, neg_ℤ, ◌≤ℤ◌}
-use Rattle.hid_report_descriptor.specs.declared.limits.TheConstants.{MAX_KEYS}
 use Rattle.hid_snapshots.specs.declared.numbers.TheConstants.{MAX_NUMBERS}
 use Rattle.hid_snapshots.specs.declared.sent_numbers.Repeated.{Repeated}
 use Rattle.hid_snapshots.specs.declared.sent_numbers.Source.{Source}
@@ -19,11 +18,11 @@ numbers_of (Motions motions index) = drop index motions.now
 numbers_of (Keys flags from min then) = pressed_places_from min from (drop from flags.now) ++ repeats then
 numbers_of (Same then) = repeats then
 
--- an item has few elements, and an array few keys
+-- an item has few elements
 abbrev pub IsSource : Source → Type 0
 IsSource (Switches flags index) = length flags.now ≤ MAX_NUMBERS
 IsSource (Values values index null) = length values.now ≤ MAX_NUMBERS
 IsSource (Motions motions index) = length motions.now ≤ MAX_NUMBERS
 IsSource (Keys flags from min then) =
-    (length flags.now ≤ MAX_KEYS) × (neg_ℤ (pos (2 ^ 32)) ≤ℤ min) × (min ≤ℤ pos (2 ^ 32))
+    (length flags.now ≤ MAX_NUMBERS) × (neg_ℤ (pos (2 ^ 32)) ≤ℤ min) × (min ≤ℤ pos (2 ^ 32))
 IsSource (Same then) = Unit {0}

@@ -4,6 +4,7 @@ ghost use Rattle.std.specs.Prelude.{◌≡◌, ◌<◌, ◌≤◌, ℕ, List, �
 ghost use Rattle.arrayvec.specs.ArrayVec.{array_vec_len};
 ghost use Rattle.hid_snapshots.specs.Numbers.{KeepsOutside};
 ghost use Rattle.hid_layout.specs.Reports.{first_bit, HasElements, IsLayout, report_bytes, report_id};
+ghost use Rattle.hid_report_descriptor.specs.declared.limits.TheConstants.{MAX_REPORT_BYTES, MAX_REAL_REPORT_BYTES};
 ghost use Rattle.hid_report_descriptor.specs.Usages.{usage_list};
 ghost use Rattle.hid_layout.specs.Controls.{items_of};
 ghost use Rattle.hid_snapshots.specs.ControlStates.{FitsShown};
@@ -41,10 +42,11 @@ fn id_of(layout: &Layout, report: usize) -> u8
     layout.reports()[report].id
 }
 
-/// A report of zeros, after its ID where there are IDs, in the place of other bytes.
+/// A report of at most 256 bytes, all of them zeros after its ID where there are IDs, in the place of other bytes.
 pub fn bare_report(layout: &Layout, report: usize, bytes: &mut ArrayVec<u8, 256>)
     requires layout { IsLayout layout.now }
     requires report { report < length layout.now.reports }
+    requires short { report_bytes layout.now report ≤ MAX_REPORT_BYTES }
     ensures items { bytes.new.items ≡ bare_report layout.now report }
     ensures len { array_vec_len bytes.new ≡ report_bytes layout.now report }
     ensures bytes { AreBytes bytes.new.items }
@@ -92,7 +94,7 @@ fn write_item<C: FieldCodec>(
     requires layout { IsLayout layout.now }
     requires places { HasFewPlaces state.now }
     requires can { CanSend item.now (numbers_at layout.now i state.now) }
-    requires short { length bytes.old ≤ 4096 }
+    requires short { length bytes.old ≤ MAX_REAL_REPORT_BYTES }
     requires room { field_place layout.now item.now + item.now.size * item.now.count
         ≤ 8 * length bytes.old }
     ensures written { item_numbers layout.now bytes.new item.now
@@ -143,7 +145,7 @@ fn show_item<C: FieldCodec>(
 
 /// The bytes of an Input report that show its part: the report's ID first where there are IDs, then each element with its
 /// number, and 0 in every bit that no data element covers (HID 1.11, 5.6, 5.8, 5.10 and 8). They are as many as the report
-/// has, at most 256. The parts suit the layout, every array of an Input report has a code for an empty element, and every
+/// has, which are at most 256. The parts suit the layout, every array of an Input report has a code for an empty element, and every
 /// relative control can send 0. No memory is taken.
 pub fn encode_report<C: FieldCodec>(
     layout: &Layout,
@@ -151,6 +153,7 @@ pub fn encode_report<C: FieldCodec>(
     shown: &Shown,
 ) -> ArrayVec<u8, 256>
     requires input { IsInput layout.now report }
+    requires short { report_bytes layout.now report ≤ MAX_REPORT_BYTES }
     requires fits { FitsShown (items_of layout.now) shown.now }
     requires empty_codes { has_empty_codes layout.now ≡ true }
     requires zeros { has_zeros (items_of layout.now) ≡ true }
@@ -175,6 +178,7 @@ pub fn write_report<C: FieldCodec>(
     bytes: &mut ArrayVec<u8, 256>,
 )
     requires input { IsInput layout.now report }
+    requires short { report_bytes layout.now report ≤ MAX_REPORT_BYTES }
     requires fits { FitsShown (items_of layout.now) shown.now }
     requires empty_codes { has_empty_codes layout.now ≡ true }
     requires zeros { has_zeros (items_of layout.now) ≡ true }

@@ -1,5 +1,6 @@
 //! The numbers that stand in a run of fields.
 ghost use Rattle.std.specs.Prelude.{◌≡◌, ◌<◌, ◌≤◌, ◌+◌, ◌*◌, Bool, length, slice_get, Some, IfSome, All};
+ghost use Rattle.hid_report_descriptor.specs.declared.limits.TheConstants.{MAX_REAL_REPORT_BYTES};
 ghost use Rattle.hid_fields.specs.Field.{pattern_of};
 ghost use Rattle.hid_fields.specs.Value.{FitsEitherSign, FitsField};
 ghost use Rattle.hid_snapshots.specs.Numbers.{IsRun, IsWordOf, byte_numbers, number_at, numbers_in, KeepsOutside};
@@ -8,8 +9,8 @@ use crate::sent_numbers::Sending;
 use hid_fields::{FieldCodec, to_pattern, to_value};
 use std::marker::Model;
 
-/// The most numbers of one item: each has a bit at least, and a report has 256 bytes at most.
-pub(crate) const MAX_NUMBERS: usize = 2048;
+/// The most numbers of one item: each has a bit at least, and a report has 16,384 bytes at most.
+pub(crate) const MAX_NUMBERS: usize = 131_072;
 
 /// The fields of an item's elements, one after the other in the bytes of a report. A contract sees the numbers that
 /// stand in them.
@@ -56,10 +57,10 @@ impl<'a> FieldRun<'a> {
         }
     }
 
-    /// At most 512 bytes, each of them a field, in two's complement where they have a sign.
+    /// At most the bytes of the longest report, each of them a field, in two's complement where they have a sign.
     #[inline(always)]
     pub fn of_bytes(bytes: &'a [u8], is_signed: bool) -> FieldRun<'a>
-        requires { length bytes.now ≤ 512 }
+        requires { length bytes.now ≤ MAX_REAL_REPORT_BYTES }
         ensures { result ≡ byte_numbers is_signed bytes.now }
     {
         FieldRun::new(bytes, 0, 8, is_signed, bytes.len())
@@ -106,7 +107,7 @@ impl<'a> FieldRun<'a> {
     /// The fields as bytes, where each is a whole byte and they have a sign exactly if asked for; none of other fields.
     pub fn bytes(&self, is_signed: bool) -> Option<&[u8]>
         ensures { IfSome result (λ bytes. (self.now ≡ byte_numbers is_signed bytes.now)
-            × (length bytes.now ≤ 512)) }
+            × (length bytes.now ≤ MAX_REAL_REPORT_BYTES)) }
     {
         if self.is_signed != is_signed {
             None
@@ -148,7 +149,7 @@ fn wide_pattern<C: FieldCodec>(bytes: &[u8], at: usize, width: usize) -> u64
     requires some { 0 < width }
     requires width { width ≤ 64 }
     requires inside { at + width ≤ 8 * length bytes.now }
-    requires short { at + width ≤ 4096 }
+    requires short { at + width ≤ 8 * MAX_REAL_REPORT_BYTES }
     ensures { result ≡ pattern_of bytes.now at width }
 {
     if width <= 32 {
@@ -186,7 +187,7 @@ pub(crate) fn put_all<C: FieldCodec>(
     requires width { width ≤ 32 }
     requires one_each { length numbers ≡ count }
     requires inside { at + width * count ≤ 8 * length bytes.old }
-    requires short { length bytes.old ≤ 4096 }
+    requires short { length bytes.old ≤ MAX_REAL_REPORT_BYTES }
     requires fits { All (λ v. FitsEitherSign v width) numbers }
     ensures numbers { (signed : Bool) → All (λ v. FitsField v width signed) numbers.entry
         → numbers_in bytes.new at width signed count ≡ numbers.entry }

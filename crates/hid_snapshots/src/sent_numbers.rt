@@ -7,7 +7,6 @@ ghost use Rattle.hid_snapshots.specs.SentNumbers.{repeats};
 use crate::control_state::{Motions, Values};
 use crate::flags::Flags;
 use crate::numbers::MAX_NUMBERS;
-use hid_layout::MAX_KEYS;
 use std::marker::Model;
 
 /// What numbers are drawn from.
@@ -98,7 +97,7 @@ impl<'a> Sending<'a> {
 
     /// The pressed keys by rising place, as numbers from the minimum on, and after them the same number n times.
     pub(crate) fn keys(flags: &'a Flags, min: i64, rest: usize, empty: i64) -> Sending<'a>
-        requires places { length flags.now ≤ MAX_KEYS }
+        requires places { length flags.now ≤ MAX_NUMBERS }
         requires small { neg_ℤ (pos (2 ^ 32)) ≤ℤ min }
         requires not_large { min ≤ℤ pos (2 ^ 32) }
         ensures { result ≡ pressed_places_from min 0 flags.now ++ replicate rest empty }

@@ -4,9 +4,9 @@ use Rattle.hid_layout.specs.declared.control.ControlId.{ControlId}
 use Rattle.hid_report_descriptor.specs.declared.fault.Cause.{Cause}
 use Rattle.hid_report_descriptor.specs.declared.usage.Usage.{Usage}
 use Rattle.hid_layout.specs.Controls.{items_of}
-use Rattle.hid_report_descriptor.specs.Faults.{is_memory, Explains, Refuses}
+use Rattle.hid_report_descriptor.specs.Faults.{is_memory}
+use Rattle.hid_report_descriptor.specs.Bus.{Explains, Refuses, HasOneReading, AcceptsNoRefused, HasOneCause, HasOnePlace}
 use Rattle.hid_layout.specs.Finding.{control_usage}
-use Rattle.hid_report_descriptor.specs.Laws.{HasOneReading, AcceptsNoRefused, HasOneCause, HasOnePlace}
 use Rattle.hid_layout.specs.Layout.{Contents, layout_of}
 use Rattle.hid_snapshots.specs.declared.fault.ChangeFault.TheVariants as change
 use Rattle.usb_transact.specs.declared.transaction.Fate.{Fate}

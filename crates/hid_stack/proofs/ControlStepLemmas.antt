@@ -1,7 +1,7 @@
 -- A control step with a virtual device is a function of both ends, memory aside.
 use Rattle.std.proofs.Common.{◌≡◌, ◌⊎◌, inl, inr, ℕ, true, List, length, Option, Some, None, Result, Ok, Err, refl, ap, sym, ◌∙◌, subst}
 use Rattle.std.specs.Prelude.{IfSome, ◌<◌, ◌^◌}
-use Rattle.hid_report_descriptor.specs.Laws.{HasOneReading, AcceptsNoRefused}
+use Rattle.hid_report_descriptor.specs.Bus.{HasOneReading, AcceptsNoRefused}
 use Rattle.hid_layout.specs.Layout.{Contents}
 use Rattle.usb_transact.specs.declared.transaction.Fate.{Fate}
 use Rattle.usb_control.specs.declared.descriptors.ConfigInfo.{ConfigInfo}

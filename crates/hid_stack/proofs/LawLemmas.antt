@@ -1,7 +1,7 @@
 -- A host knows its virtual device after whatever happens to the two.
 use Rattle.std.proofs.Common.{◌≡◌, ◌⊎◌, inl, inr, ℕ, Bool, true, false, List, [], ◌∷◌, length, take, suc, zero, Option, Some, None, Result, Ok, Err, refl, ap, sym, ◌∙◌, subst, arith}
 use Rattle.std.specs.Prelude.{IfSome, is_some, ◌<◌, ◌≤◌, ◌^◌, if◌then◌else◌}
-use Rattle.hid_report_descriptor.specs.Laws.{HasOneReading, AcceptsNoRefused}
+use Rattle.hid_report_descriptor.specs.Bus.{HasOneReading, AcceptsNoRefused}
 use Rattle.hid_layout.specs.Layout.{Contents}
 use Rattle.usb_transact.specs.declared.transaction.Fate.{Fate}
 use Rattle.usb_transact.specs.declared.host.Took.{Took}

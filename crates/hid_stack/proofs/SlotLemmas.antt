@@ -15,7 +15,8 @@ use Rattle.hid_snapshots.specs.declared.change.Change.{Change}
 use Rattle.hid_snapshots.specs.declared.fault.ChangeFault.{ChangeFault}
 use Rattle.hid_snapshots.specs.Snapshots.{snapshot_after}
 use Rattle.hid_bus.specs.ReportState.{ReportState, after_change, most_frames}
-use Rattle.hid_report_descriptor.specs.Laws.{HasOneReading, AcceptsNoRefused}
+use Rattle.hid_report_descriptor.specs.declared.limits.Limits.TheVariants.{Bus}
+use Rattle.hid_report_descriptor.specs.Bus.{HasOneReading, AcceptsNoRefused}
 use Rattle.hid_layout.specs.Layout.{Contents, layout_of}
 use Rattle.hid_layout.specs.Reports.{IsLayout}
 use Rattle.hid_layout.proofs.WellFormed.{layout_of_accepted}
@@ -92,7 +93,7 @@ abbrev StartsCold : Type 0
 StartsCold = (addr : ℕ) (control : DevControlState CoreState) → IsConsistent (cold_host addr) control
 
 laid_by : (descriptor : List ℕ) (layout : Contents) → ParsesTo descriptor layout → IsLayout layout
-laid_by descriptor layout lays = subst IsLayout (sym lays.laid) (layout_of_accepted descriptor lays.items lays.accepted)
+laid_by descriptor layout lays = subst IsLayout (sym lays.laid) (layout_of_accepted Bus descriptor lays.items lays.accepted)
 
 pub makes_ready : (addr : ℕ) (config : Config) (descriptor : List ℕ) (made device : DeviceState)
     (host : HostDeviceState)

@@ -3,6 +3,7 @@ use Rattle.std.proofs.Common.{◌≡◌, ◌∙◌, ℕ, Bool, true, false, List
 use Rattle.std.specs.Prelude.{◌||◌}
 use Rattle.hid_snapshots.specs.declared.control_state.ControlState.{ControlState}
 use Rattle.std.specs.Option.{option_map}
+use Rattle.hid_report_descriptor.specs.declared.limits.Limits.TheVariants.{Bus}
 use Rattle.hid_layout.specs.Controls.{Item, items_of}
 use Rattle.hid_layout.specs.Layout.{Contents}
 use Rattle.hid_layout.specs.Reports.{IsLayout}
@@ -525,7 +526,7 @@ still_together device device_then clearing phase bus_event parsed effect_ends_ha
 
 -- with the host gone on
 laid_by : (descriptor : List ℕ) (layout : Contents) → ParsesTo descriptor layout → IsLayout layout
-laid_by descriptor layout lays = subst IsLayout (sym lays.laid) (layout_of_accepted descriptor lays.items lays.accepted)
+laid_by descriptor layout lays = subst IsLayout (sym lays.laid) (layout_of_accepted Bus descriptor lays.items lays.accepted)
 
 -- toggles that start again are the same
 even_anew : (b toggle : Bool) (current : Option ℕ) → toggle ≡ false → current ≡ None

@@ -4,10 +4,10 @@ use Rattle.std.proofs.lemmas.List.Elements.{All-from_recursion}
 use Rattle.hid_items.specs.ItemEncoding.{IsItemEncoding}
 use Rattle.hid_report_descriptor.specs.Items.{EncodedItem}
 use Rattle.hid_report_descriptor.specs.Fields.{add_field}
-use Rattle.hid_report_descriptor.specs.Faults.{Accepts, AreAccepted, field_fault, are_too_many, numbers_from, report_ids}
+use Rattle.hid_report_descriptor.specs.Bus.{Accepts, AreAccepted, HasOneReading}
+use Rattle.hid_report_descriptor.specs.Faults.{field_fault, are_too_many, numbers_from, report_ids}
 use Rattle.hid_layout.specs.Layout.{layout_of}
 use Rattle.hid_report_descriptor.specs.Reporting.{reports_of, reports_of_kind}
-use Rattle.hid_report_descriptor.specs.Laws.{HasOneReading}
 use Rattle.hid_layout.specs.declared.boot.TheConstants.{KEYBOARD, MOUSE}
 use Rattle.hid_usages.specs.Boot.{keyboard_layout, mouse_layout, GivesOnly}
 

@@ -18,15 +18,15 @@ there true x y e = (refl, cc)
 there false x y e = cc
 
 in_item : (layout : Contents) (i j : ℕ) (item : Option MainItem) (element : Element) → IsLayout layout → slice_get layout.items i ≡ item
-    → option_and_then (λ found. element_in found j) item ≡ Some element → element.bit ≤ 2048
+    → option_and_then (λ found. element_in found j) item ≡ Some element → element.bit ≤ 131072
 in_item layout i j None element h at e = cc
 in_item layout i j (Some item) element h at e =
     let found = there (not (is_padding item.shape) && nat_lt j item.count) (field_at item j) element e in
     let tests = and_parts (not (is_padding item.shape)) (nat_lt j item.count) found.0 in
     let inside = h.inside i item at in let short = h.short item.report in
     let first = begins item.offset item.size item.count j (ltb-true j item.count tests.1) in
-    subst (λ (x : Element). x.bit ≤ 2048) found.1 (omega (arith, inside, short, first))
+    subst (λ (x : Element). x.bit ≤ 131072) found.1 (omega (arith, inside, short, first))
 
--- a data element begins in the first 256 bytes
-pub bit_short : (layout : Contents) (i j : ℕ) (element : Element) → IsLayout layout → element_of layout i j ≡ Some element → element.bit ≤ 2048
+-- a data element begins in the bits of the longest report
+pub bit_short : (layout : Contents) (i j : ℕ) (element : Element) → IsLayout layout → element_of layout i j ≡ Some element → element.bit ≤ 131072
 bit_short layout i j element h e = in_item layout i j (slice_get layout.items i) element h refl e

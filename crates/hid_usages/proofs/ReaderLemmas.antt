@@ -10,7 +10,7 @@ use Rattle.hid_layout.specs.declared.main_item.MainItem.{MainItem}
 use Rattle.hid_layout.specs.declared.control.ControlId.{ControlId}
 use Rattle.hid_layout.specs.Layout.{Contents}
 use Rattle.hid_layout.specs.Reports.{IsLayout}
-use Rattle.hid_layout.specs.Controls.{Form, NoControls, Elements, Keys, items_of, form_at, controls_of_form}
+use Rattle.hid_layout.specs.Controls.{Form, NoControls, Elements, Keys, items_of, form_at, controls_of_form, max_events}
 use Rattle.hid_snapshots.specs.declared.control_state.ControlState.{ControlState}
 use Rattle.hid_snapshots.specs.declared.control_state.ControlState.TheVariants.{Absent, Switches, Values, Motions, RollOver}
 use Rattle.hid_snapshots.specs.declared.event.Event.{Event}
@@ -236,12 +236,14 @@ taken_still layout view view' bytes out out' laid fits (r, named, same, told) h 
 
 -- What is kept of a report that was taken holds of the view then.
 pub reader_after : (layout : Contents) (view view' : List ControlState) (bytes kept : List ℕ) (out out' : List Event)
-    (silent : Bool) → IsLayout layout → FitsView (items_of layout) view → FitsView (items_of layout) view'
+    (silent : Bool) (most : ℕ) → most ≡ max_events (items_of layout) → IsLayout layout → FitsView (items_of layout) view
+    → FitsView (items_of layout) view'
     → TakesReport layout bytes view out (Ok tt) view' out' → (silent ≡ true → length out' ≡ length out)
-    → kept ≡ still_bytes_of silent bytes → IsReader layout view' kept
-reader_after layout view view' bytes kept out out' silent laid fits after taken none is = record {
+    → kept ≡ still_bytes_of silent bytes → IsReader layout view' most kept
+reader_after layout view view' bytes kept out out' silent most counted laid fits after taken none is = record {
   laid = laid;
   fits = after;
+  most_events = counted;
   still = subst (IsStill layout view') (sym is) (by_test (silent && nat_le (length bytes) 64) refl);
 }
   where

@@ -15,7 +15,7 @@ use Rattle.hid_report_descriptor.specs.declared.usage.Usage.{Usage}
 use Rattle.hid_report_descriptor.specs.Items.{EncodedItem}
 use Rattle.hid_report_descriptor.specs.Usages.{Entry}
 use Rattle.hid_layout.specs.Layout.{Contents, layout_of}
-use Rattle.hid_report_descriptor.specs.Faults.{Accepts}
+use Rattle.hid_report_descriptor.specs.Bus.{Accepts}
 use Rattle.hid_layout.specs.Controls.{items_of}
 use Rattle.hid_layout.specs.Finding.{control_usage}
 use Rattle.hid_usages.specs.declared.boot.KeyboardReport.{KeyboardReport}

@@ -1,7 +1,7 @@
 -- What is seen of a reader, and which report it needn't read again (our choice).
-use Rattle.std.specs.Prelude.{ℕ, ◌<◌, ◌&&◌, nat_le, Bool, if◌then◌else◌, List, [], length, Ok}
+use Rattle.std.specs.Prelude.{ℕ, ◌≡◌, ◌<◌, ◌&&◌, nat_le, Bool, if◌then◌else◌, List, [], length, Ok}
 use Rattle.hid_layout.specs.Layout.{Contents}
-use Rattle.hid_layout.specs.Controls.{items_of}
+use Rattle.hid_layout.specs.Controls.{items_of, max_events}
 use Rattle.hid_layout.specs.Reports.{IsLayout}
 use Rattle.hid_snapshots.specs.ControlStates.{FitsView}
 use Rattle.hid_snapshots.specs.declared.control_state.ControlState.{ControlState}
@@ -22,8 +22,9 @@ IsStill layout view bytes = 0 < length bytes → (out : List Event) → TakesRep
 abbrev pub still_bytes_of : Bool → List ℕ → List ℕ
 still_bytes_of silent bytes = if silent && nat_le (length bytes) 64 then bytes else []
 
--- what holds of every reader, and of the bytes that it keeps
-pub record IsReader (layout : Contents) (view : List ControlState) (bytes : List ℕ) : Type 0 where
+-- what holds of every reader, of the most events that it counts and of the bytes that it keeps
+pub record IsReader (layout : Contents) (view : List ControlState) (most : ℕ) (bytes : List ℕ) : Type 0 where
   pub laid : IsLayout layout
   pub fits : FitsView (items_of layout) view
+  pub most_events : most ≡ max_events (items_of layout)
   pub still : IsStill layout view bytes

@@ -135,7 +135,7 @@ report_begun layout bytes =
     if layout.numbered then option_and_then (λ id. position (is_input_with id) layout.reports) (first_byte bytes)
     else position (is_input_with 0) layout.reports
 
--- The bytes of the Input report that begins so; where there is none, those of the longest possible report (our choice).
+-- The bytes of the Input report that begins so; where there is none, those of the longest report of a bus (our choice).
 abbrev pub bytes_awaited : Contents → List ℕ → ℕ
 bytes_awaited layout bytes =
     elim (report_begun layout bytes) [ None ↦ MAX_REPORT_BYTES | Some r ↦ report_bytes layout r ]

@@ -16,6 +16,11 @@ pub record ReceiverState : Type 0 where
   pub view : List ControlState
   pub collected : List ℕ
 
+-- what is seen of a receiver: its state, and how many bytes of a report it has room for
+pub record RoomyReceiver : Type 0 where
+  pub state : ReceiverState
+  pub room : ℕ
+
 -- A report ends with its last byte, or with a packet that isn't full (5.7.3), of which `last` bytes came. A full packet of
 -- an endpoint has as many bytes as its wMaxPacketSize says (9.6.6), which is the first number.
 abbrev pub is_whole : ℕ → Contents → List ℕ → ℕ → Bool

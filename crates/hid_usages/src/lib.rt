@@ -43,6 +43,6 @@ pub use hid_snapshots::{
     encode_report, has_empty_codes, has_keys, has_zeros, is_input,
 };
 pub use reader::Reader;
-pub use receiver::{Arrived, Receiver};
+pub use receiver::{Arrived, Receiver, is_whole};
 pub use report_lookup::{bytes_awaited, element_value, input_report};
 pub use view::{View, changes, changes_and_drops, first_view};

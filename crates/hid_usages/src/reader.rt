@@ -22,6 +22,8 @@ use std::marker::Model;
 pub struct Reader {
     layout: Layout,
     view: View,
+    /// How many events a report gives at most: `max_events` of the layout, which walks all of its items.
+    max_events: usize,
     /// The bytes of a report that gives no event and changes nothing of the view; none where no such report is known.
     still: ArrayVec<u8, 64>,
 }
@@ -33,7 +35,7 @@ impl Model for Reader {
 
     ghost view = { λ r. record { layout = r.layout; view = r.view } };
 
-    ghost invariant = { λ r. IsReader r.layout r.view r.still.items };
+    ghost invariant = { λ r. IsReader r.layout r.view r.max_events r.still.items };
 }
 
 /// Whether these are the bytes that are kept, of which there are some.
@@ -63,10 +65,12 @@ impl Reader {
     {
         // For the prover: what holds of every layout.
         let _ = layout.items();
+        let max_events = layout.max_events();
 
         Reader {
             layout,
             view,
+            max_events,
             still: ArrayVec::new(),
         }
     }
@@ -85,6 +89,13 @@ impl Reader {
         ensures fits { FitsView (items_of self.now.layout) self.now.view }
     {
         &self.view
+    }
+
+    /// How many events a report gives at most, as [`Layout::max_events`] counts them.
+    pub fn max_events(&self) -> usize
+        ensures { result ≡ max_events (items_of self.now.layout) }
+    {
+        self.max_events
     }
 
     /// Takes the bytes of an Input report into the view, as [`View::take_report`] does, and adds its events (HID 1.11, 5.6

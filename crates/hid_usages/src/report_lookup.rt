@@ -1,11 +1,11 @@
 //! Which Input report bytes are, and the number of one of its elements.
 
-ghost use Rattle.std.specs.Prelude.{◌≡◌, ◌*◌, ◌<◌, ◌≤◌, false, length, Option, Some, None, position, IsSomeAnd, IfSome};
-ghost use Rattle.hid_layout.specs.Reports.{element_of, report_bytes};
+ghost use Rattle.std.specs.Prelude.{◌≡◌, ◌<◌, ◌≤◌, ◌*◌, false, length, Option, Some, None, position, IsSomeAnd, IfSome};
+ghost use Rattle.hid_layout.specs.Reports.{element_of, report_bytes, IsOfBus};
 ghost use Rattle.hid_usages.specs.Reading.{is_input_with, whole_report, report_named, report_begun, bytes_awaited, element_number, IsInside};
 
 use hid_fields::{FieldCodec, to_value};
-use hid_layout::{Element, Layout, MAX_REPORT_BYTES, Report, ReportKind};
+use hid_layout::{Element, Layout, MAX_REAL_REPORT_BYTES, MAX_REPORT_BYTES, Report, ReportKind};
 use hid_snapshots::ReportFault;
 
 /// Whether it is an Input report with this ID.
@@ -80,12 +80,14 @@ fn report_begun(layout: &Layout, bytes: &[u8]) -> Option<usize>
 }
 
 /// How many bytes the Input report has that begins with these, its ID byte included, by the first of them where reports are
-/// numbered (HID 1.11, 5.6): at most 256. Where they begin none it is [`MAX_REPORT_BYTES`], as many as the longest report has.
+/// numbered (HID 1.11, 5.6): at most 16,384, and 256 within the limits of the bus. Where they begin none it is
+/// [`MAX_REPORT_BYTES`], as many as the longest report of the bus has.
 pub fn bytes_awaited(layout: &Layout, bytes: &[u8]) -> usize
     ensures awaited { result ≡ bytes_awaited layout.now bytes.now }
-    ensures short { result ≤ MAX_REPORT_BYTES }
+    ensures long { result ≤ MAX_REAL_REPORT_BYTES }
+    ensures short { IsOfBus layout.now → result ≤ MAX_REPORT_BYTES }
 {
-    // For the prover: what holds of every layout, as that its reports are short.
+    // For the prover: what holds of every layout, as that its reports are so long at most.
     let _ = layout.items();
 
     match report_begun(layout, bytes) {
@@ -115,7 +117,7 @@ pub fn element_value<C: FieldCodec>(layout: &Layout, bytes: &[u8], item: usize, 
 /// The number of an element in the bytes of a report.
 fn element_number<C: FieldCodec>(layout: &Layout, bytes: &[u8], element: &Element) -> i64
     requires inside { IsInside layout.now bytes.now element.now }
-    requires short { element.now.bit ≤ 8 * MAX_REPORT_BYTES }
+    requires short { element.now.bit ≤ 8 * MAX_REAL_REPORT_BYTES }
     ensures { result ≡ element_number layout.now bytes.now element.now }
 {
     let first = if layout.numbered() { 8 } else { 0 };

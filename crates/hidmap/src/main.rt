@@ -2,7 +2,7 @@
 //! ```text
 //!   hidmap [OPTIONS] [FILE]
 //!
-//!   FILE, or standard input --> descriptor_in --> Layout::parse --> hid_page::draw --> standard output
+//!   FILE, or standard input --> descriptor_in --> Layout::parse_within --> hid_page::draw --> standard output
 //!     binary, hex, R:, a dump or C                   |
 //!                                                    +-- refused --> draw_refused --> standard output
 //!                                                                    and in words --> standard error
@@ -20,9 +20,9 @@ mod status;
 
 use args::{CliArgs, parse_args};
 use clap::error::ErrorKind;
-use hid_layout::{Cause, Layout, LayoutFault, MAX_DESCRIPTOR};
-use hid_notation::layout_words;
-use hid_page::{Form, draw, draw_refused};
+use hid_layout::{Cause, Layout, LayoutFault, Limits, MAX_DESCRIPTOR, long_report};
+use hid_notation::RefusalText;
+use hid_page::{Form, MAX_DRAWN, draw, draw_refused};
 use input::{InputFault, descriptor_in};
 use status::{FINE, OUTSIDE, REFUSED, WRONG_USAGE};
 use std::alloc::Global;
@@ -142,7 +142,7 @@ fn draw_file(rt: &HostRuntime, asked: &CliArgs<'_>) -> u8 {
 /// Draws a descriptor, or what it is refused for.
 fn draw_bytes(rt: &HostRuntime, asked: &CliArgs<'_>, descriptor: &[u8]) -> u8 {
     let descriptor = &descriptor[..descriptor.len().min(MOST)];
-    match Layout::parse(rt.alloc(), descriptor) {
+    match Layout::parse_within(rt.alloc(), Limits::Real, descriptor) {
         Ok(layout) => {
             if layout.reports().is_empty() {
                 let name = asked.file;
@@ -156,12 +156,10 @@ fn draw_bytes(rt: &HostRuntime, asked: &CliArgs<'_>, descriptor: &[u8]) -> u8 {
                 ..
             },
         ) => print_outside_fault(rt, NO_MEMORY),
-        Err(fault) => {
-            let name = asked.file;
-            let words = layout_words(fault.cause);
-            let _ = eprintln!(rt; "hidmap: {name}: {fault}: {words}");
-            draw_fault(rt, descriptor, fault, asked.form)
-        }
+        Err(fault) => match long_report(rt.alloc(), Limits::Real, descriptor, fault) {
+            Ok(report) => draw_refusal(rt, asked, descriptor, RefusalText { fault, report }),
+            Err(_) => print_outside_fault(rt, NO_MEMORY),
+        },
     }
 }
 
@@ -172,25 +170,47 @@ fn draw_layout(rt: &HostRuntime, layout: &Layout, descriptor: &[u8], form: Form)
     match draw(rt.alloc(), layout, descriptor, form) {
         Ok(Some(text)) => write_out(rt, &text, FINE),
         Ok(None) => {
-            let count = layout.reports().len();
-            if count > 0 {
-                let _ = eprintln!(rt;
-                    "hidmap: there is no such report: of {count}, the first is 0"
-                );
-            }
+            print_no_picture(rt, layout, form);
             WRONG_USAGE
         }
         Err(_) => print_outside_fault(rt, NO_MEMORY),
     }
 }
 
-/// Writes the page of a refusal, where a page is asked for.
-fn draw_fault(rt: &HostRuntime, descriptor: &[u8], fault: LayoutFault, form: Form) -> u8
+/// Why there is no picture of a report alone: there is no such report, or it has too many bytes.
+fn print_no_picture(rt: &HostRuntime, layout: &Layout, form: Form) {
+    let count = layout.reports().len();
+    match form {
+        Form::Svg(r) if r < count => {
+            let bytes = layout.report_bytes(r);
+            let _ = eprintln!(rt;
+                "hidmap: report {r} has {bytes} bytes: a picture has up to {MAX_DRAWN}"
+            );
+        }
+        _ => {
+            if count > 0 {
+                let _ = eprintln!(rt;
+                    "hidmap: there is no such report: of {count}, the first is 0"
+                );
+            }
+        }
+    }
+}
+
+/// Writes why a descriptor is refused, and its page, where a page is asked for.
+fn draw_refusal(
+    rt: &HostRuntime,
+    asked: &CliArgs<'_>,
+    descriptor: &[u8],
+    refusal: RefusalText,
+) -> u8
     requires { length descriptor.now ≤ MOST }
 {
-    match form {
+    let name = asked.file;
+    let _ = eprintln!(rt; "hidmap: {name}: {refusal}");
+    match asked.form {
         Form::Svg(_) | Form::Characters => REFUSED,
-        Form::Page => match draw_refused(rt.alloc(), descriptor, fault) {
+        Form::Page => match draw_refused(rt.alloc(), descriptor, refusal) {
             Ok(text) => write_out(rt, &text, REFUSED),
             Err(_) => print_outside_fault(rt, NO_MEMORY),
         },

@@ -10,7 +10,7 @@ pub const CODES: &str = "Refusals are reported in place, with their line, and th
   R6: the time isn't digits and points
   R7: the device has no descriptor
   R12: no empty line ends the dump before
-  R13: a dump of over 4096 bytes
+  R13: a dump of over 16384 bytes
   R14: dumps of over 16 interfaces
   R15: a part of the report may be missing
   U8: the report is too short
@@ -26,14 +26,14 @@ and, with the byte at which a report descriptor is refused:
   L8: a Report ID of 0, or over 255
   L9: some items have a Report ID, and some have none
   L10: no number is in the range of a field
-  L11: a data field of 0 bits, or over 32
+  L11: a data field of 0 bits, or over 131072
   L12: a Usage Minimum over its Maximum, or on another page
   L13: a Usage Minimum or Maximum without the other
   L14: a Delimiter
-  L15: a report of over 256 bytes
+  L15: a report of over 16384 bytes
   L16: too many items, fields, usages or Report IDs
 These end a file, and R9 and the first refusal with --strict all of them:
-  R2: a line of over 16384 bytes
+  R2: a line of over 65536 bytes
   R8: the recording can't be read
   R9: its text can't be written
   R10: out of memory

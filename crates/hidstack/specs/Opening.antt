@@ -1,7 +1,7 @@
 -- What opening a handle makes of it (our choice).
 use Rattle.std.specs.Prelude.{◌≡◌, ℕ, List, length, Option, Some, None}
 use Rattle.hid_report_descriptor.specs.declared.fault.Cause.{Cause}
-use Rattle.hid_report_descriptor.specs.Faults.{Explains}
+use Rattle.hid_report_descriptor.specs.Real.{Explains}
 use Rattle.hidstack_session.specs.Causes.{cause_number}
 use Rattle.hidstack_session.specs.Elements.{one_of}
 use Rattle.hidstack_session.specs.States.{SessionState}

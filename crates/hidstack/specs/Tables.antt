@@ -2,7 +2,7 @@
 use Rattle.std.specs.Prelude.{◌≡◌, ℕ, ◌<◌, ◌≤◌, ◌⊎◌, ℤ, List, ◌++◌, length, drop, Result, Ok, Err}
 use Rattle.hid_report_descriptor.specs.declared.fault.Cause.{Cause}
 use Rattle.hid_report_descriptor.specs.Items.{EncodedItem}
-use Rattle.hid_report_descriptor.specs.Faults.{Accepts, Explains}
+use Rattle.hid_report_descriptor.specs.Real.{Accepts, Explains}
 use Rattle.hid_snapshots.specs.declared.fault.ReportFault.{ReportFault}
 use Rattle.hid_snapshots.specs.declared.fault.ReportFault.TheVariants.{Short, UnknownReport}
 use Rattle.hid_layout.specs.Layout.{layout_of}

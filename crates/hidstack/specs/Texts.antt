@@ -2,8 +2,14 @@
 use Rattle.std.specs.Prelude.{◌≡◌, ℕ, ◌<◌, ◌≤◌, ◌⊎◌, List, ◌++◌, length, drop, Option, None, Some}
 use Rattle.hid_report_descriptor.specs.declared.fault.Cause.{Cause}
 use Rattle.hid_report_descriptor.specs.Codes.{code_of}
+use Rattle.hid_report_descriptor.specs.declared.fault.LayoutFault.{LayoutFault}
+use Rattle.hid_report_descriptor.specs.declared.limits.Limits.TheVariants.{Real}
+use Rattle.hid_report_descriptor.specs.declared.long_reports.LongReport.{LongReport}
+use Rattle.hid_report_descriptor.specs.Items.{EncodedItem}
+use Rattle.hid_report_descriptor.specs.LongReports.{NamesReport}
+use Rattle.hid_report_descriptor.specs.Real.{Accepts, Refuses}
 use Rattle.hid_names.specs.Names.{Name, name_text}
-use Rattle.hid_notation.specs.Causes.{layout_words}
+use Rattle.hid_notation.specs.Causes.{layout_refusal_text, layout_words}
 use Rattle.hidstack_session.specs.Causes.{cause_number}
 use Rattle.hidstack.specs.declared.status.TheConstants.{OK, NO_ROOM, NONE, MEMORY}
 
@@ -45,3 +51,16 @@ abbrev pub NameIsReturned : Option Name → List ℕ → ℕ → List ℕ → �
 NameIsReturned (Some name) out status out' told =
     TextIsReturned (name_text name) out status out' told ⊎ Leaves MEMORY out status out' told
 NameIsReturned None out status out' told = Leaves NONE out status out' told
+
+-- the text of a refusal of a descriptor, with the report that is too long where there is one
+abbrev pub IsRefusalText : List ℕ → LayoutFault → List ℕ → Type 0
+IsRefusalText bytes fault text =
+    (report : Option LongReport) × NamesReport Real bytes fault report × (text ≡ layout_refusal_text fault report)
+
+-- the text of the refusal of a descriptor, or memory ran out; or the descriptor is accepted
+abbrev pub RefusalIsReturned : List ℕ → List ℕ → ℕ → List ℕ → ℕ → Type 0
+RefusalIsReturned bytes out status out' told =
+    ((fault : LayoutFault) × (text : List ℕ) × Refuses bytes fault.cause fault.at × IsRefusalText bytes fault text
+    × TextIsReturned text out status out' told)
+    ⊎ (Leaves MEMORY out status out' told
+    ⊎ (((items : List EncodedItem) × Accepts bytes items) × Leaves NONE out status out' told))

@@ -1,11 +1,11 @@
 //! A descriptor's elements with no handle, and an element's number in a report.
 
 ghost use Rattle.std.specs.Prelude.{◌≡◌, IfOk, IfErr};
-ghost use Rattle.hid_report_descriptor.specs.Faults.{Explains};
+ghost use Rattle.hid_report_descriptor.specs.Real.{Explains};
 ghost use Rattle.hidstack.specs.Tables.{TablesElements, Tabled, Misses, Refuses, TableHasElements, NumberAnswers};
 
 use crate::status::{NO_ROOM, OK, REFUSED, SHORT, UNKNOWN};
-use hid_layout::Layout;
+use hid_layout::{Layout, Limits};
 use hidstack_session::{
     HidElement, LayoutFault, ReportFault, cause_number, list_elements, number_in, put_elements,
 };
@@ -30,7 +30,7 @@ fn read_elements(alloc: Global, descriptor: &[u8]) -> Result<Vec<HidElement>, La
     ensures ok { IfOk result (λ elements. TableHasElements descriptor.now elements.items) }
     ensures err { IfErr result (λ f. Explains descriptor.now f.cause f.at) }
 {
-    let layout = Layout::parse(alloc, descriptor)?;
+    let layout = Layout::parse_within(alloc, Limits::Real, descriptor)?;
     match list_elements(alloc, &layout) {
         Ok(elements) => Ok(elements),
         Err(_) => Err(LayoutFault::memory()),

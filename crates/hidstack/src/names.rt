@@ -1,16 +1,18 @@
-//! Causes and usages as text: codes, and words.
+//! Causes, refusals and usages as text: codes, and words.
 
-ghost use Rattle.std.specs.Prelude.{◌≡◌, ◌≤◌, ◌++◌, length, drop};
+ghost use Rattle.std.specs.Prelude.{◌≡◌, ◌≤◌, ◌++◌, length, drop, Option, IfOk, string_bytes};
+ghost use Rattle.hid_report_descriptor.specs.Real.{Explains};
+ghost use Rattle.hid_report_descriptor.specs.declared.long_reports.LongReport.{LongReport};
 ghost use Rattle.hid_names.specs.Names.{name_of};
 ghost use Rattle.hid_notation.specs.Text.{usage_text};
-ghost use Rattle.hidstack.specs.Texts.{TextIsReturned, CauseIsReturned, NameIsReturned, UsageIsReturned, WordsAreReturned};
+ghost use Rattle.hidstack.specs.Texts.{TextIsReturned, CauseIsReturned, NameIsReturned, RefusalIsReturned, IsRefusalText, UsageIsReturned, WordsAreReturned};
 
 use crate::status::{MEMORY, NO_ROOM, NONE, OK};
-use hid_layout::Usage;
+use hid_layout::{Layout, LayoutFault, Limits, Usage, long_report};
 use hid_names::usage_name;
-use hid_notation::{UsageText, layout_words};
+use hid_notation::{RefusalText, UsageText, layout_words};
 use hidstack_session::cause_with;
-use std::alloc::Global;
+use std::alloc::{AllocError, Global};
 
 /// Writes a text over the first bytes of a room.
 pub(crate) fn put_text(text: &[u8], out: &mut [u8])
@@ -82,6 +84,38 @@ pub extern "C" fn hidstack_cause_words(cause: u32, out: &mut [u8], len: &mut u64
     match cause_with(cause) {
         Some(found) => write_text(layout_words(found).as_bytes(), out, len),
         None => NONE,
+    }
+}
+
+/// The text of the refusal of a descriptor.
+fn refusal_text(alloc: Global, descriptor: &[u8], fault: LayoutFault) -> Result<String, AllocError>
+    requires { Explains descriptor.now fault.cause fault.at }
+    ensures { IfOk result (λ text. IsRefusalText descriptor.now fault (string_bytes text)) }
+{
+    let report = long_report(alloc, Limits::Real, descriptor, fault)?;
+    RefusalText { fault, report }.to_string(alloc)
+}
+
+/// Why a descriptor is refused, and where: `L15 at 326: Feature report 68 has 20000 bytes, over 16384`.
+#[unsafe(no_mangle)]
+pub extern "C" fn hidstack_refusal_text(
+    alloc: Global,
+    descriptor: &[u8],
+    out: &mut [u8],
+    len: &mut u64,
+) -> u32
+    ensures { RefusalIsReturned descriptor.now out.old result out.new len.new }
+{
+    *len = 0;
+    let Err(fault) = Layout::parse_within(alloc, Limits::Real, descriptor) else {
+        return NONE;
+    };
+    if fault.cause.is_memory() {
+        return MEMORY;
+    }
+    match refusal_text(alloc, descriptor, fault) {
+        Ok(text) => write_text(text.as_bytes(), out, len),
+        Err(_) => MEMORY,
     }
 }
 

@@ -1,7 +1,7 @@
 //! A handle is opened, fed and closed.
 
 ghost use Rattle.std.specs.Prelude.{◌≡◌, ◌≤◌, Some, None, Ok, Err, IfOk, IfErr};
-ghost use Rattle.hid_report_descriptor.specs.Faults.{Explains};
+ghost use Rattle.hid_report_descriptor.specs.Real.{Explains};
 ghost use Rattle.hidstack_session.specs.Causes.{cause_number};
 ghost use Rattle.hidstack_session.specs.declared.session.FeedFault.TheVariants.{Refused};
 ghost use Rattle.hidstack_session.specs.Sessions.{IsFirst};

@@ -1,7 +1,7 @@
 -- What opening a session gives (HID 1.11, 6.2.2), and what a report makes of it (5.6 and 6.2.2.5).
 use Rattle.std.specs.Prelude.{◌≡◌, ℕ, ◌<◌, ◌≤◌, List, ◌++◌, length, map, drop, Result, Ok, Err}
 use Rattle.hid_report_descriptor.specs.Items.{EncodedItem}
-use Rattle.hid_report_descriptor.specs.Faults.{Accepts}
+use Rattle.hid_report_descriptor.specs.Real.{Accepts}
 use Rattle.hid_report_descriptor.specs.declared.fault.LayoutFault.{LayoutFault}
 use Rattle.hid_layout.specs.Layout.{Contents, layout_of}
 use Rattle.hid_layout.specs.Controls.{items_of, max_events}

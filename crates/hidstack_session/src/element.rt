@@ -8,7 +8,7 @@ ghost use Rattle.hidstack_session.specs.Elements.{usage_number, element_at, kind
 
 use hid_fields::{FieldCodec, MAX_WIDTH, WordCodec, to_value};
 use hid_layout::{
-    Element, Layout, MAX_ENTRIES, MAX_REPORT_BYTES, MainItem, ReportKind, Shape, Usage,
+    Element, Layout, MAX_ENTRIES, MAX_REAL_REPORT_BYTES, MainItem, ReportKind, Shape, Usage,
     usage_count, usage_of_element,
 };
 use hid_usages::ReportFault;
@@ -115,7 +115,7 @@ fn element_record(
 ) -> HidElement
     requires layout { IsLayout layout.now }
     requires listed { item < length layout.now.items }
-    requires short { element.now.bit ≤ 8 * MAX_REPORT_BYTES }
+    requires short { element.now.bit ≤ 8 * MAX_REAL_REPORT_BYTES }
     ensures { result ≡ element_record layout.now item j main.now element.now }
 {
     let entries = layout.entries(item);

@@ -1,7 +1,7 @@
 //! A device whose reports are read: its descriptor once, then one report at a time.
 
 ghost use Rattle.std.specs.Prelude.{◌≡◌, Ok, Err, IfOk, IfErr};
-ghost use Rattle.hid_report_descriptor.specs.Faults.{Explains};
+ghost use Rattle.hid_report_descriptor.specs.Real.{Explains};
 ghost use Rattle.hid_layout.specs.Layout.{Contents};
 ghost use Rattle.hid_layout.specs.Controls.{items_of, max_events};
 ghost use Rattle.hid_snapshots.specs.Snapshots.{is_pressed, state_at};
@@ -10,7 +10,7 @@ ghost use Rattle.hidstack_session.specs.Sessions.{IsFirst, IsFirstOf, Feeds};
 
 use crate::event::{HidEvent, put_events};
 use hid_fields::WordCodec;
-use hid_layout::{Cause, ControlId, Layout, LayoutFault};
+use hid_layout::{Cause, ControlId, Layout, LayoutFault, Limits};
 use hid_usages::{Event, Reader, ReportFault, first_view};
 use std::alloc::Global;
 use std::marker::Model;
@@ -54,7 +54,7 @@ impl Session {
         // Memory ran out, or this is the one refusal.
         ensures err { IfErr result (λ f. Explains descriptor.now f.cause f.at) }
     {
-        Session::of_layout(alloc, Layout::parse(alloc, descriptor))
+        Session::of_layout(alloc, Layout::parse_within(alloc, Limits::Real, descriptor))
     }
 
     /// A session of the layout, with a blank view. It takes what parsing gave, so that its proof has one early
@@ -78,7 +78,7 @@ impl Session {
     pub fn room(&self) -> usize
         ensures { result ≡ max_events (items_of self.now.layout) }
     {
-        self.reader.layout().max_events()
+        self.reader.max_events()
     }
 
     /// Reads a report, and writes its events over the first places of the table. No memory is taken.
@@ -89,7 +89,7 @@ impl Session {
     pub fn feed(&mut self, report: &[u8], out: &mut [HidEvent]) -> Result<usize, FeedFault>
         ensures { Feeds self.old report.now out.old result self.new out.new }
     {
-        if out.len() < self.reader.layout().max_events() {
+        if out.len() < self.reader.max_events() {
             return Err(FeedFault::NoRoom);
         }
         self.events.clear();

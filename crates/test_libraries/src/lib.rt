@@ -10,6 +10,8 @@ mod generated;
 #[cfg(test)]
 mod layout_memory;
 #[cfg(test)]
+mod real;
+#[cfg(test)]
 mod recordings;
 #[cfg(test)]
 mod transfer_memory;

@@ -287,11 +287,11 @@ fn runs_that_end_early_tell_where_and_what_was_played(rt: HostRuntime) {
 /// end early.
 #[rattlefmt::skip]
 const LONG: [(&str, &str, &str, u32, &str, &str, Option<u64>); 5] = [
-    ("a dump of 4,096 bytes", "1:1:0:STREAM 1\n", " 00\n", 4096, "\n", "line 4098: R7: the device has no descriptor\n", None),
-    ("bytes more",            "1:1:0:STREAM 1\n", " 00\n", 4100, "\n", "line 4098: R13: a dump of over 4096 bytes\n", None),
-    ("a second descriptor of as many", "1:1:0:DESCRIPTOR 1\n 05 09 09 01 15 00 25 01 75 01 95 01 81 02\n\n1:1:0:DESCRIPTOR 2\n", " 00\n", 4100, "\n1:1:0:STREAM 3\n 01\n\n", "line 4101: R13: a dump of over 4096 bytes\nline 4108: R7: the device has no descriptor\n", None),
-    ("a line of 16,384 bytes", "#", "x", 16383, "\r\nX\n", "line 2: R1: no line of a recording\n", None),
-    ("a byte more",            "#", "x", 16384, "\r\nX\n", "", Some(1)),
+    ("a dump of 16,384 bytes", "1:1:0:STREAM 1\n", " 00\n", 16384, "\n", "line 16386: R7: the device has no descriptor\n", None),
+    ("bytes more",            "1:1:0:STREAM 1\n", " 00\n", 16388, "\n", "line 16386: R13: a dump of over 16384 bytes\n", None),
+    ("a second descriptor of as many", "1:1:0:DESCRIPTOR 1\n 05 09 09 01 15 00 25 01 75 01 95 01 81 02\n\n1:1:0:DESCRIPTOR 2\n", " 00\n", 16388, "\n1:1:0:STREAM 3\n 01\n\n", "line 16389: R13: a dump of over 16384 bytes\nline 16396: R7: the device has no descriptor\n", None),
+    ("a line of 65,536 bytes", "#", "x", 65535, "\r\nX\n", "line 2: R1: no line of a recording\n", None),
+    ("a byte more",            "#", "x", 65536, "\r\nX\n", "", Some(1)),
 ];
 
 fn long_recording(

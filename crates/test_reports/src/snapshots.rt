@@ -5,14 +5,17 @@
 //! - `take R` sets the part, and takes its motion out of the snapshot; `reset` makes all parts blank again;
 //! - `due R`, `motion C`, `keys I`, `input R` and `codes` print the state.
 
-ghost use Rattle.std.specs.Prelude.{IfOk};
+ghost use Rattle.std.specs.Prelude.{◌≤◌, IfOk};
+ghost use Rattle.std.specs.Bool.{OnTrue};
+ghost use Rattle.hid_report_descriptor.specs.declared.limits.TheConstants.{MAX_REPORT_BYTES};
 ghost use Rattle.hid_layout.specs.Controls.{items_of};
+ghost use Rattle.hid_layout.specs.Reports.{report_bytes};
 ghost use Rattle.hid_snapshots.specs.ControlStates.{FitsSnapshot, FitsShown};
 
 use crate::words::control_of;
 use arrayvec::ArrayVec;
 use hid_fields::{BitCodec, FieldCodec, WordCodec};
-use hid_layout::Layout;
+use hid_layout::{Layout, MAX_REPORT_BYTES};
 use hid_snapshots::{
     Change, ChangeFault, Shown, Snapshot, encode_report, has_empty_codes, has_keys, has_zeros,
     is_input,
@@ -108,11 +111,19 @@ pub fn fix(
     true
 }
 
+/// Whether a report has at most the bytes of one of a virtual device.
+fn is_short(layout: &Layout, report: usize) -> bool
+    ensures { OnTrue result (report_bytes layout.now report ≤ MAX_REPORT_BYTES) }
+{
+    report < layout.reports().len() && layout.report_bytes(report) <= MAX_REPORT_BYTES as usize
+}
+
 /// The bytes of a report's part; none where it has none.
 fn encoded<F: FieldCodec>(layout: &Layout, parts: &Shown, report: usize) -> ArrayVec<u8, 256>
     requires { FitsShown (items_of layout.now) parts.now }
 {
-    if is_input(layout, report) && has_zeros(layout) && has_empty_codes(layout) {
+    let fits = is_input(layout, report) && is_short(layout, report);
+    if fits && has_zeros(layout) && has_empty_codes(layout) {
         encode_report::<F>(layout, report, parts)
     } else {
         ArrayVec::new()

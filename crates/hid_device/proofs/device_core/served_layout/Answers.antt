@@ -1,5 +1,5 @@
 use Rattle.std.proofs.Common.{◌≡◌, ℕ, List, refl, sym, ◌∙◌, subst}
-use Rattle.hid_report_descriptor.specs.Faults.{Accepts}
+use Rattle.hid_report_descriptor.specs.Bus.{Accepts}
 use Rattle.hid_report_descriptor.specs.Items.{EncodedItem}
 use Rattle.hid_layout.specs.Layout.{Contents, layout_of}
 use Rattle.hid_requests.specs.declared.fault.DeviceFault.{DeviceFault}

@@ -5,8 +5,8 @@ use Rattle.hid_snapshots.specs.Encoding.{bare_report}
 use Rattle.hid_device.specs.Inputs.{input_count}
 use Rattle.hid_device.proofs.outputs.bare_outputs.Goals as goal
 
-pub bare-requires : goal.bare-requires
-bare-requires c = subst (λ (n : ℕ). c.loop-report.report < n) c.loop-report.invariant.count_is c.loop-report-test.true
+pub bare-requires-clause-report : goal.bare-requires-clause-report
+bare-requires-clause-report c = subst (λ (n : ℕ). c.loop-report.report < n) c.loop-report.invariant.count_is c.loop-report-test.true
 
 pub loop-report-preserved : goal.loop-report-preserved
 loop-report-preserved c =

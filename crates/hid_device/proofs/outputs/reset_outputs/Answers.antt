@@ -15,7 +15,7 @@ loop-report-preserved c =
     record {
       from = omega (arith, from);
       reset = ap (λ (n : ℕ). slice_set c.loop-report.outputs (c.loop-report.report - n) c.bare.result) c.input_count-first.ensures.count
-          ∙ bare_next c.args.layout.now c.args.outputs.now c.loop-report.outputs c.loop-report.report c.bare.result c.requires from (omega (arith, all)) c.loop-report.invariant.reset c.bare.ensures;
+          ∙ bare_next c.args.layout.now c.args.outputs.now c.loop-report.outputs c.loop-report.report c.bare.result c.requires.each from (omega (arith, all)) c.loop-report.invariant.reset c.bare.ensures;
     }
 
 pub returns : goal.returns
@@ -24,4 +24,4 @@ returns c =
     let count : length (bare_outputs c.args.layout.now) ≡ length c.args.layout.now.reports - first
     = kept_count c.args.layout.now ∙ length-drop first c.args.layout.now.reports in
     c.loop-report.invariant.reset
-    ∙ filled (bare_outputs c.args.layout.now) c.args.outputs.now (c.loop-report.report - first) (grind (arith, count)) (c.requires ∙ sym (kept_count c.args.layout.now))
+    ∙ filled (bare_outputs c.args.layout.now) c.args.outputs.now (c.loop-report.report - first) (grind (arith, count)) (c.requires.each ∙ sym (kept_count c.args.layout.now))

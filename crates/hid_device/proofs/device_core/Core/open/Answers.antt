@@ -9,6 +9,7 @@ use Rattle.usb_transact.specs.Device.{DevPipeState}
 use Rattle.hid_device.specs.Core.{AreBytesOf, CoreState, piece_armed}
 use Rattle.hid_device.specs.contracts.device_core.Core.{the_view}
 use Rattle.hid_device.proofs.InputLemmas.{counted, counted_input}
+use Rattle.hid_device.proofs.BusLemmas.{short_report}
 use Rattle.hid_device.proofs.device_core.Core.open.Goals as goal
 
 pub shown-requires-clause-input : goal.shown-requires-clause-input
@@ -72,3 +73,6 @@ invariant_of-self c =
       nothing_due = tt;
       armed = ap (λ (pipe : DevPipeState). pipe.armed) c.arm.ensures ∙ ap Some sent;
     }
+
+pub write_report-requires-clause-short : goal.write_report-requires-clause-short
+write_report-requires-clause-short c = short_report (the_view c.self.inside) c.args.report c.self.invariant.sound

@@ -5,6 +5,7 @@ use Rattle.hid_device.specs.contracts.device_core.Core.{the_view}
 use Rattle.hid_device.specs.Inputs.{input_count}
 use Rattle.hid_device.specs.Outputs.{AreOutputs, bare_outputs}
 use Rattle.hid_device.proofs.OutputLemmas.{bare_are, kept_count, refilled, sound_with}
+use Rattle.hid_device.proofs.BusLemmas.{of_bus}
 use Rattle.hid_device.proofs.device_core.Core.reset.Goals as goal
 
 pub invariant_of-self : goal.invariant_of-self
@@ -22,3 +23,6 @@ invariant_of-self c =
       round = c.self.invariant.round;
       room = c.self.invariant.room;
     }
+
+pub reset_outputs-requires-clause-bus : goal.reset_outputs-requires-clause-bus
+reset_outputs-requires-clause-bus c = of_bus c.self.inside.descriptor.items c.self.inside.layout c.self.invariant.sound.lays

@@ -5,6 +5,7 @@ use Rattle.hid_layout.specs.Parsing.{ParsesTo}
 use Rattle.hid_device.specs.Outputs.{AreOutputs}
 use Rattle.hid_device.proofs.InputLemmas.{inputs_first}
 use Rattle.hid_device.proofs.OutputLemmas.{bare_are}
+use Rattle.hid_device.proofs.BusLemmas.{of_bus}
 use Rattle.hid_device.proofs.device_core.Core.with_layout.Goals as goal
 
 pub invariant_of-result-2 : goal.invariant_of-result-2
@@ -34,3 +35,6 @@ invariant_of-result-2 c =
       armed = armed;
       round = tt;
     }
+
+pub of-requires : goal.of-requires
+of-requires c = record { bus = of_bus c.args.descriptor.now c.args.layout c.requires.lays }

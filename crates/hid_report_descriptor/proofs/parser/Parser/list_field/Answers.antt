@@ -14,9 +14,7 @@ use Rattle.hid_report_descriptor.proofs.parser.Parser.list_field.Goals as goal
 pub returns-then-is_too_long-clause-fields : goal.returns-then-is_too_long-clause-fields
 returns-then-is_too_long-clause-fields c fs k =
     let f = c.args.field.now in
-    told_too_long fs _ c.args.self.now.fields
-    (c.requires ∙ ap (bits_in_report f.kind f.id) k.reports
-    ∙ bits_in_report-reports_of f.kind f.id fs (omega arith)) (sym c.if-is_too_long.ensures.value)
+    told_too_long c.args.limits fs _ c.args.self.now.fields (c.requires ∙ ap (bits_in_report f.kind f.id) k.reports ∙ bits_in_report-reports_of f.kind f.id fs (omega arith)) (sym c.if-is_too_long.ensures.value)
 
 pub returns-then-entries-gt-MAX_ENTRIES-clause-fields : goal.returns-then-entries-gt-MAX_ENTRIES-clause-fields
 returns-then-entries-gt-MAX_ENTRIES-clause-fields c fs k =
@@ -25,10 +23,7 @@ returns-then-entries-gt-MAX_ENTRIES-clause-fields c fs k =
     let shown : map on c.shown_entries-entries.result.now ≡ shown_entries f.shape (map on c.args.self.now.locals.entries.items) = c.shown_entries-entries.ensures c.args.self.now.globals.now.page ∙ ap (λ l. shown_entries f.shape (map on l)) c.deref.ensures.value in
     let few : length (shown_entries f.shape (map on c.args.self.now.locals.entries.items)) ≡ length c.shown_entries-entries.result.now = ap length (sym shown) ∙ length-map c.shown_entries-entries.result.now on in
     let b : nat_lt 64 (length c.shown_entries-entries.result.now) ≡ true = grind (arith, nat_tests) in
-    told_entries fs _ c.args.self.now.fields
-    (c.requires ∙ ap (bits_in_report f.kind f.id) k.reports
-    ∙ bits_in_report-reports_of f.kind f.id fs (omega arith)) (sym c.if-is_too_long.ensures.value)
-    (ap (nat_lt 64) few ∙ b)
+    told_entries c.args.limits fs _ c.args.self.now.fields (c.requires ∙ ap (bits_in_report f.kind f.id) k.reports ∙ bits_in_report-reports_of f.kind f.id fs (omega arith)) (sym c.if-is_too_long.ensures.value) (ap (nat_lt 64) few ∙ b)
 
 pub returns-then-field-ne0-clause-fields : goal.returns-then-field-ne0-clause-fields
 returns-then-field-ne0-clause-fields c fs k =
@@ -37,12 +32,10 @@ returns-then-field-ne0-clause-fields c fs k =
     let shown : map on c.shown_entries-entries.result.now ≡ shown_entries f.shape (map on c.args.self.now.locals.entries.items) = c.shown_entries-entries.ensures c.args.self.now.globals.now.page ∙ ap (λ l. shown_entries f.shape (map on l)) c.deref.ensures.value in
     let few : length (shown_entries f.shape (map on c.args.self.now.locals.entries.items)) ≡ length c.shown_entries-entries.result.now = ap length (sym shown) ∙ length-map c.shown_entries-entries.result.now on in
     let b : nat_lt 64 (length c.shown_entries-entries.result.now) ≡ false = grind (arith, nat_tests) in
-    told_kept fs _ _ _
-    (c.requires ∙ ap (bits_in_report f.kind f.id) k.reports
-    ∙ bits_in_report-reports_of f.kind f.id fs (omega arith)) (sym c.if-is_too_long.ensures.value)
+    told_kept c.args.limits fs _ _ _ (c.requires ∙ ap (bits_in_report f.kind f.id) k.reports ∙ bits_in_report-reports_of f.kind f.id fs (omega arith)) (sym c.if-is_too_long.ensures.value)
     (ap (nat_lt 64) few ∙ b) c.if-field-ne0.true
-    (subst (λ p. Keeps fs (whole_field f (shown_entries f.shape (map on c.args.self.now.locals.entries.items)) p) c.keep.result c.keep.new.self) c.deref-then-field-ne0.ensures.0
-    (subst (λ es. Keeps fs (whole_field f es c.deref-then-field-ne0.result.now) c.keep.result c.keep.new.self) shown (c.keep.ensures fs k)))
+    (subst (λ p. Keeps c.args.limits fs (whole_field f (shown_entries f.shape (map on c.args.self.now.locals.entries.items)) p) c.keep.result c.keep.new.self) c.deref-then-field-ne0.ensures.0
+    (subst (λ es. Keeps c.args.limits fs (whole_field f es c.deref-then-field-ne0.result.now) c.keep.result c.keep.new.self) shown (c.keep.ensures fs k)))
 
 pub returns-then-are_too_many-clause-fields : goal.returns-then-are_too_many-clause-fields
 returns-then-are_too_many-clause-fields c fs k =
@@ -51,10 +44,7 @@ returns-then-are_too_many-clause-fields c fs k =
     let shown : map on c.shown_entries-entries.result.now ≡ shown_entries f.shape (map on c.args.self.now.locals.entries.items) = c.shown_entries-entries.ensures c.args.self.now.globals.now.page ∙ ap (λ l. shown_entries f.shape (map on l)) c.deref.ensures.value in
     let few : length (shown_entries f.shape (map on c.args.self.now.locals.entries.items)) ≡ length c.shown_entries-entries.result.now = ap length (sym shown) ∙ length-map c.shown_entries-entries.result.now on in
     let b : nat_lt 64 (length c.shown_entries-entries.result.now) ≡ false = grind (arith, nat_tests) in
-    told_unlisted fs _ true
-    (c.requires ∙ ap (bits_in_report f.kind f.id) k.reports
-    ∙ bits_in_report-reports_of f.kind f.id fs (omega arith)) (sym c.if-is_too_long.ensures.value)
-    (ap (nat_lt 64) few ∙ b) (omega arith) (c.if-are_too_many.ensures fs k)
+    told_unlisted c.args.limits fs _ true (c.requires ∙ ap (bits_in_report f.kind f.id) k.reports ∙ bits_in_report-reports_of f.kind f.id fs (omega arith)) (sym c.if-is_too_long.ensures.value) (ap (nat_lt 64) few ∙ b) (omega arith) (c.if-are_too_many.ensures fs k)
 
 pub returns-clause-fields : goal.returns-clause-fields
 returns-clause-fields c fs k =
@@ -66,8 +56,5 @@ returns-clause-fields c fs k =
     let z : f.size * f.count ≡ 0 = omega arith in
     let b : nat_lt 64 (length c.shown_entries-entries.result.now) ≡ false = grind (arith, nat_tests) in (
       subst (λ xs. AreKept xs c.args.self.now.fields) (sym (unlisted fs w z)) k,
-      told_unlisted fs w false
-          (c.requires ∙ ap (bits_in_report f.kind f.id) k.reports
-          ∙ bits_in_report-reports_of f.kind f.id fs (omega arith)) (sym c.if-is_too_long.ensures.value)
-          (ap (nat_lt 64) few ∙ b) z (c.if-are_too_many.ensures fs k),
+      told_unlisted c.args.limits fs w false (c.requires ∙ ap (bits_in_report f.kind f.id) k.reports ∙ bits_in_report-reports_of f.kind f.id fs (omega arith)) (sym c.if-is_too_long.ensures.value) (ap (nat_lt 64) few ∙ b) z (c.if-are_too_many.ensures fs k),
     )

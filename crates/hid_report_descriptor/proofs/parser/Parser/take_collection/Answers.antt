@@ -4,6 +4,6 @@ use Rattle.hid_report_descriptor.proofs.Frames.{stands_collection, collection_is
 use Rattle.hid_report_descriptor.proofs.parser.Parser.take_collection.Goals as goal
 
 pub returns : goal.returns
-returns c before h s =
-    stands_collection before _ _ _ h (omega arith) s refl (c.clear.ensures before _ (collection_is_main _ h))
+returns c limits before h s =
+    stands_collection limits before _ _ _ h (omega arith) s refl (c.clear.ensures before _ (collection_is_main _ h))
     (c.begin.ensures before h (ap (map (entry_on_page c.args.self.now.globals.now.page)) c.deref.ensures.value ∙ usages_there before _ s) s.path_there) refl refl

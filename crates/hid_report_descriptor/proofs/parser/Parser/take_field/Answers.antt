@@ -13,7 +13,7 @@ returns-in-Err c before i k s =
     let es : List Entry = map (entry_on_page page) c.args.self.now.locals.entries.items in
     let paired : Bool = nat_eq (length c.args.self.now.locals.minima) (length c.args.self.now.locals.maxima) in
     let e : es ≡ entries before = usages_there before _ s in
-    field_refused before c.args.item.now.bytes.now _ es paired c.in-Err.cause _ i
+    field_refused c.args.limits before c.args.item.now.bytes.now _ es paired c.in-Err.cause _ i
     (field_there before c.args.item.now.bytes.now c.args.self.now c.field_of-field.result es s c.args.kind k
     (omega arith) e (c.field_of-field.ensures page)) e (paired_there before _ s) c.in-Err.ensures
 
@@ -23,7 +23,7 @@ returns-in-Err-list_field c before i k s =
     let es : List Entry = map (entry_on_page page) c.args.self.now.locals.entries.items in
     let paired : Bool = nat_eq (length c.args.self.now.locals.minima) (length c.args.self.now.locals.maxima) in
     let e : es ≡ entries before = usages_there before _ s in
-    field_limited before c.args.item.now.bytes.now _ es paired c.in-Err-list_field.cause c.list_field.new.self.fields _ i
+    field_limited c.args.limits before c.args.item.now.bytes.now _ es paired c.in-Err-list_field.cause c.list_field.new.self.fields _ i
     (field_there before c.args.item.now.bytes.now c.args.self.now c.field_of-field.result es s c.args.kind k
     (omega arith) e (c.field_of-field.ensures page)) e (paired_there before _ s) c.in-Ok.ensures
     (c.in-Err-list_field.ensures.fields (fields before) s.fields_there)
@@ -35,7 +35,7 @@ returns c before i k s =
     let paired : Bool = nat_eq (length c.args.self.now.locals.minima) (length c.args.self.now.locals.maxima) in
     let e : es ≡ entries before = usages_there before _ s in
     let o = c.in-Ok-list_field.ensures.others in
-    field_taken before c.args.item.now.bytes.now _ es paired c.args.self.now _ i s
+    field_taken c.args.limits before c.args.item.now.bytes.now _ es paired c.args.self.now _ i s
     (field_there before c.args.item.now.bytes.now c.args.self.now c.field_of-field.result es s c.args.kind k
     (omega arith) e (c.field_of-field.ensures page)) e (paired_there before _ s) c.in-Ok.ensures
     (c.in-Ok-list_field.ensures.fields (fields before) s.fields_there) (ap (λ (x : Parser). x.globals) o) (ap (λ (x : Parser). x.collections) o) (ap (λ (x : Parser). x.numbered) o) (c.clear.ensures before _ (field_is_main c.args.item.now.bytes.now i))

@@ -4,6 +4,6 @@ use Rattle.hid_report_descriptor.proofs.Frames.{locals_kept, stands_other, other
 use Rattle.hid_report_descriptor.proofs.parser.Parser.take_other.Goals as goal
 
 pub returns : goal.returns
-returns c before s =
+returns c limits before s =
     let o : IsOtherPrefix _ = subst IsOtherPrefix c.requires.prefix c.requires.other in
-    stands_other before c.args.item.now.bytes.now _ _ o s (locals_kept before c.args.item.now.bytes.now _ (other_no_main _ o) c.requires.no_usage s.locals_there) (c.set.ensures before s.globals_there.in_force_now) refl refl refl refl
+    stands_other limits before c.args.item.now.bytes.now _ _ o s (locals_kept before c.args.item.now.bytes.now _ (other_no_main _ o) c.requires.no_usage s.locals_there) (c.set.ensures before s.globals_there.in_force_now) refl refl refl refl

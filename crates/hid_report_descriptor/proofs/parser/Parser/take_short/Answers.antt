@@ -19,22 +19,22 @@ returns-in-176 c before s =
     c.take_field-in-176.ensures before (rw p refl) (rw p refl) s
 
 pub returns-in-160 : goal.returns-in-160
-returns-in-160 c before s = c.take_collection.ensures before (sym c.requires.prefix ∙ c.in-160.is) s
+returns-in-160 c before s = c.take_collection.ensures c.args.limits before (sym c.requires.prefix ∙ c.in-160.is) s
 
 pub returns-in-192 : goal.returns-in-192
-returns-in-192 c before s = c.take_end.ensures before _ (sym c.requires.prefix ∙ c.in-192.is) s
+returns-in-192 c before s = c.take_end.ensures c.args.limits before _ (sym c.requires.prefix ∙ c.in-192.is) s
 
 pub returns-in-164 : goal.returns-in-164
-returns-in-164 c before s = c.take_push.ensures before _ (sym c.requires.prefix ∙ c.in-164.is) s
+returns-in-164 c before s = c.take_push.ensures c.args.limits before _ (sym c.requires.prefix ∙ c.in-164.is) s
 
 pub returns-in-180 : goal.returns-in-180
-returns-in-180 c before s = c.take_pop.ensures before _ (sym c.requires.prefix ∙ c.in-180.is) s
+returns-in-180 c before s = c.take_pop.ensures c.args.limits before _ (sym c.requires.prefix ∙ c.in-180.is) s
 
 pub returns-in-132 : goal.returns-in-132
-returns-in-132 c = c.take_report_id.ensures
+returns-in-132 c = c.take_report_id.ensures c.args.limits
 
 pub returns-in-8 : goal.returns-in-8
-returns-in-8 c = c.take_usage.ensures
+returns-in-8 c = c.take_usage.ensures c.args.limits
 
 pub returns-in_default : goal.returns-in_default
-returns-in_default c = c.take_other.ensures
+returns-in_default c = c.take_other.ensures c.args.limits

@@ -20,7 +20,7 @@ returns-then-is_kept-clause-taken g c =
 
 pub invariant_of-self : goal.invariant_of-self
 invariant_of-self g c =
-    reader_after c.self.inside.layout c.self.inside.view c.take_report.new.self c.args.bytes.now c.keep.new.still.items c.args.out.now.items c.take_report.new.out.items _ c.self.invariant.laid c.self.invariant.fits c.in-Ok.ensures.fits c.in-Ok.ensures.taken (λ e. search rules) c.keep.ensures
+    reader_after c.self.inside.layout c.self.inside.view c.take_report.new.self c.args.bytes.now c.keep.new.still.items c.args.out.now.items c.take_report.new.out.items _ c.self.inside.max_events c.self.invariant.most_events c.self.invariant.laid c.self.invariant.fits c.in-Ok.ensures.fits c.in-Ok.ensures.taken (λ e. search rules) c.keep.ensures
 
 pub returns-then-is_kept-clause-fits : goal.returns-then-is_kept-clause-fits
 returns-then-is_kept-clause-fits g c =
@@ -68,7 +68,7 @@ returns-in-Err-clause-few g c =
 
 pub invariant_of-self-in-Err : goal.invariant_of-self-in-Err
 invariant_of-self-in-Err g c =
-    subst (λ (view : List ControlState). IsReader c.self.inside.layout view c.self.inside.still.items)
+    subst (λ (view : List ControlState). IsReader c.self.inside.layout view c.self.inside.max_events c.self.inside.still.items)
     (sym c.in-Err.ensures.taken.1) c.self.invariant
 
 pub returns-then-is_kept-clause-layout : goal.returns-then-is_kept-clause-layout
