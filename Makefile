@@ -18,7 +18,7 @@ MAJOR := $(firstword $(subst ., ,$(VERSION)))
 .PHONY: run test try hidrun hidplay hidmap bench examples library library-test library-check library-cost scale play-cost install deb deb-test documents tour format memory refusals mutants descriptors compare-linux help clean
 
 # The first line of each recipe that starts the toolchain: without `rt`, make ends with one line.
-NEEDS_RT = $(if $(shell command -v rt),,$(error rt is missing: it is in the bin folder of the Rattle kit (rattle-kit-13f), which belongs on the PATH))
+NEEDS_RT = $(if $(shell command -v rt),,$(error rt is missing: it is in the bin folder of the Rattle kit, rattle-kit-13 (logic dac8208d650f15bf), which belongs on the PATH))
 
 # Runs the mouse example on the proved program.
 run: $(HIDRUN)  ## proves and builds hidrun, and runs the mouse example

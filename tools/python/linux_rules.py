@@ -126,7 +126,7 @@ class There:
         least, greatest, value = item.least, of_32_bits(item.greatest), of_32_bits(value)
         if least >= greatest:
             is_large = least < item.greatest
-            self.fire(item, j, "numbers past 2^31 - 1 are negative" if is_large else "a range of one number or none tells all numbers")
+            self.fire(item, j, "numbers past 2^31 - 1 are negative" if is_large else "a range of one number or none counts as no range")
             return value
         if not least <= value <= greatest and item.flags & NULL:
             self.fire(item, j, "null keeps the last value")
@@ -155,7 +155,7 @@ class There:
             if usage in PADS:
                 self.fire(item, j, "a D-pad of four switches", (ABS, axis))
             elif not item.flags & NULL:
-                self.fire(item, j, "a hat without Null State is centred out of its range", (ABS, axis))
+                self.fire(item, j, "a hat without Null State is centered out of its range", (ABS, axis))
         x, y = DIRECTIONS[direction if 0 <= direction <= 8 else 0]
         self.core(node, ABS, code, x)
         self.core(node, ABS, code + 1, y)

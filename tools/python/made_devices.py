@@ -43,7 +43,7 @@ def fields(usages, greatest, size, count=1, least=0, flags=DATA, kind=INPUT):
     return items(*((USAGE, usage) for usage in usages), (LEAST, least), (GREATEST, greatest), (SIZE, size), (COUNT, count), (kind, flags))
 
 
-def filled(bits):
+def padding(bits):
     """Padding up to the next byte."""
     return items((SIZE, 1), (COUNT, -bits % 8), (INPUT, CONSTANT)) if bits % 8 else b""
 
@@ -60,12 +60,12 @@ def blob(report, size, kind=FEATURE, usage=0xC5):
 def mouse(report):
     """The mouse of a combined device."""
     return application(DESKTOP, 2, items((ID, report), (USAGE, 1), (COLLECTION, 0), (PAGE, BUTTONS), (USAGES, 1), (USAGE_END, 3)),
-                       fields([], 1, 1, 3), filled(3), items((PAGE, DESKTOP)), fields([0x30, 0x31], 127, 8, 2, -127, DATA | 4), bytes([END]))
+                       fields([], 1, 1, 3), padding(3), items((PAGE, DESKTOP)), fields([0x30, 0x31], 127, 8, 2, -127, DATA | 4), bytes([END]))
 
 
 def finger(switches, extras, width):
     """A finger: its switches, its Contact ID, its place and perhaps more."""
-    text = items((PAGE, DIGITIZER), (USAGE, 0x22), (COLLECTION, 2)) + fields(switches, 1, 1, len(switches)) + filled(len(switches))
+    text = items((PAGE, DIGITIZER), (USAGE, 0x22), (COLLECTION, 2)) + fields(switches, 1, 1, len(switches)) + padding(len(switches))
     text += fields([CONTACT], 0x7F, 8) + items((PAGE, DESKTOP)) + b"".join(fields([axis], (1 << width) - 1, 16) for axis in (0x30, 0x31))
     return text + items((PAGE, DIGITIZER)) + b"".join(fields([extra], 0xFF, 8) for extra in extras) + bytes([END])
 
@@ -86,7 +86,7 @@ def touch_screen(source):
 
 
 def touch_pad(source):
-    button = items((PAGE, BUTTONS)) + fields([1], 1, 1) + filled(1)
+    button = items((PAGE, BUTTONS)) + fields([1], 1, 1) + padding(1)
     return mouse(5) + touch(source, 5, button)
 
 
@@ -106,7 +106,7 @@ def long_input(source):
 
 def wide_fields(source):
     """Fields of over 32 bits, some of which Linux has a code for, between ones that are read."""
-    narrow = [lambda: items((PAGE, DESKTOP)) + fields([0x32], 0x3FF, 16), lambda: items((PAGE, BUTTONS)) + fields([4], 1, 1) + filled(1)]
+    narrow = [lambda: items((PAGE, DESKTOP)) + fields([0x32], 0x3FF, 16), lambda: items((PAGE, BUTTONS)) + fields([4], 1, 1) + padding(1)]
     wide = [lambda size: items((PAGE, VENDOR)) + fields([1], 0xFF, size, source.randint(1, 3)),
             lambda size: items((PAGE, DESKTOP)) + fields([0x30], 0x7FFF, size),
             lambda size: items((PAGE, DESKTOP)) + fields([0x31], 100, size, least=-100),

@@ -131,9 +131,7 @@ class Layout:
             return cause
         size = (end + 7) // 8 + bool(item.id)
         if size > self.limits.report_bytes:
-            kind = item.kind.capitalize()
-            name = "%s report %d" % (kind, item.id) if item.id else "the %s report" % kind
-            self.too_long = "%s has %d bytes, over %d" % (name, size, self.limits.report_bytes)
+            self.too_long = "%s report %d has %d bytes, over %d" % (item.kind.capitalize(), item.id, size, self.limits.report_bytes)
             return "L15"
         self.bits[item.kind, item.id] = end
         self.items.append(item)

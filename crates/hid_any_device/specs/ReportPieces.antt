@@ -31,7 +31,7 @@ abbrev pub HasRoomInPackets : ℕ → Contents → List ℕ → Type 0
 HasRoomInPackets packet_size layout bytes =
     packet_size * full_packet_count packet_size layout bytes < bytes_awaited layout bytes
 
--- A report that is cut so ends at its host with its last piece, and its pieces are its bytes.
+-- A report in full packets and the last one ends at its host with its last piece, and its pieces are its bytes.
 pub record IsSentWhole (packet_size : ℕ) (layout : Contents) (bytes : List ℕ) : Type 0 where
   pub ends : StepReportsEnd packet_size layout (Queues (pieces_of_report packet_size layout bytes))
   pub same : bytes_of_pieces (pieces_of_report packet_size layout bytes) ≡ bytes
@@ -81,23 +81,23 @@ pub record DeliversGivenReports (packet_size addr endpoint : ℕ) (layout : Cont
   pub events : events_of_steps packet_size (ends_at_start addr endpoint layout) (pipe_steps_of packet_size layout steps)
       ≡ events_of_reports layout (blank (items_of layout)) crossed
 
--- a report of less than a full packet is sent in one piece
+-- a report is one piece, of less than a full packet
 abbrev pub IsShortReport : ℕ → ReportPieces → Type 0
 IsShortReport packet_size (Last bytes) = length bytes < packet_size
 IsShortReport packet_size (More bytes rest) = ⊥
 
--- each report of a queue is so short
+-- each report of a queue is one piece, of less than a full packet
 abbrev pub AreShortReports : ℕ → List ReportPieces → Type 0
 AreShortReports packet_size [] = Unit {0}
 AreShortReports packet_size (report ∷ queue) = IsShortReport packet_size report × AreShortReports packet_size queue
 
--- each report that a step queues is so short
+-- each report that a step queues is one piece, of less than a full packet
 abbrev pub QueuesShortReports : ℕ → PipeStep → Type 0
 QueuesShortReports packet_size (Queues report) = IsShortReport packet_size report
 QueuesShortReports packet_size (Polls readiness fate) = Unit {0}
 QueuesShortReports packet_size (Clears queue) = AreShortReports packet_size queue
 
--- each report that a list of steps queues is so short
+-- each report that a list of steps queues is one piece, of less than a full packet
 abbrev pub AllQueueShortReports : ℕ → List PipeStep → Type 0
 AllQueueShortReports packet_size [] = Unit {0}
 AllQueueShortReports packet_size (step ∷ steps) =

@@ -40,7 +40,7 @@ pipe_steps_in items writes c (step ∷ steps) =
 abbrev pub bytes_of_round : (ℕ → List ControlState → ReportPieces) → Round → List ℕ
 bytes_of_round writes round = bytes_of_pieces (writes round.report round.parts)
 
--- A device writes its reports in as many pieces as they have.
+-- A device writes each Input report in as many pieces as it takes packets of 64 bytes.
 abbrev pub WritesAllPieces : List Item → (ℕ → List ControlState → ReportPieces) → Type 0
 WritesAllPieces items writes = (r : ℕ) (parts : List ControlState) → piece_count (writes r parts) ≡ pieces_of items r
 

@@ -36,8 +36,8 @@ pub fn hosts_read_packets_of_64()
     ensures { (known : ReadyHostState) (taken : Took) → ReadsPacketsOf64 known taken }
 {}
 
-/// No report is lost, doubled or overtaken, whatever its bytes and layout, and where nothing is lost of the polls none waits
-/// longer than it has to.
+/// While no halt is cleared, each report that was queued has crossed, once and in order, or it waits, whatever its bytes and
+/// layout. Where nothing is lost of the polls, each piece crosses at its first.
 pub fn reports_cross_once()
     ensures once { (steps : List PipeStep) → CrossOnceInOrder steps }
     ensures none_waits { (steps : List PipeStep) → NoneWaits steps }

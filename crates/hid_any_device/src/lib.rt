@@ -1,5 +1,5 @@
-//! Any device that keeps to the toggle protocol, and what its host delivers of it (USB 2.0, 5.7.3, 8.5.4 and 8.6). Definitions,
-//! laws and one client.
+//! Any device that keeps to the toggle protocol, and what its host delivers of it (USB 2.0, 5.7.3, 8.5.4 and 8.6). Definitions
+//! and laws, and one function that uses them.
 //! ```text
 //!   any device                          bus                 its host
 //!   reports of any bytes, queued
@@ -13,11 +13,11 @@
 //! The device of `hid_device` is one of them: [`laws::virtual_devices_are_any`].
 //!
 //! The rule to know: a report ends at its host with a packet that isn't full, or with as many bytes as its first byte and the
-//! layout say. A device whose reports don't end there with their last packet isn't promised anything of.
+//! layout say. Nothing is promised of a device whose reports don't end there with their last packet.
 //!
 //! The promise: whatever such a device sends, and whatever the bus loses, its host delivers the changes between the reports that
-//! crossed, in order, each once: `reports` on [`laws::any_device_is_read`]; and each report that was queued crosses once, in
-//! order, or waits: `once` on [`laws::reports_cross_once`]. [`read_replies`] is a client by public clauses alone.
+//! crossed, in order, each once: `reports` on [`laws::any_device_is_read`]; and while no halt is cleared, each report that was
+//! queued crosses once, in order, or waits: `once` on [`laws::reports_cross_once`]. [`read_replies`] uses public clauses alone.
 #![tactic(auto)]
 
 pub mod laws;

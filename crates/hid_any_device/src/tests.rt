@@ -35,14 +35,6 @@ fn right(by: i64) -> Event {
     }
 }
 
-fn toward(by: i64) -> Event {
-    Event::Motion {
-        control: control(2, 1),
-        usage: Usage { page: 1, id: 0x31 },
-        by,
-    }
-}
-
 /// Data under this toggle.
 fn data(one: bool, bytes: &[u8]) -> Option<Packet> {
     match ArrayVec::try_from(bytes) {
@@ -66,58 +58,6 @@ fn reports_give_events_once(rt: HostRuntime) -> Result<(), StackFault> {
     assert_eq!(rt;
         events.as_slice(),
         [down(), right(5), right(5), up()].as_slice()
-    );
-    Ok(())
-}
-
-// What came at the polls of a mouse that `tools/model/any-device --test` played, with reports and losses drawn at random, and the
-// events that it read off the reports that crossed.
-#[test]
-fn reports_of_a_model_give_events_once(rt: HostRuntime) -> Result<(), StackFault> {
-    let replies = [
-        data(false, &[0, 3, 0, 9]),
-        data(true, &[0, 5, 0]),
-        None,
-        data(false, &[1]),
-        Some(Packet::Nak),
-        None,
-        None,
-        data(true, &[0, 5, 0]),
-        None,
-        data(false, &[1, 5, 0]),
-        None,
-        data(false, &[1, 5, 0]),
-        None,
-        data(false, &[1, 5, 0]),
-        data(true, &[1]),
-        data(true, &[1]),
-        data(true, &[1]),
-        None,
-        data(false, &[1, 127, 0]),
-        None,
-        None,
-        None,
-        data(true, &[0, 250, 1]),
-        data(false, &[0, 250, 0]),
-        None,
-        data(true, &[0, 0, 0]),
-    ];
-    let events = read_replies(rt.alloc(), 5, &MOUSE, &replies)?;
-    assert_eq!(rt;
-        events.as_slice(),
-        [
-            right(3),
-            right(5),
-            right(5),
-            down(),
-            right(5),
-            right(127),
-            up(),
-            right(-6),
-            toward(1),
-            right(-6)
-        ]
-        .as_slice()
     );
     Ok(())
 }

@@ -1,4 +1,5 @@
 pub mod Vectors
+mod RealVectors
 pub mod WellFormed
 pub mod EmptyCodeLemmas
 pub mod CodeLemmas

@@ -377,8 +377,10 @@ impl Layout {
         }
     }
 
-    /// The layout that a report descriptor gives to a virtual device and its host. A refusal has the first cause in the
-    /// order of [`Cause`](crate::Cause); where memory runs out the cause is Memory, at 0.
+    /// The layout that a report descriptor gives to a virtual device and its host.
+    ///
+    /// # Errors
+    /// Those of [`Layout::parse_within`], at [`Limits::Bus`].
     pub fn parse(alloc: Global, descriptor: &[u8]) -> Result<Layout, LayoutFault>
         // The descriptor's items are accepted, and the layout is theirs.
         ensures ok { IfOk result (λ layout. (before : List EncodedItem) × Accepts descriptor.now before

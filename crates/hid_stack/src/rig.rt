@@ -229,7 +229,7 @@ impl Rig {
             out.old.items out.new.items }
 
         // A device that is polled, without an open round, stands as the rounds of its own steps say: with the open round,
-        // the view of the parts that crossed, and toggles by the numbers of rounds closed and crossed.
+        // the view of the parts that crossed, and toggles by the numbers of pieces closed and crossed.
         ensures rounds { KeepsToRounds self.old (steps_done result steps.now)
             (bus_after_done self.old result steps.now) }
 

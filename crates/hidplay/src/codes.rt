@@ -26,11 +26,11 @@ and, with the byte at which a report descriptor is refused:
   L8: a Report ID of 0, or over 255
   L9: some items have a Report ID, and some have none
   L10: no number is in the range of a field
-  L11: a data field of 0 bits, or over 131072
+  L11: a data field of 0 bits, or too wide
   L12: a Usage Minimum over its Maximum, or on another page
   L13: a Usage Minimum or Maximum without the other
   L14: a Delimiter
-  L15: a report of over 16384 bytes
+  L15: a report that is too long
   L16: too many items, fields, usages or Report IDs
 These end a file, and R9 and the first refusal with --strict all of them:
   R2: a line of over 65536 bytes

@@ -1,6 +1,5 @@
 -- The numbers of include/hidstack.h, written out: a constant of another value fails the check.
 use Rattle.std.specs.Prelude.{◌≡◌, true, false, refl}
-use Rattle.hid_script.specs.declared.options.Options.{Options}
 use Rattle.hidstack.specs.declared.status.TheConstants.{OK, REFUSED, BUSY, CLOSED, NO_ROOM, SHORT, UNKNOWN, NONE, MEMORY}
 use Rattle.hidstack.specs.Running.{options_of}
 

@@ -48,7 +48,7 @@ impl Session {
     /// Reads a report descriptor. Nothing is held, and values are those of a blank snapshot.
     ///
     /// # Errors
-    /// The cause and place of [`Layout::parse`], or [`Cause::Memory`] at 0 where the session finds no memory.
+    /// The cause and place of [`Layout::parse_within`] at [`Limits::Real`], or [`Cause::Memory`] at 0 where the session finds no memory.
     pub fn open(alloc: Global, descriptor: &[u8]) -> Result<Session, LayoutFault>
         ensures ok { IfOk result (λ session. IsFirst descriptor.now session) }
         // Memory ran out, or this is the one refusal.

@@ -8,11 +8,11 @@
 //!   kept output 1                 the report that was set last: output, feature or input, and its ID
 //!   reset, apply, answer          endpoint 0 is reset, carries out what is pending, or shows the answer that is fixed
 //!   ask 80 06 00 01 00 00 12 00   a host's transfer of these setup data, each try clean: the bytes read, or the fault; what
-//!                                 it writes stands behind them
+//!                                 it writes stands after them
 //!   69 81 00                      a packet: its answer
 //! ```
-//! Behind it, where a round is open, `round 0.1`: its report, and 1 where its data go out as DATA1; `piece 1` where that is
-//! not the first of its pieces; and `halted` while the endpoint is halted. `07*9` are nine bytes 07, as more than eight of the
+//! After it, where a round is open, `round 0.1`: its report, and 1 where its data go out as DATA1; `piece 1` where that is not
+//! the first of its pieces; and `halted` while the endpoint is halted. `07*9` are nine bytes 07, as more than eight of the
 //! same are written.
 
 use crate::output::Output;
@@ -53,16 +53,16 @@ fn set(item: &str, index: &str, value: &str) -> Option<Change> {
     Some(Change::Set(control_of(item, index)?, value.parse().ok()?))
 }
 
-/// Makes the change that is meant; false where none is.
-fn is_changed(device: &mut Device, words: &[&str], printed: &mut Output) -> bool {
-    let change = match *words {
+/// Makes the change that is meant; false where the words are something else.
+fn change(device: &mut Device, words: &[&str], printed: &mut Output) -> bool {
+    let meant = match *words {
         ["press", item, index] => pressed(item, index),
         ["release", item, index] => released(item, index),
         ["move", item, index, by] => moved(item, index, by),
         ["set", item, index, value] => set(item, index, value),
         _ => return false,
     };
-    print_change(device, change, printed);
+    print_change(device, meant, printed);
     true
 }
 
@@ -76,8 +76,8 @@ fn apply(device: &mut Device) {
     device.control().requests_mut().apply(&[]);
 }
 
-/// Does what is one of these words; false where it is something else.
-fn is_acted(device: &mut Device, words: &[&str]) -> bool {
+/// Does what is one of these words; false where they are something else.
+fn act(device: &mut Device, words: &[&str]) -> bool {
     match *words {
         ["configure"] => device.configure(),
         ["frame"] => device.frame(),
@@ -122,8 +122,8 @@ fn print_fixed_answer(device: &mut Device, printed: &mut Output) {
     printed.hex_if_any(device.control().requests().answer());
 }
 
-/// Shows what is one of these words; false where it is something else.
-fn is_shown(device: &mut Device, words: &[&str], printed: &mut Output) -> bool {
+/// Appends what is one of these words; false where they are something else.
+fn print_state(device: &mut Device, words: &[&str], printed: &mut Output) -> bool {
     match *words {
         ["frames", count] => pass_frames(device, number(count), printed),
         ["fixed", item, index] => print_motion(device, control_of(item, index), printed),
@@ -233,9 +233,9 @@ pub fn print_device(
     bytes: &mut Vec<u8>,
     printed: &mut Output,
 ) {
-    if !is_acted(device, words)
-        && !is_changed(device, words, printed)
-        && !is_shown(device, words, printed)
+    if !act(device, words)
+        && !change(device, words, printed)
+        && !print_state(device, words, printed)
     {
         print_bytes(alloc, device, words, bytes, printed);
     }

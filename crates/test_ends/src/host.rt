@@ -9,14 +9,14 @@
 //!   reply 4B 00 05                what comes to a poll, a packet or `none`: what it is taken as, the toggle that is expected
 //!                                 then, and each event, as `down 4.4 07:04`: the control by item and index, and its usage
 //!   held 4 4                      `yes` where the control is held in the view
-//!   reset behind C3 05*64         a new host, ready for the descriptor of the row, takes this packet and is reset, while no
+//!   reset after C3 05*64          a new host, ready for the descriptor of the row, takes this packet and is reset, while no
 //!                                 round is open: what it is taken as, and the events of both
 //! ```
 //! Fates and refusals are those of docs/SCRIPT.md.
 
 ghost use Rattle.std.specs.Prelude.{IfOk, List};
 ghost use Rattle.hid_report_descriptor.specs.Items.{EncodedItem};
-ghost use Rattle.hid_report_descriptor.specs.Faults.{Accepts};
+ghost use Rattle.hid_report_descriptor.specs.Bus.{Accepts};
 ghost use Rattle.hid_layout.specs.Layout.{layout_of};
 ghost use Rattle.hid_layout.specs.Controls.{items_of};
 ghost use Rattle.hid_usages.specs.ControlStates.{FitsShown};
@@ -64,7 +64,7 @@ fn print_begun(host: &mut HostDevice, request: Option<Request>, printed: &mut Ou
 }
 
 /// Makes n tries, at least one: the result of the last one.
-fn tried(
+fn try_times(
     host: &mut HostDevice,
     device: &mut Device,
     fate: Fate,
@@ -86,11 +86,11 @@ fn print_progress(progress: Result<Progress, StackFault>, printed: &mut Output) 
     }
 }
 
-fn print_tried(ends: &mut Ends, fate: Option<Fate>, count: Option<usize>, printed: &mut Output) {
+fn print_tries(ends: &mut Ends, fate: Option<Fate>, count: Option<usize>, printed: &mut Output) {
     match (fate, count) {
         (Some(fate), Some(count)) => {
             print_progress(
-                tried(&mut ends.host, &mut ends.device, fate, count),
+                try_times(&mut ends.host, &mut ends.device, fate, count),
                 printed,
             );
         }
@@ -312,7 +312,7 @@ fn print_reset_of(alloc: Global, ends: &mut Ends, bytes: &[u8], printed: &mut Ou
 }
 
 /// Does what these words mean with packets that come to a host; false where they mean nothing of that.
-fn is_replied(
+fn print_replies(
     alloc: Global,
     ends: &mut Ends,
     words: &[&str],
@@ -336,7 +336,7 @@ fn is_replied(
 }
 
 /// Does what these words mean with a host, and appends the result; false if they mean nothing for a host.
-pub fn is_reported(
+pub fn print_host(
     alloc: Global,
     ends: &mut Ends,
     words: &[&str],
@@ -345,13 +345,13 @@ pub fn is_reported(
 ) -> bool {
     match *words {
         ["begin", ref rest @ ..] => print_begun(&mut ends.host, request_of(rest, bytes), printed),
-        ["try", fate, count] => print_tried(ends, fate_of(fate), number(count), printed),
+        ["try", fate, count] => print_tries(ends, fate_of(fate), number(count), printed),
         ["outcome"] => print_outcome(&ends.host, printed),
         ["state"] => print_state(&ends.host, printed),
         ["token"] => print_token(&ends.host, printed),
         ["held", item, index] => print_held(&ends.host, control_of(item, index), printed),
-        _ => return is_replied(alloc, ends, words, bytes, printed)
-            || foreign::is_reported(alloc, ends, words, bytes, printed),
+        _ => return print_replies(alloc, ends, words, bytes, printed)
+            || foreign::print_foreign(alloc, ends, words, bytes, printed),
     }
     true
 }

@@ -74,7 +74,7 @@ fn carry_out(
     bytes: &mut Vec<u8>,
     printed: &mut Output,
 ) {
-    if !host::is_reported(alloc, ends, words, bytes, printed) {
+    if !host::print_host(alloc, ends, words, bytes, printed) {
         print_device(alloc, &mut ends.device, words, bytes, printed);
     }
 }

@@ -2,7 +2,7 @@
 //! ```text
 //!   asks: 80 00 00 00 00 00 02 00    what setup data ask: a variant of `RequestKind` and what it holds, or `no_dump`
 //!   encodes: get-idle 255             what a host sends for a request, where the report descriptor has 306 bytes and the
-//!                                    endpoint is 1: the setup data, the data behind them, and what they ask
+//!                                    endpoint is 1: the setup data, the data after them, and what they ask
 //!   describes: 63 1 1 1 10           the configuration of these: length of the report descriptor, endpoint, subclass,
 //!                                    protocol, interval; and what is read of it again, but for the interval
 //!   describes: hid 4660              the HID descriptor of a report descriptor of this length

@@ -1,7 +1,8 @@
 //! What is drawn of short descriptors: places by hand from HID 1.11, B.2 and 6.2.2, words from docs/PICTURES.md.
 
+use hid_layout::Layout;
 use hid_layout::boot::MOUSE;
-use hid_layout::{Layout, LayoutFault};
+use hid_notation::RefusalText;
 use hid_page::{Form, draw, draw_refused};
 use std::alloc::{AllocError, Global};
 use std::test::Fail;
@@ -141,11 +142,14 @@ const REFUSED: [(&[u8], &str, &str, &str); 3] = [
 #[test]
 fn refusals_show_the_items_up_to_their_place(rt: HostRuntime) -> Result<(), Fail> {
     for (descriptor, words, last, next) in REFUSED {
-        let fault: LayoutFault = match Layout::parse(rt.alloc(), descriptor) {
+        let refusal = match Layout::parse(rt.alloc(), descriptor) {
             Ok(_) => return Err(Fail::new("it is accepted")),
-            Err(fault) => fault,
+            Err(fault) => RefusalText {
+                fault,
+                report: None,
+            },
         };
-        let text = draw_refused(rt.alloc(), descriptor, fault)?;
+        let text = draw_refused(rt.alloc(), descriptor, refusal)?;
         assert!(rt; text.as_str().contains(words), "{words}");
         assert!(rt; text.as_str().contains(last), "{words}");
         assert!(rt; !text.as_str().contains(next), "{words}");

@@ -109,7 +109,7 @@ const TOLD: [Recorded; 31] = [
     ("a report of which a line is refused, and the next one", PLAIN,
         "1:1:0:DESCRIPTOR 1\n 05 09 09 01 15 00 25 01 75 01 95 01 81 02\n\n1:1:0:STREAM 2\n 0\n 01\n\n1:1:0:STREAM 3\n 01\n\n",
         "line 5: R3: a byte isn't two hex digits\n3 0 down 09:01\n"),
-    ("a head that is refused behind a dump that is open", PLAIN,
+    ("a head that is refused after a dump that is open", PLAIN,
         "1:1:0:DESCRIPTOR 1\n 05 09 09 01 15 00 25 01 75 01 95 01 81 02\n\n1:1:0:STREAM 2\n1:1:1:STREAM x\n 01\n\n",
         "line 5: R6: the time isn't digits and points\n"),
     ("bytes, and no dump is open", PLAIN,
@@ -162,13 +162,13 @@ const TOLD: [Recorded; 31] = [
 /// Recordings of descriptors that can't be read, with their output.
 #[rattlefmt::skip]
 const UNREAD: [Recorded; 14] = [
-    ("a descriptor with a wrong count, and reports behind it", PLAIN,
+    ("a descriptor with a wrong count, and reports after it", PLAIN,
         "R: 14 05 09 09 01 15 00 25 01 75 01 95 01 81 02\nE: 1 1 01\nR: 15 05 09 09 01 15 00 25 01 75 01 95 01 81 02\nE: 2 1 00\nR: 14 05 09 09 01 15 00 25 01 75 01 95 01 81 02\nE: 3 1 01\n",
         "1 0 down 09:01\nline 3: R4: the count isn't that of the bytes\nline 4: R7: the device has no descriptor\n3 0 down 09:01\n"),
     ("a descriptor with a word that is no byte, of one of two devices", PLAIN,
         "R: 14 05 09 09 01 15 00 25 01 75 01 95 01 81 02\nE: 1 1 01\nD: 1\nR: 14 05 09 09 01 15 00 25 01 75 01 95 01 81 02\nE: 2 1 01\nR: 14 05 09 09 01 15 00 25 01 75 01 95 01 81 0\nE: 3 1 00\nD: 0\nE: 4 1 00\n",
         "1 0 down 09:01\n2 1 down 09:01\nline 6: R3: a byte isn't two hex digits\nline 7: R7: the device has no descriptor\n4 0 up 09:01\n"),
-    ("an R with nothing behind it", PLAIN,
+    ("an R with nothing after it", PLAIN,
         "R: 14 05 09 09 01 15 00 25 01 75 01 95 01 81 02\nR:\nE: 1 1 01\n",
         "line 2: R4: the count isn't that of the bytes\nline 3: R7: the device has no descriptor\n"),
     ("a letter that isn't R", PLAIN,
@@ -229,7 +229,7 @@ fn first_wrong(alloc: Global, rows: &[Recorded]) -> Result<Option<&'static str>,
 }
 
 #[test]
-fn recordings_tell_their_events(rt: HostRuntime) -> Result<(), Fail> {
+fn recordings_give_their_events(rt: HostRuntime) -> Result<(), Fail> {
     assert_eq!(rt; first_wrong(rt.alloc(), &TOLD)?, None);
     Ok(())
 }
@@ -310,7 +310,7 @@ fn long_recording(
 }
 
 #[test]
-fn long_recordings_tell_their_limits(rt: HostRuntime) -> Result<(), Fail> {
+fn long_recordings_keep_to_their_limits(rt: HostRuntime) -> Result<(), Fail> {
     for (name, head, piece, times, tail, want, line) in LONG {
         let recording = long_recording(rt.alloc(), head, piece, times, tail)?;
         let mut text = Vec::new(rt.alloc());

@@ -301,12 +301,8 @@ fn runs(rt: &HostRuntime, rig: &mut Rig, row: &Run) -> Result<bool, Fail> {
     are_run(rig, row, &mut steps, &mut out)
 }
 
-/// The first run that goes otherwise.
-fn first_run_otherwise(
-    rt: &HostRuntime,
-    rig: &mut Rig,
-    rows: &[Run],
-) -> Result<Option<usize>, Fail> {
+/// The place of the first run that ends otherwise, or delivers something else.
+fn first_wrong_run(rt: &HostRuntime, rig: &mut Rig, rows: &[Run]) -> Result<Option<usize>, Fail> {
     for (at, row) in rows.iter().enumerate() {
         if !runs(rt, rig, row)? {
             return Ok(Some(at));
@@ -315,15 +311,15 @@ fn first_run_otherwise(
     Ok(None)
 }
 
-fn all_run(rt: &HostRuntime, rig: &mut Rig) -> Result<(), Fail> {
+fn check_runs(rt: &HostRuntime, rig: &mut Rig) -> Result<(), Fail> {
     attach_all(rig, &TWO)?;
-    none_is_wrong(first_run_otherwise(rt, rig, &RUNS)?)
+    none_is_wrong(first_wrong_run(rt, rig, &RUNS)?)
 }
 
 #[test]
 fn a_run_ends_at_its_first_refusal(rt: HostRuntime) -> Result<(), Fail> {
     let mut rig = Rig::new(rt.alloc())?;
-    all_run(&rt, &mut rig)
+    check_runs(&rt, &mut rig)
 }
 
 /// The toggle that a host expects, once it is ready.

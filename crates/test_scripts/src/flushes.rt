@@ -269,7 +269,7 @@ fn an_interrupted_read_counts_as_a_read(rt: HostRuntime) -> Result<(), Fail> {
 
 const TWO_LAYOUTS: [Given; 2] = [Given::Piece("layout\n"), Given::Piece("layout\n")];
 
-/// Behind how many flushes one fails, and the line at which it ends the run.
+/// After how many flushes one fails, and the line at which it ends the run.
 const UNREAD: [(usize, usize); 3] = [(0, 1), (1, 2), (2, 3)];
 
 /// Whether the flush after n ends a run that fails there, before the next read.

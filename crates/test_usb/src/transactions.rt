@@ -70,7 +70,7 @@ fn act(host: &mut HostPipe, device: &mut DevPipe, step: &str) -> Result<(), RowF
     Ok(())
 }
 
-fn tried(host: &mut HostPipe, device: &mut DevPipe, fate: Fate) -> Took {
+fn try_once(host: &mut HostPipe, device: &mut DevPipe, fate: Fate) -> Took {
     exchange(host, device, fate)
 }
 
@@ -113,7 +113,7 @@ fn play_step(
     step: &str,
 ) -> Result<(), RowFault> {
     if let Some(fate) = fate_of(step) {
-        return print_took(printed, &tried(host, device, fate));
+        return print_took(printed, &try_once(host, device, fate));
     }
     match step {
         "answer" => print_packet(printed, &device.answer()),

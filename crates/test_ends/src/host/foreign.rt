@@ -190,7 +190,7 @@ fn print_each_changed(
 }
 
 /// Keeps what a foreign device answers; false where these words mean something else.
-fn is_answered(answers: &mut Answers, words: &[&str]) -> bool {
+fn keep_answers(answers: &mut Answers, words: &[&str]) -> bool {
     match *words {
         ["configuration", ref rest @ ..] => read_bytes(&mut answers.configuration, rest),
         ["report", ref rest @ ..] => read_bytes(&mut answers.report, rest),
@@ -199,7 +199,7 @@ fn is_answered(answers: &mut Answers, words: &[&str]) -> bool {
 }
 
 /// Does what these words mean with a host of a foreign device; false where they mean nothing of one.
-pub fn is_reported(
+pub fn print_foreign(
     alloc: Global,
     ends: &mut Ends,
     words: &[&str],
@@ -221,7 +221,7 @@ pub fn is_reported(
             bytes,
             printed,
         ),
-        _ => return is_answered(&mut ends.answers, words),
+        _ => return keep_answers(&mut ends.answers, words),
     }
     true
 }
