@@ -53,17 +53,26 @@ fn set(item: &str, index: &str, value: &str) -> Option<Change> {
     Some(Change::Set(control_of(item, index)?, value.parse().ok()?))
 }
 
-/// Makes the change that is meant; false where the words are something else.
-fn change(device: &mut Device, words: &[&str], printed: &mut Output) -> bool {
-    let meant = match *words {
+/// The change that is meant, if one is.
+pub fn change_of(words: &[&str]) -> Option<Change> {
+    match *words {
         ["press", item, index] => pressed(item, index),
         ["release", item, index] => released(item, index),
         ["move", item, index, by] => moved(item, index, by),
         ["set", item, index, value] => set(item, index, value),
-        _ => return false,
-    };
-    print_change(device, meant, printed);
-    true
+        _ => None,
+    }
+}
+
+/// Makes the change that is meant; false where none is.
+fn change(device: &mut Device, words: &[&str], printed: &mut Output) -> bool {
+    match *words {
+        ["press" | "release" | "move" | "set", ..] => {
+            print_change(device, change_of(words), printed);
+            true
+        }
+        _ => false,
+    }
 }
 
 /// Resets endpoint 0. It promises nothing, so that what is lent and given back is before the prover here alone.

@@ -104,7 +104,7 @@ pub fn times_in(given: &str) -> Result<(&str, usize), RowFault> {
 }
 
 /// The boot device of this descriptor, by its name.
-fn boot_of(name: &str) -> Boot {
+pub fn boot_of(name: &str) -> Boot {
     match name {
         "KEYBOARD" => Boot::Keyboard,
         "MOUSE" => Boot::Mouse,
@@ -113,7 +113,7 @@ fn boot_of(name: &str) -> Boot {
 }
 
 /// A name without this word before it, and whether the word stands there.
-fn without<'a>(name: &'a str, word: &str) -> (&'a str, bool) {
+pub fn without<'a>(name: &'a str, word: &str) -> (&'a str, bool) {
     match name.strip_prefix(word) {
         Some(rest) => (rest, true),
         None => (name, false),

@@ -1,6 +1,6 @@
-//! Plays rows of the two ends of the bus, `hid_device` and `hid_host`, and of the requests of endpoint 0, `hid_requests`,
-//! through their exports. The rows stand in the file `stdin` beside this folder, which `rt ci` gives to the program: so they
-//! cost no proof.
+//! Plays rows of the two ends of the bus, `hid_device` and `hid_host`, of a device by whole transfers, `hid_gadget`, and of the
+//! requests of endpoint 0, `hid_requests`, through their exports. The rows stand in the file `stdin` beside this folder, which
+//! `rt ci` gives to the program: so they cost no proof.
 //! ```text
 //!   # a_device_goes_through_its_rounds: ends
 //!   a round: plain MOUSE                     a new device, and a new host
@@ -9,7 +9,8 @@
 //! ```
 //! A question of requests, descriptors and refusals is a row of one line: `requests.rt` and `creation.rt`. Both ends are played
 //! by steps, with the whole result after `>`: `device.rt` has the words of a device, `host.rt` and `host/foreign.rt` those of a
-//! host, and `ends.rt` how both are made. A row that can't be read is wrong.
+//! host, and `ends.rt` how both are made. A table of `gadget` plays a device by whole transfers: `gadget.rt`. A row that can't be
+//! read is wrong.
 //!
 //! The exit status is 0 if no row is wrong, else 1; 2 if standard input can't be read or standard output written.
 #![tactic(auto)]
@@ -17,6 +18,7 @@
 mod creation;
 mod device;
 mod ends;
+mod gadget;
 mod host;
 mod output;
 mod questions;

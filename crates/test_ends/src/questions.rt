@@ -3,6 +3,7 @@
 use crate::creation::{print_makes, print_prints};
 use crate::device::print_device;
 use crate::ends::{Ends, begun, times_in};
+use crate::gadget::exchange_of;
 use crate::host;
 use crate::output::Output;
 use crate::requests::{print_asks, print_describes, print_encodes};
@@ -30,15 +31,29 @@ impl Answers for Questions {
         table: &Table<'_>,
         row: &Row<'_>,
     ) -> Result<(), RowFault> {
-        if row.question != "ends" {
-            return Err(RowFault::Unread);
+        match row.question {
+            "ends" => play_ends(verdict, table, row),
+            "gadget" => play_gadget(verdict, table, row),
+            _ => Err(RowFault::Unread),
         }
-        let (given, times) = times_in(row.given)?;
-        let mut ends = begun(table, given)?;
-        let end = play_times(&mut ends, verdict, table, row, times);
-        drop(ends);
-        end
     }
+}
+
+/// Plays a row of both ends.
+fn play_ends(verdict: &mut Verdict, table: &Table<'_>, row: &Row<'_>) -> Result<(), RowFault> {
+    let (given, times) = times_in(row.given)?;
+    let mut ends = begun(table, given)?;
+    let end = play_times(&mut ends, verdict, table, row, times);
+    drop(ends);
+    end
+}
+
+/// Plays a row of a gadget.
+fn play_gadget(verdict: &mut Verdict, table: &Table<'_>, row: &Row<'_>) -> Result<(), RowFault> {
+    let mut exchange = exchange_of(table, row.given)?;
+    let end = judge_steps(&mut exchange, verdict, table, row);
+    drop(exchange);
+    end
 }
 
 /// What is asked of bytes, and of the words after a `|`.

@@ -1,0 +1,6 @@
+pub mod TransferLemmas
+pub mod RoomLemmas
+pub mod PollLemmas
+pub mod TakeLemmas
+pub mod ReadLemmas
+mod Vectors

@@ -1,0 +1,113 @@
+-- Worked values of rooms, transfers and reports: each is worked out by hand, and a wrong one fails the check.
+use Rattle.std.specs.Prelude.{◌≡◌, ℕ, true, false, [], ◌∷◌, replicate, Some, None, refl}
+use Rattle.hid_layout.specs.declared.boot.TheConstants.{MOUSE}
+use Rattle.hid_layout.specs.Controls.{items_from, items_of, spread_usages}
+use Rattle.hid_snapshots.specs.declared.change.Change.TheVariants.{Press, Release}
+use Rattle.hid_snapshots.specs.declared.event.Event.TheVariants as event
+use Rattle.hid_snapshots.specs.ControlStates.{blank}
+use Rattle.hid_snapshots.specs.Events.{control_at}
+use Rattle.hid_snapshots.specs.PartBytes.{part_bytes}
+use Rattle.hid_snapshots.specs.Samples.{usage}
+use Rattle.hid_usages.specs.Boot.{mouse_layout}
+use Rattle.hid_requests.specs.declared.boot.Boot.TheVariants as boot
+use Rattle.hid_requests.specs.RequestKinds.{request_kind_of}
+use Rattle.hid_device.specs.Core.{CoreState, configured_core}
+use Rattle.hid_device.specs.Creation.{new_core}
+use Rattle.hid_device.specs.RequestTable.{core_table, decide}
+use Rattle.usb_control.specs.SetupBytes.{setup_of}
+use Rattle.usb_control.specs.Transfer.{Shape, Refused, Accepted}
+use Rattle.hid_gadget.specs.declared.outcomes.Control.TheVariants.{Done, Stalled}
+use Rattle.hid_gadget.specs.Rooms.{with_front}
+use Rattle.hid_gadget.specs.ReadReports.{Asks, Changes, events_read}
+use Rattle.hid_gadget.specs.WholeReports.{fitting_pieces}
+use Rattle.hid_gadget.specs.WholeTransfers.{after_transfer, control_result, end_with, given_bytes, tries_needed}
+
+two_in_four : with_front (1 ∷ 2 ∷ []) (0 ∷ 0 ∷ 0 ∷ 0 ∷ []) ≡ 1 ∷ 2 ∷ 0 ∷ 0 ∷ []
+two_in_four = refl
+
+-- a read, and a write, of so many bytes
+abbrev read_of : ℕ → Shape
+read_of n = record { reads = true; length = n }
+
+abbrev write_of : ℕ → Shape
+write_of n = record { reads = false; length = n }
+
+-- the tries of a read of 18 bytes: SETUP, pieces of 8, 8 and 2 bytes, and the status
+read_of_18 : tries_needed (read_of 18) (Accepted (Some (replicate 18 0))) ≡ 5
+read_of_18 = refl
+
+-- of which 16 come: the third piece is empty
+read_of_16 : tries_needed (read_of 18) (Accepted (Some (replicate 16 0))) ≡ 5
+read_of_16 = refl
+
+read_of_none : tries_needed (read_of 0) (Accepted (Some (replicate 18 0))) ≡ 2
+read_of_none = refl
+
+write_of_none : tries_needed (write_of 0) (Accepted None) ≡ 2
+write_of_none = refl
+
+write_of_65 : tries_needed (write_of 65) (Accepted None) ≡ 11
+write_of_65 = refl
+
+refused_write : tries_needed (write_of 65) Refused ≡ 2
+refused_write = refl
+
+-- what a transfer gives: an answer cut to what was asked for, nothing of a write, and STALL
+cut_answer : given_bytes (read_of 2) (Accepted (Some (1 ∷ 2 ∷ 3 ∷ []))) ≡ Some (1 ∷ 2 ∷ [])
+cut_answer = refl
+
+whole_answer : end_with (given_bytes (read_of 64) (Accepted (Some (1 ∷ 2 ∷ 3 ∷ [])))) ≡ Done 3
+whole_answer = refl
+
+write_gives_none : end_with (given_bytes (write_of 2) (Accepted None)) ≡ Done 0
+write_gives_none = refl
+
+refusal_stalls : end_with (given_bytes (read_of 64) Refused) ≡ Stalled
+refusal_stalls = refl
+
+-- how many pieces of 100 bytes fit
+all_of_100 : fitting_pieces 100 (replicate 100 0) ≡ 2
+all_of_100 = refl
+
+one_of_100 : fitting_pieces 99 (replicate 100 0) ≡ 1
+one_of_100 = refl
+
+none_of_100 : fitting_pieces 63 (replicate 100 0) ≡ 0
+none_of_100 = refl
+
+-- of 64 bytes the only one, and of none the only one, which is empty
+all_of_64 : fitting_pieces 64 (replicate 64 0) ≡ 1
+all_of_64 = refl
+
+all_of_none : fitting_pieces 0 [] ≡ 1
+all_of_none = refl
+
+-- ---- a boot mouse
+
+abbrev new_mouse : CoreState
+new_mouse = new_core (record { vendor = 0xFFFF; product = 1; interval = 10; boot = boot.Mouse }) MOUSE mouse_layout
+
+-- button 1 goes down, two reports are asked for, of which the second isn't due, and it goes up
+a_click : events_read (configured_core new_mouse)
+    (Changes (Press (control_at 0 0)) ∷ Asks 3 ∷ Asks 3 ∷ Changes (Release (control_at 0 0)) ∷ Asks 3 ∷ []) (blank (items_of mouse_layout))
+    ≡ event.Down (control_at 0 0) (usage 9 1) ∷ event.Up (control_at 0 0) (usage 9 1) ∷ []
+unfolding part_bytes items_from spread_usages
+a_click = refl
+
+-- 64 bytes are asked for of its device descriptor, which has 18; it has no device qualifier
+device_descriptor : control_result core_table new_mouse (setup_of (0x80 ∷ 0x06 ∷ 0x00 ∷ 0x01 ∷ 0x00 ∷ 0x00 ∷ 0x40 ∷ 0x00 ∷ [])) ≡ Done 18
+unfolding decide request_kind_of
+device_descriptor = refl
+
+device_qualifier : control_result core_table new_mouse (setup_of (0x80 ∷ 0x06 ∷ 0x00 ∷ 0x06 ∷ 0x00 ∷ 0x00 ∷ 0x0A ∷ 0x00 ∷ [])) ≡ Stalled
+unfolding decide request_kind_of
+device_qualifier = refl
+
+-- SET_CONFIGURATION 1 takes effect, and SET_CONFIGURATION 2 is refused
+configuration_1 : (after_transfer core_table new_mouse (setup_of (0x00 ∷ 0x09 ∷ 0x01 ∷ 0x00 ∷ 0x00 ∷ 0x00 ∷ 0x00 ∷ 0x00 ∷ [])) []).is_configured ≡ true
+unfolding decide request_kind_of
+configuration_1 = refl
+
+configuration_2 : after_transfer core_table new_mouse (setup_of (0x00 ∷ 0x09 ∷ 0x02 ∷ 0x00 ∷ 0x00 ∷ 0x00 ∷ 0x00 ∷ 0x00 ∷ [])) [] ≡ new_mouse
+unfolding decide request_kind_of
+configuration_2 = refl

@@ -1,0 +1,5 @@
+pub mod Rooms
+pub mod Gadgets
+pub mod WholeTransfers
+pub mod WholeReports
+pub mod ReadReports
