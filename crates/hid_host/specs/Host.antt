@@ -1,5 +1,5 @@
 -- The host of one device, and the transfer that it began last (USB 2.0, 8.5.3, 9.1.1 and 9.4.5).
-use Rattle.std.specs.Prelude.{◌≡◌, ℕ, Bool, true, false, not, ◌&&◌, ◌||◌, if◌then◌else◌, is_some, List, [], Option, Some, None, Result, Ok, Err}
+use Rattle.std.specs.Prelude.{◌≡◌, ℕ, Bool, true, false, not, ◌&&◌, ◌||◌, if◌then◌else◌, is_some, List, [], Option, Some, None, Result, Ok, Err, IfErr}
 use Rattle.hid_layout.specs.Layout.{Contents}
 use Rattle.usb_packet.specs.declared.packet.Packet.{Packet}
 use Rattle.usb_transact.specs.declared.host.Took.{Took}
@@ -12,9 +12,9 @@ use Rattle.usb_control.specs.declared.host.HostStage.TheVariants.{Done, Failed}
 use Rattle.usb_control.specs.declared.host.Outcome.{Outcome}
 use Rattle.usb_control.specs.declared.host.Progress.{Progress}
 use Rattle.usb_control.specs.declared.host.Progress.TheVariants as progresses
-use Rattle.usb_control.specs.Crossing.{Crosses}
+use Rattle.usb_control.specs.Crossing.{Crosses, asks_for_data}
 use Rattle.usb_control.specs.Device.{DevControlState}
-use Rattle.usb_control.specs.Host.{HostTransferState, IsOutcomeOf, at_start, progress_of}
+use Rattle.usb_control.specs.Host.{HostTransferState, IsOutcomeOf, acknowledges, asks_at, at_start, payload_of, progress_of, token_of, transfer_after_reply}
 use Rattle.usb_control.specs.Requests.{PrepareGives, ApplyGives, AnswerOf}
 use Rattle.usb_control.specs.SetupBytes.{reads}
 use Rattle.usb_control.specs.Transaction.{Transacts}
@@ -167,12 +167,6 @@ ControlSteps prepare_gives apply_gives answer_of fate host old result after new 
       | Some transfer ↦ TriesOnce prepare_gives apply_gives answer_of fate host transfer old result after new
     ]
 
--- what is shown of the transfer that was begun last
-abbrev pub ShowsLast : Option Transfer → Result Outcome StackFault → Type 0
-ShowsLast None result = result ≡ Err (Control NoTransfer)
-ShowsLast (Some transfer) (Ok outcome) = IsOutcomeOf outcome transfer.ends.stage (read_bytes_of transfer.ends)
-ShowsLast (Some transfer) (Err fault) = ⊥
-
 -- a request may end a round that is open: a halt, and the end of one
 abbrev pub request_aborts_round : Request → Bool
 request_aborts_round requests.Halt = true
@@ -183,3 +177,59 @@ request_aborts_round _ = false
 abbrev pub may_abort_round : Option Transfer → Bool
 may_abort_round None = false
 may_abort_round (Some transfer) = request_aborts_round transfer.request
+
+-- The token of the next try of the transfer that runs. Where none does nothing is sent.
+abbrev pub control_token_of : Option Transfer → Result Packet StackFault
+control_token_of None = Err (Control NoTransfer)
+control_token_of (Some transfer) = Ok (token_of transfer.ends)
+
+-- The data that go with that token, after SETUP and OUT.
+abbrev pub control_payload_of : Option Transfer → Option Packet
+control_payload_of None = None
+control_payload_of (Some transfer) = payload_of transfer.ends
+
+-- what is reported of a try, and whether ACK is sent
+abbrev pub result_with_ack : Bool → Result Progress StackFault → Result (Progress × Bool) StackFault
+result_with_ack is_sent (Ok progress) = Ok (progress, is_sent)
+result_with_ack is_sent (Err fault) = Err fault
+
+-- whether ACK is sent after a try: where the answer was refused, if the token was IN
+abbrev pub is_ack_sent : Result (Progress × Bool) StackFault → Packet → Bool
+is_ack_sent (Ok taken) token = taken.1
+is_ack_sent (Err fault) token = asks_for_data token
+
+-- What the host makes of that which came after the token of a try, if something did: its transfer goes on by it, and the
+-- answer is concluded on if the request is done. Of an answer that is refused ACK is sent exactly where the token was IN, and
+-- nothing is refused of a Halt and a Clear.
+pub record TakesReply (reply : Option Packet) (host : HostDeviceState) (transfer : Transfer)
+    (result : Result (Progress × Bool) StackFault) (host_then : HostDeviceState) : Type 0 where
+  pub next : HostPhase
+  pub progress : Result Progress StackFault
+  pub concludes : ConcludesAt (transfer_after_reply reply transfer.ends).stage host.addr
+      transfer.request host.phase (read_bytes_of (transfer_after_reply reply transfer.ends))
+      progress next
+  pub result_is : result ≡ result_with_ack (acknowledges reply transfer.ends) progress
+  pub refused : IfErr result (λ _. acknowledges reply transfer.ends ≡ asks_at transfer.ends.stage)
+  pub of_others : IfErr result (λ _. request_aborts_round transfer.request ≡ false)
+  pub after : host_then ≡ record host {
+    phase = next;
+    transfer = Some (record transfer { ends = transfer_after_reply reply transfer.ends });
+    clearing =
+        clearing_after (transfer_after_reply reply transfer.ends).stage transfer.request host.clearing;
+  }
+
+-- The host takes what came after the token of a try. If no transfer runs nothing changes. Example: ACK to SETUP leads on, and
+-- no ACK is sent
+abbrev pub TakesControl :
+    Option Packet → HostDeviceState → Result (Progress × Bool) StackFault → HostDeviceState → Type 0
+TakesControl reply host result after =
+    elim (running host.transfer) [
+      | None ↦ (result ≡ Err (Control NoTransfer)) × (after ≡ host)
+      | Some transfer ↦ TakesReply reply host transfer result after
+    ]
+
+-- what is shown of the transfer that was begun last
+abbrev pub ShowsLast : Option Transfer → Result Outcome StackFault → Type 0
+ShowsLast None result = result ≡ Err (Control NoTransfer)
+ShowsLast (Some transfer) (Ok outcome) = IsOutcomeOf outcome transfer.ends.stage (read_bytes_of transfer.ends)
+ShowsLast (Some transfer) (Err fault) = ⊥

@@ -10,7 +10,7 @@ ghost use Rattle.usb_packet.specs.PacketEncoding.{Fits};
 ghost use Rattle.usb_transact.specs.Replies.{reply_outcome};
 ghost use Rattle.hid_layout.specs.Parsing.{ParsesTo};
 ghost use Rattle.hid_host.specs.Conclusions.{IsNoLayout};
-ghost use Rattle.hid_host.specs.Host.{ConcludesAt, clearing_after, cold_host, host_after_reply, is_clear, may_abort_round, polls_with, read_bytes_of, ready_host};
+ghost use Rattle.hid_host.specs.Host.{ConcludesAt, clearing_after, cold_host, host_after_reply, is_ack_sent, is_clear, may_abort_round, polls_with, read_bytes_of, ready_host};
 ghost use Rattle.hid_host.specs.Phase.{HasEndpoint, IsReady, IfReady, may_poll, state_of};
 ghost use Rattle.hid_host.specs.Ready.{outcome_of, events_after};
 ghost use Rattle.hid_host.specs.ResetEvents.{SuitsRound, awaited_at, reported_drops, host_abort_events, host_reset_events};
@@ -24,8 +24,10 @@ use hid_snapshots::{Event, Shown};
 use hid_usages::{Receiver, View};
 use std::alloc::Global;
 use std::marker::Model;
-use usb_control::{ControlFault, DevControl, HostTransfer, Outcome, Progress, Requests};
-use usb_packet::{MAX_ADDRESS, Packet, PacketRef};
+use usb_control::{
+    ControlFault, DevControl, HostTransfer, Outcome, Progress, Requests, send_ack, send_token,
+};
+use usb_packet::{MAX_ADDRESS, Packet, PacketRef, TokenKind};
 use usb_transact::{Fate, HostPipe, Took};
 
 /// A transfer of a host, and the request that it plays.
@@ -353,7 +355,7 @@ impl HostDevice {
     ghost use Rattle.std.specs.Prelude.{Ok, Err, Some, None, OnOk, OnErr, is_some};
     ghost use Rattle.hid_requests.specs.RequestSetup.{FitsRequest};
     ghost use Rattle.hid_host.specs.declared.fault.StackFault.{StackFault as Refusal};
-    ghost use Rattle.hid_host.specs.Host.{ControlSteps, ShowsLast, begin_refusal, host_after_begin, running, transfer_of};
+    ghost use Rattle.hid_host.specs.Host.{ControlSteps, ShowsLast, TakesControl, begin_refusal, control_payload_of, control_token_of, host_after_begin, running, transfer_of};
     ghost use Rattle.hid_host.specs.Phase.{asking_at};
 
     /// Whether a transfer runs.
@@ -423,6 +425,73 @@ impl HostDevice {
         Ok(())
     }
 
+    /// The token of the next try of the transfer that runs, to endpoint 0 (USB 2.0, 8.5.3). [`HostDevice::control_payload`] has
+    /// the data that go with it, and [`HostDevice::control_take`] takes what comes back.
+    ///
+    /// A try of a `Halt` or a `Clear` may abort the open round of a device. Who reports the motion that this drops reserves the
+    /// room for it before the token is sent, where [`HostDevice::may_abort_round`] says so.
+    ///
+    /// # Errors
+    /// [`StackFault::Control`] with [`ControlFault::NoTransfer`] where no transfer runs: nothing is to be sent.
+    pub fn control_token(&self) -> Result<Packet, StackFault>
+        ensures token { result ≡ control_token_of (running self.now.transfer) }
+        ensures fits { IfOk result Fits }
+    {
+        if !self.is_busy() {
+            return Err(StackFault::Control(ControlFault::NoTransfer));
+        }
+        match &self.transfer {
+            Some(transfer) => Ok(transfer.ends.token()),
+            None => unreachable!(),
+        }
+    }
+
+    /// The data packet that goes with the token of the next try, after SETUP and OUT: the request under DATA0, the next bytes
+    /// of a write, DATA1 first, or the status of a read. Nothing where no transfer runs.
+    pub fn control_payload(&self) -> Option<Packet>
+        ensures payload { result ≡ control_payload_of (running self.now.transfer) }
+        ensures fits { IfSome result Fits }
+    {
+        if !self.is_busy() {
+            return None;
+        }
+        match &self.transfer {
+            Some(transfer) => transfer.ends.payload(),
+            None => unreachable!(),
+        }
+    }
+
+    /// Takes what came after the token of a try and its data, if something did (USB 2.0, 8.5.3 and 8.6): how far the transfer
+    /// has come, and whether ACK is sent. Where the request is done, its answer is read, and the host goes on to the next state,
+    /// by the table of [`HostState`]. Each call counts as a try.
+    ///
+    /// # Errors
+    /// [`StackFault::Control`] with [`ControlFault::NoTransfer`] where no transfer runs: nothing changes. Where the request is
+    /// done, [`StackFault::BadDescriptor`] where its answer can't be read, and [`StackFault::Memory`] where a layout or a
+    /// view finds none: the transfer is over, and the host is in the state in which it was. Then ACK is sent exactly where the
+    /// token was IN. Nothing is refused of a `Halt` and a `Clear`.
+    pub fn control_take(&mut self, packet: Option<&Packet>) -> Result<(Progress, bool), StackFault>
+        ensures { TakesControl (option_copied packet.entry) self.old result self.new }
+    {
+        if !self.is_busy() {
+            return Err(StackFault::Control(ControlFault::NoTransfer));
+        }
+        match &mut self.transfer {
+            Some(transfer) => {
+                let acknowledges = transfer.ends.take(packet);
+                let progress = conclude_try(
+                    self.alloc,
+                    self.addr,
+                    transfer,
+                    &mut self.phase,
+                    &mut self.clearing,
+                )?;
+                Ok((progress, acknowledges))
+            }
+            None => unreachable!(),
+        }
+    }
+
     /// One try of the transfer that runs, with the device's endpoint 0; one packet of it may be lost. Where the request is
     /// done, its answer is read, and the host goes on to the next state, by the table of [`HostState`].
     ///
@@ -438,21 +507,13 @@ impl HostDevice {
         ensures { ControlSteps R.prepare_gives R.apply_gives R.answer_of fate
             self.old control.old result self.new control.new }
     {
-        if !self.is_busy() {
-            return Err(StackFault::Control(ControlFault::NoTransfer));
-        }
-        match &mut self.transfer {
-            Some(transfer) => {
-                transfer.ends.step(control, fate);
-                conclude_try(
-                    self.alloc,
-                    self.addr,
-                    transfer,
-                    &mut self.phase,
-                    &mut self.clearing,
-                )
-            }
-            None => unreachable!(),
+        let token = self.control_token()?;
+        let reply = send_token(&fate, &token, self.control_payload().as_ref(), control);
+        let taken = self.control_take(reply.as_ref());
+        send_ack(&fate, acknowledges(&taken, &token), control);
+        match taken {
+            Ok((progress, _)) => Ok(progress),
+            Err(fault) => Err(fault),
         }
     }
 
@@ -467,6 +528,22 @@ impl HostDevice {
             Some(transfer) => Ok(transfer.ends.outcome()),
             None => Err(StackFault::Control(ControlFault::NoTransfer)),
         }
+    }
+}
+
+/// Whether ACK is sent after a try, by what was taken: where the answer was refused, if the token was IN.
+fn acknowledges(taken: &Result<(Progress, bool), StackFault>, token: &Packet) -> bool
+    ensures { result ≡ is_ack_sent taken.now token.now }
+{
+    match taken {
+        Ok((_, is_sent)) => *is_sent,
+        Err(_) => matches!(
+            token,
+            Packet::Token {
+                kind: TokenKind::In,
+                ..
+            }
+        ),
     }
 }
 

@@ -22,6 +22,7 @@ ghost use Rattle.hid_layout.specs.Controls.{items_of};
 ghost use Rattle.hid_usages.specs.ControlStates.{FitsShown};
 
 mod foreign;
+mod packets;
 
 use crate::ends::{Ends, ready};
 use crate::output::Output;
@@ -351,7 +352,8 @@ pub fn print_host(
         ["token"] => print_token(&ends.host, printed),
         ["held", item, index] => print_held(&ends.host, control_of(item, index), printed),
         _ => return print_replies(alloc, ends, words, bytes, printed)
-            || foreign::print_foreign(alloc, ends, words, bytes, printed),
+            || foreign::print_foreign(alloc, ends, words, bytes, printed)
+            || packets::print_packets(ends, words, bytes, printed),
     }
     true
 }

@@ -8,9 +8,9 @@
 //!     a poll: 69 81 00 > C3 01 00 00 round 0.0
 //! ```
 //! A question of requests, descriptors and refusals is a row of one line: `requests.rt` and `creation.rt`. Both ends are played
-//! by steps, with the whole result after `>`: `device.rt` has the words of a device, `host.rt` and `host/foreign.rt` those of a
-//! host, and `ends.rt` how both are made. A table of `gadget` plays a device by whole transfers: `gadget.rt`. A row that can't be
-//! read is wrong.
+//! by steps, with the whole result after `>`: `device.rt` has the words of a device, `host.rt`, `host/foreign.rt` and
+//! `host/packets.rt` those of a host, and `ends.rt` how both are made. A table of `gadget` plays a device by whole transfers:
+//! `gadget.rt`. A row that can't be read is wrong.
 //!
 //! The exit status is 0 if no row is wrong, else 1; 2 if standard input can't be read or standard output written.
 #![tactic(auto)]

@@ -18,9 +18,9 @@ use Rattle.usb_transact.specs.Fate.{arrives_under}
 use Rattle.usb_transact.proofs.TableLemmas.{read_whole, read_lost}
 use Rattle.usb_control.specs.Requests.{PrepareGives, ApplyGives, AnswerOf}
 use Rattle.usb_control.specs.Device.{DevControlState, Does, effect, effect_of_ack}
-use Rattle.usb_control.specs.Host.{HostTransferState, IsRunning, asks_at, kind_of, payload_at, transfer_after_reply_at, acknowledges_at}
+use Rattle.usb_control.specs.Host.{HostTransferState, IsRunning, asks_at, kind_of, token_of, payload_at, payload_of, transfer_after_reply, transfer_after_reply_at, acknowledges, acknowledges_at}
 use Rattle.usb_control.specs.Transaction.{AckComes, Transacts, effect_of_stage, reply_after_fate}
-use Rattle.usb_control.specs.Crossing.{Receives, HearsData, PacketReaches, Acknowledges, Crosses, phase_of}
+use Rattle.usb_control.specs.Crossing.{Receives, HearsData, PacketReaches, Acknowledges, Crosses, TokenIsAnswered, asks_for_data, phase_of}
 
 -- a phase in which packets arrive as they were sent, and one in which they are lost
 abbrev IsWhole : Arrivals → Phase → Type 0
@@ -160,6 +160,39 @@ ack_unsent : {R : Type 0} (prepare_gives : PrepareGives R) (apply_gives : ApplyG
 ack_unsent prepare_gives apply_gives answer_of arrivals stage reply after old new none h =
     let silent : acknowledges_at stage reply after ≡ false = ap (λ (x : Option Packet). acknowledges_at stage x after) none ∙ nothing_acknowledged stage after in
     subst (λ (b : Bool). Acknowledges prepare_gives apply_gives answer_of arrivals b old new) silent h
+
+-- the token of a stage asks for data where the stage does
+pub token_asks : (stage : HostStage) (addr : ℕ) → asks_for_data (packets.Token (kind_of stage) addr 0) ≡ asks_at stage
+token_asks tries.Setup addr = refl
+token_asks (tries.DataIn one) addr = refl
+token_asks (tries.DataOut sent one) addr = refl
+token_asks tries.StatusIn addr = refl
+token_asks tries.StatusOut addr = refl
+token_asks tries.Done addr = refl
+token_asks (tries.Failed fault) addr = refl
+
+-- a transaction is the token of a transfer with its data, the answer that is taken, and the ACK where one is sent
+pub crosses_by_token : {R : Type 0} (prepare_gives : PrepareGives R) (apply_gives : ApplyGives R) (answer_of : AnswerOf R) (arrivals : Arrivals) (host : HostTransferState) (old mid : DevControlState R) (after : HostTransferState) (new : DevControlState R)
+    (token : Packet) (payload reply : Option Packet) (is_sent : Bool)
+    → token ≡ token_of host → payload ≡ payload_of host
+    → TokenIsAnswered prepare_gives apply_gives answer_of arrivals token payload old mid reply
+    → after ≡ transfer_after_reply reply host → is_sent ≡ acknowledges reply host
+    → Acknowledges prepare_gives apply_gives answer_of arrivals is_sent mid new
+    → Crosses prepare_gives apply_gives answer_of arrivals host old after new
+crosses_by_token prepare_gives apply_gives answer_of arrivals host old mid after new token payload reply is_sent token_is payload_is answered took sent ack =
+    let of_host : TokenIsAnswered prepare_gives apply_gives answer_of arrivals (token_of host) (payload_of host) old mid reply =
+    subst (λ (p : Option Packet). TokenIsAnswered prepare_gives apply_gives answer_of arrivals (token_of host) p old mid reply) payload_is
+    (subst (λ (t : Packet). TokenIsAnswered prepare_gives apply_gives answer_of arrivals t payload old mid reply) token_is answered) in
+    record {
+      mid = mid;
+      answer = of_host.answer;
+      reply = reply;
+      reached = of_host.reached;
+      replied =
+          subst (λ (b : Bool). Replies arrivals (phase_of b) of_host.answer reply) (token_asks host.stage host.addr) of_host.replied;
+      took_reply = took;
+      acknowledged = subst (λ (b : Bool). Acknowledges prepare_gives apply_gives answer_of arrivals b mid new) sent ack;
+    }
 
 pub crosses_transacts : {R : Type 0} (prepare_gives : PrepareGives R) (apply_gives : ApplyGives R) (answer_of : AnswerOf R) (fate : Fate) (host : HostTransferState) (old : DevControlState R) (after : HostTransferState) (new : DevControlState R) → IsRunning host.stage → Crosses prepare_gives apply_gives answer_of (arrives_under fate) host old after new → Transacts prepare_gives apply_gives answer_of fate host old after new
 crosses_transacts prepare_gives apply_gives answer_of TokenLost host old after new going x =

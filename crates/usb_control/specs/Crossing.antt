@@ -1,7 +1,9 @@
 -- One transaction of endpoint 0 over any bus (USB 2.0, 8.5.3): each end acts on what it reads of the bytes that arrive,
 -- and on nothing else.
 use Rattle.std.specs.Prelude.{◌≡◌, Bool, true, false, Option, Some, None}
+use Rattle.usb_packet.specs.declared.packet.TokenKind.TheVariants as tokens
 use Rattle.usb_packet.specs.declared.packet.Packet.{Packet}
+use Rattle.usb_packet.specs.declared.packet.Packet.TheVariants as packets
 use Rattle.usb_packet.specs.declared.packet.Packet.TheVariants.{Ack}
 use Rattle.usb_transact.specs.declared.bus.Phase.{Phase}
 use Rattle.usb_transact.specs.declared.bus.Phase.TheVariants.{Token, HostData, Reply, Handshake, Acknowledgement}
@@ -43,6 +45,19 @@ PacketReaches {R} prepare_gives apply_gives answer_of arrivals token payload old
 abbrev pub phase_of : Bool → Phase
 phase_of true = Reply
 phase_of false = Handshake
+
+-- a packet asks the device for data: an IN token
+abbrev pub asks_for_data : Packet → Bool
+asks_for_data (packets.Token tokens.In addr endp) = true
+asks_for_data _ = false
+
+-- what the host sends first, a token with its data, reaches the device, and the host reads what arrives of the answer
+pub record TokenIsAnswered {R : Type 0} (prepare_gives : PrepareGives R) (apply_gives : ApplyGives R)
+    (answer_of : AnswerOf R) (arrivals : Arrivals) (token : Packet) (payload : Option Packet)
+    (old new : DevControlState R) (reply : Option Packet) : Type 0 where
+  pub answer : Option Packet
+  pub reached : PacketReaches prepare_gives apply_gives answer_of arrivals token payload old new answer
+  pub replied : Replies arrivals (phase_of (asks_for_data token)) answer reply
 
 -- the host sends its ACK, if it sends one, and the device receives it
 abbrev pub Acknowledges :

@@ -4,7 +4,7 @@ ghost use Rattle.std.specs.Option.{option_copied};
 ghost use Rattle.usb_packet.specs.PacketEncoding.{Fits};
 ghost use Rattle.usb_control.specs.SetupBytes.{IsEncoded, reads};
 ghost use Rattle.usb_control.specs.Pieces.{piece_from};
-ghost use Rattle.usb_control.specs.Host.{IsRunning, IsOutcomeOf, acknowledges, acknowledges_at, after_write_piece, with_stage, at_start, asks_at, data_in, handshake, after_in_answer, is_overrun, with_payload, after_other_answer, payload_of, progress_of, sent_length, after_setup_answer, status_in, token_of, transfer_after_reply, after_no_answer};
+ghost use Rattle.usb_control.specs.Host.{IsRunning, IsOutcomeOf, acknowledges, acknowledges_at, after_write_piece, with_stage, at_start, data_in, handshake, after_in_answer, is_overrun, with_payload, after_other_answer, payload_of, progress_of, sent_length, after_setup_answer, status_in, token_of, transfer_after_reply, after_no_answer};
 
 use crate::fault::ControlFault;
 use crate::pieces::{MAX_PACKET, piece_from};
@@ -184,14 +184,6 @@ impl HostTransfer {
             }),
             _ => None,
         }
-    }
-
-    /// Whether the next try asks the device for data: its token is IN.
-    pub(crate) fn asks(&self) -> bool
-        ensures asks { result ≡ asks_at self.now.stage }
-        ensures encoded { IsEncoded self.now.setup }
-    {
-        matches!(self.stage, HostStage::DataIn { .. } | HostStage::StatusIn)
     }
 
     /// Goes on after an answer.
@@ -381,7 +373,8 @@ impl HostTransfer {
 
     /// How far the transfer has come.
     pub(crate) fn progress(&self) -> Progress
-        ensures { result ≡ progress_of self.now.stage }
+        ensures progress { result ≡ progress_of self.now.stage }
+        ensures encoded { IsEncoded self.now.setup }
     {
         match self.stage {
             HostStage::Done => Progress::Done,

@@ -34,7 +34,8 @@
 //! The promise, whatever is lost: a read that is done gave the answer as fixed at the last SETUP that arrived, cut to
 //! what was asked for; a write that is done took effect exactly once, one that failed once or not at all, and
 //! one that was refused never: `tried` on [`HostTransfer::step`], with [`laws::outcomes_are_true`] for whole
-//! transfers. Over any packets: `took` on [`HostTransfer::take`] and `does` on [`DevControl::on_packet`], with
+//! transfers. Over any packets: `took` on [`HostTransfer::take`] and `does` on [`DevControl::on_packet`], over any bus
+//! [`send_token`] and [`send_ack`], with
 //! [`laws::reads_are_joined`] and [`laws::writes_are_joined`]. Of descriptors `value` on [`ConfigInfo::read`] and
 //! [`DeviceInfo::read`]. Only [`HostTransfer::begin`] takes memory.
 #![tactic(auto)]
@@ -56,3 +57,4 @@ pub use fault::{ControlFault, InfoFault};
 pub use host::{HostTransfer, Outcome, Progress};
 pub use requests::Requests;
 pub use setup::Setup;
+pub use transaction::{send_ack, send_token};

@@ -2,18 +2,17 @@
 ghost use Rattle.std.specs.Prelude.{◌≡◌, List, ℕ, IfSome};
 ghost use Rattle.std.specs.Option.{option_copied};
 ghost use Rattle.usb_packet.specs.PacketEncoding.{Fits};
-ghost use Rattle.usb_control.specs.Host.{IsRunning, asks_at, payload_of, progress_of, token_of};
+ghost use Rattle.usb_control.specs.Host.{IsRunning, progress_of};
 ghost use Rattle.usb_transact.specs.Fate.{arrives_under};
-ghost use Rattle.usb_control.specs.Crossing.{Acknowledges, Crosses, PacketReaches, Receives, phase_of};
+ghost use Rattle.usb_control.specs.Crossing.{Acknowledges, Crosses, PacketReaches, Receives, TokenIsAnswered, asks_for_data, phase_of};
 ghost use Rattle.usb_control.specs.Transaction.{Transacts};
 ghost use Rattle.usb_control.specs.Transfer.{Place, transfer_shape};
 ghost use Rattle.usb_control.specs.Positions.{TransferIsAt, TryLeadsOn};
-ghost use Rattle.usb_control.specs.SetupBytes.{IsEncoded};
 
 use crate::device::DevControl;
 use crate::host::{HostTransfer, Progress};
 use crate::requests::Requests;
-use usb_packet::Packet;
+use usb_packet::{Packet, TokenKind};
 use usb_transact::{Bus, Fate, Phase, send_packet, send_reply};
 
 impl<R: Requests> DevControl<R> {
@@ -32,62 +31,83 @@ impl<R: Requests> DevControl<R> {
     }
 }
 
-/// Sends ACK where the host does, and lets the device have what arrives of it.
-fn acknowledge<B: Bus, R: Requests>(bus: &B, control: &mut DevControl<R>, says: bool)
-    ensures { Acknowledges R.prepare_gives R.apply_gives R.answer_of (B.arrives bus.now) says
+/// Sends a token, and the data that go with it. Gives the device's answer to what arrives.
+fn reach<B: Bus, R: Requests>(
+    bus: &B,
+    token: &Packet,
+    payload: Option<&Packet>,
+    control: &mut DevControl<R>,
+) -> Option<Packet>
+    requires token { Fits token.now }
+    requires payload { IfSome (option_copied payload) Fits }
+    ensures reaches { PacketReaches R.prepare_gives R.apply_gives R.answer_of
+        (B.arrives bus.now)
+        token.now (option_copied payload.entry) control.old control.new result }
+    ensures fits { IfSome result Fits }
+{
+    let token = send_packet(bus, Phase::Token, token);
+    let answer = control.receive(token.as_ref());
+    match payload {
+        Some(payload) => {
+            let data = send_packet(bus, Phase::HostData, payload);
+            control.receive(data.as_ref())
+        }
+        None => answer,
+    }
+}
+
+/// The phase in which a device answers a token, or the data after it.
+fn answer_phase(token: &Packet) -> Phase
+    ensures { result ≡ phase_of (asks_for_data token.now) }
+{
+    match token {
+        Packet::Token {
+            kind: TokenKind::In,
+            ..
+        } => Phase::Reply,
+        _ => Phase::Handshake,
+    }
+}
+
+/// Sends a token to a device over any bus, and the data that go with it (USB 2.0, 8.5.3). Gives what arrives of the device's
+/// answer. [`HostTransfer::token`] and [`HostTransfer::payload`] are the two, and [`HostTransfer::take`] takes the answer.
+pub fn send_token<B: Bus, R: Requests>(
+    bus: &B,
+    token: &Packet,
+    payload: Option<&Packet>,
+    control: &mut DevControl<R>,
+) -> Option<Packet>
+    requires token { Fits token.now }
+    requires payload { IfSome (option_copied payload) Fits }
+    ensures { TokenIsAnswered R.prepare_gives R.apply_gives R.answer_of (B.arrives bus.now)
+        token.now (option_copied payload.entry) control.old control.new result }
+{
+    let answer = reach(bus, token, payload, control);
+    send_reply(bus, answer_phase(token), answer.as_ref())
+}
+
+/// Sends ACK to a device over any bus, where the host sends one, as [`HostTransfer::take`] says.
+pub fn send_ack<B: Bus, R: Requests>(bus: &B, is_sent: bool, control: &mut DevControl<R>)
+    ensures { Acknowledges R.prepare_gives R.apply_gives R.answer_of (B.arrives bus.now) is_sent
         control.old control.new }
 {
-    if says {
+    if is_sent {
         let ack = send_packet(bus, Phase::Acknowledgement, &Packet::Ack);
         control.receive(ack.as_ref());
     }
 }
 
 impl HostTransfer {
-    /// The phase in which the device answers.
-    fn phase(&self) -> Phase
-        ensures phase { result ≡ phase_of (asks_at self.now.stage) }
-        ensures encoded { IsEncoded self.now.setup }
-    {
-        if self.asks() {
-            Phase::Reply
-        } else {
-            Phase::Handshake
-        }
-    }
-
-    /// Sends the token, and the data that go with it. Gives the device's answer to what arrives.
-    fn reach<B: Bus, R: Requests>(&self, bus: &B, control: &mut DevControl<R>) -> Option<Packet>
-        requires { IsRunning self.now.stage }
-        ensures reaches { PacketReaches R.prepare_gives R.apply_gives R.answer_of
-            (B.arrives bus.now)
-            (token_of self.now) (payload_of self.now) control.old control.new result }
-        ensures fits { IfSome result Fits }
-    {
-        let token = send_packet(bus, Phase::Token, &self.token());
-        let answer = control.receive(token.as_ref());
-        match self.payload() {
-            Some(payload) => {
-                let data = send_packet(bus, Phase::HostData, &payload);
-                control.receive(data.as_ref())
-            }
-            None => answer,
-        }
-    }
-
     /// One transaction over any bus.
     fn transact<B: Bus, R: Requests>(&mut self, bus: &B, control: &mut DevControl<R>)
         requires { IsRunning self.old.stage }
         ensures crosses { Crosses R.prepare_gives R.apply_gives R.answer_of (B.arrives bus.now)
             self.old control.old self.new control.new }
         ensures same { (self.new.setup ≡ self.old.setup) × (self.new.addr ≡ self.old.addr) }
-        ensures encoded { IsEncoded self.old.setup }
     {
-        let phase = self.phase();
-        let answer = self.reach(bus, control);
-        let reply = send_reply(bus, phase, answer.as_ref());
-        let says = self.take(reply.as_ref());
-        acknowledge(bus, control, says);
+        let reply = send_token(bus, &self.token(), self.payload().as_ref(), control);
+        let acknowledges = self.take(reply.as_ref());
+        send_ack(bus, acknowledges, control);
     }
 
     /// One try of the transfer with the device: what is next goes over the bus, each packet as its bytes, and one of them

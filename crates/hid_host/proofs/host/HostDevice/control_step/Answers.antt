@@ -1,25 +1,32 @@
-use Rattle.std.proofs.Common.{◌≡◌, ◌∙◌, Bool, true, Option, Some, ap, sym, subst}
-use Rattle.std.specs.Prelude.{is_some}
-use Rattle.hid_host.specs.declared.host.Transfer.{Transfer}
-use Rattle.hid_host.specs.Host.{ControlSteps, HostDeviceState, running}
-use Rattle.hid_host.proofs.ControlLemmas.{steps_so}
+use Rattle.std.proofs.Common.{Bool, Option, ap, sym, subst}
+use Rattle.usb_packet.specs.declared.packet.Packet.{Packet}
+use Rattle.usb_transact.specs.Fate.{arrives_under}
+use Rattle.usb_control.specs.Crossing.{Acknowledges}
+use Rattle.hid_host.specs.Host.{TakesControl}
+use Rattle.hid_host.proofs.ControlLemmas.{progress_in, steps_by_packets, stops_without}
 use Rattle.hid_host.proofs.host.HostDevice.control_step.Goals as goal
 
-pub returns : goal.returns
-returns g c =
-    let was : c.self.inside.transfer ≡ Some c.in-Some.transfer = cc in
-    let host : record { addr = c.self.inside.addr; phase = c.self.inside.phase; transfer = Some c.in-Some.transfer; clearing = c.self.inside.clearing } ≡ c.args.self.now
-    = ap (λ (o : Option Transfer). record { addr = c.self.inside.addr; phase = c.self.inside.phase; transfer = o; clearing = c.self.inside.clearing }) (sym was) ∙ c.self.view_is in
-    let busy : is_some (running (Some c.in-Some.transfer)) ≡ true =
-    ap (λ (h : HostDeviceState). is_some (running h.transfer)) host ∙ sym c.if-not-is_busy.ensures in
-    let last : Option Transfer = Some (record c.in-Some.transfer { ends = c.step.new.self }) in
-    subst (λ (b : Bool). ControlSteps g.R.Requests.prepare_gives g.R.Requests.apply_gives g.R.Requests.answer_of c.args.fate c.args.self.now c.args.control.now c.conclude_try.result
-    (record {
-      addr = c.self.inside.addr;
-      phase = c.conclude_try.new.phase;
-      transfer = last;
-      clearing =
-          b;
-    }) c.step.new.control) (sym c.conclude_try.ensures.clearing)
-    (steps_so g.R.Requests.prepare_gives g.R.Requests.apply_gives g.R.Requests.answer_of c.args.fate c.self.inside.addr c.self.inside.phase c.conclude_try.new.phase c.self.inside.clearing c.args.self.now c.in-Some.transfer c.step.new.self c.args.control.now
-    c.conclude_try.result c.step.new.control host busy c.step.ensures.packets c.step.ensures.transacts c.step.ensures.same.0 c.conclude_try.ensures.concludes)
+pub returns-in_err-token : goal.returns-in_err-token
+returns-in_err-token g c =
+    stops_without g.R.Requests.prepare_gives g.R.Requests.apply_gives g.R.Requests.answer_of c.args.fate c.args.self.now _ c.args.control.now c.from_residual.result
+    c.in_err-token.ensures.token c.from_residual.ensures.1
+
+pub returns-in-Ok : goal.returns-in-Ok
+returns-in-Ok g c =
+    let answered = rw c.as_ref.ensures.value at c.send_token-reply.ensures in
+    let takes = subst (λ (x : Option Packet). TakesControl x c.args.self.now c.control_take-taken.result c.control_take-taken.new.self) c.as_ref-2.ensures.value c.control_take-taken.ensures in
+    let ack =
+    subst (λ (b : Bool). Acknowledges g.R.Requests.prepare_gives g.R.Requests.apply_gives g.R.Requests.answer_of
+    (arrives_under c.args.fate) b c.send_token-reply.new.control c.send_ack.new.control) c.acknowledges.ensures c.send_ack.ensures in
+    steps_by_packets g.R.Requests.prepare_gives g.R.Requests.apply_gives g.R.Requests.answer_of c.args.fate c.args.self.now c.control_take-taken.new.self c.in_ok-token.token c.control_payload.result c.send_token-reply.result
+    c.args.control.now c.send_token-reply.new.control c.send_ack.new.control c.control_take-taken.result _ c.in_ok-token.ensures.token c.control_payload.ensures.payload answered takes ack (ap progress_in (sym c.in-Ok.is))
+
+pub returns-in-Err : goal.returns-in-Err
+returns-in-Err g c =
+    let answered = rw c.as_ref.ensures.value at c.send_token-reply.ensures in
+    let takes = subst (λ (x : Option Packet). TakesControl x c.args.self.now c.control_take-taken.result c.control_take-taken.new.self) c.as_ref-2.ensures.value c.control_take-taken.ensures in
+    let ack =
+    subst (λ (b : Bool). Acknowledges g.R.Requests.prepare_gives g.R.Requests.apply_gives g.R.Requests.answer_of
+    (arrives_under c.args.fate) b c.send_token-reply.new.control c.send_ack.new.control) c.acknowledges.ensures c.send_ack.ensures in
+    steps_by_packets g.R.Requests.prepare_gives g.R.Requests.apply_gives g.R.Requests.answer_of c.args.fate c.args.self.now c.control_take-taken.new.self c.in_ok-token.token c.control_payload.result c.send_token-reply.result
+    c.args.control.now c.send_token-reply.new.control c.send_ack.new.control c.control_take-taken.result _ c.in_ok-token.ensures.token c.control_payload.ensures.payload answered takes ack (ap progress_in (sym c.in-Err.is))

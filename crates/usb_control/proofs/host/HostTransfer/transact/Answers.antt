@@ -1,17 +1,10 @@
+use Rattle.usb_control.proofs.CrossingLemmas.{crosses_by_token}
 use Rattle.usb_control.proofs.host.HostTransfer.transact.Goals as goal
 
 pub returns-clause-crosses : goal.returns-clause-crosses
 returns-clause-crosses g c =
-    let took_reply = rw c.as_ref-2.ensures.value at c.take-says.ensures.took in
-    let says = rw c.as_ref-2.ensures.value at c.take-says.ensures.acknowledged in
-    let read = rw c.as_ref.ensures.value at c.send_reply-reply.ensures in
-    let replied = rw c.phase-phase.ensures.phase at read in
-    record {
-      mid = c.reach-answer.new.control;
-      answer = c.reach-answer.result;
-      reply = c.send_reply-reply.result;
-      reached = c.reach-answer.ensures.reaches;
-      replied = replied;
-      took_reply = took_reply;
-      acknowledged = rw says at c.acknowledge.ensures;
-    }
+    let answered = rw c.as_ref.ensures.value at c.send_token-reply.ensures in
+    let took = rw c.as_ref-2.ensures.value at c.take-acknowledges.ensures.took in
+    let says = rw c.as_ref-2.ensures.value at c.take-acknowledges.ensures.acknowledged in
+    crosses_by_token g.R.Requests.prepare_gives g.R.Requests.apply_gives g.R.Requests.answer_of (g.B.Bus.arrives c.args.bus.now) c.args.self.now c.args.control.now c.send_token-reply.new.control c.take-acknowledges.new.self c.send_ack.new.control
+    c.token.result c.payload.result c.send_token-reply.result c.take-acknowledges.result c.token.ensures.token c.payload.ensures answered took says c.send_ack.ensures
