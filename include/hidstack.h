@@ -23,13 +23,19 @@
  * bits. Each struct but `struct hidstack` has only fields of fixed width, each at a multiple of its own width.
  *
  * Memory: hidstack_open takes some, until hidstack_close. Calls that read a handle take none, and neither do
- * hidstack_feed, hidstack_number and hidstack_cause_words. The others give back what they took. A call takes 10 kB of stack,
+ * hidstack_feed, hidstack_release, hidstack_number, hidstack_put, hidstack_boot_descriptor and hidstack_cause_words. The others give back what they took. A call takes 10 kB of stack,
  * and hidstack_run 37 kB, with what a thread takes itself (measured: docs/C.md).
  *
  * It compiles as C99 and as C++17. Link with -lhidstack. docs/C.md and docs/SCRIPT.md are installed below PREFIX as
  * share/doc/rulohevian, with the Debian package as /usr/share/doc/rulohevian. */
 #ifndef HIDSTACK_H
 #define HIDSTACK_H
+
+/* The version of this header. A library with the same MAJOR has all that it declares, from this MINOR on. */
+#define HIDSTACK_VERSION_MAJOR 0
+#define HIDSTACK_VERSION_MINOR 2
+#define HIDSTACK_VERSION_PATCH 0
+#define HIDSTACK_VERSION "0.2.0"
 
 #include <stddef.h>
 #include <stdint.h>
@@ -52,7 +58,8 @@ enum hidstack_status {
     HIDSTACK_SHORT = 5,   /* the report has fewer bytes than it should */
     HIDSTACK_UNKNOWN = 6, /* no Input report of the device, or another report than the element's */
     HIDSTACK_NONE = 7,    /* nothing stands at that place, or it has no value */
-    HIDSTACK_MEMORY = 8   /* out of memory */
+    HIDSTACK_MEMORY = 8,  /* out of memory */
+    HIDSTACK_RANGE = 9    /* the element's bits don't hold the number */
 };
 
 /* The kind of a report. */
@@ -195,6 +202,16 @@ uint32_t hidstack_open(const uint8_t *descriptor, size_t length, struct hidstack
  * But for OK the view and the table stay as they were. */
 uint32_t hidstack_feed(struct hidstack *handle, const uint8_t *report, size_t length, struct hidstack_event *events, size_t room, uint64_t *count);
 
+/* Lets go of all that is held, as of a device that was unplugged or reset: writes the events that lead back to what
+ * hidstack_open left into the first entries of `events`, which has `room` places: keys and switches go up, and values become
+ * the first ones. It takes no memory.
+ *   OK       `count` is how many events there are; the places after them are unchanged. They come by rising item, and in an
+ *            item by rising index. Nothing is held, and the handle reads on
+ *   NO_ROOM  `room` is less than the `room` of hidstack_open, which `count` has
+ *   CLOSED   `count` is 0
+ * But for OK the view and the table stay as they were. */
+uint32_t hidstack_release(struct hidstack *handle, struct hidstack_event *events, size_t room, uint64_t *count);
+
 /* Closes a handle, and gives back its memory. A closed one stays as it is. */
 void hidstack_close(struct hidstack *handle);
 
@@ -219,6 +236,14 @@ uint32_t hidstack_held(struct hidstack *handle, uint64_t item, uint64_t index, u
  * none. */
 uint32_t hidstack_value(struct hidstack *handle, uint64_t item, uint64_t index, int64_t *value);
 
+/* A report of zeros of this kind (enum hidstack_report_kind) and Report ID, 0 where reports have none, over the first bytes of
+ * `out`, which has `room`: its ID first where reports have IDs. hidstack_put makes it one with other numbers.
+ *   OK       `length` is how many bytes it has; those after it are unchanged
+ *   NO_ROOM  `length` is the room that it needs
+ *   NONE     there is no such report; `length` is 0, as with CLOSED
+ * But for OK nothing is written. */
+uint32_t hidstack_blank(struct hidstack *handle, uint32_t kind, uint8_t id, uint8_t *out, size_t room, uint64_t *length);
+
 /* ---- Without a handle ---- */
 
 /* Reads a report descriptor, and writes its data elements, item by item, over the first places of `table`, which has
@@ -233,6 +258,19 @@ uint32_t hidstack_table(const uint8_t *descriptor, size_t length, struct hidstac
  *   UNKNOWN  it has a Report ID, and the bytes don't begin with it
  * Both leave `value` as it was. */
 uint32_t hidstack_number(const struct hidstack_element_info *element, const uint8_t *report, size_t length, int64_t *value);
+
+/* Makes `value` the number of an element in the bytes of a report: hidstack_number gives it again, and all other bits stay.
+ * `element` may have any contents. A number out of the logical range is written too, as a null is; it need only have a pattern
+ * in the element's bits.
+ *   SHORT    its bits don't lie in the bytes after the Report ID, or its width is 0 or over 32
+ *   UNKNOWN  it has a Report ID, and the bytes don't begin with it
+ *   RANGE    its bits don't hold the number: 8 of them hold -128 to 127 in two's complement, else 0 to 255
+ * With all three the bytes stay. */
+uint32_t hidstack_put(const struct hidstack_element_info *element, uint8_t *report, size_t length, int64_t value);
+
+/* The report descriptor of a boot keyboard, protocol 1, or a boot mouse, 2 (bInterfaceProtocol: HID 1.11, 4.3; the bytes: E.6
+ * and E.10), over the first bytes of `out`, which has `room`. NONE of another protocol; else as hidstack_cause_words. */
+uint32_t hidstack_boot_descriptor(uint32_t protocol, uint8_t *out, size_t room, uint64_t *length);
 
 /* ---- Scripts and texts. None is ended by a zero byte. ---- */
 

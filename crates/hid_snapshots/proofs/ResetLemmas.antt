@@ -8,7 +8,7 @@ use Rattle.hid_layout.specs.declared.control.Controls.TheVariants as head
 use Rattle.hid_layout.specs.declared.control.ControlKind.TheVariants.{Switch, Value, NullValue, Relative}
 use Rattle.hid_snapshots.specs.declared.control_state.ControlState.{ControlState}
 use Rattle.hid_snapshots.specs.declared.control_state.ControlState.TheVariants.{Motions}
-use Rattle.hid_snapshots.specs.ControlStates.{blank_state, switch_count}
+use Rattle.hid_snapshots.specs.ControlStates.{blank, blank_state, switch_count}
 use Rattle.hid_snapshots.specs.Parts.{clamp, shown_state, blank_parts}
 use Rattle.hid_snapshots.proofs.BlankLemmas.{none_pressed}
 use Rattle.hid_snapshots.proofs.FillLemmas.{fill_next}
@@ -65,3 +65,17 @@ reset_next items start now i new long so_far within is =
     is ∙ ap (λ (f : Form). shown_state (controls_of_form f) (blank_state (controls_of_form f)))
     (form_at-is items i item.0 item.1) in
     ap (λ xs. slice_set xs i new) so_far ∙ fill_next (blank_parts items) start i new (target ∙ ap Some (sym made)) (omega arith)
+
+-- one control state of a view more is made again
+pub blank_next : (items : List Item) (start now : List ControlState) (i : ℕ) (new : ControlState)
+    → length start ≡ length items → now ≡ take i (blank items) ++ drop i start
+    → i < length items
+    → new ≡ blank_state (controls_of_form (form_at items i))
+    → slice_set now i new ≡ take (i + 1) (blank items) ++ drop (i + 1) start
+blank_next items start now i new long so_far within is =
+    let item = got items i within in
+    let target : slice_get (blank items) i ≡ Some (blank_state (controls_of_form item.0.form)) =
+    map_at _ items i item.0 item.1 in
+    let made : new ≡ blank_state (controls_of_form item.0.form) =
+    is ∙ ap (λ (f : Form). blank_state (controls_of_form f)) (form_at-is items i item.0 item.1) in
+    ap (λ xs. slice_set xs i new) so_far ∙ fill_next (blank items) start i new (target ∙ ap Some (sym made)) (omega arith)

@@ -3,7 +3,7 @@
 ghost use Rattle.std.specs.Prelude.{◌≡◌, ◌<◌, Bool, List, false, length, pos, replicate};
 ghost use Rattle.hid_layout.specs.Controls.{items_of, form_at, controls_of_form};
 ghost use Rattle.hid_layout.specs.Reports.{IsLayout};
-ghost use Rattle.hid_snapshots.specs.ControlStates.{blank_state, FitsShown, HasRoom};
+ghost use Rattle.hid_snapshots.specs.ControlStates.{blank, blank_state, FitsShown, FitsView, HasRoom};
 ghost use Rattle.hid_snapshots.specs.Parts.{blank_parts, shown_state};
 
 use crate::blank::first_value;
@@ -102,5 +102,15 @@ pub(crate) fn reset_parts(layout: &Layout, parts: &mut [ControlState])
 {
     for i in 0..item_count(layout) {
         reset_part(layout, i, &mut parts[i]);
+    }
+}
+
+/// Makes what a view keeps of each item's controls what it was at first. No memory is taken.
+pub fn reset_states(layout: &Layout, states: &mut [ControlState])
+    requires { FitsView (items_of layout.now) states.old }
+    ensures { states.new ≡ blank (items_of layout.now) }
+{
+    for i in 0..item_count(layout) {
+        reset_state(layout, i, &mut states[i]);
     }
 }

@@ -45,6 +45,7 @@ mod shown;
 mod snapshot;
 
 pub use blank::{blank_states, first_value};
+pub use blank_in_place::reset_states;
 pub use change::Change;
 pub use control_state::{ControlState, Motions, Values};
 pub use empty_codes::has_empty_codes;

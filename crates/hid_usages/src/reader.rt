@@ -1,10 +1,11 @@
 //! The Input reports of one device, read one after the other.
 
-ghost use Rattle.std.specs.Prelude.{◌≡◌, ◌<◌, ◌≤◌, ◌+◌, length, vec_len, vec_capacity};
+ghost use Rattle.std.specs.Prelude.{◌≡◌, ◌<◌, ◌≤◌, ◌+◌, ◌++◌, length, vec_len, vec_capacity};
 ghost use Rattle.std.specs.Bool.{OnTrue};
 ghost use Rattle.hid_layout.specs.Controls.{items_of, max_events};
 ghost use Rattle.hid_layout.specs.Reports.{IsLayout};
-ghost use Rattle.hid_snapshots.specs.ControlStates.{FitsView};
+ghost use Rattle.hid_snapshots.specs.ControlStates.{FitsView, blank};
+ghost use Rattle.hid_snapshots.specs.Views.{changes_between};
 ghost use Rattle.hid_usages.specs.Taking.{TakesReport};
 ghost use Rattle.hid_usages.specs.Reader.{still_bytes_of};
 
@@ -130,5 +131,23 @@ impl Reader {
             }
             Err(fault) => Err(fault),
         }
+    }
+
+    /// Lets go of all that is held: adds the events until the view is the initial one, as [`View::changes_back`] does, and
+    /// makes it that. For a device that was unplugged or reset. The caller has reserved room for `max_events` more; no
+    /// memory is taken.
+    pub fn release(&mut self, out: &mut Vec<Event>)
+        requires room { vec_len out.old + max_events (items_of self.old.layout)
+            ≤ vec_capacity out.old }
+        ensures events { out.new.items ≡ out.old.items ++ changes_between (items_of self.old.layout)
+            self.old.view (blank (items_of self.old.layout)) }
+        ensures view { self.new.view ≡ blank (items_of self.old.layout) }
+        ensures layout { self.new.layout ≡ self.old.layout }
+        ensures few { vec_len out.new ≤ vec_len out.old + max_events (items_of self.old.layout) }
+        ensures room { vec_capacity out.new ≡ vec_capacity out.old }
+    {
+        self.view.changes_back(&self.layout, out);
+        self.view.reset(&self.layout);
+        self.still.clear();
     }
 }

@@ -20,7 +20,7 @@ use hid_fields::FieldCodec;
 use hid_layout::{ControlId, Layout};
 use hid_snapshots::{
     ControlState, Event, Flags, MemoryFault, ReportFault, Shown, blank_states, key_words, plan_of,
-    state_at as state_in,
+    reset_states, state_at as state_in,
 };
 use std::alloc::Global;
 use std::marker::Model;
@@ -117,6 +117,15 @@ impl View {
         ensures room { vec_capacity out.new ≡ vec_capacity out.old }
     {
         all_changes_back(layout, &self.states, &self.named, out);
+    }
+
+    /// Makes the view the initial one again. No memory is taken.
+    pub fn reset(&mut self, layout: &Layout)
+        requires { FitsView (items_of layout.now) self.old }
+        ensures initial { self.new ≡ blank (items_of layout.now) }
+        ensures fits { FitsView (items_of layout.now) self.new }
+    {
+        reset_states(layout, &mut self.states);
     }
 
     /// Appends what [`View::changes_back`] does, and the motion of an Input report's part as dropped, as

@@ -1,6 +1,6 @@
 -- The numbers of include/hidstack.h, written out: a constant of another value fails the check.
 use Rattle.std.specs.Prelude.{◌≡◌, true, false, refl}
-use Rattle.hidstack.specs.declared.status.TheConstants.{OK, REFUSED, BUSY, CLOSED, NO_ROOM, SHORT, UNKNOWN, NONE, MEMORY}
+use Rattle.hidstack.specs.declared.status.TheConstants.{OK, REFUSED, BUSY, CLOSED, NO_ROOM, SHORT, UNKNOWN, NONE, MEMORY, RANGE}
 use Rattle.hidstack.specs.Running.{options_of}
 
 -- option 1 tells layouts
@@ -37,3 +37,6 @@ none = refl
 
 memory : MEMORY ≡ 8
 memory = refl
+
+range : RANGE ≡ 9
+range = refl

@@ -5,3 +5,4 @@ pub mod Accessors
 pub mod Tables
 pub mod Texts
 pub mod Running
+pub mod Writing

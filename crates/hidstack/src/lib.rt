@@ -3,11 +3,14 @@
 //! ```text
 //!   hidstack_open     a report descriptor --> a handle
 //!   hidstack_feed     a handle and a report --> the report's events, in the caller's table
+//!   hidstack_release  a handle --> the events until nothing is held
 //!   hidstack_held ..  a handle and a place --> what stands there, as a plain record
+//!   hidstack_blank    a handle, a kind and an ID --> a report of zeros
 //!   hidstack_close    a handle --> closed, as it was before
 //!
 //!   hidstack_table    a report descriptor --> all elements, in the caller's table, with no handle
 //!   hidstack_number   an element and a report --> the element's number
+//!   hidstack_put      an element, a report and a number --> the report with that number
 //!   hidstack_run      a script --> its text
 //! ```
 //! A handle is the caller's own variable. A closed one, which may be zeroed memory, may be opened; an open one may be fed, read
@@ -26,3 +29,4 @@ pub mod reading;
 pub mod run;
 pub mod session;
 pub mod status;
+pub mod writing;

@@ -25,7 +25,7 @@ pub(crate) fn put_text(text: &[u8], out: &mut [u8])
 }
 
 /// Writes a text where there is room, and its length.
-fn write_text(text: &[u8], out: &mut [u8], len: &mut u64) -> u32
+pub(crate) fn write_text(text: &[u8], out: &mut [u8], len: &mut u64) -> u32
     ensures { TextIsReturned text.now out.old result out.new len.new }
 {
     *len = text.len() as u64;

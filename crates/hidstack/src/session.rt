@@ -7,6 +7,7 @@ ghost use Rattle.hidstack_session.specs.declared.session.FeedFault.TheVariants.{
 ghost use Rattle.hidstack_session.specs.Sessions.{IsFirst};
 ghost use Rattle.hidstack.specs.Opening.{Opens, Refuses, IsBusy, opened_result};
 ghost use Rattle.hidstack.specs.Feeding.{FeedsHandle, status_of};
+ghost use Rattle.hidstack.specs.Writing.{ReleasesHandle};
 
 use crate::handle::Handle;
 use crate::status::{BUSY, CLOSED, NO_ROOM, OK, REFUSED, SHORT, UNKNOWN};
@@ -143,6 +144,36 @@ pub extern "C" fn hidstack_feed(
             NO_ROOM
         }
         Err(FeedFault::Refused(fault)) => fault_status(fault),
+    }
+}
+
+/// Lets go of all that is held, as of a device that was unplugged, and writes the events over the first places of the table.
+/// No memory is taken.
+#[unsafe(no_mangle)]
+pub extern "C" fn hidstack_release(
+    alloc: Global,
+    handle: &mut Handle,
+    events: &mut [HidEvent],
+    count: &mut u64,
+) -> u32
+    ensures { ReleasesHandle handle.old.kept events.old result handle.new.kept events.new count.new }
+{
+    *count = 0;
+    let Some(mut session) = handle.take(alloc) else {
+        return CLOSED;
+    };
+    let answer = session.release(events);
+    let needed = session.room();
+    *handle = Handle::of(session);
+    match answer {
+        Some(released) => {
+            *count = released as u64;
+            OK
+        }
+        None => {
+            *count = needed as u64;
+            NO_ROOM
+        }
     }
 }
 

@@ -26,3 +26,6 @@ pub const NONE: u32 = 7;
 
 /// Memory ran out.
 pub const MEMORY: u32 = 8;
+
+/// The element has no pattern for the number.
+pub const RANGE: u32 = 9;

@@ -96,6 +96,12 @@ IsNamed element bytes = (element.report ≡ 0) ⊎ (slice_index bytes 0 ≡ elem
 abbrev pub is_signed : HidElement → Bool
 is_signed element = not (element.is_signed == 0)
 
+-- an element lies in the bytes of its report, or why it doesn't
+abbrev pub IsFound : HidElement → List ℕ → Result (Unit {0}) ReportFault → Type 0
+IsFound element bytes (Ok found) = LiesIn element bytes × IsNamed element bytes
+IsFound element bytes (Err Short) = LiesIn element bytes → ⊥
+IsFound element bytes (Err UnknownReport) = LiesIn element bytes × (IsNamed element bytes → ⊥)
+
 -- the number of an element in the bytes of a report (5.8), or why there is none. Example: of 05 7F 81 at bit 16 it is
 -- -127
 abbrev pub HoldsNumber : HidElement → List ℕ → Result ℤ ReportFault → Type 0

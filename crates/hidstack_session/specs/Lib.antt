@@ -5,3 +5,4 @@ pub mod Sessions
 pub mod Elements
 pub mod Records
 pub mod Tables
+pub mod Writing

@@ -4,7 +4,7 @@ ghost use Rattle.std.specs.Prelude.{◌≡◌, ◌≤◌, ◌<◌, ◌*◌, leng
 ghost use Rattle.hid_report_descriptor.specs.Kinds.{rank};
 ghost use Rattle.hid_report_descriptor.specs.Usages.{usage_list};
 ghost use Rattle.hid_layout.specs.Reports.{report_id, IsLayout};
-ghost use Rattle.hidstack_session.specs.Elements.{usage_number, element_at, kind_at, element_record, one_of, HoldsNumber};
+ghost use Rattle.hidstack_session.specs.Elements.{usage_number, element_at, kind_at, element_record, one_of, IsFound, HoldsNumber};
 
 use hid_fields::{FieldCodec, MAX_WIDTH, WordCodec, to_value};
 use hid_layout::{
@@ -158,14 +158,13 @@ pub fn element_at(layout: &Layout, item: usize, j: usize) -> Option<HidElement>
     }
 }
 
-/// The number of an element in the bytes of a report (HID 1.11, 5.8). Bytes of another Report ID are not its report's,
-/// and a field of 0 or over 32 bits lies in no bytes.
+/// Whether an element has 1 to 32 bits, which lie in the bytes of its report.
 ///
 /// # Errors
 /// [`ReportFault::Short`] where the element doesn't lie in the bytes, or has no width from 1 to 32; then
 /// [`ReportFault::UnknownReport`] where the first byte is another Report ID.
-pub fn number_in(element: &HidElement, bytes: &[u8]) -> Result<i64, ReportFault>
-    ensures { HoldsNumber element.now bytes.now result }
+pub(crate) fn look_for(element: &HidElement, bytes: &[u8]) -> Result<(), ReportFault>
+    ensures { IsFound element.now bytes.now result }
 {
     let width = element.width;
     let end = element.bit as usize + width as usize;
@@ -175,6 +174,19 @@ pub fn number_in(element: &HidElement, bytes: &[u8]) -> Result<i64, ReportFault>
     if element.report != 0 && bytes[0] != element.report {
         return Err(ReportFault::UnknownReport);
     }
-    let pattern = WordCodec::get(bytes, element.bit as usize, width);
-    Ok(to_value(pattern, width, element.is_signed != 0))
+    Ok(())
+}
+
+/// The number of an element in the bytes of a report (HID 1.11, 5.8). Bytes of another Report ID are not its report's,
+/// and a field of 0 or over 32 bits lies in no bytes.
+///
+/// # Errors
+/// [`ReportFault::Short`] where the element doesn't lie in the bytes, or has no width from 1 to 32; then
+/// [`ReportFault::UnknownReport`] where the first byte is another Report ID.
+pub fn number_in(element: &HidElement, bytes: &[u8]) -> Result<i64, ReportFault>
+    ensures { HoldsNumber element.now bytes.now result }
+{
+    look_for(element, bytes)?;
+    let pattern = WordCodec::get(bytes, element.bit as usize, element.width);
+    Ok(to_value(pattern, element.width, element.is_signed != 0))
 }

@@ -18,6 +18,7 @@ mod event;
 mod records;
 mod session;
 mod table;
+mod writing;
 
 pub use cause::{cause_number, cause_with};
 pub use element::{FEATURE, HidElement, INPUT, OUTPUT, element_at, number_in};
@@ -27,3 +28,4 @@ pub use hid_usages::ReportFault;
 pub use records::{HidCollection, HidReport, HidUsage, collection_at, report_at, usage_at};
 pub use session::{FeedFault, Session};
 pub use table::{list_elements, put_elements};
+pub use writing::{PutFault, put_blank_report, put_number, report_with};

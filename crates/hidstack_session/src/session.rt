@@ -6,7 +6,7 @@ ghost use Rattle.hid_layout.specs.Layout.{Contents};
 ghost use Rattle.hid_layout.specs.Controls.{items_of, max_events};
 ghost use Rattle.hid_snapshots.specs.Snapshots.{is_pressed, state_at};
 ghost use Rattle.hid_snapshots.specs.Views.{value_in};
-ghost use Rattle.hidstack_session.specs.Sessions.{IsFirst, IsFirstOf, Feeds};
+ghost use Rattle.hidstack_session.specs.Sessions.{IsFirst, IsFirstOf, Feeds, Releases};
 
 use crate::event::{HidEvent, put_events};
 use hid_fields::WordCodec;
@@ -103,6 +103,24 @@ impl Session {
             }
             Err(fault) => Err(FeedFault::Refused(fault)),
         }
+    }
+
+    /// Lets go of all that is held, as of a device that was unplugged: writes the events until the view is the first one over
+    /// the first places of the table, and makes it that. They are at most [`Session::room`]. No memory is taken.
+    ///
+    /// # Errors
+    /// None where the table has fewer places than [`Session::room`]. Table and session stay as they were.
+    pub fn release(&mut self, out: &mut [HidEvent]) -> Option<usize>
+        ensures { Releases self.old out.old result self.new out.new }
+    {
+        if self.reader.max_events() > out.len() {
+            return None;
+        }
+        let events = &mut self.events;
+        events.clear();
+        self.reader.release(events);
+        put_events(events, out);
+        Some(events.len())
     }
 
     /// The layout of the descriptor.

@@ -1,0 +1,85 @@
+//! Reports written: a report of zeros, and an element's number in a report; and the boot descriptors.
+
+ghost use Rattle.std.specs.Prelude.{◌≡◌};
+ghost use Rattle.hidstack.specs.Writing.{BlankIsReturned, BlanksHandle, BootIsReturned, PutAnswers};
+
+use crate::handle::Handle;
+use crate::names::{put_text, write_text};
+use crate::status::{CLOSED, NO_ROOM, NONE, OK, RANGE, SHORT, UNKNOWN};
+use hid_layout::boot::{KEYBOARD, MOUSE};
+use hidstack_session::{
+    HidElement, PutFault, ReportFault, Session, put_blank_report, put_number, report_with,
+};
+use std::alloc::Global;
+
+/// bInterfaceProtocol of a boot keyboard (HID 1.11, 4.3).
+const KEYBOARD_PROTOCOL: u32 = 1;
+
+/// bInterfaceProtocol of a boot mouse.
+const MOUSE_PROTOCOL: u32 = 2;
+
+/// Makes this the number of an element in the bytes of a report.
+#[unsafe(no_mangle)]
+pub extern "C" fn hidstack_put(element: &HidElement, report: &mut [u8], value: i64) -> u32
+    ensures { PutAnswers element.now value report.old result report.new }
+{
+    match put_number(element, report, value) {
+        Ok(()) => OK,
+        Err(PutFault::Refused(ReportFault::Short)) => SHORT,
+        Err(PutFault::Refused(ReportFault::UnknownReport)) => UNKNOWN,
+        Err(PutFault::OutOfRange) => RANGE,
+    }
+}
+
+/// Writes the report of zeros of this kind and ID over the first bytes of a room, and its length.
+fn write_blank(session: &Session, kind: u32, id: u8, out: &mut [u8], length: &mut u64) -> u32
+    requires { length.old ≡ 0 }
+    ensures { BlankIsReturned session.now.layout kind id out.old result out.new length.new }
+{
+    let layout = session.layout();
+    let Some(report) = report_with(layout, kind, id) else {
+        return NONE;
+    };
+    let count = layout.report_bytes(report);
+    *length = count as u64;
+    if count > out.len() {
+        return NO_ROOM;
+    }
+    put_blank_report(layout, report, out);
+    OK
+}
+
+/// Writes a report of zeros, after its ID where reports have IDs.
+#[unsafe(no_mangle)]
+pub extern "C" fn hidstack_blank(
+    alloc: Global,
+    handle: &mut Handle,
+    kind: u32,
+    id: u8,
+    out: &mut [u8],
+    length: &mut u64,
+) -> u32
+    ensures kept { handle.new.kept ≡ handle.old.kept }
+    ensures blank { BlanksHandle handle.old.kept kind id out.old result out.new length.new }
+{
+    *length = 0;
+    let Some(session) = handle.take(alloc) else {
+        return CLOSED;
+    };
+    let status = write_blank(&session, kind, id, out, length);
+    *handle = Handle::of(session);
+    status
+}
+
+/// Writes the report descriptor of a boot keyboard or a boot mouse (HID 1.11, E.6 and E.10), by its bInterfaceProtocol.
+#[unsafe(no_mangle)]
+pub extern "C" fn hidstack_boot_descriptor(protocol: u32, out: &mut [u8], length: &mut u64) -> u32
+    ensures { BootIsReturned protocol out.old result out.new length.new }
+{
+    *length = 0;
+    match protocol {
+        KEYBOARD_PROTOCOL => write_text(&KEYBOARD, out, length),
+        MOUSE_PROTOCOL => write_text(&MOUSE, out, length),
+        _ => NONE,
+    }
+}
