@@ -1,0 +1,9 @@
+pub mod PipeLemmas
+pub mod InterfaceLemmas
+pub mod TransferLemmas
+pub mod HoldingLemmas
+pub mod BringUpLemmas
+pub mod RoomLemmas
+pub mod CutLemmas
+pub mod DriverLemmas
+mod Vectors

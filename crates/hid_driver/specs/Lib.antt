@@ -1,0 +1,11 @@
+pub mod Faults
+pub mod Pipe
+pub mod Interfaces
+pub mod Requests
+pub mod Asking
+pub mod Answers
+pub mod Driver
+pub mod Moves
+pub mod Transfers
+pub mod Holding
+pub mod BringUp

@@ -1,0 +1,147 @@
+-- The reports of an interface, out of the interrupt transfers in which they come (USB 2.0, 5.7.3, 8.4.5 and 9.6.6; HID
+-- 1.11, 5.6).
+use Rattle.std.specs.Prelude.{ℕ, zero, suc, ◌+◌, ◌%◌, ◌≤◌, max, Bool, true, false, not, nat_lt, ◌==◌, ◌&&◌, if◌then◌else◌, List, [], length, Result, Ok, Err}
+use Rattle.hid_report_descriptor.specs.declared.limits.TheConstants.{MAX_REPORT_BYTES}
+use Rattle.hid_layout.specs.Layout.{Contents}
+use Rattle.hid_layout.specs.Controls.{items_of}
+use Rattle.hid_layout.specs.Reports.{report_bytes}
+use Rattle.hid_snapshots.specs.declared.event.Event.{Event}
+use Rattle.hid_snapshots.specs.declared.fault.ReportFault.{ReportFault}
+use Rattle.hid_snapshots.specs.ControlStates.{blank}
+use Rattle.hid_snapshots.specs.Views.{changes_between}
+use Rattle.hid_usages.specs.declared.receiver.Arrived.{Arrived}
+use Rattle.hid_usages.specs.Receiving.{ReceiverState, after_packet, bytes_with, events_with, packet_outcome, without_collected}
+use Rattle.hid_driver.specs.declared.fault.DriverFault.{DriverFault}
+use Rattle.hid_driver.specs.declared.fault.DriverFault.TheVariants.{LongTransfer, NotRead, Report}
+use Rattle.hid_driver.specs.declared.outcome.DriverEvent.{DriverEvent}
+use Rattle.hid_driver.specs.declared.outcome.Outcome.{Outcome}
+use Rattle.hid_driver.specs.declared.outcome.Outcome.TheVariants as outcomes
+use Rattle.hid_driver.specs.declared.pipe.Flow.{Flow}
+use Rattle.hid_driver.specs.declared.pipe.Flow.TheVariants.{Live, Halted, Stopped}
+
+-- whether reports come, the size of a full packet, and the receiver of the reports
+pub record PipeState : Type 0 where
+  pub flow : Flow
+  pub packet_size : ℕ
+  pub receiving : ReceiverState
+
+-- a receiver of which no report came yet
+abbrev pub receiver_at_start : Contents → ReceiverState
+receiver_at_start layout = record { layout = layout; view = blank (items_of layout); collected = [] }
+
+-- the pipe of a live endpoint with this receiver
+abbrev pub pipe_of_receiver : ℕ → ReceiverState → PipeState
+pipe_of_receiver packet_size receiving = record { flow = Live; packet_size = packet_size; receiving = receiving }
+
+-- a pipe of which no report came yet
+abbrev pub pipe_at_start : ℕ → Contents → PipeState
+pipe_at_start packet_size layout = pipe_of_receiver packet_size (receiver_at_start layout)
+
+-- the pipe whose endpoint is halted, or not any more: what came of a report is forgotten
+abbrev pub pipe_with_flow : Flow → PipeState → PipeState
+pipe_with_flow flow pipe = record pipe { flow = flow; receiving = without_collected pipe.receiving }
+
+-- an event, of the interface at this place
+abbrev pub event_of : ℕ → Event → DriverEvent
+event_of interface event = record { interface = interface; event = event }
+
+-- a transfer of so many bytes has full packets alone, of which there are some (5.7.3)
+abbrev pub is_full : ℕ → ℕ → Bool
+is_full packet_size came = not (came == 0) && (came % packet_size == 0)
+
+-- A transfer is received as a packet: as a full one where it has full packets alone, else as a short one, which ends its
+-- report (5.7.3). This is the size of a full packet then. Example: in packets of 64 bytes a transfer of 128 is full, and
+-- one of 100 or of none is short
+abbrev pub full_size : ℕ → List ℕ → ℕ
+full_size packet_size bytes = if is_full packet_size (length bytes) then length bytes else length bytes + 1
+
+-- in bytes, the longest of the first so many reports of a layout, and at least the longest report of a bus, which is
+-- awaited where bytes begin no report
+abbrev pub longest_of : Contents → ℕ → ℕ
+longest_of layout zero = MAX_REPORT_BYTES
+longest_of layout (suc count) = max (longest_of layout count) (report_bytes layout count)
+
+-- in bytes, the longest report of a layout, and at least the longest report of a bus
+abbrev pub longest_report : Contents → ℕ
+longest_report layout = longest_of layout (length layout.reports)
+
+-- in bytes, the room for the reports of an endpoint: what is kept of the longest one, and a packet
+abbrev pub transfer_room : ℕ → Contents → ℕ
+transfer_room packet_size layout = longest_report layout + packet_size
+
+-- a transfer has more bytes than there is room for
+abbrev pub is_long : PipeState → List ℕ → Bool
+is_long pipe bytes =
+    nat_lt (transfer_room pipe.packet_size pipe.receiving.layout) (length (bytes_with pipe.receiving bytes))
+
+-- what a transfer returns that is received
+abbrev pub transfer_told : Result Arrived ReportFault → Result (Unit {0}) DriverFault
+transfer_told (Ok arrived) = Ok tt
+transfer_told (Err fault) = Err (Report fault)
+
+-- What a transfer returns: it is too long; its report goes on; or the report ends, and is read or refused.
+abbrev pub transfer_outcome : PipeState → List ℕ → Result (Unit {0}) DriverFault
+transfer_outcome pipe bytes =
+    if is_long pipe bytes then Err LongTransfer
+    else transfer_told (packet_outcome (full_size pipe.packet_size bytes) pipe.receiving bytes)
+
+-- The receiver after a transfer. Of one that is too long, and of what came of its report before, nothing is kept.
+abbrev pub receiving_after_transfer : PipeState → List ℕ → ReceiverState
+receiving_after_transfer pipe bytes =
+    if is_long pipe bytes then without_collected pipe.receiving
+    else after_packet (full_size pipe.packet_size bytes) pipe.receiving bytes
+
+-- the pipe after a transfer
+abbrev pub pipe_after_transfer : PipeState → List ℕ → PipeState
+pipe_after_transfer pipe bytes = record pipe { receiving = receiving_after_transfer pipe bytes }
+
+-- The events of a transfer: those of reading the report that ends with it.
+abbrev pub transfer_events : PipeState → List ℕ → List Event
+transfer_events pipe bytes =
+    if is_long pipe bytes then [] else events_with (full_size pipe.packet_size bytes) pipe.receiving bytes
+
+-- whether reports come out of the endpoint
+abbrev pub is_live : Flow → Bool
+is_live Live = true
+is_live Halted = false
+is_live Stopped = false
+
+-- what an interrupt transfer of a live endpoint returns
+abbrev pub live_outcome : PipeState → Outcome → Result (Unit {0}) DriverFault
+live_outcome pipe (outcomes.Done bytes) = transfer_outcome pipe bytes.now
+live_outcome pipe outcomes.Stalled = Ok tt
+live_outcome pipe outcomes.Failed = Ok tt
+
+-- The pipe of a live endpoint after an interrupt transfer: a STALL halts it (8.4.5). After a STALL, and after a transfer
+-- that failed, nothing is kept of a report that began.
+abbrev pub live_pipe : PipeState → Outcome → PipeState
+live_pipe pipe (outcomes.Done bytes) = pipe_after_transfer pipe bytes.now
+live_pipe pipe outcomes.Stalled = pipe_with_flow Halted pipe
+live_pipe pipe outcomes.Failed = pipe_with_flow Live pipe
+
+-- the events of an interrupt transfer of a live endpoint
+abbrev pub live_events : PipeState → Outcome → List Event
+live_events pipe (outcomes.Done bytes) = transfer_events pipe bytes.now
+live_events pipe outcomes.Stalled = []
+live_events pipe outcomes.Failed = []
+
+-- What an interrupt transfer returns: that of an endpoint that isn't live is refused.
+abbrev pub heard_outcome : PipeState → Outcome → Result (Unit {0}) DriverFault
+heard_outcome pipe outcome = if is_live pipe.flow then live_outcome pipe outcome else Err NotRead
+
+-- The pipe after an interrupt transfer: one that isn't live stays.
+abbrev pub heard_pipe : PipeState → Outcome → PipeState
+heard_pipe pipe outcome = if is_live pipe.flow then live_pipe pipe outcome else pipe
+
+-- The events of an interrupt transfer.
+abbrev pub heard_events : PipeState → Outcome → List Event
+heard_events pipe outcome = if is_live pipe.flow then live_events pipe outcome else []
+
+-- the events that lead back to the initial view
+abbrev pub events_back : PipeState → List Event
+events_back pipe =
+    changes_between (items_of pipe.receiving.layout) pipe.receiving.view (blank (items_of pipe.receiving.layout))
+
+-- what is kept of a report is shorter than the longest one, so that a packet has room after it
+abbrev pub KeepsFew : PipeState → Type 0
+KeepsFew pipe = length pipe.receiving.collected ≤ longest_report pipe.receiving.layout

@@ -1,0 +1,68 @@
+//! The laws of a driver: what it reads of reports, and what it holds over all calls.
+
+ghost use Rattle.std.specs.Prelude.{◌≡◌, ◌+◌, ◌*◌, ◌<◌, ◌≤◌, ℕ, Bool, false, List, [], length, Result, Ok, Err};
+ghost use Rattle.hid_layout.specs.Layout.{Contents};
+ghost use Rattle.hid_snapshots.specs.declared.control_state.ControlState.{ControlState};
+ghost use Rattle.hid_driver.specs.declared.ask.Ask.{Ask};
+ghost use Rattle.hid_driver.specs.declared.fault.DriverFault.{DriverFault};
+ghost use Rattle.hid_driver.specs.declared.outcome.Outcome.{Outcome};
+ghost use Rattle.hid_driver.specs.declared.state.DriverState.TheVariants.{Ready};
+ghost use Rattle.hid_driver.specs.declared.state.Moved.{Moved};
+ghost use Rattle.hid_driver.specs.Driver.{DriverValue, driver_after_ask, driver_after_protocol, driver_after_report, driver_at_start, protocol_outcome};
+ghost use Rattle.hid_driver.specs.Holding.{ChangesOne, IsDue, KeepsAll, ReleasesOne};
+ghost use Rattle.hid_driver.specs.Moves.{Moves};
+ghost use Rattle.hid_driver.specs.BringUp.{MovesOn, waiting};
+ghost use Rattle.hid_driver.specs.Pipe.{KeepsFew, PipeState, heard_pipe, is_long, pipe_at_start};
+ghost use Rattle.hid_driver.specs.Transfers.{DeliversReports, IsReport, Last, ReportEnds, ReportsEnd, SentReport, cut_in_packets, sent_bytes};
+
+/// Over every list of reports of a device, of any bytes, each of which ends at its receiver with its last transfer: the events are
+/// exactly those of reading the reports in order, each once; the view is the one that they leave.
+pub fn transfers_are_read()
+    ensures { (pipe : PipeState) (view : List ControlState) (reports : List SentReport)
+        → ReportsEnd pipe.packet_size pipe.receiving.layout reports → DeliversReports pipe view reports }
+{}
+
+/// An Input report of the layout, with no byte after it, ends at its receiver with its last packet where it comes in packets, each
+/// full but the last one; and where it comes in one transfer.
+pub fn reports_end()
+    ensures packets { (packet_size full : ℕ) (layout : Contents) (bytes : List ℕ) → 0 < packet_size
+        → IsReport layout bytes → packet_size * full < length bytes
+        → ReportEnds packet_size layout [] (cut_in_packets packet_size full bytes) }
+    ensures bytes { (packet_size full : ℕ) (bytes : List ℕ)
+        → sent_bytes (cut_in_packets packet_size full bytes) ≡ bytes }
+    ensures at_once { (packet_size : ℕ) (layout : Contents) (bytes : List ℕ) → IsReport layout bytes
+        → ReportEnds packet_size layout [] (Last bytes) }
+{}
+
+/// Whatever comes of the transfers, nothing that is held is forgotten: an outcome of a request and an ask keep each layout and
+/// each view; an interrupt transfer changes those of its own interface alone, as its events say; and so does asking for a
+/// protocol, whose events lead back to the initial view. So it is from a new driver on, and after a reset, which reports the
+/// changes back.
+pub fn nothing_is_forgotten()
+    ensures begins { IsDue driver_at_start }
+    ensures done { (before : DriverValue) (outcome : Outcome) (result : Result Moved DriverFault) (after : DriverValue)
+        → IsDue before → Moves before outcome result after → KeepsAll before after }
+    ensures ask { (before : DriverValue) (place : ℕ) (ask : Ask) → IsDue before
+        → KeepsAll before (driver_after_ask before place ask) }
+    ensures report { (before : DriverValue) (place : ℕ) (outcome : Outcome) → IsDue before
+        → ChangesOne before place outcome (driver_after_report before place outcome) }
+    ensures protocol { (before : DriverValue) (place : ℕ) (boot : Bool) → protocol_outcome before place ≡ Ok tt
+        → ReleasesOne before place (driver_after_protocol before place boot) }
+    ensures refused { (before : DriverValue) (place : ℕ) (boot : Bool) (fault : DriverFault)
+        → protocol_outcome before place ≡ Err fault → driver_after_protocol before place boot ≡ before }
+{}
+
+/// A transfer of at most a packet is never too long, whatever came before it: what is kept of a report leaves room for one.
+pub fn packets_have_room()
+    ensures begins { (packet_size : ℕ) (layout : Contents) → KeepsFew (pipe_at_start packet_size layout) }
+    ensures stays { (pipe : PipeState) (outcome : Outcome) → KeepsFew pipe → KeepsFew (heard_pipe pipe outcome) }
+    ensures fits { (pipe : PipeState) (bytes : List ℕ) → KeepsFew pipe → length bytes ≤ pipe.packet_size
+        → is_long pipe bytes ≡ false }
+{}
+
+/// A device that isn't refused is ready after four control transfers, and two for each interface that waits once its
+/// configuration is read, whatever comes of those two.
+pub fn devices_come_up()
+    ensures { (configured after : DriverValue) → MovesOn 3 driver_at_start configured
+        → MovesOn (1 + 2 * waiting configured.interfaces) configured after → after.state ≡ Ready }
+{}

@@ -1,0 +1,319 @@
+//! The reports of one interface, out of the interrupt transfers in which they come.
+ghost use Rattle.std.specs.Prelude.{◌≡◌, ◌<◌, ◌≤◌, ◌+◌, ◌++◌, ℕ, length, map, IfOk, vec_len, vec_capacity};
+ghost use Rattle.hid_layout.specs.Controls.{items_of, max_events};
+ghost use Rattle.hid_layout.specs.Reports.{IsLayout, report_bytes};
+ghost use Rattle.hid_report_descriptor.specs.declared.limits.TheConstants.{MAX_REAL_REPORT_BYTES};
+ghost use Rattle.hid_snapshots.specs.ControlStates.{FitsView};
+ghost use Rattle.hid_driver.specs.Pipe.{event_of, events_back, full_size, heard_events, heard_outcome, heard_pipe, is_full, longest_report, pipe_after_transfer, pipe_at_start, pipe_of_receiver, pipe_with_flow, receiving_after_transfer, transfer_events, transfer_outcome, transfer_room};
+
+use crate::fault::DriverFault;
+use crate::outcome::{DriverEvent, Outcome};
+use hid_fields::WordCodec;
+use hid_layout::{Layout, MAX_REPORT_BYTES};
+use hid_snapshots::Event;
+use hid_usages::{Receiver, View, first_view};
+use std::alloc::{AllocError, Global};
+use std::marker::Model;
+
+/// Whether reports come out of the endpoint of an interface.
+#[derive(Clone, Copy, Debug, PartialEq, Eq)]
+pub enum Flow {
+    /// They do.
+    Live,
+    /// It is halted until a CLEAR_FEATURE is done (USB 2.0, 9.4.5).
+    Halted,
+    /// It is halted, and the device refused to clear it.
+    Stopped,
+}
+
+/// The receiver of an interface's reports, and room for the events of one. A contract sees all but the room.
+#[derive(Drop)]
+pub struct Pipe {
+    flow: Flow,
+    /// In bytes, a full packet: wMaxPacketSize (USB 2.0, 9.6.6).
+    packet_size: u16,
+    /// In bytes, what the receiver has room for: the longest report and a packet.
+    room: usize,
+    receiver: Receiver,
+    events: Vec<Event>,
+}
+
+impl Model for Pipe {
+    ghost use Rattle.std.specs.Prelude.{◌≡◌, ◌<◌, ◌≤◌, vec_capacity};
+    ghost use Rattle.hid_layout.specs.Controls.{items_of, max_events};
+    ghost use Rattle.hid_driver.specs.Pipe.{PipeState, transfer_room};
+
+    ghost Value = { PipeState };
+
+    ghost view = { λ p. record {
+      flow = p.flow;
+      packet_size = p.packet_size;
+      receiving = p.receiver.state;
+    } };
+
+    ghost invariant = { λ p. (0 < p.packet_size)
+        × (p.room ≡ transfer_room p.packet_size p.receiver.state.layout)
+        × (p.room ≤ p.receiver.room)
+        × (max_events (items_of p.receiver.state.layout) ≤ vec_capacity p.events) };
+}
+
+/// In bytes, the longest report of a layout, and at least the longest report of a bus.
+pub(crate) fn longest_report(layout: &Layout) -> usize
+    ensures longest { result ≡ longest_report layout.now }
+    ensures all { (r : ℕ) → r < length layout.now.reports → report_bytes layout.now r ≤ result }
+    ensures most { result ≤ MAX_REAL_REPORT_BYTES }
+{
+    // For the prover: what holds of every layout, as that its reports are short.
+    let _ = layout.items();
+
+    let mut longest = MAX_REPORT_BYTES as usize;
+    for r in 0..layout.reports().len() {
+        longest = longest.max(layout.report_bytes(r));
+    }
+    longest
+}
+
+/// Whether a transfer of so many bytes has full packets alone (USB 2.0, 5.7.3).
+fn is_full(packet_size: u16, came: usize) -> bool
+    requires { 0 < packet_size }
+    ensures { result ≡ is_full packet_size came }
+{
+    came != 0 && came % usize::from(packet_size) == 0
+}
+
+/// With what size of a full packet a transfer is received, so that one of full packets alone is a full packet, and any other a
+/// short one.
+fn full_size(packet_size: u16, bytes: &[u8]) -> usize
+    requires { 0 < packet_size }
+    ensures { result ≡ full_size packet_size bytes.now }
+{
+    if is_full(packet_size, bytes.len()) {
+        bytes.len()
+    } else {
+        bytes.len() + 1
+    }
+}
+
+/// Hands events on under the place of their interface, into reserved room.
+fn deliver(interface: usize, events: &[Event], out: &mut Vec<DriverEvent>)
+    requires { vec_len out.old + length events.now ≤ vec_capacity out.old }
+    ensures items { out.new.items ≡ out.old.items ++ map (event_of interface) events.now }
+    ensures len { vec_len out.new ≡ vec_len out.old + length events.now }
+    ensures capacity { vec_capacity out.new ≡ vec_capacity out.old }
+{
+    for event in events {
+        out.push_reserved(DriverEvent {
+            interface,
+            event: *event,
+        });
+    }
+}
+
+/// Receives a transfer, of which `room` is what there is room for.
+fn receive(
+    packet_size: u16,
+    room: usize,
+    receiver: &mut Receiver,
+    bytes: &[u8],
+    out: &mut Vec<Event>,
+) -> Result<(), DriverFault>
+    requires size { 0 < packet_size }
+    requires is_room { room ≡ transfer_room packet_size receiver.old.state.layout }
+    requires place { room ≤ receiver.old.room }
+    requires room { vec_len out.old + max_events (items_of receiver.old.state.layout)
+        ≤ vec_capacity out.old }
+    ensures outcome { result
+        ≡ transfer_outcome (pipe_of_receiver packet_size receiver.old.state) bytes.now }
+    ensures after { receiver.new.state
+        ≡ receiving_after_transfer (pipe_of_receiver packet_size receiver.old.state) bytes.now }
+    ensures grows { receiver.old.room ≤ receiver.new.room }
+    ensures events { out.new.items ≡ out.old.items
+        ++ transfer_events (pipe_of_receiver packet_size receiver.old.state) bytes.now }
+    ensures few { vec_len out.new ≤ vec_len out.old + max_events (items_of receiver.old.state.layout) }
+    ensures room { vec_capacity out.new ≡ vec_capacity out.old }
+{
+    if receiver.collected().len() + bytes.len() > room {
+        receiver.forget();
+        return Err(DriverFault::LongTransfer);
+    }
+    match receiver.take::<WordCodec>(full_size(packet_size, bytes), bytes, out) {
+        Ok(_) => Ok(()),
+        Err(fault) => Err(DriverFault::Report(fault)),
+    }
+}
+
+impl Pipe {
+    /// The pipe of an endpoint of which no report came yet.
+    ///
+    /// # Errors
+    /// [`AllocError`] where there is no memory for the view, the bytes of a report, or the events of one.
+    pub(crate) fn new(alloc: Global, packet_size: u16, layout: Layout) -> Result<Pipe, AllocError>
+        requires { 0 < packet_size }
+        ensures { IfOk result (λ pipe. pipe ≡ pipe_at_start packet_size layout) }
+    {
+        let room = longest_report(&layout) + usize::from(packet_size);
+        let Some((view, events)) = first_view(alloc, &layout) else {
+            drop(layout);
+            return Err(AllocError);
+        };
+        let receiver = Receiver::new(layout, view, Vec::new(alloc));
+        Pipe::with_room(packet_size, room, receiver, events)
+    }
+
+    /// The pipe of an endpoint with this receiver, once it has room for so many bytes. It takes what the receiver was made of,
+    /// so that its proof has one early return.
+    fn with_room(
+        packet_size: u16,
+        room: usize,
+        receiver: Receiver,
+        events: Vec<Event>,
+    ) -> Result<Pipe, AllocError>
+        requires size { 0 < packet_size }
+        requires room { room ≡ transfer_room packet_size receiver.state.layout }
+        requires events { max_events (items_of receiver.state.layout) ≤ vec_capacity events }
+        ensures { IfOk result (λ pipe. pipe ≡ pipe_of_receiver packet_size receiver.state) }
+    {
+        let mut receiver = receiver;
+        match receiver.reserve(room) {
+            Ok(()) => Ok(Pipe {
+                flow: Flow::Live,
+                packet_size,
+                room,
+                receiver,
+                events,
+            }),
+            Err(_) => {
+                drop(receiver);
+                drop(events);
+                Err(AllocError)
+            }
+        }
+    }
+
+    /// Whether reports come out of the endpoint.
+    pub(crate) fn flow(&self) -> Flow
+        ensures { result ≡ self.now.flow }
+    {
+        self.flow
+    }
+
+    /// The layout of the reports.
+    pub(crate) fn layout(&self) -> &Layout
+        ensures layout { result.now ≡ self.now.receiving.layout }
+        ensures laid { IsLayout self.now.receiving.layout }
+    {
+        self.receiver.layout()
+    }
+
+    /// The view of the controls.
+    pub(crate) fn view(&self) -> &View
+        ensures view { result.now ≡ self.now.receiving.view }
+        ensures fits { FitsView (items_of self.now.receiving.layout) self.now.receiving.view }
+    {
+        self.receiver.view()
+    }
+
+    /// How many events a report gives at most.
+    pub(crate) fn max_events(&self) -> usize
+        ensures { result ≡ max_events (items_of self.now.receiving.layout) }
+    {
+        self.receiver.max_events()
+    }
+
+    /// The endpoint is halted, or not. What came of a report before is forgotten.
+    pub(crate) fn turn(&mut self, flow: Flow)
+        ensures { self.new ≡ pipe_with_flow flow self.old }
+    {
+        self.flow = flow;
+        self.receiver.forget();
+    }
+
+    /// Takes the bytes of an interrupt transfer, as [`Receiver::take`] takes a packet: a transfer of full packets alone as a
+    /// full one, any other as a short one. There is reserved room for `max_events` more; no memory is taken.
+    ///
+    /// # Errors
+    /// [`DriverFault::LongTransfer`] where there is no room for the bytes; [`DriverFault::Report`] where the report that ended
+    /// is none of the layout. The view stays, and nothing is kept of the report.
+    pub(crate) fn take(
+        &mut self,
+        interface: usize,
+        bytes: &[u8],
+        out: &mut Vec<DriverEvent>,
+    ) -> Result<(), DriverFault>
+        requires room { vec_len out.old + max_events (items_of self.old.receiving.layout)
+            ≤ vec_capacity out.old }
+        ensures outcome { result ≡ transfer_outcome self.old bytes.now }
+        ensures after { self.new ≡ pipe_after_transfer self.old bytes.now }
+        ensures events { out.new.items
+            ≡ out.old.items ++ map (event_of interface) (transfer_events self.old bytes.now) }
+        ensures few { vec_len out.new
+            ≤ vec_len out.old + max_events (items_of self.old.receiving.layout) }
+        ensures room { vec_capacity out.new ≡ vec_capacity out.old }
+    {
+        self.events.clear();
+        let told = receive(
+            self.packet_size,
+            self.room,
+            &mut self.receiver,
+            bytes,
+            &mut self.events,
+        );
+        deliver(interface, &self.events, out);
+        told
+    }
+
+    /// Takes what came of an interrupt transfer. A STALL halts the endpoint; after a transfer that failed nothing is kept of
+    /// a report. There is reserved room for `max_events` more; no memory is taken.
+    ///
+    /// # Errors
+    /// [`DriverFault::NotRead`] where the endpoint is halted; those of [`Pipe::take`].
+    pub(crate) fn hear(
+        &mut self,
+        interface: usize,
+        outcome: Outcome<'_>,
+        out: &mut Vec<DriverEvent>,
+    ) -> Result<(), DriverFault>
+        requires room { vec_len out.old + max_events (items_of self.old.receiving.layout)
+            ≤ vec_capacity out.old }
+        ensures outcome { result ≡ heard_outcome self.old outcome.entry }
+        ensures after { self.new ≡ heard_pipe self.old outcome.entry }
+        ensures events { out.new.items
+            ≡ out.old.items ++ map (event_of interface) (heard_events self.old outcome.entry) }
+        ensures few { vec_len out.new
+            ≤ vec_len out.old + max_events (items_of self.old.receiving.layout) }
+        ensures room { vec_capacity out.new ≡ vec_capacity out.old }
+    {
+        match self.flow {
+            Flow::Live => {}
+            Flow::Halted | Flow::Stopped => return Err(DriverFault::NotRead),
+        }
+        match outcome {
+            Outcome::Done(bytes) => self.take(interface, bytes, out),
+            Outcome::Stalled => {
+                self.turn(Flow::Halted);
+                Ok(())
+            }
+            Outcome::Failed => {
+                self.turn(Flow::Live);
+                Ok(())
+            }
+        }
+    }
+
+    /// Appends the events that lead back to the initial view. There is reserved room for `max_events` more; no memory is
+    /// taken.
+    pub(crate) fn release(&mut self, interface: usize, out: &mut Vec<DriverEvent>)
+        requires room { vec_len out.old + max_events (items_of self.old.receiving.layout)
+            ≤ vec_capacity out.old }
+        ensures stays { self.new ≡ self.old }
+        ensures events { out.new.items ≡ out.old.items ++ map (event_of interface) (events_back self.old) }
+        ensures few { vec_len out.new
+            ≤ vec_len out.old + max_events (items_of self.old.receiving.layout) }
+        ensures room { vec_capacity out.new ≡ vec_capacity out.old }
+    {
+        self.events.clear();
+        let layout = self.receiver.layout();
+        self.receiver.view().changes_back(layout, &mut self.events);
+        deliver(interface, &self.events, out);
+    }
+}

@@ -1,0 +1,4 @@
+pub mod Interfaces
+pub mod Readable
+pub mod Configuration
+pub mod Fault
