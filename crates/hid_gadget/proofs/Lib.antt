@@ -1,6 +1,10 @@
 pub mod TransferLemmas
 pub mod RoomLemmas
 pub mod PollLemmas
+pub mod PartEncodingLemmas
+pub mod SoundLemmas
 pub mod TakeLemmas
+pub mod ResultLemmas
+pub mod ReceiveLemmas
 pub mod ReadLemmas
 mod Vectors

@@ -44,7 +44,7 @@ piece_open : (core : CoreState) (r : ℕ) → IsSound core → core.current ≡ 
 piece_open core r sound opened = subst (λ (o : Option ℕ). IsPiece (items_of core.layout) o core.piece) opened sound.piece
 
 -- the pieces that fit are left of it
-fits_open : (core : CoreState) (r room count : ℕ) → IsSound core → IsLayout core.layout → core.current ≡ Some r
+pub fits_open : (core : CoreState) (r room count : ℕ) → IsSound core → IsLayout core.layout → core.current ≡ Some r
     → count ≡ fitting_pieces room (bytes_left core r) → core.piece + count ≤ pieces_of (items_of core.layout) r
 fits_open core r room count sound laid opened is =
     let bytes = part_bytes core.layout r core.reports.fixed in

@@ -1,5 +1,5 @@
 -- A transfer of which nothing is lost takes a try for each of its pieces, and then both ends are at its end.
-use Rattle.std.proofs.Common.{◌≡◌, ℕ, zero, suc, ◌+◌, Bool, true, false, not, ◌||◌, ◌&&◌, ◌==◌, List, [], length, Option, Some, None, refl, ap, sym, ◌∙◌, subst, arith}
+use Rattle.std.proofs.Common.{◌≡◌, ℕ, zero, suc, ◌+◌, ◌<◌, ◌≤◌, Bool, true, false, not, ◌||◌, ◌&&◌, ◌==◌, List, [], length, Option, Some, None, refl, ap, sym, ◌∙◌, subst, arith}
 use Rattle.std.specs.Prelude.{if◌then◌else◌, nat_lt, unwrap_or}
 use Rattle.std.proofs.lemmas.Bool.Decides.{nat_tests}
 use Rattle.usb_transact.specs.declared.transaction.Fate.TheVariants.{Clean}
@@ -10,6 +10,7 @@ use Rattle.usb_control.specs.declared.device.LastPacket.{LastPacket}
 use Rattle.usb_control.specs.declared.host.HostStage.TheVariants as stages
 use Rattle.usb_control.specs.SetupBytes.{IsEncoded, reads}
 use Rattle.usb_control.specs.TryFunctions.{AppliesBy, PreparesBy, Table}
+use Rattle.usb_control.specs.Host.{IsRunning}
 use Rattle.usb_control.specs.Interleaving.{BothEnds, EndsAreAt, Tries, decision_now, ends_after_turn, ends_after_turns, ends_tried}
 use Rattle.usb_control.specs.Positions.{TransferIsAt, host_bytes}
 use Rattle.usb_control.specs.Runs.{is_open}
@@ -18,7 +19,7 @@ use Rattle.usb_control.proofs.InterleavingLemmas.{goes_by, is_running_runs, runs
 use Rattle.usb_control.proofs.LawLemmas.{begins}
 use Rattle.hid_gadget.specs.declared.outcomes.Control.{Control}
 use Rattle.hid_gadget.specs.Rooms.{with_front}
-use Rattle.hid_gadget.specs.WholeTransfers.{EndsAfter, HasGot, IsOfTries, CarriesOut, after_transfer, bytes_given, clean_tries, control_result, decision_at_setup, end_with, ends_after_tries, ends_at_start, given_bytes, room_after_transfer, sent_bytes, tries_needed}
+use Rattle.hid_gadget.specs.WholeTransfers.{EndsAfter, HasGot, IsOfTries, CarriesOut, after_transfer, bytes_given, clean_tries, control_result, decision_at_setup, end_with, ends_after_some, ends_after_tries, ends_at_start, given_bytes, room_after_transfer, sent_bytes, tries_needed, tries_of}
 
 -- ---- places
 
@@ -265,6 +266,56 @@ after_setup {R} t setup written prepared true m encoded asked same stands n all 
     by.left ∙ ap (left_by t shape sends) same ∙ left_is t (reads setup) setup.length written prepared in
     subst (λ (k : ℕ). After t setup written prepared true (ends_after_turns t m (clean_tries k))) (sym many) (got, left)
 
+-- ---- before the last try
+
+runs_at : {R : Type 0} (t : Table R) (setup : Request) (sends : List ℕ) (place : Place) (m : BothEnds R)
+    → m.host.setup ≡ setup → IsAtPlace t setup sends place m → is_open place ≡ true → IsRunning m.host.stage
+runs_at t setup sends place m asked stands running =
+    let here : EndsAreAt t sends place m = subst (λ (s : Request). IsAtPlace t s sends place m) (sym asked) stands in
+    is_running_runs m.host.stage (runs_so t sends place m here ∙ running)
+
+open_by : (d : Decision) (k : ℕ) (b : Bool) → is_open (both_at d (if b then Piece k else Status)) ≡ true
+open_by d k true = refl
+open_by d k false = refl
+
+-- while pieces are left the host runs
+runs_pieces : {R : Type 0} (t : Table R) (setup : Request) (sends : List ℕ) (answer : Option (List ℕ)) (left k : ℕ) (m : BothEnds R) → IsEncoded setup
+    → m.host.setup ≡ setup → k + left ≡ data_pieces (transfer_shape setup) (Accepted answer)
+    → IsAtPlace t setup sends (both_at (Accepted answer) (position_of (data_pieces (transfer_shape setup) (Accepted answer)) k)) m
+    → (n : ℕ) → n ≤ left → IsRunning (ends_after_turns t m (clean_tries n)).host.stage
+runs_pieces {R} t setup sends answer left k m encoded asked all stands zero few =
+    let count = data_pieces (transfer_shape setup) (Accepted answer) in
+    runs_at t setup sends (both_at (Accepted answer) (position_of count k)) m asked stands (open_by (Accepted answer) k (nat_lt k count))
+runs_pieces {R} t setup sends answer zero k m encoded asked all stands (suc n) few = absurd (omega (arith, few))
+runs_pieces {R} t setup sends answer (suc left) k m encoded asked all stands (suc n) few =
+    let count = data_pieces (transfer_shape setup) (Accepted answer) in
+    let more : nat_lt k count ≡ true = grind (arith, nat_tests, all) in
+    let here : IsAtPlace t setup sends (both_at (Accepted answer) (Piece k)) m =
+    subst (λ (b : Bool). IsAtPlace t setup sends (both_at (Accepted answer) (if b then Piece k else Status)) m) more stands in
+    let by = turned t setup sends (both_at (Accepted answer) (Piece k)) m encoded asked here refl in
+    let after = ends_after_turn t m (Tries Clean) in
+    let next : IsAtPlace t setup sends (both_at (Accepted answer) (position_of count (suc k))) after =
+    subst (λ (p : Place). IsAtPlace t setup sends p after) (piece_step (transfer_shape setup) answer (decision_now t m) k) by.stands in
+    runs_pieces t setup sends answer left (suc k) after encoded by.asked (omega (arith, all)) next n (omega (arith, few))
+
+-- after SETUP
+runs_after : {R : Type 0} (t : Table R) (setup : Request) (written : List ℕ) (prepared : R) (accepts : Bool) (m : BothEnds R) → IsEncoded setup
+    → m.host.setup ≡ setup
+    → IsAtPlace t setup (sent_bytes setup written)
+    (both_at (decision_of accepts (t.answer_of prepared)) (position_of (data_pieces (transfer_shape setup) (decision_of accepts (t.answer_of prepared))) 0)) m
+    → (n : ℕ) → suc n < tries_needed (transfer_shape setup) (decision_of accepts (t.answer_of prepared))
+    → IsRunning (ends_after_turns t m (clean_tries n)).host.stage
+runs_after {R} t setup written prepared false m encoded asked stands n few =
+    let count = data_pieces (transfer_shape setup) Refused in
+    let none : 0 ≡ n = omega (arith, few) in
+    subst (λ (k : ℕ). IsRunning (ends_after_turns t m (clean_tries k)).host.stage) none
+    (runs_at t setup (sent_bytes setup written) (both_at Refused (position_of count 0)) m asked stands (open_by Refused 0 (nat_lt 0 count)))
+runs_after {R} t setup written prepared true m encoded asked stands n few =
+    let answer = t.answer_of prepared in
+    let count = data_pieces (transfer_shape setup) (Accepted answer) in
+    runs_pieces t setup (sent_bytes setup written) answer count 0 m encoded asked (let e : 0 + count ≡ count = omega arith in e) stands n
+    (omega (arith, few))
+
 -- SETUP is decided on
 prepared_by : {R : Type 0} (t : Table R) (setup : Request) (sends : List ℕ) (d : Decision) (old new : R)
     → Acts (PreparesBy t) (AppliesBy t) t.answer_of setup sends (Decides d) old new → new ≡ t.prepared old setup
@@ -293,8 +344,18 @@ of_tries {R} t old stage last_packet setup written encoded whole =
     record {
       host = subst (λ (x : BothEnds R). HasGot (bytes_given t old setup) x.host) all end.0;
       device = subst (λ (x : BothEnds R). x.control.requests ≡ after_transfer t old setup written) all end.1;
+      runs = before (runs_after t setup written (t.prepared old setup) (t.accepts old setup) n encoded by.asked first);
     }
   where
+    start_ends : BothEnds R
+    start_ends = ends_at_start old stage last_packet setup written
+
+    before : ((n : ℕ) → suc n < tries_of t old setup
+        → IsRunning (ends_after_turns t (ends_after_turn t start_ends (Tries Clean)) (clean_tries n)).host.stage)
+        → (n : ℕ) → n < tries_of t old setup → IsRunning (ends_after_some t old stage last_packet setup written n).host.stage
+    before later zero few = refl
+    before later (suc n) few = later n few
+
     needed : (shape : Shape) (d : Decision) → (k : ℕ) × (k + 1 ≡ tries_needed shape d)
     needed shape Refused = (1, refl)
     needed shape (Accepted answer) = (data_pieces shape (Accepted answer) + 1, (let e : data_pieces shape (Accepted answer) + 1 + 1 ≡ data_pieces shape (Accepted answer) + 2 = omega arith in e))

@@ -1,10 +1,9 @@
 -- Worked values of rooms, transfers and reports: each is worked out by hand, and a wrong one fails the check.
 use Rattle.std.specs.Prelude.{◌≡◌, ℕ, true, false, [], ◌∷◌, replicate, Some, None, refl}
 use Rattle.hid_layout.specs.declared.boot.TheConstants.{MOUSE}
-use Rattle.hid_layout.specs.Controls.{items_from, items_of, spread_usages}
+use Rattle.hid_layout.specs.Controls.{items_from, spread_usages}
 use Rattle.hid_snapshots.specs.declared.change.Change.TheVariants.{Press, Release}
 use Rattle.hid_snapshots.specs.declared.event.Event.TheVariants as event
-use Rattle.hid_snapshots.specs.ControlStates.{blank}
 use Rattle.hid_snapshots.specs.Events.{control_at}
 use Rattle.hid_snapshots.specs.PartBytes.{part_bytes}
 use Rattle.hid_snapshots.specs.Samples.{usage}
@@ -14,11 +13,12 @@ use Rattle.hid_requests.specs.RequestKinds.{request_kind_of}
 use Rattle.hid_device.specs.Core.{CoreState, configured_core}
 use Rattle.hid_device.specs.Creation.{new_core}
 use Rattle.hid_device.specs.RequestTable.{core_table, decide}
+use Rattle.usb_control.specs.declared.setup.Setup.{Setup}
 use Rattle.usb_control.specs.SetupBytes.{setup_of}
 use Rattle.usb_control.specs.Transfer.{Shape, Refused, Accepted}
 use Rattle.hid_gadget.specs.declared.outcomes.Control.TheVariants.{Done, Stalled}
 use Rattle.hid_gadget.specs.Rooms.{with_front}
-use Rattle.hid_gadget.specs.ReadReports.{Asks, Changes, events_read}
+use Rattle.hid_gadget.specs.ReceivedReports.{Asks, Changes, Transfers, events_received, new_receiver}
 use Rattle.hid_gadget.specs.WholeReports.{fitting_pieces}
 use Rattle.hid_gadget.specs.WholeTransfers.{after_transfer, control_result, end_with, given_bytes, tries_needed}
 
@@ -87,11 +87,16 @@ all_of_none = refl
 abbrev new_mouse : CoreState
 new_mouse = new_core (record { vendor = 0xFFFF; product = 1; interval = 10; boot = boot.Mouse }) MOUSE mouse_layout
 
--- button 1 goes down, two reports are asked for, of which the second isn't due, and it goes up
-a_click : events_read (configured_core new_mouse)
-    (Changes (Press (control_at 0 0)) ∷ Asks 3 ∷ Asks 3 ∷ Changes (Release (control_at 0 0)) ∷ Asks 3 ∷ []) (blank (items_of mouse_layout))
+-- GET_CONFIGURATION (USB 2.0, 9.4.2)
+abbrev get_configuration : Setup
+get_configuration = setup_of (0x80 ∷ 0x08 ∷ 0x00 ∷ 0x00 ∷ 0x00 ∷ 0x00 ∷ 0x01 ∷ 0x00 ∷ [])
+
+-- button 1 goes down, four reports are asked for, of which the first has no room and the third and fourth aren't due, with
+-- GET_CONFIGURATION between them, and it goes up
+a_click : events_received (configured_core new_mouse)
+    (Changes (Press (control_at 0 0)) ∷ Asks 2 ∷ Asks 3 ∷ Asks 3 ∷ Transfers get_configuration [] ∷ Asks 2 ∷ Changes (Release (control_at 0 0)) ∷ Asks 64 ∷ []) (new_receiver mouse_layout)
     ≡ event.Down (control_at 0 0) (usage 9 1) ∷ event.Up (control_at 0 0) (usage 9 1) ∷ []
-unfolding part_bytes items_from spread_usages
+unfolding decide request_kind_of part_bytes items_from spread_usages
 a_click = refl
 
 -- 64 bytes are asked for of its device descriptor, which has 18; it has no device qualifier

@@ -2,4 +2,5 @@ pub mod Rooms
 pub mod Gadgets
 pub mod WholeTransfers
 pub mod WholeReports
+pub mod ReceivedReports
 pub mod ReadReports

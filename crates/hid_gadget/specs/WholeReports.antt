@@ -1,9 +1,12 @@
 -- An interrupt transfer from the device of which nothing is lost: the polls of the pieces that fit its room (USB 2.0,
 -- 5.7.3 and 8.5.4).
-use Rattle.std.specs.Prelude.{ℕ, zero, suc, ◌*◌, ◌/◌, ◌==◌, nat_le, if◌then◌else◌, List, [], length, take, drop, unwrap_or, Option, Some, None}
+use Rattle.std.specs.Prelude.{◌≡◌, ℕ, zero, suc, ◌*◌, ◌/◌, ◌<◌, ◌≤◌, ◌==◌, nat_le, if◌then◌else◌, List, [], ◌++◌, length, take, drop, unwrap_or, Option, Some, None}
+use Rattle.hid_layout.specs.Reports.{report_bytes}
 use Rattle.hid_snapshots.specs.Pieces.{pieces_for}
 use Rattle.hid_snapshots.specs.PartBytes.{part_bytes}
-use Rattle.hid_device.specs.Core.{CoreState, armed_bytes, core_after_ack, core_at_poll}
+use Rattle.usb_packet.specs.declared.packet.Packet.{Packet}
+use Rattle.usb_packet.specs.declared.packet.Packet.TheVariants.{Data, Nak, Stall}
+use Rattle.hid_device.specs.Core.{CoreState, armed_bytes, core_after_ack, core_at_poll, poll_response}
 use Rattle.hid_gadget.specs.declared.outcomes.Poll.{Poll}
 use Rattle.hid_gadget.specs.declared.outcomes.Poll.TheVariants.{Done, Nothing, Stalled, TooSmall}
 
@@ -83,3 +86,47 @@ report_result core room =
 abbrev pub core_after_report : CoreState → ℕ → CoreState
 core_after_report core room =
     if core.is_configured then core_after_polls (pieces_taken core room) (core_at_poll core) else core
+
+-- ---- a transfer as its polls
+
+-- the data of an answer; none of NAK and STALL
+abbrev pub answer_data : Packet → List ℕ
+answer_data (Data one payload) = payload.items
+answer_data _ = []
+
+-- the data that this many polls bring, of which nothing is lost
+abbrev pub polled_data : ℕ → CoreState → List ℕ
+polled_data zero core = []
+polled_data (suc n) core = answer_data (poll_response (core_at_poll core)) ++ polled_data n (core_after_poll core)
+
+-- A transfer is its polls. One that is done is as many as pieces are taken: what it gives is the data that they bring, and
+-- the device stands as after them. One that gives nothing is a poll that is answered with NAK, or with STALL. Where no
+-- piece fits it is a poll whose data have no room, and the device stands as where they are lost.
+pub record IsOfPolls (core : CoreState) (room : ℕ) : Type 0 where
+  pub bytes : bytes_taken core room ≡ polled_data (pieces_taken core room) core
+  pub some : (n : ℕ) → report_result core room ≡ Done n → (0 < pieces_taken core room) × (n ≡ length (bytes_taken core room))
+  pub after : 0 < pieces_taken core room → core_after_report core room ≡ core_after_polls (pieces_taken core room) core
+  pub nothing : report_result core room ≡ Nothing
+      → (poll_response (core_at_poll core) ≡ Nak) × (core_after_report core room ≡ core_at_poll core)
+  pub stalled : report_result core room ≡ Stalled
+      → (poll_response (core_at_poll core) ≡ Stall) × (core_after_report core room ≡ core_at_poll core)
+  pub too_small : report_result core room ≡ TooSmall
+      → (room < length (answer_data (poll_response (core_at_poll core)))) × (core_after_report core room ≡ core_at_poll core)
+
+-- ---- whole reports, and pieces that don't fit
+
+-- A report is taken whole: the part that was fixed as its round opened, and the round is closed.
+pub record IsTakenWhole (core : CoreState) (room r : ℕ) : Type 0 where
+  pub result : report_result core room ≡ Done (report_bytes core.layout r)
+  pub bytes : bytes_taken core room ≡ part_bytes core.layout r (core_at_poll core).reports.fixed
+  pub closed : (core_after_report core room).current ≡ None
+
+-- A transfer takes nothing: another one after it, with any room, ends as it would have ended in its place, with the same
+-- bytes, and the device then stands as it would have. One with room for the piece that goes out takes that.
+pub record TakesNothing (core : CoreState) (room later : ℕ) : Type 0 where
+  pub none : bytes_taken core room ≡ []
+  pub result : report_result (core_after_report core room) later ≡ report_result core later
+  pub bytes : bytes_taken (core_after_report core room) later ≡ bytes_taken core later
+  pub after : core_after_report (core_after_report core room) later ≡ core_after_report core later
+  pub fits : length (piece_at_hand (core_at_poll core)) ≤ later
+      → report_result core later ≡ Done (length (bytes_taken core later))

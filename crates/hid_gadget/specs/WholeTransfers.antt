@@ -1,6 +1,6 @@
 -- A control transfer of which nothing is lost: what it makes of what answers requests, and what its host gets (USB 2.0,
 -- 8.5.3).
-use Rattle.std.specs.Prelude.{◌≡◌, ℕ, ◌+◌, Bool, true, false, not, ◌&&◌, if◌then◌else◌, List, [], length, replicate, unwrap_or, Option, Some, None}
+use Rattle.std.specs.Prelude.{◌≡◌, ℕ, ◌+◌, ◌<◌, Bool, true, false, not, ◌&&◌, if◌then◌else◌, List, [], length, replicate, unwrap_or, Option, Some, None}
 use Rattle.usb_transact.specs.declared.transaction.Fate.TheVariants.{Clean}
 use Rattle.usb_control.specs.declared.setup.Setup.{Setup}
 use Rattle.usb_control.specs.declared.fault.ControlFault.TheVariants as faults
@@ -10,7 +10,7 @@ use Rattle.usb_control.specs.declared.host.HostStage.TheVariants.{Done, Failed}
 use Rattle.usb_control.specs.SetupBytes.{reads}
 use Rattle.usb_control.specs.Requests.{ApplyGives}
 use Rattle.usb_control.specs.TryFunctions.{Table}
-use Rattle.usb_control.specs.Host.{HostTransferState, at_start}
+use Rattle.usb_control.specs.Host.{HostTransferState, IsRunning, at_start}
 use Rattle.usb_control.specs.Interleaving.{BothEnds, Turn, Tries, ends_after_turns}
 use Rattle.usb_control.specs.Transfer.{Shape, Decision, Refused, Accepted, answered_bytes, data_pieces, decision_of, transfer_shape}
 use Rattle.hid_gadget.specs.declared.gadget.TheConstants.{ADDRESS}
@@ -92,11 +92,19 @@ ends_at_start requests stage last_packet setup written = record {
   control = record { requests = requests; stage = stage; last_packet = last_packet };
 }
 
+-- both ends after so many tries of a transfer, of which nothing is lost
+abbrev pub ends_after_some : {R : Type 0} → Table R → R → Stage → LastPacket → Setup → List ℕ → ℕ → BothEnds R
+ends_after_some table old stage last_packet setup written n =
+    ends_after_turns table (ends_at_start old stage last_packet setup written) (clean_tries n)
+
+-- how many tries the transfer of a request takes
+abbrev pub tries_of : {R : Type 0} → Table R → R → Setup → ℕ
+tries_of table old setup = tries_needed (transfer_shape setup) (decision_at_setup table old setup)
+
 -- both ends after the tries of a transfer of which nothing is lost
 abbrev pub ends_after_tries : {R : Type 0} → Table R → R → Stage → LastPacket → Setup → List ℕ → BothEnds R
 ends_after_tries table old stage last_packet setup written =
-    ends_after_turns table (ends_at_start old stage last_packet setup written)
-    (clean_tries (tries_needed (transfer_shape setup) (decision_at_setup table old setup)))
+    ends_after_some table old stage last_packet setup written (tries_of table old setup)
 
 -- a host has these bytes of a transfer that is done, or it got STALL
 abbrev pub HasGot : Option (List ℕ) → HostTransferState → Type 0
@@ -104,8 +112,10 @@ HasGot None host = host.stage ≡ Failed faults.Stalled
 HasGot (Some bytes) host = (host.stage ≡ Done) × ((if reads host.setup then host.bytes else []) ≡ bytes)
 
 -- A transfer is its tries: after as many of them as it needs, with nothing lost, its host has what it gives, and what
--- answers requests is this.
+-- answers requests is this. After fewer it still runs.
 pub record IsOfTries {R : Type 0} (table : Table R) (old : R) (stage : Stage) (last_packet : LastPacket)
     (setup : Setup) (written : List ℕ) (new : R) : Type 0 where
   pub host : HasGot (bytes_given table old setup) (ends_after_tries table old stage last_packet setup written).host
   pub device : (ends_after_tries table old stage last_packet setup written).control.requests ≡ new
+  pub runs : (n : ℕ) → n < tries_of table old setup
+      → IsRunning (ends_after_some table old stage last_packet setup written n).host.stage

@@ -1,5 +1,5 @@
 //! A device by whole transfers.
-ghost use Rattle.std.specs.Prelude.{◌≡◌, Bool, ◌≤◌, ◌+◌, ◌/◌, ◌++◌, nat_le, length, take, true, false, Some, IsSome, if◌then◌else◌};
+ghost use Rattle.std.specs.Prelude.{◌≡◌, ℕ, Bool, ◌≤◌, ◌+◌, ◌/◌, ◌++◌, nat_le, length, take, true, false, Some, IsSome, if◌then◌else◌};
 ghost use Rattle.std.specs.Option.{option_copied};
 ghost use Rattle.hid_layout.specs.Controls.{items_of};
 ghost use Rattle.hid_layout.specs.Reports.{IsLayout};
@@ -113,6 +113,7 @@ impl Gadget {
         ensures core { self.new ≡ after_transfer core_table self.old setup.now sends.now }
         ensures result { result ≡ control_result core_table self.old setup.now }
         ensures answer { answer.new ≡ room_after_transfer core_table self.old setup.now answer.old }
+        ensures within { (n : ℕ) → result ≡ Control.Done n → n ≤ setup.now.length }
 
         // It is the transfer's tries by packets, of which nothing is lost, wherever endpoint 0 stood.
         ensures tries { (stage : Stage) (last_packet : LastPacket)
@@ -128,12 +129,14 @@ impl Gadget {
     /// of it is put at the front of `report`: all that is left of it, else as many pieces of 64 bytes as there is room for (USB
     /// 2.0, 5.7.3 and 8.5.4).
     ///
-    /// Where no piece fits, the report is open from then on, as it is now, and nothing of it is taken.
+    /// Where no piece fits, the report is open from then on, as it is now, and nothing of it is taken. `Done` has at most as many
+    /// bytes as `report`.
     pub fn report(&mut self, report: &mut [u8]) -> Poll
         ensures result { result ≡ report_result self.old (length report.old) }
         ensures core { self.new ≡ core_after_report self.old (length report.old) }
         ensures bytes { report.new
             ≡ with_front (bytes_taken self.old (length report.old)) report.old }
+        ensures within { (n : ℕ) → result ≡ Poll.Done n → n ≤ length report.old }
         ensures sound { self.old.is_configured ≡ true → IsSound (core_at_poll self.old) }
     {
         if !self.is_configured() {

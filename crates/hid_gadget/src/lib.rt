@@ -19,8 +19,9 @@
 //! The promise: a control transfer is its list of pieces of which none is lost, from any state of endpoint 0: a read that is
 //! accepted gives its answer, cut to wLength; a write that is accepted takes effect exactly once, and one that is refused never
 //! (`core`, `result`, `answer` and `tries` on [`Gadget::control`]). An interrupt transfer is the polls of its pieces, of which
-//! none is lost (`core`, `result` and `bytes` on [`Gadget::report`]). A reader of the reports, each taken whole, gives the
-//! events of the rounds that crossed, while nothing but changes, frames and these transfers happens
+//! none is lost (`core`, `result` and `bytes` on [`Gadget::report`]; [`laws::reports_are_polls`]). A `Receiver` of the reports
+//! gives the events of the rounds that crossed, whatever room they have, while nothing but changes, frames, these transfers and
+//! control transfers that end no round happens ([`laws::receivers_give_events`]); a `Reader` does where each comes whole
 //! ([`laws::reports_give_events`]). [`Gadget::new`] reserves exactly what a gadget holds.
 //! ```text
 //!   let mut mouse = Gadget::new(alloc, &config, &MOUSE)?;            // or Err, printed as `V10 at 12`

@@ -1,14 +1,14 @@
-use Rattle.hid_gadget.proofs.ReadLemmas.{gives_events, gives_schedule, is_fresh, taken_is}
+use Rattle.hid_gadget.proofs.ReadLemmas.{holds_each, reads_alike, reads_rounds, taken_is}
 use Rattle.hid_gadget.proofs.laws.reports_give_events.Goals as goal
 
 pub returns-clause-given : goal.returns-clause-given
-returns-clause-given c = gives_events
+returns-clause-given c = reads_alike
 
 pub returns-clause-headline : goal.returns-clause-headline
-returns-clause-headline c = gives_schedule
+returns-clause-headline c = reads_rounds
 
-pub returns-clause-fresh : goal.returns-clause-fresh
-returns-clause-fresh c = is_fresh
+pub returns-clause-enough : goal.returns-clause-enough
+returns-clause-enough c = holds_each
 
 pub returns-clause-taken : goal.returns-clause-taken
 returns-clause-taken c = taken_is
