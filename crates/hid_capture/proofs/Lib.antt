@@ -1,0 +1,2 @@
+pub mod ConfigurationLemmas
+mod Vectors

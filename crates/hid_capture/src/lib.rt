@@ -1,0 +1,28 @@
+//! The HID devices of a capture: which URB has a report descriptor, and which a report.
+//! ```text
+//!   capture --usb_capture--> Urb --Tracker::take--> Content
+//!
+//!   80 06 00 02 ..  and its answer    a configuration: which endpoints of which HID interfaces send reports
+//!   00 09 01 00 ..  and its answer    the configuration that is set
+//!   81 06 00 22 ..  and its answer    Content::Descriptor, of an interface, which has a number from then on
+//!   21 0B 00 00 ..  and its answer    the interface is in the boot protocol: its reports are left alone
+//!   an interrupt IN transfer          Content::Report, where its endpoint and the interface's descriptor are known
+//! ```
+//! A request and its answer come in two URBs, which are joined by bus, device and the URB's id. QEMU has one id for all
+//! control transfers, which are one after another there. A device is known by bus and address. Everything is forgotten of it
+//! where another device gets its address (SET_ADDRESS), and its descriptors where it changes its configuration; that of an
+//! interface where its endpoint is gone. Firmware speaks to a device first, and mostly reads no report descriptor: its
+//! reports are left alone.
+//!
+//! The rule to know: what wasn't completed without an error says nothing, whatever bytes it has.
+//!
+//! The promise: a URB says exactly what the definition says, by `content` on [`Tracker::take`].
+#![tactic(auto)]
+
+mod configuration;
+mod request;
+mod tables;
+mod tracker;
+
+pub use tables::{MAX_DEVICES, Member};
+pub use tracker::{Content, Tracker};
