@@ -12,6 +12,9 @@
 //!   reset                    its events
 //! ```
 
+ghost use Rattle.std.specs.Prelude.{◌≡◌, ◌≤◌, IfOk, vec_len, vec_capacity};
+ghost use Rattle.hid_driver.specs.Interfaces.{total_room};
+
 use crate::printed::{
     print_events, print_interface, print_moved, print_refusal, print_state, print_todo,
 };
@@ -66,7 +69,10 @@ fn print_done(
 }
 
 /// Room for the events of a call.
-fn room(table: &Table<'_>, driver: &Driver) -> Result<Vec<DriverEvent>, RowFault> {
+fn room(table: &Table<'_>, driver: &Driver) -> Result<Vec<DriverEvent>, RowFault>
+    ensures { IfOk result (λ events. (vec_len events ≡ 0)
+        × (total_room driver.now.interfaces ≤ vec_capacity events)) }
+{
     Ok(Vec::with_capacity(table.alloc, driver.max_events())?)
 }
 
