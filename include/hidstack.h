@@ -22,9 +22,9 @@
  * of an array the place of its key in the item's usage list. Bytes and numbers are those of the machine, which has 64
  * bits. Each struct but `struct hidstack` has only fields of fixed width, each at a multiple of its own width.
  *
- * Memory: hidstack_open takes some, until hidstack_close. Calls that read a handle take none, and neither do
- * hidstack_feed, hidstack_release, hidstack_number, hidstack_put, hidstack_boot_descriptor and hidstack_cause_words. The others give back what they took. A call takes 10 kB of stack,
- * and hidstack_run 37 kB, with what a thread takes itself (measured: docs/C.md).
+ * Memory: hidstack_open takes some, until hidstack_close. Calls that read a handle take none, and neither do hidstack_feed,
+ * hidstack_release, hidstack_number, hidstack_put, hidstack_boot_descriptor and hidstack_cause_words. The others give back
+ * what they took. A call takes 10 kB of stack, and hidstack_run 37 kB, with what a thread takes itself (measured: docs/C.md).
  *
  * It compiles as C99 and as C++17. Link with -lhidstack. docs/C.md and docs/SCRIPT.md are installed below PREFIX as
  * share/doc/rulohevian, with the Debian package as /usr/share/doc/rulohevian. */
@@ -55,7 +55,7 @@ enum hidstack_status {
     HIDSTACK_BUSY = 2,    /* the handle is open already */
     HIDSTACK_CLOSED = 3,  /* the handle is closed */
     HIDSTACK_NO_ROOM = 4, /* the table or text is too small: the room that it needs is returned */
-    HIDSTACK_SHORT = 5,   /* the report has fewer bytes than it should */
+    HIDSTACK_SHORT = 5,   /* the report has fewer bytes than it should, or no such bits */
     HIDSTACK_UNKNOWN = 6, /* no Input report of the device, or another report than the element's */
     HIDSTACK_NONE = 7,    /* nothing stands at that place, or it has no value */
     HIDSTACK_MEMORY = 8,  /* out of memory */
@@ -90,6 +90,12 @@ enum hidstack_flag {
     HIDSTACK_NULL_STATE = 0x040,
     HIDSTACK_VOLATILE = 0x080,
     HIDSTACK_BUFFERED_BYTES = 0x100
+};
+
+/* What hidstack_boot_descriptor describes: a bInterfaceProtocol (HID 1.11, 4.3). */
+enum hidstack_boot {
+    HIDSTACK_BOOT_KEYBOARD = 1,
+    HIDSTACK_BOOT_MOUSE = 2
 };
 
 /* Options of hidstack_run, to be joined by |. */
@@ -204,7 +210,8 @@ uint32_t hidstack_feed(struct hidstack *handle, const uint8_t *report, size_t le
 
 /* Lets go of all that is held, as of a device that was unplugged or reset: writes the events that lead back to what
  * hidstack_open left into the first entries of `events`, which has `room` places: keys and switches go up, and values become
- * the first ones. It takes no memory.
+ * the first ones. It takes no memory. Who passes events on to another machine passes on those that go up: a VALUE of a tablet's X
+ * would move its pointer to the first place.
  *   OK       `count` is how many events there are; the places after them are unchanged. They come by rising item, and in an
  *            item by rising index. Nothing is held, and the handle reads on
  *   NO_ROOM  `room` is less than the `room` of hidstack_open, which `count` has
@@ -215,7 +222,7 @@ uint32_t hidstack_release(struct hidstack *handle, struct hidstack_event *events
 /* Closes a handle, and gives back its memory. A closed one stays as it is. */
 void hidstack_close(struct hidstack *handle);
 
-/* ---- Reading an open handle. With NONE and CLOSED nothing is written; no call here changes the handle. ---- */
+/* ---- Reading an open handle. With NONE and CLOSED nothing is written, but for a `length`; no call here changes the handle. ---- */
 
 /* The report at a place, from 0, Input before Output before Feature and then by ID; NONE past the last. */
 uint32_t hidstack_report(struct hidstack *handle, uint64_t place, struct hidstack_report_info *report);
@@ -237,11 +244,12 @@ uint32_t hidstack_held(struct hidstack *handle, uint64_t item, uint64_t index, u
 uint32_t hidstack_value(struct hidstack *handle, uint64_t item, uint64_t index, int64_t *value);
 
 /* A report of zeros of this kind (enum hidstack_report_kind) and Report ID, 0 where reports have none, over the first bytes of
- * `out`, which has `room`: its ID first where reports have IDs. hidstack_put makes it one with other numbers.
+ * `out`, which has `room`: its ID first where reports have IDs. hidstack_put makes it one with other numbers. Zeros aren't
+ * always at rest: 0 of a hat of 0 to 7 is north, and 0 of an array from 0 is its first usage.
  *   OK       `length` is how many bytes it has; those after it are unchanged
  *   NO_ROOM  `length` is the room that it needs
  *   NONE     there is no such report; `length` is 0, as with CLOSED
- * But for OK nothing is written. */
+ * But for OK `out` stays as it was. */
 uint32_t hidstack_blank(struct hidstack *handle, uint32_t kind, uint8_t id, uint8_t *out, size_t room, uint64_t *length);
 
 /* ---- Without a handle ---- */
@@ -259,17 +267,20 @@ uint32_t hidstack_table(const uint8_t *descriptor, size_t length, struct hidstac
  * Both leave `value` as it was. */
 uint32_t hidstack_number(const struct hidstack_element_info *element, const uint8_t *report, size_t length, int64_t *value);
 
-/* Makes `value` the number of an element in the bytes of a report: hidstack_number gives it again, and all other bits stay.
- * `element` may have any contents. A number out of the logical range is written too, as a null is; it need only have a pattern
- * in the element's bits.
+/* Writes `value` into an element of a report: hidstack_number gives it again, and all other bits stay. `element` may have any
+ * contents. A number out of the logical range is written too, as a null is; it need only have a pattern in the element's bits.
+ * The number of an array's element is that of a key: `min` of the element and the key's place in the usage list together.
  *   SHORT    its bits don't lie in the bytes after the Report ID, or its width is 0 or over 32
  *   UNKNOWN  it has a Report ID, and the bytes don't begin with it
  *   RANGE    its bits don't hold the number: 8 of them hold -128 to 127 in two's complement, else 0 to 255
  * With all three the bytes stay. */
 uint32_t hidstack_put(const struct hidstack_element_info *element, uint8_t *report, size_t length, int64_t value);
 
-/* The report descriptor of a boot keyboard, protocol 1, or a boot mouse, 2 (bInterfaceProtocol: HID 1.11, 4.3; the bytes: E.6
- * and E.10), over the first bytes of `out`, which has `room`. NONE of another protocol; else as hidstack_cause_words. */
+/* The report descriptor of a boot keyboard or mouse (enum hidstack_boot; HID 1.11, E.6 and E.10), over the first bytes of
+ * `out`, which has `room`.
+ *   OK       `length` is how many bytes it has
+ *   NO_ROOM  `length` is the room that it needs
+ *   NONE     another number than those two; `length` is 0 */
 uint32_t hidstack_boot_descriptor(uint32_t protocol, uint8_t *out, size_t room, uint64_t *length);
 
 /* ---- Scripts and texts. None is ended by a zero byte. ---- */

@@ -1,5 +1,5 @@
-/* Reports written, what is held let go, and the boot descriptors: right calls and wrong ones. Buffers have their exact size, so
- * an access past one of their ends is seen under valgrind and the address sanitizer. */
+/* Reports written, what is held let go, and the boot descriptors: right calls and wrong ones. The buffers of bytes_of are blocks
+ * of their exact size, so an access past one of their ends is seen under valgrind. */
 #include "hidstack.h"
 #include <stdio.h>
 #include <stdlib.h>
@@ -43,7 +43,7 @@ static void keyboard(void)
     struct hidstack_event *events;
     uint64_t length, count;
     uint32_t held;
-    want("a boot keyboard", hidstack_boot_descriptor(1, descriptor, sizeof descriptor, &length), HIDSTACK_OK);
+    want("a boot keyboard", hidstack_boot_descriptor(HIDSTACK_BOOT_KEYBOARD, descriptor, sizeof descriptor, &length), HIDSTACK_OK);
     want("has 63 bytes", length, 63);
     want("open", hidstack_open(descriptor, length, &device, &opened), HIDSTACK_OK);
     events = calloc(opened.room, sizeof *events);
@@ -84,7 +84,7 @@ static void a_still_report(void)
     struct hidstack_opened opened;
     struct hidstack_event events[5];
     uint64_t length, count;
-    want("a boot mouse", hidstack_boot_descriptor(2, descriptor, sizeof descriptor, &length), HIDSTACK_OK);
+    want("a boot mouse", hidstack_boot_descriptor(HIDSTACK_BOOT_MOUSE, descriptor, sizeof descriptor, &length), HIDSTACK_OK);
     want("open", hidstack_open(descriptor, length, &device, &opened), HIDSTACK_OK);
     want("a button", hidstack_feed(&device, report, 3, events, 5, &count) == HIDSTACK_OK && count == 1, 1);
     want("held", hidstack_feed(&device, report, 3, events, 5, &count) == HIDSTACK_OK && count == 0, 1);
@@ -168,43 +168,67 @@ static int bit_of(const uint8_t *bytes, uint64_t n)
     return bytes[n / 8] >> n % 8 & 1;
 }
 
-/* Elements of random contents and random numbers: what is put is read again, and no other bit changes. */
+/* What hidstack_put should return: the header's rules, computed anew. */
+static uint32_t put_status(const struct hidstack_element_info *element, const uint8_t *bytes, size_t length, int64_t value)
+{
+    uint64_t end = (uint64_t)element->bit + element->width;
+    int64_t half;
+    if (element->width < 1 || element->width > 32 || end > 8 * length || (element->report && element->bit < 8))
+        return HIDSTACK_SHORT;
+    if (element->report && bytes[0] != element->report)
+        return HIDSTACK_UNKNOWN;
+    half = (int64_t)1 << (element->width - 1);
+    if (element->is_signed ? value < -half || value >= half : value < 0 || value >= 2 * half)
+        return HIDSTACK_RANGE;
+    return HIDSTACK_OK;
+}
+
+/* Puts a number into an element; returns whether it was written. */
+static int put_one(const struct hidstack_element_info *element, size_t length, int64_t value)
+{
+    uint8_t *before = bytes_of(length, 0xA5), *after = bytes_of(length, 0xA5);
+    uint32_t status = hidstack_put(element, after, length, value);
+    int64_t read = 0;
+    size_t at;
+    want("the status", status, put_status(element, before, length, value));
+    if (status == HIDSTACK_OK) {
+        want("read again", hidstack_number(element, after, length, &read) == HIDSTACK_OK && read == value, 1);
+        for (at = 0; at < 8 * length; at++)
+            if (at < element->bit || at >= (uint64_t)element->bit + element->width)
+                want("no other bit", (uint64_t)bit_of(after, at), (uint64_t)bit_of(before, at));
+    } else {
+        want("nothing changes", length == 0 || memcmp(before, after, length) == 0, 1);
+    }
+    free(before);
+    free(after);
+    return status == HIDSTACK_OK;
+}
+
+/* Elements of random contents, and random numbers. */
 static void wild_elements(void)
 {
     uint32_t seed = 5;
-    int i;
+    int i, written = 0;
     for (i = 0; i < 100000; i++) {
         struct hidstack_element_info element;
-        uint8_t *byte = (uint8_t *)&element, *before, *after;
-        uint32_t status;
-        size_t at, length;
-        int64_t value = 0, read = 0;
+        uint8_t *byte = (uint8_t *)&element;
+        uint64_t number = 0;
+        size_t at;
         for (at = 0; at < sizeof element; at++)
             byte[at] = (uint8_t)((seed = seed * 1664525u + 1013904223u) >> 24);
         for (at = 0; at < 8; at++)
-            value = (int64_t)((uint64_t)value << 8 | (seed = seed * 1664525u + 1013904223u) >> 24);
+            number = number << 8 | (seed = seed * 1664525u + 1013904223u) >> 24;
         if (i % 4) {
             element.bit %= 520;
             element.width %= 34;
-            element.report = i % 8 == 1 ? 0xA5 : 0;
+            element.report = i % 8 == 1 ? 0xA5 : i % 8 == 2 ? 0xA4 : 0;
             element.is_signed %= 2;
-            value >>= 64 - (element.width % 33 + 1 > 63 ? 63 : element.width + 1);
         }
-        length = seed % 65;
-        before = bytes_of(length, 0xA5);
-        after = bytes_of(length, 0xA5);
-        status = hidstack_put(&element, after, length, value);
-        if (status == HIDSTACK_OK) {
-            want("read again", hidstack_number(&element, after, length, &read) == HIDSTACK_OK && read == value, 1);
-            for (at = 0; at < 8 * length; at++)
-                if (at < element.bit || at >= (uint64_t)element.bit + element.width)
-                    want("no other bit", (uint64_t)bit_of(after, at), (uint64_t)bit_of(before, at));
-        } else {
-            want("nothing changes", length == 0 || memcmp(before, after, length) == 0, 1);
-        }
-        free(before);
-        free(after);
+        if (i % 4 == 3 && element.width >= 1 && element.width <= 32)
+            number &= ((uint64_t)1 << element.width) - 1;
+        written += put_one(&element, (seed >> 8) % 65, (int64_t)number);
     }
+    want("many are written", written > 5000, 1);
 }
 
 int main(void)

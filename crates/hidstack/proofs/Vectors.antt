@@ -1,6 +1,7 @@
 -- The numbers of include/hidstack.h, written out: a constant of another value fails the check.
 use Rattle.std.specs.Prelude.{◌≡◌, true, false, refl}
 use Rattle.hidstack.specs.declared.status.TheConstants.{OK, REFUSED, BUSY, CLOSED, NO_ROOM, SHORT, UNKNOWN, NONE, MEMORY, RANGE}
+use Rattle.hidstack.specs.declared.writing.TheConstants.{BOOT_KEYBOARD, BOOT_MOUSE}
 use Rattle.hidstack.specs.Running.{options_of}
 
 -- option 1 tells layouts
@@ -40,3 +41,9 @@ memory = refl
 
 range : RANGE ≡ 9
 range = refl
+
+boot_keyboard : BOOT_KEYBOARD ≡ 1
+boot_keyboard = refl
+
+boot_mouse : BOOT_MOUSE ≡ 2
+boot_mouse = refl

@@ -13,6 +13,7 @@ use Rattle.hidstack_session.specs.Sessions.{Releases, room_of}
 use Rattle.hidstack_session.specs.States.{SessionState}
 use Rattle.hidstack_session.specs.Writing.{PutsNumber, is_report_named}
 use Rattle.hidstack.specs.declared.status.TheConstants.{OK, CLOSED, NO_ROOM, SHORT, UNKNOWN, NONE, RANGE}
+use Rattle.hidstack.specs.declared.writing.TheConstants.{BOOT_KEYBOARD, BOOT_MOUSE}
 use Rattle.hidstack.specs.Texts.{Leaves, TextIsReturned}
 
 -- the status of a number that is written, or isn't
@@ -58,11 +59,11 @@ ReleasesHandle (Some s) out status after out' count =
     (answer : Option ℕ) × (s' : SessionState) × Releases s out answer s' out' × (after ≡ Some s')
     × (status ≡ release_status answer) × (count ≡ release_count s answer)
 
--- the boot descriptor of this bInterfaceProtocol, where it has one: 1 is a keyboard, 2 a mouse (HID 1.11, 4.3, E.6 and E.10)
+-- the boot descriptor of this bInterfaceProtocol, where it has one (HID 1.11, 4.3, E.6 and E.10)
 abbrev pub boot_descriptor : ℕ → Option (List ℕ)
 boot_descriptor protocol =
-    if protocol == 1 then Some KEYBOARD
-    else if protocol == 2 then Some MOUSE
+    if protocol == BOOT_KEYBOARD then Some KEYBOARD
+    else if protocol == BOOT_MOUSE then Some MOUSE
     else None
 
 -- a text that may be there is written, or too long and nothing is; or there is none

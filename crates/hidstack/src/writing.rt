@@ -12,11 +12,11 @@ use hidstack_session::{
 };
 use std::alloc::Global;
 
-/// bInterfaceProtocol of a boot keyboard (HID 1.11, 4.3).
-const KEYBOARD_PROTOCOL: u32 = 1;
+/// A boot keyboard: its bInterfaceProtocol (HID 1.11, 4.3).
+pub const BOOT_KEYBOARD: u32 = 1;
 
-/// bInterfaceProtocol of a boot mouse.
-const MOUSE_PROTOCOL: u32 = 2;
+/// A boot mouse: its bInterfaceProtocol.
+pub const BOOT_MOUSE: u32 = 2;
 
 /// Makes this the number of an element in the bytes of a report.
 #[unsafe(no_mangle)]
@@ -78,8 +78,8 @@ pub extern "C" fn hidstack_boot_descriptor(protocol: u32, out: &mut [u8], length
 {
     *length = 0;
     match protocol {
-        KEYBOARD_PROTOCOL => write_text(&KEYBOARD, out, length),
-        MOUSE_PROTOCOL => write_text(&MOUSE, out, length),
+        BOOT_KEYBOARD => write_text(&KEYBOARD, out, length),
+        BOOT_MOUSE => write_text(&MOUSE, out, length),
         _ => NONE,
     }
 }

@@ -26,7 +26,8 @@ HasPattern element value = FitsField value element.width (is_signed element)
 -- and the bytes stay. Example: -127 at bit 16 of 05 7F 00 makes it 05 7F 81
 abbrev pub PutsNumber : HidElement → ℤ → List ℕ → Result (Unit {0}) PutFault → List ℕ → Type 0
 PutsNumber element value bytes (Ok put) bytes' =
-    HoldsNumber element bytes' (Ok value) × (length bytes' ≡ length bytes)
+    LiesInData element bytes × IsNamed element bytes
+    × HoldsNumber element bytes' (Ok value) × (length bytes' ≡ length bytes)
     × ((n : ℕ) → IsOutside element.bit element.width n → bit_of bytes' n ≡ bit_of bytes n)
 PutsNumber element value bytes (Err (Refused Short)) bytes' = (LiesInData element bytes → ⊥) × (bytes' ≡ bytes)
 PutsNumber element value bytes (Err (Refused UnknownReport)) bytes' =

@@ -1,4 +1,4 @@
-//! The captures of files, a line for each frame, in the columns of `tools/tshark-lines`.
+//! The captures of files, a line for each frame, in the columns of `tools/compare/tshark-lines`.
 
 use std::alloc::Global;
 use std::io::{Read, Write};

@@ -1,5 +1,5 @@
 //! Plays the tables of standard input (`stdin`), which are worked out by hand, and prints the frames and URBs of the captures
-//! that its arguments name (`data`), as tshark has them (`stdout`): the tests of `usb_capture` and `hid_capture`.
+//! that its arguments name (`data`), as tshark printed them (`stdout`): the tests of `usb_capture` and `hid_capture`.
 //! ```text
 //!   stdin --> test_rows::run --> each row that is wrong, and how many tables and rows there were
 //!                     |

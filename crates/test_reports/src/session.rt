@@ -1,13 +1,18 @@
 //! A session of `hidstack_session`, as steps with `;` between them: `feed N HEX` gives a report and a table of N places, and
-//! prints the events or the fault; `room` prints how many events come at most, and `held C` whether a switch is held.
+//! prints the events or the fault, and `release N` lets go of all that is held; `room` prints how many events come at most, and
+//! `held C` whether a switch is held. `blank K ID` prints a report of zeros and the byte after it, and `put C V HEX` a report
+//! with the number V of an element.
 
 use crate::words::control_of;
 use hid_usages::ReportFault;
-use hidstack_session::{FeedFault, HidElement, HidEvent, Session, list_elements, number_in};
+use hidstack_session::{
+    FeedFault, HidElement, HidEvent, PutFault, Session, element_at, list_elements, number_in,
+    put_blank_report, put_number, report_with,
+};
 use std::alloc::Global;
 use test_rows::{
-    RowFault, Table, bytes_of, number_of, print, print_debug, print_number, print_numbers,
-    print_shown, print_whether, split,
+    RowFault, Table, bytes_of, number_of, print, print_bytes, print_debug, print_number,
+    print_numbers, print_shown, print_whether, signed_of, split,
 };
 
 /// The most places of a table.
@@ -75,6 +80,65 @@ fn feed_words(
     feed(printed, session, places, &report)
 }
 
+/// Lets go of all that is held, with a table of n places.
+fn release(printed: &mut String, session: &mut Session, places: usize) -> Result<(), RowFault> {
+    let mut events = [NO_EVENT; PLACES];
+    let Some(out) = events.get_mut(..places) else {
+        return Err(RowFault::Unread);
+    };
+    match session.release(out) {
+        Some(count) => print_first(printed, out, count),
+        None => print(printed, "no room"),
+    }
+}
+
+/// The report of zeros at a place, and the byte after it.
+fn print_zeros(printed: &mut String, session: &Session, report: usize) -> Result<(), RowFault> {
+    let layout = session.layout();
+    let mut bytes = [0xEE; PLACES];
+    if report >= layout.reports().len() || layout.report_bytes(report) >= bytes.len() {
+        return Err(RowFault::Unread);
+    }
+    put_blank_report(layout, report, &mut bytes);
+    match bytes.get(..=layout.report_bytes(report)) {
+        Some(shown) => print_bytes(printed, shown),
+        None => Err(RowFault::Unread),
+    }
+}
+
+fn print_blank(printed: &mut String, session: &Session, words: &str) -> Result<(), RowFault> {
+    let (kind, id) = split(words, ' ');
+    let (kind, id) = (number_of(kind)?, number_of(id)?);
+    match report_with(session.layout(), kind as u32, id as u8) {
+        Some(report) => print_zeros(printed, session, report),
+        None => print(printed, "none"),
+    }
+}
+
+fn put(element: &HidElement, bytes: &mut [u8], value: i64) -> Result<(), PutFault> {
+    put_number(element, bytes, value)
+}
+
+fn print_put(
+    printed: &mut String,
+    table: &Table<'_>,
+    session: &Session,
+    words: &str,
+) -> Result<(), RowFault> {
+    let (control, words) = split(words, ' ');
+    let (value, report) = split(words, ' ');
+    let place = control_of(control)?;
+    let Some(element) = element_at(session.layout(), place.item, place.index) else {
+        return print(printed, "none");
+    };
+    let mut bytes = bytes_of(table, report)?;
+    match put(&element, bytes.as_mut_slice(), signed_of(value)?) {
+        Ok(()) => print_bytes(printed, &bytes),
+        Err(PutFault::Refused(fault)) => print_shown(printed, &fault),
+        Err(PutFault::OutOfRange) => print(printed, "out of range"),
+    }
+}
+
 fn play_step(
     printed: &mut String,
     table: &Table<'_>,
@@ -84,6 +148,9 @@ fn play_step(
     let (verb, words) = split(step, ' ');
     match verb {
         "feed" => feed_words(printed, table, session, words),
+        "release" => release(printed, session, number_of(words)?),
+        "blank" => print_blank(printed, session, words),
+        "put" => print_put(printed, table, session, words),
         "room" => print_shown(printed, &session.room()),
         "held" => print_whether(
             printed,

@@ -28,4 +28,4 @@ returns c =
     ∙ c.to_pattern-pattern.ensures.value (is_signed element) c.if-not-fits_field.ensures.fits ∙ whole in
     let lies : element.bit + element.width ≤ 8 * length c.put.new.bytes = omega (arith, found.0.2, c.put.auto.bytes) in
     let named = named_still element c.args.bytes.now c.put.new.bytes small small' after c.put.ensures.others found.1 in
-    (((found.0.0, found.0.1, lies), named, sym read), c.put.auto.bytes, c.put.ensures.others)
+    ((found.0, after), found.1, ((found.0.0, found.0.1, lies), named, sym read), c.put.auto.bytes, c.put.ensures.others)
