@@ -1,0 +1,10 @@
+use Rattle.std.proofs.Common.{◌≡◌, List, ℕ, rules, arith, subst, sym}
+use Rattle.usbip.specs.Messages.{header_bytes, no_setup, submit_reply_words, IsSubmitReply}
+use Rattle.usbip.proofs.MessageLemmas.{submit_reply_is_read}
+use Rattle.usbip.proofs.encoding.encode_submit_reply.Goals as goal
+
+pub returns-clause-read : goal.returns-clause-read
+returns-clause-read c = λ named.
+    let encoded : c.header.result.items ≡ header_bytes (submit_reply_words c.args.reply.now) no_setup = search rules in
+    let read = λ (bytes : List ℕ). IsSubmitReply bytes c.args.reply.now in
+    subst read (sym encoded) (submit_reply_is_read c.args.reply.now (c.header.ensures.fit 1) (omega (arith, c.header.ensures.fit 5)) (c.header.ensures.fit 6) named)

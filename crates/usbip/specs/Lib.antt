@@ -1,0 +1,4 @@
+pub mod Messages
+pub mod Operations
+pub mod Faults
+pub mod Pending
