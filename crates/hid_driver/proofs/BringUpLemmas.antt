@@ -1,5 +1,5 @@
 -- A device comes up by so many transfers.
-use Rattle.std.proofs.Common.{◌≡◌, ℕ, zero, suc, ◌+◌, ◌*◌, ◌<◌, ◌≤◌, refl, sym, ◌∙◌, ap, subst, inl, inr, Bool, true, false, cond, List, [], ◌∷◌, ◌++◌, length, get_or, Option, Some, None, Result, Ok, Err, arith}
+use Rattle.std.proofs.Common.{◌≡◌, ℕ, zero, suc, ◌+◌, ◌*◌, ◌<◌, ◌≤◌, refl, sym, ◌∙◌, ap, subst, inl, inr, Bool, true, false, cond, List, [], ◌∷◌, length, get_or, Option, Some, None, Result, Ok, Err, arith}
 use Rattle.std.specs.Prelude.{not, position, slice_get, slice_set}
 use Rattle.std.specs.List.{position_or_len}
 use Rattle.std.proofs.lemmas.Bool.{cases_lt, le-ltb, lt-ltb}
@@ -7,7 +7,7 @@ use Rattle.std.proofs.lemmas.List.Quantifiers.{position-Some}
 use Rattle.std.proofs.lemmas.Option.{slice_get-get_or}
 use Rattle.hid_interfaces.specs.declared.fault.InterfaceFault.{InterfaceFault}
 use Rattle.hid_interfaces.specs.declared.interface.InterfaceInfo.{InterfaceInfo}
-use Rattle.hid_interfaces.specs.Readable.{interface_fault}
+use Rattle.hid_interfaces.specs.Readable.{interface_fault, readable_with}
 use Rattle.usb_control.specs.declared.descriptors.DeviceInfo.{DeviceInfo}
 use Rattle.hid_driver.specs.declared.answers.NoPipe.{NoPipe}
 use Rattle.hid_driver.specs.declared.answers.NoPipe.TheVariants as pipes
@@ -230,7 +230,7 @@ by_fault_quiet (Some fault) = refl
 
 listed_quiet : (earlier infos : List InterfaceInfo) → AreQuiet (interfaces_after earlier infos)
 listed_quiet earlier [] = tt
-listed_quiet earlier (info ∷ infos) = (by_fault_quiet (interface_fault earlier info), listed_quiet (earlier ++ info ∷ []) infos)
+listed_quiet earlier (info ∷ infos) = (by_fault_quiet (interface_fault earlier info), listed_quiet (readable_with earlier info) infos)
 
 -- a driver that knows its configuration
 record IsConfigured (driver : DriverValue) : Type 0 where

@@ -1,20 +1,17 @@
 -- A report that is cut in packets ends at its receiver with the last of them.
-use Rattle.std.proofs.Common.{◌≡◌, ◌≢◌, ℕ, zero, suc, ◌+◌, ◌*◌, ◌%◌, ◌<◌, ◌≤◌, refl, sym, ◌∙◌, ap, subst, Bool, true, false, cond, List, [], ◌∷◌, ◌++◌, length, length-append, length-drop, take, drop, append_assoc, Option, Some, None, Result, Ok, Err, arith}
-use Rattle.std.specs.Prelude.{nat_le, nat_lt, not, ◌==◌, ◌&&◌, ◌||◌, position}
+use Rattle.std.proofs.Common.{◌≡◌, ℕ, zero, suc, ◌+◌, ◌*◌, ◌%◌, ◌<◌, ◌≤◌, refl, sym, ◌∙◌, ap, Bool, true, false, cond, List, [], ◌∷◌, ◌++◌, length, length-append, length-drop, take, drop, append_assoc, Option, Some, None, Result, Ok, Err, arith}
+use Rattle.std.specs.Prelude.{max, nat_le, nat_lt, not, ◌==◌, ◌&&◌, ◌||◌, option_map, position}
 use Rattle.std.specs.Option.{option_and_then}
 use Rattle.std.proofs.Math.Nat.{mod_self}
-use Rattle.std.proofs.lemmas.Bool.{eq-eqb, le-leb, le-ltb, lt-leb, ne_eqb}
+use Rattle.std.proofs.lemmas.Bool.{eq-eqb, le-leb, lt-leb, ne_eqb}
 use Rattle.std.proofs.lemmas.List.{length-take-le, take-append-drop}
-use Rattle.hid_report_descriptor.specs.declared.limits.TheConstants.{MAX_REPORT_BYTES}
 use Rattle.hid_layout.specs.Layout.{Contents}
 use Rattle.hid_layout.specs.Reports.{report_bytes}
 use Rattle.hid_snapshots.specs.declared.fault.ReportFault.{ReportFault}
 use Rattle.hid_snapshots.specs.declared.fault.ReportFault.TheVariants.{Short, UnknownReport}
-use Rattle.hid_usages.specs.Reading.{bytes_awaited, first_byte, is_input_with, report_begun, report_named, whole_report}
-use Rattle.hid_usages.specs.Receiving.{is_whole}
-use Rattle.hid_driver.specs.Pipe.{full_size, is_full, longest_report, transfer_room}
-use Rattle.hid_driver.specs.Transfers.{IsReport, Last, More, ReportEnds, cut_in_packets, sent_bytes}
-use Rattle.hid_driver.proofs.RoomLemmas.{begun_by, each_longest}
+use Rattle.hid_usages.specs.Reading.{first_byte, is_input_with, report_begun, report_named, whole_report}
+use Rattle.hid_driver.specs.Pipe.{has_packet_past, is_full, length_begun, transfer_ends}
+use Rattle.hid_driver.specs.Transfers.{HasNonePast, IsReport, Last, ReportEnds, cut_in_packets, ends_after, sent_bytes}
 
 -- the report that bytes are is the one that they begin
 whole_by : (short : Bool) (k r : ℕ) → ◌≡◌ {A = Result ℕ ReportFault} (cond short (Err Short) (Ok k)) (Ok r) → ◌≡◌ {A = Option ℕ} (Some k) (Some r)
@@ -44,11 +41,10 @@ same_first layout front bytes r same begun =
     ap (λ (first : Option ℕ). cond layout.numbered (option_and_then (λ id. position (is_input_with id) layout.reports) first)
     (position (is_input_with 0) layout.reports)) same ∙ begun
 
-awaited_is : (layout : Contents) (front bytes : List ℕ) (r : ℕ) → first_byte front ≡ first_byte bytes → report_named layout bytes ≡ Ok r
-    → bytes_awaited layout front ≡ report_bytes layout r
-awaited_is layout front bytes r same named =
-    ap (λ (o : Option ℕ). elim o as (λ _. ℕ) [ None ↦ MAX_REPORT_BYTES | Some k ↦ report_bytes layout k ])
-    (same_first layout front bytes r same (report_begins layout bytes r named))
+front_begins : (layout : Contents) (front bytes : List ℕ) (r : ℕ) → first_byte front ≡ first_byte bytes → report_named layout bytes ≡ Ok r
+    → length_begun layout front ≡ Some (report_bytes layout r)
+front_begins layout front bytes r same named =
+    ap (option_map (report_bytes layout)) (same_first layout front bytes r same (report_begins layout bytes r named))
 
 first_of_front : (earlier left : List ℕ) (size : ℕ) → 0 < size → 0 < length left → first_byte (earlier ++ take size left) ≡ first_byte (earlier ++ left)
 first_of_front (y ∷ ys) left size some any = refl
@@ -62,36 +58,39 @@ packet_is_full size some =
     ap (λ (b : Bool). not b && ((size % size) == 0)) (ne_eqb size 0 (λ e. absurd (omega (arith, e, some))))
     ∙ eq-eqb (size % size) 0 (mod_self size)
 
-full_packet : (size : ℕ) (piece : List ℕ) → 0 < size → length piece ≡ size → full_size size piece ≡ length piece
-full_packet size piece some is =
-    ap (λ (b : Bool). cond b (length piece) (length piece + 1)) (ap (is_full size) is ∙ packet_is_full size some)
-
 -- a packet with which a report goes on, and the last one
-goes_on : (size awaited came : ℕ) (piece : List ℕ) → 0 < size → length piece ≡ size → came < awaited
-    → (nat_lt (length piece) (full_size size piece) || nat_le awaited came) ≡ false
-goes_on size awaited came piece some is few =
-    let last : nat_lt (length piece) (full_size size piece) ≡ false =
-    ap (nat_lt (length piece)) (full_packet size piece some is) ∙ le-ltb (length piece) (length piece) (omega arith) in
-    ap (λ (b : Bool). b || nat_le awaited came) last ∙ lt-leb awaited came few
+goes_on : (size : ℕ) (layout : Contents) (front : List ℕ) (awaited last : ℕ) → 0 < size → last ≡ size
+    → length_begun layout front ≡ Some awaited → length front < awaited → ends_after size layout front last ≡ false
+goes_on size layout front awaited last some is begun few =
+    ap (λ (o : Option ℕ). transfer_ends size o (length front) last) begun
+    ∙ ap (λ (n : ℕ). not (is_full size n) || nat_le awaited (length front)) is
+    ∙ ap (λ (b : Bool). not b || nat_le awaited (length front)) (packet_is_full size some) ∙ lt-leb awaited (length front) few
 
 ends : (last : Bool) (awaited came : ℕ) → awaited ≤ came → (last || nat_le awaited came) ≡ true
 ends true awaited came enough = refl
 ends false awaited came enough = le-leb awaited came enough
 
-has_place : (layout : Contents) (bytes : List ℕ) (r : ℕ) → report_named layout bytes ≡ Ok r → report_bytes layout r ≤ longest_report layout
-has_place layout bytes r named =
-    each_longest layout (length layout.reports) r (begun_by layout layout.numbered (first_byte bytes) r (report_begins layout bytes r named))
+ends_with_all : (size : ℕ) (layout : Contents) (whole : List ℕ) (awaited last : ℕ) → length_begun layout whole ≡ Some awaited → awaited ≤ length whole
+    → ends_after size layout whole last ≡ true
+ends_with_all size layout whole awaited last begun all =
+    ap (λ (o : Option ℕ). transfer_ends size o (length whole) last) begun ∙ ends (not (is_full size last)) awaited (length whole) all
+
+-- nothing lies past the end of what is no longer than its report
+none_past : (size : ℕ) (layout : Contents) (front : List ℕ) (awaited : ℕ) → length_begun layout front ≡ Some awaited → length front ≤ awaited
+    → HasNonePast size layout front
+none_past size layout front awaited begun few =
+    ap (λ (o : Option ℕ). has_packet_past size o (length front)) begun
+    ∙ lt-leb (max awaited 1 + max size 1) (length front) (omega (arith, few))
 
 -- the last transfer of a report
 last_ends : (size : ℕ) (layout : Contents) (whole earlier left : List ℕ) → earlier ++ left ≡ whole → IsReport layout whole → ReportEnds size layout earlier (Last left)
 last_ends size layout whole earlier left all is =
     let len : length (earlier ++ left) ≡ length whole = ap (λ (bs : List ℕ). length bs) all in
-    let place = has_place layout whole is.report is.named in
-    let long = is.whole in
-    let awaited : bytes_awaited layout (earlier ++ left) ≡ report_bytes layout is.report =
-    awaited_is layout (earlier ++ left) whole is.report (ap first_byte all) is.named in (
-      omega (arith, len, place, long),
-      ends (nat_lt (length left) (full_size size left)) (bytes_awaited layout (earlier ++ left)) (length (earlier ++ left)) (omega (arith, awaited, len, long)),
+    let bytes = is.whole in
+    let awaited : ℕ = report_bytes layout is.report in
+    let begun = front_begins layout (earlier ++ left) whole is.report (ap first_byte all) is.named in (
+      none_past size layout (earlier ++ left) awaited begun (omega (arith, len, bytes)),
+      ends_with_all size layout (earlier ++ left) awaited (length left) begun (omega (arith, len, bytes)),
     )
 
 packets_end : (size full : ℕ) (layout : Contents) (whole earlier left : List ℕ) → 0 < size → earlier ++ left ≡ whole → IsReport layout whole
@@ -106,14 +105,14 @@ packets_end size (suc full) layout whole earlier left some all is long =
     let rest : length (drop size left) + size ≡ length left = omega (arith, length-drop size left, fits) in
     let len : length (earlier ++ piece) ≡ length earlier + size = length-append earlier piece ∙ ap (λ (n : ℕ). length earlier + n) taken in
     let total : length earlier + length left ≡ length whole = sym (length-append earlier left) ∙ ap (λ (bs : List ℕ). length bs) all in
-    let place = has_place layout whole is.report is.named in
     let bytes = is.whole in
+    let awaited : ℕ = report_bytes layout is.report in
     let first : first_byte (earlier ++ piece) ≡ first_byte whole =
     first_of_front earlier left size some (omega (arith, fits, some)) ∙ ap first_byte all in
-    let awaited : bytes_awaited layout (earlier ++ piece) ≡ report_bytes layout is.report = awaited_is layout (earlier ++ piece) whole is.report first is.named in
+    let begun = front_begins layout (earlier ++ piece) whole is.report first is.named in
     let after : (earlier ++ piece) ++ drop size left ≡ whole = append_assoc earlier piece (drop size left) ∙ ap (λ (bs : List ℕ). earlier ++ bs) split ∙ all in (
-      omega (arith, len, total, place, bytes, fits),
-      goes_on size (bytes_awaited layout (earlier ++ piece)) (length (earlier ++ piece)) piece some taken (omega (arith, awaited, len, total, bytes, rest, long, product)),
+      none_past size layout (earlier ++ piece) awaited begun (omega (arith, len, total, bytes, fits)),
+      goes_on size layout (earlier ++ piece) awaited (length piece) some taken begun (omega (arith, len, total, bytes, rest, long, product)),
       packets_end size full layout whole (earlier ++ piece) (drop size left) some after is (omega (arith, rest, long, product)),
     )
 

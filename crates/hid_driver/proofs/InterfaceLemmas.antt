@@ -1,7 +1,7 @@
 -- What holds of the interfaces of a driver, and how a call changes one of them.
 use Rattle.std.proofs.Common.{◌≡◌, ℕ, ◌+◌, ◌<◌, ◌≤◌, refl, sym, ◌∙◌, ap, subst, List, [], ◌∷◌, ◌++◌, length, get_or, take, drop, map, Option, Some, None, arith, append_assoc}
 use Rattle.std.specs.Prelude.{slice_get, slice_set}
-use Rattle.std.proofs.lemmas.List.{drop_more, set-get_or, take_more}
+use Rattle.std.proofs.lemmas.List.{drop_more, set-get_or}
 use Rattle.std.proofs.lemmas.Option.{get_or_from_slice_get, slice_get_read, slice_get_within}
 use Rattle.std.proofs.lemmas.List.Elements.{All-cons, All-get_or, All-nil, All-set, All-weaker}
 use Rattle.std.proofs.lemmas.List.Sums.{get_or-le-sum_by, sum_by-le, sum_by-set, sum_by_more, sum_by_more_le}
@@ -9,7 +9,7 @@ use Rattle.hid_layout.specs.Layout.{Contents}
 use Rattle.hid_layout.specs.Controls.{items_of, max_events}
 use Rattle.hid_interfaces.specs.declared.fault.InterfaceFault.{InterfaceFault}
 use Rattle.hid_interfaces.specs.declared.interface.InterfaceInfo.{InterfaceInfo}
-use Rattle.hid_interfaces.specs.Readable.{interface_fault}
+use Rattle.hid_interfaces.specs.Readable.{interface_fault, readable_with}
 use Rattle.hid_driver.specs.declared.interface.Interface.{Interface}
 use Rattle.hid_driver.specs.declared.interface.Reading.{Reading}
 use Rattle.hid_driver.specs.declared.interface.Reading.TheVariants.{Waiting, Open, Boot, Refused}
@@ -114,26 +114,23 @@ by_fault_unread (Some fault) = refl
 pub listed_unread : (earlier infos : List InterfaceInfo) → AreUnread (interfaces_after earlier infos)
 listed_unread earlier [] = All-nil (λ (i : Interface). pipe_of i.reading ≡ None)
 listed_unread earlier (info ∷ infos) =
-    All-cons (λ (i : Interface). pipe_of i.reading ≡ None) (interface_listed earlier info) (interfaces_after (earlier ++ info ∷ []) infos)
-    (by_fault_unread (interface_fault earlier info)) (listed_unread (earlier ++ info ∷ []) infos)
+    All-cons (λ (i : Interface). pipe_of i.reading ≡ None) (interface_listed earlier info) (interfaces_after (readable_with earlier info) infos)
+    (by_fault_unread (interface_fault earlier info)) (listed_unread (readable_with earlier info) infos)
 
 -- one more interface is listed
-pub listed_more : (infos : List InterfaceInfo) (i : ℕ) (info : InterfaceInfo) (before now all : List Interface) → i < length infos
-    → info ≡ get_or infos i info
-    → before ++ interfaces_after (take i infos) (drop i infos) ≡ all
-    → now ≡ before ++ interface_listed (take i infos) info ∷ []
-    → now ++ interfaces_after (take (i + 1) infos) (drop (i + 1) infos) ≡ all
-listed_more infos i info before now all within is held pushed =
-    let front : take (i + 1) infos ≡ take i infos ++ info ∷ [] =
-    take_more infos i info within ∙ ap (λ (x : InterfaceInfo). take i infos ++ x ∷ []) (sym is) in
+pub listed_more : (infos : List InterfaceInfo) (i : ℕ) (info : InterfaceInfo) (readable later : List InterfaceInfo) (before now all : List Interface)
+    → i < length infos → info ≡ get_or infos i info
+    → before ++ interfaces_after readable (drop i infos) ≡ all
+    → now ≡ before ++ interface_listed readable info ∷ [] → later ≡ readable_with readable info
+    → now ++ interfaces_after later (drop (i + 1) infos) ≡ all
+listed_more infos i info readable later before now all within is held pushed read =
     let back : drop i infos ≡ info ∷ drop (i + 1) infos =
     drop_more infos i info within ∙ ap (λ (x : InterfaceInfo). x ∷ drop (i + 1) infos) (sym is) in
-    let split : interfaces_after (take i infos) (drop i infos)
-    ≡ interface_listed (take i infos) info ∷ interfaces_after (take (i + 1) infos) (drop (i + 1) infos) =
-    ap (interfaces_after (take i infos)) back
-    ∙ ap (λ (earlier : List InterfaceInfo). interface_listed (take i infos) info ∷ interfaces_after earlier (drop (i + 1) infos)) (sym front) in
-    ap (λ (xs : List Interface). xs ++ interfaces_after (take (i + 1) infos) (drop (i + 1) infos)) pushed
-    ∙ append_assoc before (interface_listed (take i infos) info ∷ []) (interfaces_after (take (i + 1) infos) (drop (i + 1) infos))
+    let split : interfaces_after readable (drop i infos) ≡ interface_listed readable info ∷ interfaces_after later (drop (i + 1) infos) =
+    ap (interfaces_after readable) back
+    ∙ ap (λ (xs : List InterfaceInfo). interface_listed readable info ∷ interfaces_after xs (drop (i + 1) infos)) (sym read) in
+    ap (λ (xs : List Interface). xs ++ interfaces_after later (drop (i + 1) infos)) pushed
+    ∙ append_assoc before (interface_listed readable info ∷ []) (interfaces_after later (drop (i + 1) infos))
     ∙ ap (λ (xs : List Interface). before ++ xs) (sym split) ∙ held
 
 -- one more interface is released

@@ -1,16 +1,11 @@
 -- A pipe reads the transfers that carry reports as it reads the reports.
-use Rattle.std.proofs.Common.{◌≡◌, ◌++◌, ℕ, ◌≤◌, Bool, true, false, List, [], ◌∷◌, length, refl, ap, ◌∙◌, cond, append_assoc}
-use Rattle.std.proofs.lemmas.Bool.{le-ltb}
+use Rattle.std.proofs.Common.{◌≡◌, ◌++◌, ℕ, Bool, true, false, List, [], ◌∷◌, length, refl, ap, ◌∙◌, cond, append_assoc}
 use Rattle.hid_snapshots.specs.declared.control_state.ControlState.{ControlState}
 use Rattle.hid_snapshots.specs.declared.event.Event.{Event}
 use Rattle.hid_usages.specs.Receiving.{events_of_report, is_whole, view_after_report}
-use Rattle.hid_driver.specs.Pipe.{PipeState, full_size, is_long, pipe_after_transfer, transfer_events, transfer_room}
-use Rattle.hid_driver.specs.Transfers.{DeliversReports, Last, More, ReportEnds, ReportsEnd, SentReport, events_of_transfers, pipe_after_transfers, pipe_keeping, report_transfers, sent_bytes, transfers_of}
-
--- there is room for what came and a transfer
-fits : (pipe : PipeState) (view : List ControlState) (earlier bytes : List ℕ)
-    → length (earlier ++ bytes) ≤ transfer_room pipe.packet_size pipe.receiving.layout → is_long (pipe_keeping pipe view earlier) bytes ≡ false
-fits pipe view earlier bytes room = le-ltb (transfer_room pipe.packet_size pipe.receiving.layout) (length (earlier ++ bytes)) room
+use Rattle.hid_driver.specs.Pipe.{PipeState, full_size, is_long, length_begun, pipe_after_transfer, transfer_events}
+use Rattle.hid_driver.specs.Transfers.{DeliversReports, Last, More, ReportEnds, ReportsEnd, SentReport, ends_after, events_of_transfers, pipe_after_transfers, pipe_keeping, report_transfers, sent_bytes, transfers_of}
+use Rattle.hid_driver.proofs.PipeLemmas.{ends_same}
 
 -- the pipe after a transfer, by whether it is too long and whether its report ends
 abbrev pipe_by : PipeState → List ControlState → List ℕ → Bool → Bool → PipeState
@@ -27,7 +22,13 @@ abbrev events_by : PipeState → List ControlState → List ℕ → Bool → Boo
 events_by pipe view all long whole = cond long [] (cond whole (events_of_report pipe.receiving.layout all view) [])
 
 abbrev ends_here : PipeState → List ℕ → List ℕ → Bool
-ends_here pipe earlier bytes = is_whole (full_size pipe.packet_size bytes) pipe.receiving.layout (earlier ++ bytes) (length bytes)
+ends_here pipe earlier bytes =
+    let all : List ℕ = earlier ++ bytes in
+    is_whole (full_size pipe.packet_size (length_begun pipe.receiving.layout all) (length bytes)) pipe.receiving.layout all (length bytes)
+
+here : (pipe : PipeState) (earlier bytes : List ℕ) (whole : Bool)
+    → ends_after pipe.packet_size pipe.receiving.layout (earlier ++ bytes) (length bytes) ≡ whole → ends_here pipe earlier bytes ≡ whole
+here pipe earlier bytes whole ends = ends_same pipe.packet_size pipe.receiving.layout (earlier ++ bytes) (length bytes) ∙ ends
 
 -- what a transfer does that isn't too long, by whether its report ends
 received_pipe : (pipe : PipeState) (view : List ControlState) (earlier bytes : List ℕ) (whole : Bool)
@@ -55,19 +56,21 @@ record ReadsReport (pipe : PipeState) (view : List ControlState) (earlier : List
 reads_report : (pipe : PipeState) (view : List ControlState) (earlier : List ℕ) (report : SentReport) (more : List (List ℕ))
     → ReportEnds pipe.packet_size pipe.receiving.layout earlier report → ReadsReport pipe view earlier report more
 reads_report pipe view earlier (Last bytes) more ends =
-    let short = fits pipe view earlier bytes ends.0 in
-    let next = received_pipe pipe view earlier bytes true short ends.1 in
+    let short = ends.0 in
+    let last = here pipe earlier bytes true ends.1 in
+    let next = received_pipe pipe view earlier bytes true short last in
     record {
       events = ap (λ (es : List Event). es ++ events_of_transfers (pipe_after_transfer (pipe_keeping pipe view earlier) bytes) more)
-          (received_events pipe view earlier bytes true short ends.1)
+          (received_events pipe view earlier bytes true short last)
           ∙ ap (λ (p : PipeState). events_of_report pipe.receiving.layout (earlier ++ bytes) view ++ events_of_transfers p more) next;
       after = ap (λ (p : PipeState). pipe_after_transfers p more) next;
     }
 reads_report pipe view earlier (More bytes rest) more ends =
     let later = reads_report pipe view (earlier ++ bytes) rest more ends.2 in
-    let short = fits pipe view earlier bytes ends.0 in
-    let next = received_pipe pipe view earlier bytes false short ends.1 in
-    let nothing = received_events pipe view earlier bytes false short ends.1 in
+    let short = ends.0 in
+    let on = here pipe earlier bytes false ends.1 in
+    let next = received_pipe pipe view earlier bytes false short on in
+    let nothing = received_events pipe view earlier bytes false short on in
     let all : (earlier ++ bytes) ++ sent_bytes rest ≡ earlier ++ (bytes ++ sent_bytes rest) = append_assoc earlier bytes (sent_bytes rest) in
     record {
       events = ap (λ (es : List Event). es ++ events_of_transfers (pipe_after_transfer (pipe_keeping pipe view earlier) bytes) (report_transfers rest ++ more)) nothing

@@ -1,5 +1,5 @@
 -- What is asked of an interface, beside its reports (HID 1.11, 7.2).
-use Rattle.std.specs.Prelude.{ℕ, ◌+◌, ◌*◌, ◌^◌, Bool, true, false, nat_lt, ◌==◌, ◌&&◌, if◌then◌else◌, List, [], length, position, Option, Some, None, option_map, Result, Ok, Err}
+use Rattle.std.specs.Prelude.{ℕ, ◌+◌, ◌*◌, ◌^◌, Bool, true, false, nat_lt, ◌==◌, ◌&&◌, ◌||◌, if◌then◌else◌, List, [], length, position, Option, Some, None, is_some, option_map, Result, Ok, Err}
 use Rattle.usb_control.specs.declared.setup.Setup.{Setup}
 use Rattle.hid_report_descriptor.specs.declared.report.Report.{Report}
 use Rattle.hid_report_descriptor.specs.declared.report.ReportKind.{ReportKind}
@@ -54,13 +54,18 @@ set_setup info kind id bytes (Some size) =
     else (if begins_with_id id bytes
     then Ok (class_setup info 0x21 9 (word_of (report_type kind) id) (length bytes)) else Err WrongId)
 
+-- SET_IDLE is of an Input report that the interface has, or of all of them where the ID is 0 (7.2.4)
+abbrev pub time_setup : InterfaceInfo → ℕ → ℕ → Option ℕ → Result Setup DriverFault
+time_setup info id time size =
+    if (id == 0) || is_some size then Ok (class_setup info 0x21 10 (word_of time id) 0) else Err NoReport
+
 -- The request of what is asked of an interface with this layout, or why it is refused. Example: LEDs 02 of interface 1
 -- are 21 09 00 02 01 00 01 00
 abbrev pub ask_setup : InterfaceInfo → Contents → Ask → Result Setup DriverFault
 ask_setup info layout (GetReport kind id) = get_setup info kind id (report_size layout kind id)
 ask_setup info layout (SetReport kind id bytes) =
     set_setup info kind id bytes.now (report_size layout kind id)
-ask_setup info layout (Idle id time) = Ok (class_setup info 0x21 10 (word_of time id) 0)
+ask_setup info layout (Idle id time) = time_setup info id time (report_size layout Input id)
 
 -- the data that go with what is asked
 abbrev pub data_of : Ask → List ℕ

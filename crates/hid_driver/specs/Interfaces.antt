@@ -1,13 +1,13 @@
 -- The HID interfaces of a device, and how far a driver has come with each (USB 2.0, 9.4.5; HID 1.11, 5.6; the states are
 -- our choice).
-use Rattle.std.specs.Prelude.{◌≡◌, ℕ, ◌+◌, ◌<◌, ◌≤◌, Bool, true, false, List, [], ◌∷◌, ◌++◌, length, map, sum_by, All, slice_get, slice_set, Option, Some, None, Result, Err}
+use Rattle.std.specs.Prelude.{◌≡◌, ℕ, ◌+◌, ◌<◌, ◌≤◌, Bool, true, false, not, List, [], ◌∷◌, ◌++◌, length, map, sum_by, All, slice_get, slice_set, Option, Some, None, Result, Err}
 use Rattle.hid_layout.specs.Layout.{Contents}
 use Rattle.hid_layout.specs.Controls.{items_of, max_events}
 use Rattle.hid_layout.specs.Reports.{report_bytes}
 use Rattle.hid_snapshots.specs.declared.event.Event.{Event}
 use Rattle.hid_interfaces.specs.declared.fault.InterfaceFault.{InterfaceFault}
 use Rattle.hid_interfaces.specs.declared.interface.InterfaceInfo.{InterfaceInfo}
-use Rattle.hid_interfaces.specs.Readable.{interface_fault}
+use Rattle.hid_interfaces.specs.Readable.{interface_fault, readable_with}
 use Rattle.hid_driver.specs.declared.fault.DriverFault.{DriverFault}
 use Rattle.hid_driver.specs.declared.fault.DriverFault.TheVariants.{BootProtocol, NotRead}
 use Rattle.hid_driver.specs.declared.fault.InterfaceCause.TheVariants.{Descriptors}
@@ -27,15 +27,15 @@ abbrev pub reading_by_fault : Option InterfaceFault → Reading
 reading_by_fault None = Waiting
 reading_by_fault (Some fault) = Refused (Descriptors fault)
 
--- an interface whose descriptors are read, which stands after these
+-- an interface whose descriptors are read; of those before it these can be read
 abbrev pub interface_listed : List InterfaceInfo → InterfaceInfo → Interface
-interface_listed earlier info = record { info = info; reading = reading_by_fault (interface_fault earlier info) }
+interface_listed readable info = record { info = info; reading = reading_by_fault (interface_fault readable info) }
 
--- The interfaces of a configuration, in order; those in `earlier` stand before these.
+-- The interfaces of a configuration, in order; of those before them the ones in `readable` can be read.
 abbrev pub interfaces_after : List InterfaceInfo → List InterfaceInfo → List Interface
-interfaces_after earlier [] = []
-interfaces_after earlier (info ∷ rest) =
-    interface_listed earlier info ∷ interfaces_after (earlier ++ info ∷ []) rest
+interfaces_after readable [] = []
+interfaces_after readable (info ∷ rest) =
+    interface_listed readable info ∷ interfaces_after (readable_with readable info) rest
 
 -- the state of an interface whose reports are laid out
 abbrev pub state_of_flow : Flow → InterfaceState
@@ -74,10 +74,17 @@ is_boot (Refused cause) = false
 abbrev pub is_waiting : Interface → Bool
 is_waiting interface = waits interface.reading
 
--- the reports of an interface are laid out, or may be boot reports
+-- an endpoint is halted until a reset
+abbrev pub is_stopped : Flow → Bool
+is_stopped Live = false
+is_stopped Halted = false
+is_stopped Stopped = true
+
+-- The reports of an interface are laid out, or may be boot reports, and its endpoint isn't stopped: SET_PROTOCOL clears no
+-- halt.
 abbrev pub has_protocol : Reading → Bool
 has_protocol Waiting = false
-has_protocol (Open pipe) = true
+has_protocol (Open pipe) = not (is_stopped pipe.flow)
 has_protocol Boot = true
 has_protocol (Refused cause) = false
 

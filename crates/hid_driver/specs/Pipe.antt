@@ -1,6 +1,6 @@
 -- The reports of an interface, out of the interrupt transfers in which they come (USB 2.0, 5.7.3, 8.4.5 and 9.6.6; HID
 -- 1.11, 5.6).
-use Rattle.std.specs.Prelude.{ℕ, zero, suc, ◌+◌, ◌%◌, ◌≤◌, max, Bool, true, false, not, nat_lt, ◌==◌, ◌&&◌, if◌then◌else◌, List, [], length, Result, Ok, Err}
+use Rattle.std.specs.Prelude.{ℕ, zero, suc, ◌+◌, ◌%◌, ◌<◌, max, Bool, true, false, not, nat_le, ◌==◌, ◌&&◌, ◌||◌, if◌then◌else◌, List, [], length, Option, Some, None, option_map, is_some, Result, Ok, Err}
 use Rattle.hid_report_descriptor.specs.declared.limits.TheConstants.{MAX_REPORT_BYTES}
 use Rattle.hid_layout.specs.Layout.{Contents}
 use Rattle.hid_layout.specs.Controls.{items_of}
@@ -10,6 +10,7 @@ use Rattle.hid_snapshots.specs.declared.fault.ReportFault.{ReportFault}
 use Rattle.hid_snapshots.specs.ControlStates.{blank}
 use Rattle.hid_snapshots.specs.Views.{changes_between}
 use Rattle.hid_usages.specs.declared.receiver.Arrived.{Arrived}
+use Rattle.hid_usages.specs.Reading.{report_begun}
 use Rattle.hid_usages.specs.Receiving.{ReceiverState, after_packet, bytes_with, events_with, packet_outcome, without_collected}
 use Rattle.hid_driver.specs.declared.fault.DriverFault.{DriverFault}
 use Rattle.hid_driver.specs.declared.fault.DriverFault.TheVariants.{LongTransfer, NotRead, Report}
@@ -49,11 +50,35 @@ event_of interface event = record { interface = interface; event = event }
 abbrev pub is_full : ℕ → ℕ → Bool
 is_full packet_size came = not (came == 0) && (came % packet_size == 0)
 
--- A transfer is received as a packet: as a full one where it has full packets alone, else as a short one, which ends its
--- report (5.7.3). This is the size of a full packet then. Example: in packets of 64 bytes a transfer of 128 is full, and
--- one of 100 or of none is short
-abbrev pub full_size : ℕ → List ℕ → ℕ
-full_size packet_size bytes = if is_full packet_size (length bytes) then length bytes else length bytes + 1
+-- in bytes, the Input report that begins so, where there is one (HID 1.11, 5.6)
+abbrev pub length_begun : Contents → List ℕ → Option ℕ
+length_begun layout bytes = option_map (report_bytes layout) (report_begun layout bytes)
+
+-- a report is whole with this number of bytes; where it is no Input report, nothing more is awaited
+abbrev pub has_come : Option ℕ → ℕ → Bool
+has_come None came = true
+has_come (Some len) came = nat_le len came
+
+-- A report ends with a transfer that has its last byte, or that isn't of full packets alone (5.7.3); one that is no Input
+-- report ends at once. `last` bytes came in that transfer, and `came` in all. Example: in packets of 64 bytes a report of
+-- 100 goes on after one of 64; it ends with 36 more, and so it does with 30
+abbrev pub transfer_ends : ℕ → Option ℕ → ℕ → ℕ → Bool
+transfer_ends packet_size begun came last = not (is_full packet_size last) || has_come begun came
+
+-- A transfer is received as a packet: as a full one where it has full packets alone of an Input report, else as a short
+-- one, which ends its report. This is the size of a full packet then. Example: in packets of 64 bytes a transfer of 128 is
+-- full, and one of 100 or of none is short
+abbrev pub full_size : ℕ → Option ℕ → ℕ → ℕ
+full_size packet_size begun last = if is_full packet_size last && is_some begun then last else last + 1
+
+-- in bytes, the end of the report, at least 1; where it is no Input report, the longest report of a bus (our choice)
+abbrev pub report_end : Option ℕ → ℕ
+report_end None = MAX_REPORT_BYTES
+report_end (Some len) = max len 1
+
+-- A whole packet or more lies past the end of the report: what comes there is another report.
+abbrev pub has_packet_past : ℕ → Option ℕ → ℕ → Bool
+has_packet_past packet_size begun came = nat_le (report_end begun + max packet_size 1) came
 
 -- in bytes, the longest of the first so many reports of a layout, and at least the longest report of a bus, which is
 -- awaited where bytes begin no report
@@ -69,10 +94,18 @@ longest_report layout = longest_of layout (length layout.reports)
 abbrev pub transfer_room : ℕ → Contents → ℕ
 transfer_room packet_size layout = longest_report layout + packet_size
 
--- a transfer has more bytes than there is room for
+-- in bytes, the Input report that begins with what came before and a transfer, where there is one
+abbrev pub begun_with : ReceiverState → List ℕ → Option ℕ
+begun_with receiving bytes = length_begun receiving.layout (bytes_with receiving bytes)
+
+-- a transfer is too long: with what came of its report before, a whole packet or more lies past the end of that
 abbrev pub is_long : PipeState → List ℕ → Bool
 is_long pipe bytes =
-    nat_lt (transfer_room pipe.packet_size pipe.receiving.layout) (length (bytes_with pipe.receiving bytes))
+    has_packet_past pipe.packet_size (begun_with pipe.receiving bytes) (length (bytes_with pipe.receiving bytes))
+
+-- the size of a full packet with which a transfer is received
+abbrev pub size_with : PipeState → List ℕ → ℕ
+size_with pipe bytes = full_size pipe.packet_size (begun_with pipe.receiving bytes) (length bytes)
 
 -- what a transfer returns that is received
 abbrev pub transfer_told : Result Arrived ReportFault → Result (Unit {0}) DriverFault
@@ -83,13 +116,13 @@ transfer_told (Err fault) = Err (Report fault)
 abbrev pub transfer_outcome : PipeState → List ℕ → Result (Unit {0}) DriverFault
 transfer_outcome pipe bytes =
     if is_long pipe bytes then Err LongTransfer
-    else transfer_told (packet_outcome (full_size pipe.packet_size bytes) pipe.receiving bytes)
+    else transfer_told (packet_outcome (size_with pipe bytes) pipe.receiving bytes)
 
 -- The receiver after a transfer. Of one that is too long, and of what came of its report before, nothing is kept.
 abbrev pub receiving_after_transfer : PipeState → List ℕ → ReceiverState
 receiving_after_transfer pipe bytes =
     if is_long pipe bytes then without_collected pipe.receiving
-    else after_packet (full_size pipe.packet_size bytes) pipe.receiving bytes
+    else after_packet (size_with pipe bytes) pipe.receiving bytes
 
 -- the pipe after a transfer
 abbrev pub pipe_after_transfer : PipeState → List ℕ → PipeState
@@ -98,7 +131,7 @@ pipe_after_transfer pipe bytes = record pipe { receiving = receiving_after_trans
 -- The events of a transfer: those of reading the report that ends with it.
 abbrev pub transfer_events : PipeState → List ℕ → List Event
 transfer_events pipe bytes =
-    if is_long pipe bytes then [] else events_with (full_size pipe.packet_size bytes) pipe.receiving bytes
+    if is_long pipe bytes then [] else events_with (size_with pipe bytes) pipe.receiving bytes
 
 -- whether reports come out of the endpoint
 abbrev pub is_live : Flow → Bool
@@ -112,12 +145,12 @@ live_outcome pipe (outcomes.Done bytes) = transfer_outcome pipe bytes.now
 live_outcome pipe outcomes.Stalled = Ok tt
 live_outcome pipe outcomes.Failed = Ok tt
 
--- The pipe of a live endpoint after an interrupt transfer: a STALL halts it (8.4.5). After a STALL, and after a transfer
--- that failed, nothing is kept of a report that began.
+-- The pipe of a live endpoint after an interrupt transfer. A STALL halts it (8.4.5), and nothing is kept of a report that
+-- began. A transfer that failed leaves it: a device sends a packet again that wasn't acknowledged (8.6.3).
 abbrev pub live_pipe : PipeState → Outcome → PipeState
 live_pipe pipe (outcomes.Done bytes) = pipe_after_transfer pipe bytes.now
 live_pipe pipe outcomes.Stalled = pipe_with_flow Halted pipe
-live_pipe pipe outcomes.Failed = pipe_with_flow Live pipe
+live_pipe pipe outcomes.Failed = pipe
 
 -- the events of an interrupt transfer of a live endpoint
 abbrev pub live_events : PipeState → Outcome → List Event
@@ -142,6 +175,7 @@ abbrev pub events_back : PipeState → List Event
 events_back pipe =
     changes_between (items_of pipe.receiving.layout) pipe.receiving.view (blank (items_of pipe.receiving.layout))
 
--- what is kept of a report is shorter than the longest one, so that a packet has room after it
+-- what is kept of a report is shorter than the report, so that no packet after it lies past its end
 abbrev pub KeepsFew : PipeState → Type 0
-KeepsFew pipe = length pipe.receiving.collected ≤ longest_report pipe.receiving.layout
+KeepsFew pipe =
+    length pipe.receiving.collected < report_end (length_begun pipe.receiving.layout pipe.receiving.collected)

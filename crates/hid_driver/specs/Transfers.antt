@@ -1,13 +1,13 @@
 -- Reports that come in interrupt transfers, one after another: what a driver reads of them (USB 2.0, 5.7.3, 8.5.4 and
 -- 9.6.6; HID 1.11, 5.6).
-use Rattle.std.specs.Prelude.{◌≡◌, ℕ, zero, suc, ◌<◌, ◌≤◌, true, false, List, [], ◌∷◌, ◌++◌, length, take, drop, map, Ok}
+use Rattle.std.specs.Prelude.{◌≡◌, ℕ, zero, suc, ◌<◌, Bool, true, false, List, [], ◌∷◌, ◌++◌, length, take, drop, map, Ok}
 use Rattle.hid_layout.specs.Layout.{Contents}
 use Rattle.hid_layout.specs.Reports.{report_bytes}
 use Rattle.hid_snapshots.specs.declared.control_state.ControlState.{ControlState}
 use Rattle.hid_snapshots.specs.declared.event.Event.{Event}
 use Rattle.hid_usages.specs.Reading.{report_named}
-use Rattle.hid_usages.specs.Receiving.{events_of_report, is_whole, view_after_report}
-use Rattle.hid_driver.specs.Pipe.{PipeState, full_size, pipe_after_transfer, transfer_events, transfer_room}
+use Rattle.hid_usages.specs.Receiving.{events_of_report, view_after_report}
+use Rattle.hid_driver.specs.Pipe.{PipeState, has_packet_past, length_begun, pipe_after_transfer, transfer_ends, transfer_events}
 
 -- A report as it comes: transfers with which it goes on, and the last one.
 pub data SentReport : Type 0 where
@@ -29,15 +29,23 @@ abbrev pub transfers_of : List SentReport → List (List ℕ)
 transfers_of [] = []
 transfers_of (report ∷ reports) = report_transfers report ++ transfers_of reports
 
--- A report ends at its receiver with its last transfer, and with no transfer before it, and there is room for each. `earlier`
--- came before these.
+-- no packet of these bytes lies past the end of the report that they begin
+abbrev pub HasNonePast : ℕ → Contents → List ℕ → Type 0
+HasNonePast packet_size layout bytes = has_packet_past packet_size (length_begun layout bytes) (length bytes) ≡ false
+
+-- whether the report that these bytes begin ends with its last transfer, of so many bytes
+abbrev pub ends_after : ℕ → Contents → List ℕ → ℕ → Bool
+ends_after packet_size layout bytes last = transfer_ends packet_size (length_begun layout bytes) (length bytes) last
+
+-- A report ends with its last transfer, and with no transfer before it, and no packet lies past its end. `earlier` came
+-- before these.
 abbrev pub ReportEnds : ℕ → Contents → List ℕ → SentReport → Type 0
 ReportEnds packet_size layout earlier (Last bytes) =
-    (length (earlier ++ bytes) ≤ transfer_room packet_size layout)
-    × (is_whole (full_size packet_size bytes) layout (earlier ++ bytes) (length bytes) ≡ true)
+    HasNonePast packet_size layout (earlier ++ bytes)
+    × (ends_after packet_size layout (earlier ++ bytes) (length bytes) ≡ true)
 ReportEnds packet_size layout earlier (More bytes rest) =
-    (length (earlier ++ bytes) ≤ transfer_room packet_size layout)
-    × (is_whole (full_size packet_size bytes) layout (earlier ++ bytes) (length bytes) ≡ false)
+    HasNonePast packet_size layout (earlier ++ bytes)
+    × (ends_after packet_size layout (earlier ++ bytes) (length bytes) ≡ false)
     × ReportEnds packet_size layout (earlier ++ bytes) rest
 
 -- each of these reports ends with its last transfer

@@ -1,9 +1,10 @@
 //! What a driver reads of the answers to its requests.
-ghost use Rattle.std.specs.Prelude.{◌≡◌, ◌≢◌, ◌≤◌, ◌<◌, List, [], ℕ, length, Ok, Err, IfOk, IfErr};
+ghost use Rattle.std.specs.Prelude.{◌≡◌, ◌≢◌, ◌≤◌, ◌<◌, ◌+◌, List, [], ℕ, length, vec_len, vec_capacity, Ok, Err, IfOk, IfErr};
 ghost use Rattle.hid_report_descriptor.specs.Items.{EncodedItem};
 ghost use Rattle.hid_report_descriptor.specs.Real.{Accepts, Explains};
 ghost use Rattle.hid_layout.specs.Layout.{layout_of};
 ghost use Rattle.hid_driver.specs.Answers.{ConfigurationCame, DescriptorRead, IsNoLayout, ReportCame, configuration_refusal, device_answer, length_answer, no_layout, status_answer};
+ghost use Rattle.hid_interfaces.specs.Readable.{readable_with};
 ghost use Rattle.hid_driver.specs.Interfaces.{interface_listed, interfaces_after};
 
 use crate::fault::{DriverFault, InterfaceCause};
@@ -84,13 +85,21 @@ pub(crate) fn configuration_answer(
     }
 }
 
-/// An interface whose descriptors are read, which stands after these.
-fn interface_listed(earlier: &[InterfaceInfo], info: &InterfaceInfo) -> Interface
-    ensures { result ≡ interface_listed earlier.now info.now }
+/// An interface whose descriptors are read; of those before it these can be read. It is one of them from then on, if it can be
+/// read itself. There is reserved room for it.
+fn interface_listed(readable: &mut Vec<InterfaceInfo>, info: &InterfaceInfo) -> Interface
+    requires room { vec_len readable.old < vec_capacity readable.old }
+    ensures listed { result ≡ interface_listed readable.old.items info.now }
+    ensures readable { readable.new.items ≡ readable_with readable.old.items info.now }
+    ensures few { vec_len readable.new ≤ vec_len readable.old + 1 }
+    ensures room { vec_capacity readable.new ≡ vec_capacity readable.old }
 {
-    let reading = match interface_fault(earlier, info) {
+    let reading = match interface_fault(readable, info) {
         Some(fault) => Reading::Refused(InterfaceCause::Descriptors(fault)),
-        None => Reading::Waiting,
+        None => {
+            readable.push_reserved(*info);
+            Reading::Waiting
+        }
     };
     Interface {
         info: *info,
@@ -106,8 +115,9 @@ pub(crate) fn interfaces_listed(
     ensures { IfOk result (λ listed. listed.items ≡ interfaces_after [] infos.now) }
 {
     let mut listed = Vec::with_capacity(alloc, infos.len())?;
-    for i in 0..infos.len() {
-        listed.push_reserved(interface_listed(&infos[..i], &infos[i]));
+    let mut readable = Vec::with_capacity(alloc, infos.len())?;
+    for info in infos {
+        listed.push_reserved(interface_listed(&mut readable, info));
     }
     Ok(listed)
 }

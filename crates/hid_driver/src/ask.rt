@@ -2,7 +2,7 @@
 ghost use Rattle.std.specs.Prelude.{◌≡◌, ◌≤◌, ◌<◌, length, position, IfOk, IfSome, Some, unwrap_or};
 ghost use Rattle.hid_report_descriptor.specs.declared.limits.TheConstants.{MAX_REAL_REPORT_BYTES};
 ghost use Rattle.hid_layout.specs.Reports.{report_bytes};
-ghost use Rattle.hid_driver.specs.Asking.{ask_setup, begins_with_id, class_setup, data_of, get_setup, is_report, report_size, report_type, set_setup, word_of};
+ghost use Rattle.hid_driver.specs.Asking.{ask_setup, begins_with_id, class_setup, data_of, get_setup, is_report, report_size, report_type, set_setup, time_setup, word_of};
 
 use crate::fault::DriverFault;
 use crate::requests::{GET_REPORT, OF_CLASS, SET_IDLE, SET_REPORT, TO_CLASS, request};
@@ -29,7 +29,7 @@ pub enum Ask<'a> {
     },
     /// SET_IDLE: to send a report again when this time is over without a change (7.2.4).
     Idle {
-        /// The Report ID, 0 for all Input reports.
+        /// The ID of an Input report, 0 for all of them.
         id: u8,
         /// In units of 4 ms; 0 is none: the report is sent on change alone.
         time: u8,
@@ -80,7 +80,7 @@ fn place_of(layout: &Layout, kind: ReportKind, id: u8) -> Option<usize>
 }
 
 /// In bytes, the report of this kind with this ID.
-fn report_size(layout: &Layout, kind: ReportKind, id: u8) -> Option<u16>
+pub(crate) fn report_size(layout: &Layout, kind: ReportKind, id: u8) -> Option<u16>
     ensures { result ≡ report_size layout.now kind id }
 {
     // For the prover: what holds of every layout, as that its reports are short.
@@ -156,6 +156,21 @@ fn set_setup(
     }
 }
 
+/// SET_IDLE of the Input report with this ID, if there is one, or of all of them.
+fn time_setup(
+    info: &InterfaceInfo,
+    id: u8,
+    time: u8,
+    size: Option<u16>,
+) -> Result<Setup, DriverFault>
+    ensures { result ≡ time_setup info.now id time size }
+{
+    if id == 0 || size.is_some() {
+        return Ok(class_setup(info, TO_CLASS, SET_IDLE, word_of(time, id), 0));
+    }
+    Err(DriverFault::NoReport)
+}
+
 /// The request of what is asked of an interface with this layout.
 pub(crate) fn ask_setup(
     info: &InterfaceInfo,
@@ -173,7 +188,9 @@ pub(crate) fn ask_setup(
             bytes,
             report_size(layout, kind, id),
         ),
-        Ask::Idle { id, time } => Ok(class_setup(info, TO_CLASS, SET_IDLE, word_of(time, id), 0)),
+        Ask::Idle { id, time } => {
+            time_setup(info, id, time, report_size(layout, ReportKind::Input, id))
+        }
     }
 }
 

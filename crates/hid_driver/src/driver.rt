@@ -452,8 +452,8 @@ impl Driver {
     }
 
     /// Takes what came of an interrupt transfer of the interface at this place: its bytes are joined to what came of a
-    /// report before, and a report that ends with them is read. There is reserved room for [`Driver::max_events`] more events;
-    /// no memory is taken. A transfer asks for a full packet: wMaxPacketSize bytes.
+    /// report before, and a report that ends with them is read. A transfer that failed leaves what came. There is reserved room
+    /// for [`Driver::max_events`] more events; no memory is taken. A transfer asks for a full packet: wMaxPacketSize bytes.
     ///
     /// # Errors
     /// [`DriverFault::NoInterface`]; [`DriverFault::BootProtocol`] where the interface may send boot reports;
@@ -502,8 +502,8 @@ impl Driver {
     ///
     /// # Errors
     /// The first of these that stands, and nothing changes: [`DriverFault::NoInterface`]; [`DriverFault::NotRead`] where its
-    /// report descriptor isn't read; [`DriverFault::Busy`] in another state than `Ready`; [`DriverFault::NoReport`];
-    /// [`DriverFault::TooLong`]; [`DriverFault::WrongId`].
+    /// report descriptor isn't read, as in the boot protocol; [`DriverFault::Busy`] in another state than `Ready`;
+    /// [`DriverFault::NoReport`]; [`DriverFault::TooLong`]; [`DriverFault::WrongId`].
     pub fn ask(&mut self, interface: usize, ask: &Ask<'_>) -> Result<(), DriverFault>
         ensures result { result ≡ ask_outcome (ask_answer self.old interface ask.now) }
         ensures after { self.new ≡ driver_after_ask self.old interface ask.now }
@@ -526,8 +526,8 @@ impl Driver {
     ///
     /// # Errors
     /// The first of these that stands, and nothing changes: [`DriverFault::NoInterface`]; [`DriverFault::NotRead`] where its
-    /// report descriptor isn't read, and it isn't in the boot protocol; [`DriverFault::Busy`] in another state than `Ready`;
-    /// [`DriverFault::NoBootProtocol`].
+    /// report descriptor isn't read and it isn't in the boot protocol, or where its halt couldn't be cleared;
+    /// [`DriverFault::Busy`] in another state than `Ready`; [`DriverFault::NoBootProtocol`].
     pub fn set_protocol(
         &mut self,
         interface: usize,

@@ -47,8 +47,8 @@ pub enum DriverFault {
     Memory,
     /// D3: the configuration has no HID interface at this place.
     NoInterface,
-    /// D4: no reports of the interface are read: its report descriptor wasn't read yet, it is refused, or its endpoint is
-    /// halted.
+    /// D4: the report descriptor of the interface wasn't read yet, or it is refused; or of a transfer, its endpoint is halted; of
+    /// what is asked, it may be in the boot protocol; of a protocol, its halt couldn't be cleared.
     NotRead,
     /// D5: another request is to be made first.
     Busy,
@@ -66,7 +66,7 @@ pub enum DriverFault {
     Configuration(ConfigurationFault),
     /// D12 with U8 or U9: the bytes are no Input report of the interface (HID 1.11, 5.6).
     Report(ReportFault),
-    /// D13: a transfer, with what came of its report before, is longer than any report of the interface and a packet.
+    /// D13: with a transfer, and what came of its report before, a whole packet or more lies past the end of the report.
     LongTransfer,
     /// D14: the interface may send boot reports, which aren't those of its layout (HID 1.11, 7.2.6).
     BootProtocol,

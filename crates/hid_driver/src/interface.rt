@@ -164,12 +164,16 @@ impl Interface {
         }
     }
 
-    /// Whether it has a protocol that is known or asked for: its reports are laid out, or may be boot reports.
+    /// Whether it may be asked for a protocol: its reports are laid out, or may be boot reports, and its endpoint isn't stopped.
     pub(crate) fn has_protocol(&self) -> bool
         ensures { result ≡ has_protocol self.now.reading }
     {
         match &self.reading {
-            Reading::Open(_) | Reading::Boot => true,
+            Reading::Open(pipe) => match pipe.flow() {
+                Flow::Live | Flow::Halted => true,
+                Flow::Stopped => false,
+            },
+            Reading::Boot => true,
             Reading::Waiting | Reading::Refused(_) => false,
         }
     }

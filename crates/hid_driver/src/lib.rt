@@ -13,12 +13,12 @@
 //! ```
 //! The rule to know: at most one control transfer is made at a time, the one that [`Driver::todo`] gives, and [`Driver::done`] is
 //! given its outcome once. Interrupt transfers go beside it, one at a time for each interface that is live, of wMaxPacketSize bytes
-//! each.
+//! each. After a [`Driver::reset`] the outcomes of transfers that were begun before it aren't passed on.
 //!
 //! The promise, whatever comes of the transfers: each call returns, and the driver goes on by its table, the definition `Moves`:
 //! [`Driver::done`]. A report is read where it ends, by its bytes joined, and its events are those of a `Reader` of `hid_usages`
 //! (`events` on [`Driver::report`]). An interface that is refused leaves the others. What is held is released at a reset
-//! (`events` on [`Driver::reset`]). Memory is taken by [`Driver::done`] alone, and where it runs out nothing changes.
+//! (`events` on [`Driver::reset`]). Room is made by [`Driver::done`] alone, and where memory runs out nothing changes.
 //! ```text
 //!   let mut driver = Driver::new(alloc);
 //!   while let Todo::Control { setup, data } = driver.todo() {

@@ -1,15 +1,16 @@
 //! The reports of one interface, out of the interrupt transfers in which they come.
-ghost use Rattle.std.specs.Prelude.{◌≡◌, ◌<◌, ◌≤◌, ◌+◌, ◌++◌, ℕ, length, map, IfOk, vec_len, vec_capacity};
+ghost use Rattle.std.specs.Prelude.{◌≡◌, ◌<◌, ◌≤◌, ◌+◌, ◌++◌, false, ℕ, length, map, IfOk, vec_len, vec_capacity};
 ghost use Rattle.hid_layout.specs.Controls.{items_of, max_events};
 ghost use Rattle.hid_layout.specs.Reports.{IsLayout, report_bytes};
 ghost use Rattle.hid_report_descriptor.specs.declared.limits.TheConstants.{MAX_REAL_REPORT_BYTES};
 ghost use Rattle.hid_snapshots.specs.ControlStates.{FitsView};
-ghost use Rattle.hid_driver.specs.Pipe.{event_of, events_back, full_size, heard_events, heard_outcome, heard_pipe, is_full, longest_report, pipe_after_transfer, pipe_at_start, pipe_of_receiver, pipe_with_flow, receiving_after_transfer, transfer_events, transfer_outcome, transfer_room};
+ghost use Rattle.hid_driver.specs.Pipe.{event_of, events_back, full_size, has_packet_past, heard_events, heard_outcome, heard_pipe, is_full, is_long, length_begun, longest_report, pipe_after_transfer, pipe_at_start, pipe_of_receiver, pipe_with_flow, receiving_after_transfer, report_end, transfer_events, transfer_outcome, transfer_room};
 
+use crate::ask::report_size;
 use crate::fault::DriverFault;
 use crate::outcome::{DriverEvent, Outcome};
 use hid_fields::WordCodec;
-use hid_layout::{Layout, MAX_REPORT_BYTES};
+use hid_layout::{Layout, MAX_REPORT_BYTES, ReportKind};
 use hid_snapshots::Event;
 use hid_usages::{Receiver, View, first_view};
 use std::alloc::{AllocError, Global};
@@ -32,8 +33,7 @@ pub struct Pipe {
     flow: Flow,
     /// In bytes, a full packet: wMaxPacketSize (USB 2.0, 9.6.6).
     packet_size: u16,
-    /// In bytes, what the receiver has room for: the longest report and a packet.
-    room: usize,
+    /// It has room for the longest report and a packet.
     receiver: Receiver,
     events: Vec<Event>,
 }
@@ -52,8 +52,7 @@ impl Model for Pipe {
     } };
 
     ghost invariant = { λ p. (0 < p.packet_size)
-        × (p.room ≡ transfer_room p.packet_size p.receiver.state.layout)
-        × (p.room ≤ p.receiver.room)
+        × (transfer_room p.packet_size p.receiver.state.layout ≤ p.receiver.room)
         × (max_events (items_of p.receiver.state.layout) ≤ vec_capacity p.events) };
 }
 
@@ -81,17 +80,71 @@ fn is_full(packet_size: u16, came: usize) -> bool
     came != 0 && came % usize::from(packet_size) == 0
 }
 
-/// With what size of a full packet a transfer is received, so that one of full packets alone is a full packet, and any other a
-/// short one.
-fn full_size(packet_size: u16, bytes: &[u8]) -> usize
-    requires { 0 < packet_size }
-    ensures { result ≡ full_size packet_size bytes.now }
+/// In bytes, the Input report that begins with these, if there is one.
+fn length_begun(layout: &Layout, bytes: &[u8]) -> Option<u16>
+    ensures { result ≡ length_begun layout.now bytes.now }
 {
-    if is_full(packet_size, bytes.len()) {
+    if !layout.numbered() {
+        return report_size(layout, ReportKind::Input, 0);
+    }
+    match bytes.first() {
+        Some(id) => report_size(layout, ReportKind::Input, *id),
+        None => None,
+    }
+}
+
+/// In bytes, the Input report that begins with what came of it before, and with these, if there is one.
+fn length_with(layout: &Layout, collected: &[u8], bytes: &[u8]) -> Option<u16>
+    ensures { result ≡ length_begun layout.now (collected.now ++ bytes.now) }
+{
+    let begin = if collected.is_empty() {
+        bytes
+    } else {
+        collected
+    };
+    length_begun(layout, begin)
+}
+
+/// With what size of a full packet a transfer is received, so that one of full packets alone of an Input report is a full
+/// packet, and any other a short one, which ends its report.
+fn full_size(packet_size: u16, begun: Option<u16>, bytes: &[u8]) -> usize
+    requires { 0 < packet_size }
+    ensures { result ≡ full_size packet_size begun (length bytes.now) }
+{
+    if is_full(packet_size, bytes.len()) && begun.is_some() {
         bytes.len()
     } else {
         bytes.len() + 1
     }
+}
+
+/// In bytes, the end of a report, at least 1; where it is no Input report, the longest report of a bus.
+fn report_end(begun: Option<u16>) -> u16
+    ensures { result ≡ report_end begun }
+{
+    match begun {
+        Some(length) => length.max(1),
+        None => MAX_REPORT_BYTES as u16,
+    }
+}
+
+/// Whether a whole packet or more lies past the end of a report of which so many bytes came.
+fn has_packet_past(packet_size: u16, begun: Option<u16>, came: usize) -> bool
+    ensures { result ≡ has_packet_past packet_size begun came }
+{
+    usize::from(report_end(begun)) + usize::from(packet_size.max(1)) <= came
+}
+
+/// Whether a transfer is too long.
+fn is_long(packet_size: u16, begun: Option<u16>, receiver: &Receiver, bytes: &[u8]) -> bool
+    requires begun { begun ≡ length_begun receiver.now.state.layout
+        (receiver.now.state.collected ++ bytes.now) }
+    requires size { 0 < packet_size }
+    ensures long { result ≡ is_long (pipe_of_receiver packet_size receiver.now.state) bytes.now }
+    ensures room { result ≡ false → length (receiver.now.state.collected ++ bytes.now)
+        ≤ transfer_room packet_size receiver.now.state.layout }
+{
+    has_packet_past(packet_size, begun, receiver.collected().len() + bytes.len())
 }
 
 /// Hands events on under the place of their interface, into reserved room.
@@ -109,17 +162,15 @@ fn deliver(interface: usize, events: &[Event], out: &mut Vec<DriverEvent>)
     }
 }
 
-/// Receives a transfer, of which `room` is what there is room for.
+/// Receives a transfer, for which there is room where it isn't too long.
 fn receive(
     packet_size: u16,
-    room: usize,
     receiver: &mut Receiver,
     bytes: &[u8],
     out: &mut Vec<Event>,
 ) -> Result<(), DriverFault>
     requires size { 0 < packet_size }
-    requires is_room { room ≡ transfer_room packet_size receiver.old.state.layout }
-    requires place { room ≤ receiver.old.room }
+    requires place { transfer_room packet_size receiver.old.state.layout ≤ receiver.old.room }
     requires room { vec_len out.old + max_events (items_of receiver.old.state.layout)
         ≤ vec_capacity out.old }
     ensures outcome { result
@@ -132,11 +183,12 @@ fn receive(
     ensures few { vec_len out.new ≤ vec_len out.old + max_events (items_of receiver.old.state.layout) }
     ensures room { vec_capacity out.new ≡ vec_capacity out.old }
 {
-    if receiver.collected().len() + bytes.len() > room {
+    let begun = length_with(receiver.layout(), receiver.collected(), bytes);
+    if is_long(packet_size, begun, receiver, bytes) {
         receiver.forget();
         return Err(DriverFault::LongTransfer);
     }
-    match receiver.take::<WordCodec>(full_size(packet_size, bytes), bytes, out) {
+    match receiver.take::<WordCodec>(full_size(packet_size, begun, bytes), bytes, out) {
         Ok(_) => Ok(()),
         Err(fault) => Err(DriverFault::Report(fault)),
     }
@@ -178,7 +230,6 @@ impl Pipe {
             Ok(()) => Ok(Pipe {
                 flow: Flow::Live,
                 packet_size,
-                room,
                 receiver,
                 events,
             }),
@@ -228,12 +279,12 @@ impl Pipe {
         self.receiver.forget();
     }
 
-    /// Takes the bytes of an interrupt transfer, as [`Receiver::take`] takes a packet: a transfer of full packets alone as a
-    /// full one, any other as a short one. There is reserved room for `max_events` more; no memory is taken.
+    /// Takes the bytes of an interrupt transfer, as [`Receiver::take`] takes a packet: a transfer of full packets alone of an
+    /// Input report as a full one, any other as a short one. There is reserved room for `max_events` more; no memory is taken.
     ///
     /// # Errors
-    /// [`DriverFault::LongTransfer`] where there is no room for the bytes; [`DriverFault::Report`] where the report that ended
-    /// is none of the layout. The view stays, and nothing is kept of the report.
+    /// [`DriverFault::LongTransfer`] where a whole packet or more lies past the end of the report; [`DriverFault::Report`]
+    /// where the report that ended is none of the layout. The view stays, and nothing is kept of the report.
     pub(crate) fn take(
         &mut self,
         interface: usize,
@@ -253,7 +304,6 @@ impl Pipe {
         self.events.clear();
         let told = receive(
             self.packet_size,
-            self.room,
             &mut self.receiver,
             bytes,
             &mut self.events,
@@ -262,8 +312,8 @@ impl Pipe {
         told
     }
 
-    /// Takes what came of an interrupt transfer. A STALL halts the endpoint; after a transfer that failed nothing is kept of
-    /// a report. There is reserved room for `max_events` more; no memory is taken.
+    /// Takes what came of an interrupt transfer. A STALL halts the endpoint, and nothing is kept of a report then; a transfer
+    /// that failed changes nothing. There is reserved room for `max_events` more; no memory is taken.
     ///
     /// # Errors
     /// [`DriverFault::NotRead`] where the endpoint is halted; those of [`Pipe::take`].
@@ -293,10 +343,7 @@ impl Pipe {
                 self.turn(Flow::Halted);
                 Ok(())
             }
-            Outcome::Failed => {
-                self.turn(Flow::Live);
-                Ok(())
-            }
+            Outcome::Failed => Ok(()),
         }
     }
 

@@ -1,5 +1,5 @@
 -- Why an interface can't be read (USB 2.0, 5.7.3 and 9.6.6; HID 1.11, 6.2.1).
-use Rattle.std.specs.Prelude.{ℕ, nat_lt, ◌==◌, ◌||◌, if◌then◌else◌, List, Option, Some, None}
+use Rattle.std.specs.Prelude.{ℕ, nat_lt, ◌==◌, ◌||◌, if◌then◌else◌, List, [], ◌∷◌, ◌++◌, Option, Some, None, is_some}
 use Rattle.hid_interfaces.specs.declared.fault.InterfaceFault.{InterfaceFault}
 use Rattle.hid_interfaces.specs.declared.fault.InterfaceFault.TheVariants.{SharedNumber, NoReportDescriptor, NoEndpoint, PacketSize, SharedEndpoint}
 use Rattle.hid_interfaces.specs.declared.interface.TheConstants.{MAX_PACKET_SIZE}
@@ -7,7 +7,8 @@ use Rattle.hid_interfaces.specs.declared.interface.EndpointInfo.{EndpointInfo}
 use Rattle.hid_interfaces.specs.declared.interface.InterfaceInfo.{InterfaceInfo}
 use Rattle.hid_interfaces.specs.Interfaces.{is_shared, is_taken}
 
--- why an endpoint can't be read: a full packet has no byte, or too many; or an earlier interface has it
+-- Why an endpoint can't be read: a full packet has no byte, or too many; or an interface has it that can be read and stands
+-- before.
 abbrev pub endpoint_fault : List InterfaceInfo → EndpointInfo → Option InterfaceFault
 endpoint_fault earlier endpoint =
     if (endpoint.packet_size == 0) || nat_lt MAX_PACKET_SIZE endpoint.packet_size then Some PacketSize
@@ -24,8 +25,12 @@ fault_by_length earlier None endpoint = Some NoReportDescriptor
 fault_by_length earlier (Some len) endpoint =
     if len == 0 then Some NoReportDescriptor else fault_by_endpoint earlier endpoint
 
--- Why an interface can't be read, where these stand before it: an earlier one has its number; no report descriptor, or an
--- empty one; no endpoint; a size of packets that no endpoint has; or an endpoint that an earlier interface has.
+-- Why an interface can't be read, where these stand before it, which can be: one of them has its number; no report
+-- descriptor, or an empty one; no endpoint; a size of packets that no endpoint has; or an endpoint that one of them has.
 abbrev pub interface_fault : List InterfaceInfo → InterfaceInfo → Option InterfaceFault
 interface_fault earlier info =
     if is_taken earlier info.number then Some SharedNumber else fault_by_length earlier info.report_length info.endpoint
+
+-- The interfaces that can be read, with the next one where that can: one that can't takes no number and no endpoint.
+abbrev pub readable_with : List InterfaceInfo → InterfaceInfo → List InterfaceInfo
+readable_with earlier info = if is_some (interface_fault earlier info) then earlier else earlier ++ info ∷ []

@@ -54,7 +54,7 @@ impl From<AllocError> for ConfigurationFault {
 /// Why an interface can't be read: the first of these that stands. It is printed as its code.
 #[derive(Clone, Copy, Debug, PartialEq, Eq)]
 pub enum InterfaceFault {
-    /// B13: an earlier interface has its number, so that no request names one of them alone (USB 2.0, 9.3.4 and 9.6.5).
+    /// B13: an earlier interface that can be read has its number: no request names one of them alone (USB 2.0, 9.3.4 and 9.6.5).
     SharedNumber,
     /// B4: its HID descriptor is missing, or names no report descriptor, or an empty one (HID 1.11, 6.2.1).
     NoReportDescriptor,
@@ -62,7 +62,7 @@ pub enum InterfaceFault {
     NoEndpoint,
     /// B8: wMaxPacketSize of the endpoint is 0 or over 1,024 (USB 2.0, 5.7.3 and 9.6.6).
     PacketSize,
-    /// B9: an earlier interface has the endpoint (USB 2.0, 9.6.6).
+    /// B9: an earlier interface that can be read has the endpoint (USB 2.0, 9.6.6).
     SharedEndpoint,
 }
 

@@ -109,7 +109,7 @@ fn is_taken(earlier: &[InterfaceInfo], number: u8) -> bool
     earlier.iter().any(|info| info.number == number)
 }
 
-/// Why an endpoint can't be read, where these interfaces stand before its own.
+/// Why an endpoint can't be read, where these interfaces, which can be read, stand before its own.
 fn endpoint_fault(earlier: &[InterfaceInfo], endpoint: &EndpointInfo) -> Option<InterfaceFault>
     ensures { result ≡ endpoint_fault earlier.now endpoint.now }
 {
@@ -122,8 +122,8 @@ fn endpoint_fault(earlier: &[InterfaceInfo], endpoint: &EndpointInfo) -> Option<
     None
 }
 
-/// Why an interface can't be read, where these stand before it in its configuration: the first cause in the order of
-/// [`InterfaceFault`]. None where it can.
+/// Why an interface can't be read, where these, which can be read, stand before it in its configuration: the first cause in the
+/// order of [`InterfaceFault`]. None where it can.
 pub fn interface_fault(earlier: &[InterfaceInfo], info: &InterfaceInfo) -> Option<InterfaceFault>
     ensures { result ≡ interface_fault earlier.now info.now }
 {

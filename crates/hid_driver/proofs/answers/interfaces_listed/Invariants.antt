@@ -1,10 +1,12 @@
-use Rattle.std.proofs.Common.{◌≡◌, ◌++◌, ◌≤◌, [], length, take, drop, vec_len, vec_capacity}
+use Rattle.std.proofs.Common.{◌≡◌, ◌++◌, ◌≤◌, [], length, drop, vec_len, vec_capacity}
 use Rattle.hid_driver.specs.Interfaces.{interfaces_after}
 use Rattle.hid_driver.proofs.answers.interfaces_listed.Given as goal
 
-abbrev pub invariant-loop-i : goal.invariant-loop-i
-invariant-loop-i l = record {
-  listed : l.listed.items ++ interfaces_after (take l.i l.infos) (drop l.i l.infos) ≡ interfaces_after [] l.infos;
-  len : vec_len l.listed ≡ l.i;
+abbrev pub invariant-loop-info : goal.invariant-loop-info
+invariant-loop-info l = record {
+  listed : l.listed.items ++ interfaces_after l.readable.items (drop l.info-index l.infos) ≡ interfaces_after [] l.infos;
+  len : vec_len l.listed ≡ l.info-index;
   room : length l.infos ≤ vec_capacity l.listed;
+  few : vec_len l.readable ≤ l.info-index;
+  place : length l.infos ≤ vec_capacity l.readable;
 }
