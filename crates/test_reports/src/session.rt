@@ -108,8 +108,14 @@ fn print_zeros(printed: &mut String, session: &Session, report: usize) -> Result
 
 fn print_blank(printed: &mut String, session: &Session, words: &str) -> Result<(), RowFault> {
     let (kind, id) = split(words, ' ');
-    let (kind, id) = (number_of(kind)?, number_of(id)?);
-    match report_with(session.layout(), kind as u32, id as u8) {
+    let (kind, id) = (
+        u32::try_from(number_of(kind)?),
+        u8::try_from(number_of(id)?),
+    );
+    let (Ok(kind), Ok(id)) = (kind, id) else {
+        return Err(RowFault::Unread);
+    };
+    match report_with(session.layout(), kind, id) {
         Some(report) => print_zeros(printed, session, report),
         None => print(printed, "none"),
     }
