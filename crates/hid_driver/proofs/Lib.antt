@@ -3,6 +3,7 @@ pub mod InterfaceLemmas
 pub mod TransferLemmas
 pub mod HoldingLemmas
 pub mod BringUpLemmas
+pub mod VirtualDeviceLemmas
 pub mod RoomLemmas
 pub mod CutLemmas
 pub mod DriverLemmas

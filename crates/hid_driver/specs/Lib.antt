@@ -9,3 +9,4 @@ pub mod Moves
 pub mod Transfers
 pub mod Holding
 pub mod BringUp
+pub mod VirtualDevices

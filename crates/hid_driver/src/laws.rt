@@ -2,6 +2,8 @@
 
 ghost use Rattle.std.specs.Prelude.{◌≡◌, ◌+◌, ◌*◌, ◌<◌, ◌≤◌, ℕ, Bool, false, List, [], length, Result, Ok, Err};
 ghost use Rattle.hid_layout.specs.Layout.{Contents};
+ghost use Rattle.hid_layout.specs.Parsing.{ParsesTo};
+ghost use Rattle.hid_requests.specs.Descriptors.{FitsConfig, FitsDevice};
 ghost use Rattle.hid_snapshots.specs.declared.control_state.ControlState.{ControlState};
 ghost use Rattle.hid_driver.specs.declared.ask.Ask.{Ask};
 ghost use Rattle.hid_driver.specs.declared.fault.DriverFault.{DriverFault};
@@ -12,8 +14,11 @@ ghost use Rattle.hid_driver.specs.Driver.{DriverValue, driver_after_ask, driver_
 ghost use Rattle.hid_driver.specs.Holding.{ChangesOne, IsDue, KeepsAll, ReleasesOne};
 ghost use Rattle.hid_driver.specs.Moves.{Moves};
 ghost use Rattle.hid_driver.specs.BringUp.{MovesOn, waiting};
+ghost use Rattle.hid_driver.specs.VirtualDevices.{MovesBesideBy, VirtualDevice, ready_for};
 ghost use Rattle.hid_driver.specs.Pipe.{KeepsFew, PipeState, heard_pipe, is_long, pipe_at_start};
 ghost use Rattle.hid_driver.specs.Transfers.{DeliversReports, IsReport, Last, ReportEnds, ReportsEnd, SentReport, cut_in_packets, sent_bytes};
+
+use hid_report_descriptor::laws::{accepted_or_refused, one_reading, real_accepts_bus};
 
 /// Over every list of reports of a device, of any bytes, each of which ends at its receiver with its last transfer: the events are
 /// exactly those of reading the reports in order, each once; the view is the one that they leave.
@@ -66,3 +71,17 @@ pub fn devices_come_up()
     ensures { (configured after : DriverValue) → MovesOn 3 driver_at_start configured
         → MovesOn (1 + 2 * waiting configured.interfaces) configured after → after.state ≡ Ready }
 {}
+
+/// Beside a virtual device, of which nothing is lost, a driver is ready after six control transfers, whatever it asks in them:
+/// it has the device's one interface, with the layout of its report descriptor and the initial view.
+pub fn virtual_devices_come_up()
+    ensures { (device : VirtualDevice) (layout : Contents) (after : DriverValue) → FitsDevice device.info
+        → FitsConfig device.known → 0 < device.known.endpoint → 0 < device.known.report_length
+        → device.known.report_length ≡ length device.descriptor → ParsesTo device.descriptor layout
+        → MovesBesideBy 6 device driver_at_start after → after ≡ ready_for device layout }
+{
+    // For the prover: a descriptor has one reading, and real devices may have every one that a virtual device may.
+    one_reading();
+    accepted_or_refused();
+    real_accepts_bus();
+}
