@@ -1,2 +1,4 @@
 pub mod ConfigurationLemmas
+pub mod TruncationLemmas
+pub mod UndescribedLemmas
 mod Vectors

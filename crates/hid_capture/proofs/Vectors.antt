@@ -1,7 +1,7 @@
 -- Values worked out by hand (USB 2.0, 9.6; HID 1.11, appendices B.1 and E.3 to E.5).
 use Rattle.std.proofs.Common.{◌≡◌, ℕ, List, [], ◌∷◌, refl, Some, None, true}
 use Rattle.hid_capture.specs.declared.configuration.Configuration.{Configuration}
-use Rattle.hid_capture.specs.declared.request.Request.TheVariants.{SetAddress, SetConfiguration, GetConfiguration, GetReportDescriptor, SetProtocol, Other}
+use Rattle.hid_capture.specs.declared.request.Request.TheVariants.{SetAddress, SetConfiguration, GetConfigurationDescriptor, GetReportDescriptor, SetProtocol, Other}
 use Rattle.hid_capture.specs.Descriptors.{whole_configuration, endpoints_in, has_descriptor, interface_after, is_interrupt_in, endpoint_at}
 use Rattle.hid_capture.specs.Requests.{request_of}
 
@@ -14,7 +14,7 @@ set_configuration : request_of (0x00 ∷ 0x09 ∷ 0x01 ∷ 0 ∷ 0 ∷ 0 ∷ 0 �
 unfolding request_of
 set_configuration = refl
 
-get_configuration : request_of (0x80 ∷ 0x06 ∷ 0x00 ∷ 0x02 ∷ 0 ∷ 0 ∷ 0x22 ∷ 0 ∷ []) ≡ GetConfiguration
+get_configuration : request_of (0x80 ∷ 0x06 ∷ 0x00 ∷ 0x02 ∷ 0 ∷ 0 ∷ 0x22 ∷ 0 ∷ []) ≡ GetConfigurationDescriptor
 unfolding request_of
 get_configuration = refl
 

@@ -1,7 +1,7 @@
 -- The interrupt IN endpoints of a configuration, and the HID interfaces that have them (USB 2.0, 9.6.3, 9.6.5 and 9.6.6; HID 1.11, 4.1 and 4.4).
 --
 --   configuration   0 length 9 | 1 type 2 | 2 total length, 2 | 4 interfaces, 1 | 5 value, 1 | ..
---   interface       0 length 9 | 1 type 4 | 2 number | 3 alternate setting | 4 endpoints | 5 class, 3 is HID | ..
+--   interface       0 length 9 | 1 type 4 | 2 number | 3 alternate active | 4 endpoints | 5 class, 3 is HID | ..
 --   endpoint        0 length 7 | 1 type 5 | 2 address, bit 7 is IN | 3 attributes, the lowest two bits: 3 is interrupt | ..
 --
 -- Each begins with its length. The endpoints of an interface come after it, and before the next.

@@ -1,3 +1,4 @@
 pub mod Requests
 pub mod Descriptors
 pub mod Tracking
+pub mod Laws

@@ -9,7 +9,7 @@
 --   21 0B protocol 00 interface  SET_PROTOCOL, 0 is boot         HID 1.11, 7.2.6
 use Rattle.std.specs.Prelude.{ℕ, ◌==◌, ◌&&◌, if◌then◌else◌, List, slice_index}
 use Rattle.hid_capture.specs.declared.request.Request.{Request}
-use Rattle.hid_capture.specs.declared.request.Request.TheVariants.{SetAddress, SetConfiguration, GetConfiguration, GetReportDescriptor, SetProtocol, Other}
+use Rattle.hid_capture.specs.declared.request.Request.TheVariants.{SetAddress, SetConfiguration, GetConfigurationDescriptor, GetReportDescriptor, SetProtocol, Other}
 
 -- the byte of a SETUP packet at the place `at`
 abbrev pub part : List ℕ → ℕ → ℕ
@@ -20,7 +20,7 @@ unfoldable pub request_of : List ℕ → Request
 request_of setup =
     if (part setup 0 == 0x00) && (part setup 1 == 0x05) then SetAddress (part setup 2)
     else if (part setup 0 == 0x00) && (part setup 1 == 0x09) then SetConfiguration (part setup 2)
-    else if (part setup 0 == 0x80) && (part setup 1 == 0x06) && (part setup 3 == 0x02) then GetConfiguration
+    else if (part setup 0 == 0x80) && (part setup 1 == 0x06) && (part setup 3 == 0x02) then GetConfigurationDescriptor
     else if (part setup 0 == 0x81) && (part setup 1 == 0x06) && (part setup 3 == 0x22) then GetReportDescriptor (part setup 4)
     else if (part setup 0 == 0x21) && (part setup 1 == 0x0B) then SetProtocol (part setup 4) (part setup 2 == 0)
     else Other

@@ -7,22 +7,30 @@
 //!   81 06 00 22 ..  and its answer    Content::Descriptor, of an interface, which has a number from then on
 //!   21 0B 00 00 ..  and its answer    the interface is in the boot protocol: its reports are left alone
 //!   an interrupt IN transfer          Content::Report, where its endpoint and the interface's descriptor are known
+//!   00 05 04 00 ..  and its answer    Content::DeviceDisconnected, where interfaces there had a descriptor
+//!   an endpoint that is gone          Content::InterfaceDisconnected, where its interface had a descriptor
 //! ```
 //! A request and its answer come in two URBs, which are joined by bus, device and the URB's id. QEMU has one id for all
 //! control transfers, which are one after another there. A device is known by bus and address. Everything is forgotten of it
 //! where another device gets its address (SET_ADDRESS), and its descriptors where it changes its configuration; that of an
-//! interface where its endpoint is gone. Firmware speaks to a device first, and mostly reads no report descriptor: its
-//! reports are left alone.
+//! interface where its endpoint is gone. A player releases then what the device or the interface holds. Firmware speaks to a
+//! device first, and mostly reads no report descriptor: its reports are left alone.
+//!
+//! [`Tracker::adopt`] gives an interface a descriptor that isn't in the capture. Content::Undescribed is of a HID interface
+//! without one. Content::Unknown is of an endpoint that no configuration has that was read: a hub's status comes like this too,
+//! so that the user has to name the endpoint.
 //!
 //! The rule to know: what wasn't completed without an error says nothing, whatever bytes it has.
 //!
-//! The promise: a URB says exactly what the definition says, by `content` on [`Tracker::take`].
+//! The promise: a URB says exactly what the definition says, by `content` on [`Tracker::take`]. So a truncated frame is never
+//! read, and a device at an address that is set anew sends no report before its descriptor: [`laws`].
 #![tactic(auto)]
 
 mod configuration;
+pub mod laws;
 mod request;
 mod tables;
 mod tracker;
 
-pub use tables::{MAX_DEVICES, Member};
+pub use tables::{MAX_INTERFACES, TrackedInterface};
 pub use tracker::{Content, Tracker};

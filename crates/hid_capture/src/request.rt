@@ -3,6 +3,39 @@
 ghost use Rattle.std.specs.Prelude.{◌≡◌};
 ghost use Rattle.hid_capture.specs.Requests.{request_of};
 
+/// The bmRequestType of a standard request that has its data, if any, for the device.
+const TO_DEVICE: u8 = 0x00;
+
+/// The bmRequestType of a standard request for data of the device.
+const FROM_DEVICE: u8 = 0x80;
+
+/// The bmRequestType of a standard request for data of an interface.
+const FROM_INTERFACE: u8 = 0x81;
+
+/// The bmRequestType of a class request that has its data, if any, for an interface.
+const CLASS_TO_INTERFACE: u8 = 0x21;
+
+/// The bRequest of SET_ADDRESS.
+const SET_ADDRESS: u8 = 0x05;
+
+/// The bRequest of GET_DESCRIPTOR.
+const GET_DESCRIPTOR: u8 = 0x06;
+
+/// The bRequest of SET_CONFIGURATION.
+const SET_CONFIGURATION: u8 = 0x09;
+
+/// The bRequest of SET_PROTOCOL.
+const SET_PROTOCOL: u8 = 0x0B;
+
+/// The descriptor type of a configuration.
+const CONFIGURATION: u8 = 0x02;
+
+/// The descriptor type of a report descriptor.
+const REPORT: u8 = 0x22;
+
+/// The boot protocol, as SET_PROTOCOL has it.
+const BOOT_PROTOCOL: u8 = 0;
+
 /// What a SETUP packet asks for.
 #[derive(Clone, Copy, Debug, PartialEq, Eq)]
 pub enum Request {
@@ -10,8 +43,8 @@ pub enum Request {
     SetAddress { address: u8 },
     /// The device has the configuration with this value; 0 is none.
     SetConfiguration { value: u8 },
-    /// A configuration and all that belongs to it.
-    GetConfiguration,
+    /// The descriptor of a configuration, and all that belongs to it.
+    GetConfigurationDescriptor,
     /// The report descriptor of an interface.
     GetReportDescriptor { interface: u8 },
     /// The interface is put into the boot protocol, or into the report protocol.
@@ -30,18 +63,18 @@ pub(crate) fn request_of(setup: [u8; 8]) -> Request
     let low = setup[2];
     let high = setup[3];
     let interface = setup[4];
-    if kind == 0x00 && code == 0x05 {
+    if kind == TO_DEVICE && code == SET_ADDRESS {
         Request::SetAddress { address: low }
-    } else if kind == 0x00 && code == 0x09 {
+    } else if kind == TO_DEVICE && code == SET_CONFIGURATION {
         Request::SetConfiguration { value: low }
-    } else if kind == 0x80 && code == 0x06 && high == 0x02 {
-        Request::GetConfiguration
-    } else if kind == 0x81 && code == 0x06 && high == 0x22 {
+    } else if kind == FROM_DEVICE && code == GET_DESCRIPTOR && high == CONFIGURATION {
+        Request::GetConfigurationDescriptor
+    } else if kind == FROM_INTERFACE && code == GET_DESCRIPTOR && high == REPORT {
         Request::GetReportDescriptor { interface }
-    } else if kind == 0x21 && code == 0x0B {
+    } else if kind == CLASS_TO_INTERFACE && code == SET_PROTOCOL {
         Request::SetProtocol {
             interface,
-            is_boot: low == 0,
+            is_boot: low == BOOT_PROTOCOL,
         }
     } else {
         Request::Other

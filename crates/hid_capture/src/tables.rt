@@ -2,15 +2,19 @@
 
 ghost use Rattle.std.specs.Prelude.{◌≡◌, ◌<◌, ◌≤◌, not, filter, map, position, length, vec_len, IfSome, OnOk};
 ghost use Rattle.std.specs.List.{find, list_any};
-ghost use Rattle.hid_capture.specs.Tracking.{has_id, is_of_device, is_of_configuration, is_setting_of, is_boot_of, is_boot, is_member, is_set, is_endpoint, source_of, leaves, has_descriptor_of, without_descriptor_on, with_described, latest, is_free, next_number, members_with, endpoints_with};
+ghost use Rattle.hid_capture.specs.declared.tables.TheConstants.{MAX_INTERFACES};
+ghost use Rattle.hid_capture.specs.Tracking.{has_id, is_of_device, is_of_configuration, is_configuration_on, is_boot_of, is_boot, is_interface, may_be_active, is_endpoint, is_endpoint_of, unread_interface, with_interface_in, source_of, leaves, interfaces_after_leaving, has_descriptor_of, is_described_on, without_descriptor_on, with_described, latest, is_free, next_number, interfaces_with, endpoints_with};
 
 use super::configuration::{Configuration, InterruptEndpoint};
 use std::alloc::AllocError;
 
-/// How many interfaces have a number at most (our choice).
-pub const MAX_DEVICES: usize = 16;
+/// What an interface of which only an endpoint is known has in place of its number, less the endpoint's: numbers are below.
+pub(crate) const UNREAD: u16 = 256;
 
-/// How many requests, settings and interfaces in the boot protocol are kept at most (our choice).
+/// How many interfaces have a number at most (our choice).
+pub const MAX_INTERFACES: usize = 16;
+
+/// How many requests, active configurations and interfaces in the boot protocol are kept at most (our choice).
 pub(crate) const MAX_KEPT: usize = 128;
 
 /// How many endpoints of all devices are kept.
@@ -36,11 +40,11 @@ pub struct BootInterface {
 
 /// An interface that has a number.
 #[derive(Clone, Copy, Debug, PartialEq, Eq)]
-pub struct Member {
+pub struct TrackedInterface {
     pub bus: u16,
     /// The device's address.
     pub device: u16,
-    /// The number of the interface; or of an endpoint and 256, where no configuration was read that has it.
+    /// The number of the interface; where no configuration was read that has it, that of its endpoint and 256.
     pub interface: u16,
     /// Whether its descriptor is known.
     pub is_described: bool,
@@ -85,44 +89,52 @@ pub(crate) fn request_at(
 }
 
 /// Whether a configuration is one of this device.
-fn is_setting_of(c: &Configuration, bus: u16, device: u16) -> bool
-    ensures { result ≡ is_setting_of bus device c.now }
+fn is_configuration_on(c: &Configuration, bus: u16, device: u16) -> bool
+    ensures { result ≡ is_configuration_on bus device c.now }
 {
     c.bus == bus && c.device == device
 }
 
 /// The configuration that is set on a device.
-pub(crate) fn setting_of(settings: &[Configuration], bus: u16, device: u16) -> Option<Configuration>
-    ensures { result ≡ find (is_setting_of bus device) settings.now }
+pub(crate) fn active_configuration(
+    active_configurations: &[Configuration],
+    bus: u16,
+    device: u16,
+) -> Option<Configuration>
+    ensures { result ≡ find (is_configuration_on bus device) active_configurations.now }
 {
-    settings
+    active_configurations
         .iter()
         .copied()
-        .find(|c| is_setting_of(c, bus, device))
+        .find(|c| is_configuration_on(c, bus, device))
 }
 
 /// Forgets which configuration is set on a device.
-pub(crate) fn forget_setting(settings: &mut Vec<Configuration>, bus: u16, device: u16)
-    ensures { settings.new.items ≡ filter (λ c. not (is_setting_of bus device c)) settings.old.items }
+pub(crate) fn forget_active_configuration(
+    active_configurations: &mut Vec<Configuration>,
+    bus: u16,
+    device: u16,
+)
+    ensures { active_configurations.new.items ≡ filter (λ c. not (is_configuration_on bus device c)) active_configurations.old.items }
 {
-    settings.retain(|c| !is_setting_of(c, bus, device));
+    active_configurations.retain(|c| !is_configuration_on(c, bus, device));
 }
 
 /// Whether a device leaves the configuration that is set for another one.
-pub(crate) fn leaves(setting: Option<Configuration>, value: u8) -> bool
-    ensures { result ≡ leaves setting value }
+pub(crate) fn leaves(active: Option<Configuration>, value: u8) -> bool
+    ensures { result ≡ leaves active value }
 {
-    match setting {
+    match active {
         None => false,
         Some(c) => c.value != 0 && c.value != value,
     }
 }
 
 /// Whether a configuration may be the one that is set.
-fn is_set(setting: Option<Configuration>, c: &Configuration) -> bool
-    ensures { result ≡ is_set setting c.now }
+fn may_be_active(active: Option<Configuration>, c: &Configuration) -> bool
+    ensures { result ≡ may_be_active active c.now }
 {
-    match setting {
+    match active {
         None => true,
         Some(s) => s.value == c.value,
     }
@@ -145,14 +157,16 @@ fn is_of_configuration(e: &InterruptEndpoint, c: Configuration) -> bool
 /// Whether an endpoint of a device has this number, in the configuration that is set.
 fn is_endpoint(
     e: &InterruptEndpoint,
-    setting: Option<Configuration>,
+    active: Option<Configuration>,
     bus: u16,
     device: u16,
     endpoint: u8,
 ) -> bool
-    ensures { result ≡ is_endpoint setting bus device endpoint e.now }
+    ensures { result ≡ is_endpoint active bus device endpoint e.now }
 {
-    is_of_device(e, bus, device) && e.endpoint == endpoint && is_set(setting, &e.configuration)
+    is_of_device(e, bus, device)
+        && e.endpoint == endpoint
+        && may_be_active(active, &e.configuration)
 }
 
 /// Forgets the endpoints of a device.
@@ -186,32 +200,38 @@ pub(crate) fn add_endpoints(
 /// The endpoint of a device that has this number in the configuration that is set.
 fn endpoint_at(
     endpoints: &[InterruptEndpoint],
-    setting: Option<Configuration>,
+    active: Option<Configuration>,
     bus: u16,
     device: u16,
     endpoint: u8,
 ) -> Option<InterruptEndpoint>
-    ensures { result ≡ find (is_endpoint setting bus device endpoint) endpoints.now }
+    ensures { result ≡ find (is_endpoint active bus device endpoint) endpoints.now }
 {
     endpoints
         .iter()
         .copied()
-        .find(|e| is_endpoint(e, setting, bus, device, endpoint))
+        .find(|e| is_endpoint(e, active, bus, device, endpoint))
 }
 
-/// The interface of an endpoint of a device: none, if it isn't of the class HID; of an endpoint that isn't known, the
-/// endpoint's number and 256.
+/// What an interface of which only this endpoint is known has in place of its number.
+fn unread_interface(endpoint: u8) -> u16
+    ensures { result ≡ unread_interface endpoint }
+{
+    UNREAD + u16::from(endpoint)
+}
+
+/// The interface of an endpoint of a device: none, if it isn't of the class HID.
 pub(crate) fn interface_of(
     endpoints: &[InterruptEndpoint],
-    setting: Option<Configuration>,
+    active: Option<Configuration>,
     bus: u16,
     device: u16,
     endpoint: u8,
 ) -> Option<u16>
-    ensures { result ≡ source_of endpoint (find (is_endpoint setting bus device endpoint) endpoints.now) }
+    ensures { result ≡ source_of endpoint (find (is_endpoint active bus device endpoint) endpoints.now) }
 {
-    match endpoint_at(endpoints, setting, bus, device, endpoint) {
-        None => Some(256 + u16::from(endpoint)),
+    match endpoint_at(endpoints, active, bus, device, endpoint) {
+        None => Some(unread_interface(endpoint)),
         Some(found) => found.interface,
     }
 }
@@ -252,126 +272,217 @@ pub(crate) fn forget_boot(boots: &mut Vec<BootInterface>, bus: u16, device: u16,
 }
 
 /// Whether an interface with a number is this one.
-fn is_member(m: &Member, bus: u16, device: u16, interface: u16) -> bool
-    ensures { result ≡ is_member bus device interface m.now }
+fn is_interface(tracked: &TrackedInterface, bus: u16, device: u16, interface: u16) -> bool
+    ensures { result ≡ is_interface bus device interface tracked.now }
 {
-    m.bus == bus && m.device == device && m.interface == interface
+    tracked.bus == bus && tracked.device == device && tracked.interface == interface
 }
 
 /// Whether an interface is this one, and has a descriptor.
-fn has_descriptor_of(m: &Member, bus: u16, device: u16, interface: u16) -> bool
-    ensures { result ≡ has_descriptor_of bus device interface m.now }
+fn has_descriptor_of(tracked: &TrackedInterface, bus: u16, device: u16, interface: u16) -> bool
+    ensures { result ≡ has_descriptor_of bus device interface tracked.now }
 {
-    is_member(m, bus, device, interface) && m.is_described
+    is_interface(tracked, bus, device, interface) && tracked.is_described
+}
+
+/// Whether an interface is of this device, and has a descriptor.
+fn is_described_on(tracked: &TrackedInterface, bus: u16, device: u16) -> bool
+    ensures { result ≡ is_described_on bus device tracked.now }
+{
+    tracked.bus == bus && tracked.device == device && tracked.is_described
+}
+
+/// Whether an interface of a device has a descriptor.
+pub(crate) fn has_described(interfaces: &[TrackedInterface], bus: u16, device: u16) -> bool
+    ensures { result ≡ list_any (is_described_on bus device) interfaces.now }
+{
+    interfaces
+        .iter()
+        .any(|tracked| is_described_on(tracked, bus, device))
 }
 
 /// The number of an interface.
-pub(crate) fn number_of(members: &[Member], bus: u16, device: u16, interface: u16) -> Option<usize>
-    ensures { result ≡ position (is_member bus device interface) members.now }
-{
-    members
-        .iter()
-        .position(|m| is_member(m, bus, device, interface))
-}
-
-/// The number of an interface that has a descriptor.
-pub(crate) fn described_number_of(
-    members: &[Member],
+pub(crate) fn number_of(
+    interfaces: &[TrackedInterface],
     bus: u16,
     device: u16,
     interface: u16,
 ) -> Option<usize>
-    ensures { result ≡ position (has_descriptor_of bus device interface) members.now }
+    ensures { result ≡ position (is_interface bus device interface) interfaces.now }
 {
-    members
+    interfaces
         .iter()
-        .position(|m| has_descriptor_of(m, bus, device, interface))
+        .position(|tracked| is_interface(tracked, bus, device, interface))
+}
+
+/// The number of an interface that has a descriptor.
+pub(crate) fn described_number_of(
+    interfaces: &[TrackedInterface],
+    bus: u16,
+    device: u16,
+    interface: u16,
+) -> Option<usize>
+    ensures { result ≡ position (has_descriptor_of bus device interface) interfaces.now }
+{
+    interfaces.iter().position(|tracked| has_descriptor_of(tracked, bus, device, interface))
 }
 
 /// Whether an interface has no descriptor, so that its number may be another's.
-fn is_free(m: &Member) -> bool
-    ensures { result ≡ is_free m.now }
+fn is_free(tracked: &TrackedInterface) -> bool
+    ensures { result ≡ is_free tracked.now }
 {
-    !m.is_described
+    !tracked.is_described
 }
 
 /// The number of the first interface without a descriptor.
-fn free_number(members: &[Member]) -> Option<usize>
-    ensures value { result ≡ position is_free members.now }
-    ensures within { IfSome result (λ number. number < length members.now) }
+fn free_number(interfaces: &[TrackedInterface]) -> Option<usize>
+    ensures value { result ≡ position is_free interfaces.now }
+    ensures within { IfSome result (λ number. number < length interfaces.now) }
 {
-    members.iter().position(|m| is_free(m))
+    interfaces.iter().position(|tracked| is_free(tracked))
 }
 
 /// The number of one more interface: the next; or that of the first one without a descriptor, where no next is left.
-pub(crate) fn next_number(members: &[Member]) -> Option<usize>
-    requires { length members.now ≤ 16 }
-    ensures value { result ≡ next_number members.now }
-    ensures within { IfSome result (λ number. number ≤ length members.now) }
-    ensures few { IfSome result (λ number. number < 16) }
+pub(crate) fn next_number(interfaces: &[TrackedInterface]) -> Option<usize>
+    requires { length interfaces.now ≤ MAX_INTERFACES }
+    ensures value { result ≡ next_number interfaces.now }
+    ensures within { IfSome result (λ number. number ≤ length interfaces.now) }
+    ensures few { IfSome result (λ number. number < MAX_INTERFACES) }
 {
-    if members.len() < MAX_DEVICES {
-        return Some(members.len());
+    if interfaces.len() < MAX_INTERFACES {
+        return Some(interfaces.len());
     }
-    free_number(members)
+    free_number(interfaces)
 }
 
 /// An interface has this number.
-pub(crate) fn put_member(
-    members: &mut Vec<Member>,
+pub(crate) fn put_interface(
+    interfaces: &mut Vec<TrackedInterface>,
     number: usize,
-    member: Member,
+    tracked: TrackedInterface,
 ) -> Result<(), AllocError>
-    requires { number ≤ vec_len members.old }
-    ensures items { OnOk result (members.new.items ≡ members_with members.old.items number member) }
-    ensures few { vec_len members.old ≤ 16 → number < 16 → vec_len members.new ≤ 16 }
+    requires { number ≤ vec_len interfaces.old }
+    ensures items { OnOk result (interfaces.new.items ≡ interfaces_with interfaces.old.items number tracked) }
+    ensures few { vec_len interfaces.old ≤ MAX_INTERFACES → number < MAX_INTERFACES → vec_len interfaces.new ≤ MAX_INTERFACES }
 {
-    if number < members.len() {
-        members[number] = member;
+    if number < interfaces.len() {
+        interfaces[number] = tracked;
         return Ok(());
     }
-    members.push(member)?;
+    interfaces.push(tracked)?;
     Ok(())
 }
 
 /// Forgets the descriptors of a device.
-pub(crate) fn forget_descriptors(members: &mut [Member], bus: u16, device: u16)
-    ensures { members.new ≡ map (without_descriptor_on bus device) members.old }
+pub(crate) fn forget_descriptors(interfaces: &mut [TrackedInterface], bus: u16, device: u16)
+    ensures { interfaces.new ≡ map (without_descriptor_on bus device) interfaces.old }
 {
-    for m in members.iter_mut() {
-        forget_descriptor_on(m, bus, device);
+    for tracked in interfaces.iter_mut() {
+        forget_descriptor_on(tracked, bus, device);
+    }
+}
+
+/// Forgets the descriptors of a device, if it leaves its configuration.
+pub(crate) fn forget_left(interfaces: &mut [TrackedInterface], is_left: bool, bus: u16, device: u16)
+    ensures { interfaces.new ≡ interfaces_after_leaving is_left bus device interfaces.old }
+{
+    if is_left {
+        forget_descriptors(interfaces, bus, device);
     }
 }
 
 /// Forgets the descriptor of an interface, if it is of this device.
-fn forget_descriptor_on(m: &mut Member, bus: u16, device: u16)
-    ensures { m.new ≡ without_descriptor_on bus device m.old }
+fn forget_descriptor_on(tracked: &mut TrackedInterface, bus: u16, device: u16)
+    ensures { tracked.new ≡ without_descriptor_on bus device tracked.old }
 {
-    if m.bus == bus && m.device == device {
-        m.is_described = false;
+    if tracked.bus == bus && tracked.device == device {
+        tracked.is_described = false;
     }
 }
 
 /// An interface has a descriptor, or has none.
 pub(crate) fn set_described(
-    members: &mut [Member],
+    interfaces: &mut [TrackedInterface],
     bus: u16,
     device: u16,
     interface: u16,
     is_described: bool,
 )
-    ensures { members.new ≡ map (with_described bus device interface is_described) members.old }
+    ensures { interfaces.new ≡ map (with_described bus device interface is_described) interfaces.old }
 {
-    for m in members.iter_mut() {
-        set_member_described(m, bus, device, interface, is_described);
+    for tracked in interfaces.iter_mut() {
+        set_interface_described(tracked, bus, device, interface, is_described);
     }
 }
 
 /// An interface has a descriptor, or has none, if it is this one.
-fn set_member_described(m: &mut Member, bus: u16, device: u16, interface: u16, is_described: bool)
-    ensures { m.new ≡ with_described bus device interface is_described m.old }
+fn set_interface_described(
+    tracked: &mut TrackedInterface,
+    bus: u16,
+    device: u16,
+    interface: u16,
+    is_described: bool,
+)
+    ensures { tracked.new ≡ with_described bus device interface is_described tracked.old }
 {
-    if is_member(m, bus, device, interface) {
-        m.is_described = is_described;
+    if is_interface(tracked, bus, device, interface) {
+        tracked.is_described = is_described;
+    }
+}
+
+/// Whether an endpoint is in the configuration that is set, and it alone was known of this interface.
+fn is_endpoint_of(
+    e: &InterruptEndpoint,
+    active: Option<Configuration>,
+    tracked: TrackedInterface,
+) -> bool
+    ensures { result ≡ is_endpoint_of active tracked e.now }
+{
+    is_of_device(e, tracked.bus, tracked.device)
+        && unread_interface(e.endpoint) == tracked.interface
+        && may_be_active(active, &e.configuration)
+}
+
+/// The endpoint, in the configuration that is set, that alone was known of this interface.
+fn endpoint_of(
+    endpoints: &[InterruptEndpoint],
+    active: Option<Configuration>,
+    tracked: TrackedInterface,
+) -> Option<InterruptEndpoint>
+    ensures { result ≡ find (is_endpoint_of active tracked) endpoints.now }
+{
+    endpoints
+        .iter()
+        .copied()
+        .find(|e| is_endpoint_of(e, active, tracked))
+}
+
+/// An interface of which only an endpoint was known has its number, if a configuration was read that has the endpoint.
+fn number_interface(
+    tracked: &mut TrackedInterface,
+    active_configurations: &[Configuration],
+    endpoints: &[InterruptEndpoint],
+)
+    ensures { tracked.new ≡ with_interface_in active_configurations.now endpoints.now tracked.old }
+{
+    let active = active_configuration(active_configurations, tracked.bus, tracked.device);
+    let Some(found) = endpoint_of(endpoints, active, *tracked) else {
+        return;
+    };
+    if let Some(interface) = found.interface {
+        tracked.interface = interface;
+    }
+}
+
+/// Interfaces of which only endpoints were known have their numbers, as far as configurations were read.
+pub(crate) fn number_interfaces(
+    interfaces: &mut [TrackedInterface],
+    active_configurations: &[Configuration],
+    endpoints: &[InterruptEndpoint],
+)
+    ensures { interfaces.new ≡ map (with_interface_in active_configurations.now endpoints.now) interfaces.old }
+{
+    for tracked in interfaces.iter_mut() {
+        number_interface(tracked, active_configurations, endpoints);
     }
 }

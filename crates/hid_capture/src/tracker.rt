@@ -1,14 +1,16 @@
 //! What the URBs of a capture say of HID devices.
 
 ghost use Rattle.std.specs.Prelude.{◌≤◌, vec_len};
+ghost use Rattle.hid_capture.specs.declared.tables.TheConstants.{MAX_INTERFACES};
 
 use super::configuration::{Configuration, InterruptEndpoint, read_endpoints, whole_configuration};
 use super::request::{Request, request_of};
 use super::tables::{
-    BootInterface, MAX_KEPT, Member, PendingRequest, add_endpoints, described_number_of,
-    drop_request, forget_boot, forget_boots, forget_configuration, forget_descriptors,
-    forget_endpoints, forget_setting, interface_of, is_in_boot, keep_latest, leaves, next_number,
-    number_of, put_member, request_at, set_described, setting_of,
+    BootInterface, MAX_KEPT, PendingRequest, TrackedInterface, UNREAD, active_configuration,
+    add_endpoints, described_number_of, drop_request, forget_active_configuration, forget_boot,
+    forget_boots, forget_configuration, forget_descriptors, forget_endpoints, forget_left,
+    has_described, interface_of, is_in_boot, keep_latest, leaves, next_number, number_interfaces,
+    number_of, put_interface, request_at, set_described,
 };
 use std::alloc::{AllocError, Global};
 use usb_capture::{Direction, Transfer, Urb, UrbEvent};
@@ -24,14 +26,26 @@ const DEVICE_GONE: u32 = 0xC000_7000;
 pub enum Content {
     /// Nothing.
     Nothing,
-    /// Its data are a report descriptor of the device with this number.
-    Descriptor { device: u8 },
+    /// Its data are a report descriptor of the interface with this number.
+    Descriptor { interface: u8 },
+    /// Its data are a report descriptor of which some bytes weren't captured; the interface keeps the one that it has.
+    TruncatedDescriptor,
     /// Its data are a report descriptor of a seventeenth interface.
-    TooManyDevices,
-    /// Its data are a report of the device with this number.
-    Report { device: u8 },
-    /// Its data came by an interrupt transfer, and aren't known to be a report.
+    TooManyInterfaces,
+    /// Its data are a report of the interface with this number.
+    Report { interface: u8 },
+    /// Its data are a report of the interface with this number, of which some bytes weren't captured.
+    TruncatedReport { interface: u8 },
+    /// Its data came from a HID interface of which no descriptor is known.
+    Undescribed,
+    /// Its data came by an interrupt transfer, and aren't known to be a report: no configuration was read that has the endpoint,
+    /// or the interface is in the boot protocol.
     Unknown,
+    /// The interface with this number has no descriptor any more: its endpoint is gone.
+    InterfaceDisconnected { interface: u8 },
+    /// No interface of this device has a descriptor any more, and some had: another device has the address, or the device has
+    /// another configuration.
+    DeviceDisconnected { bus: u16, device: u16 },
 }
 
 /// What is known of the HID devices of a capture.
@@ -41,19 +55,19 @@ pub struct Tracker {
     requests: Vec<PendingRequest>,
     endpoints: Vec<InterruptEndpoint>,
     /// The configuration that is set on each device.
-    settings: Vec<Configuration>,
+    active_configurations: Vec<Configuration>,
     /// The interfaces in the boot protocol.
     boots: Vec<BootInterface>,
     /// The interfaces that have a number, each at that place.
-    members: Vec<Member>,
-    ghost few: { vec_len members ≤ 16 },
+    interfaces: Vec<TrackedInterface>,
+    ghost few: { vec_len interfaces ≤ MAX_INTERFACES },
 }
 
 impl Tracker {
     ghost use Rattle.std.specs.Prelude.{◌≡◌, ◌++◌, ◌≤◌, true, false, IfOk, OnOk, position, take, vec_len};
     ghost use Rattle.std.specs.List.{find};
     ghost use Rattle.hid_capture.specs.Descriptors.{whole_configuration};
-    ghost use Rattle.hid_capture.specs.Tracking.{has_id, is_member, nothing_known, outcome_as, tracking_of, outcome, outcome_of_given, outcome_of_answer, outcome_of_descriptor, outcome_of_completion, outcome_of_submission, outcome_of_stall, outcome_of_failure, with_address, with_configuration, with_protocol, with_endpoints, with_answer, content_of_bytes, source};
+    ghost use Rattle.hid_capture.specs.Tracking.{has_id, is_interface, nothing_known, outcome_as, tracking_of, outcome, outcome_of_given, outcome_of_answer, outcome_of_address, outcome_of_configuration, outcome_of_description, outcome_of_descriptor, outcome_of_completion, outcome_of_submission, outcome_of_stall, outcome_of_failure, outcome_of_shutdown, disconnection, content_of_leaving, with_protocol, with_endpoints, with_answer, content_of_bytes, has_data, source};
     ghost use Rattle.usb_capture.specs.UrbRecord.{urb_record};
 
     /// A tracker of a capture of which nothing has come.
@@ -64,17 +78,17 @@ impl Tracker {
             alloc,
             requests: Vec::new(alloc),
             endpoints: Vec::new(alloc),
-            settings: Vec::new(alloc),
+            active_configurations: Vec::new(alloc),
             boots: Vec::new(alloc),
-            members: Vec::new(alloc),
+            interfaces: Vec::new(alloc),
         }
     }
 
     /// The interfaces that have a number, each at that place.
-    pub fn members(&self) -> &[Member]
-        ensures { result.now ≡ (tracking_of self.now).members }
+    pub fn interfaces(&self) -> &[TrackedInterface]
+        ensures { result.now ≡ (tracking_of self.now).interfaces }
     {
-        self.members.as_slice()
+        self.interfaces.as_slice()
     }
 
     /// Takes the next URB, and answers what it says of reports.
@@ -136,13 +150,30 @@ impl Tracker {
         match urb.transfer {
             Transfer::Control => drop_request(&mut self.requests, urb.bus, urb.device, urb.id),
             Transfer::Interrupt if status == SHUTDOWN || status == DEVICE_GONE => {
-                if let Some(interface) = self.source(urb) {
-                    set_described(&mut self.members, urb.bus, urb.device, interface, false);
-                }
+                return self.disconnect(urb);
             }
             _ => {}
         }
         Content::Nothing
+    }
+
+    /// The endpoint of an interface is gone: its descriptor is forgotten.
+    fn disconnect(&mut self, urb: &Urb<'_>) -> Content
+        ensures { outcome_as result self.new ≡ outcome_of_shutdown
+            (tracking_of self.old) (urb_record urb.now)
+            (source (tracking_of self.old) urb.now.bus urb.now.device urb.now.endpoint) }
+    {
+        let Some(interface) = self.source(urb.bus, urb.device, urb.endpoint) else {
+            return Content::Nothing;
+        };
+        let number = described_number_of(&self.interfaces, urb.bus, urb.device, interface);
+        set_described(&mut self.interfaces, urb.bus, urb.device, interface, false);
+        match number {
+            Some(number) => Content::InterfaceDisconnected {
+                interface: number as u8,
+            },
+            None => Content::Nothing,
+        }
     }
 
     /// A control transfer is completed.
@@ -164,15 +195,19 @@ impl Tracker {
             ≡ outcome_of_answer (tracking_of self.old) (urb_record urb.now) request) }
     {
         match request {
-            Request::SetAddress { address } => self.forget_device(urb.bus, u16::from(address)),
-            Request::SetConfiguration { value } => self.set_configuration(Configuration {
-                bus: urb.bus,
-                device: urb.device,
-                value,
-            })?,
-            Request::GetConfiguration => self.read_configuration(urb)?,
+            Request::SetAddress { address } => {
+                return Ok(self.forget_device(urb.bus, u16::from(address)));
+            }
+            Request::SetConfiguration { value } => {
+                return self.set_configuration(Configuration {
+                    bus: urb.bus,
+                    device: urb.device,
+                    value,
+                });
+            }
+            Request::GetConfigurationDescriptor => self.read_configuration(urb)?,
             Request::GetReportDescriptor { interface } => {
-                return self.describe(urb, u16::from(interface));
+                return self.take_descriptor(urb, u16::from(interface));
             }
             Request::SetProtocol { interface, is_boot } => {
                 self.set_protocol(urb, u16::from(interface), is_boot)?;
@@ -182,30 +217,58 @@ impl Tracker {
         Ok(Content::Nothing)
     }
 
-    /// A device gets an address: nothing is known of the device there.
-    fn forget_device(&mut self, bus: u16, device: u16)
-        ensures { tracking_of self.new ≡ with_address (tracking_of self.old) bus device }
+    /// What is said where the descriptors of a device are forgotten.
+    fn disconnection(&self, bus: u16, device: u16) -> Content
+        ensures { result ≡ disconnection (tracking_of self.now) bus device }
     {
+        if has_described(&self.interfaces, bus, device) {
+            return Content::DeviceDisconnected { bus, device };
+        }
+        Content::Nothing
+    }
+
+    /// What is said of a device that leaves its configuration, if it does.
+    fn content_of_leaving(&self, is_left: bool, bus: u16, device: u16) -> Content
+        ensures { result ≡ content_of_leaving (tracking_of self.now) is_left bus device }
+    {
+        if is_left {
+            return self.disconnection(bus, device);
+        }
+        Content::Nothing
+    }
+
+    /// A device gets an address: nothing is known of the device there.
+    fn forget_device(&mut self, bus: u16, device: u16) -> Content
+        ensures { outcome_as result self.new ≡ outcome_of_address (tracking_of self.old) bus device }
+    {
+        let content = self.disconnection(bus, device);
         forget_endpoints(&mut self.endpoints, bus, device);
-        forget_setting(&mut self.settings, bus, device);
+        forget_active_configuration(&mut self.active_configurations, bus, device);
         forget_boots(&mut self.boots, bus, device);
-        forget_descriptors(&mut self.members, bus, device);
+        forget_descriptors(&mut self.interfaces, bus, device);
+        content
     }
 
     /// A configuration is set.
-    fn set_configuration(&mut self, configuration: Configuration) -> Result<(), AllocError>
-        ensures { OnOk result (tracking_of self.new
-            ≡ with_configuration (tracking_of self.old) configuration) }
+    fn set_configuration(&mut self, configuration: Configuration) -> Result<Content, AllocError>
+        ensures { IfOk result (λ content. outcome_as content self.new
+            ≡ outcome_of_configuration (tracking_of self.old) configuration) }
     {
         let Configuration { bus, device, value } = configuration;
-        if leaves(setting_of(&self.settings, bus, device), value) {
-            forget_descriptors(&mut self.members, bus, device);
-        }
+        let active = active_configuration(&self.active_configurations, bus, device);
+        let is_left = leaves(active, value);
+        let content = self.content_of_leaving(is_left, bus, device);
+        forget_left(&mut self.interfaces, is_left, bus, device);
         forget_boots(&mut self.boots, bus, device);
-        forget_setting(&mut self.settings, bus, device);
-        keep_latest(&mut self.settings, MAX_KEPT);
-        self.settings.push(configuration)?;
-        Ok(())
+        forget_active_configuration(&mut self.active_configurations, bus, device);
+        keep_latest(&mut self.active_configurations, MAX_KEPT);
+        self.active_configurations.push(configuration)?;
+        number_interfaces(
+            &mut self.interfaces,
+            &self.active_configurations,
+            &self.endpoints,
+        );
+        Ok(content)
     }
 
     /// An interface is put into the boot protocol, or into the report protocol.
@@ -257,87 +320,114 @@ impl Tracker {
     {
         let found = read_endpoints(self.alloc, configuration, bytes)?;
         forget_configuration(&mut self.endpoints, configuration);
-        add_endpoints(&mut self.endpoints, found.as_slice())
+        add_endpoints(&mut self.endpoints, found.as_slice())?;
+        number_interfaces(
+            &mut self.interfaces,
+            &self.active_configurations,
+            &self.endpoints,
+        );
+        Ok(())
+    }
+
+    /// A report descriptor of an interface came.
+    fn take_descriptor(&mut self, urb: &Urb<'_>, interface: u16) -> Result<Content, AllocError>
+        ensures { IfOk result (λ content. outcome_as content self.new
+            ≡ outcome_of_description (tracking_of self.old) (urb_record urb.now) interface urb.now.is_truncated) }
+    {
+        if urb.is_truncated {
+            return Ok(Content::TruncatedDescriptor);
+        }
+        self.describe(urb.bus, urb.device, interface)
     }
 
     /// An interface has a descriptor: it has this number, if there is one for it.
-    fn describe(&mut self, urb: &Urb<'_>, interface: u16) -> Result<Content, AllocError>
+    fn describe(&mut self, bus: u16, device: u16, interface: u16) -> Result<Content, AllocError>
         ensures { IfOk result (λ content. outcome_as content self.new
-            ≡ outcome_of_descriptor (tracking_of self.old) (urb_record urb.now) interface
-            (position (is_member urb.now.bus urb.now.device interface) self.old.members.items)) }
+            ≡ outcome_of_descriptor (tracking_of self.old) bus device interface
+            (position (is_interface bus device interface) self.old.interfaces.items)) }
     {
-        if let Some(number) = number_of(&self.members, urb.bus, urb.device, interface) {
-            set_described(&mut self.members, urb.bus, urb.device, interface, true);
+        if let Some(number) = number_of(&self.interfaces, bus, device, interface) {
+            set_described(&mut self.interfaces, bus, device, interface, true);
             return Ok(Content::Descriptor {
-                device: number as u8,
+                interface: number as u8,
             });
         }
-        let Some(number) = next_number(&self.members) else {
-            return Ok(Content::TooManyDevices);
+        let Some(number) = next_number(&self.interfaces) else {
+            return Ok(Content::TooManyInterfaces);
         };
-        put_member(
-            &mut self.members,
+        put_interface(
+            &mut self.interfaces,
             number,
-            Member {
-                bus: urb.bus,
-                device: urb.device,
+            TrackedInterface {
+                bus,
+                device,
                 interface,
                 is_described: true,
             },
         )?;
         Ok(Content::Descriptor {
-            device: number as u8,
+            interface: number as u8,
         })
     }
 
-    /// The interface that the bytes of a transfer come from: its number, or that of an endpoint and 256; none, if the
-    /// interface isn't of the class HID.
-    fn source(&self, urb: &Urb<'_>) -> Option<u16>
-        ensures { result ≡ source (tracking_of self.now) (urb_record urb.now) }
+    /// The interface of an interrupt IN endpoint; none, if it isn't of the class HID.
+    fn source(&self, bus: u16, device: u16, endpoint: u8) -> Option<u16>
+        ensures { result ≡ source (tracking_of self.now) bus device endpoint }
     {
-        let setting = setting_of(&self.settings, urb.bus, urb.device);
-        interface_of(&self.endpoints, setting, urb.bus, urb.device, urb.endpoint)
+        let active = active_configuration(&self.active_configurations, bus, device);
+        interface_of(&self.endpoints, active, bus, device, endpoint)
+    }
+
+    /// Whether a transfer had data: of a truncated frame they may be missing.
+    fn has_data(urb: &Urb<'_>) -> bool
+        ensures { result ≡ has_data (urb_record urb.now) }
+    {
+        !urb.payload.is_empty() || urb.is_truncated
     }
 
     /// Bytes came by an interrupt transfer.
     fn receive(&self, urb: &Urb<'_>) -> Content
-        ensures { result ≡ content_of_bytes
-            (tracking_of self.now) (urb_record urb.now) urb.now.direction urb.now.payload.now }
+        ensures { result ≡ content_of_bytes (tracking_of self.now) (urb_record urb.now) urb.now.direction }
     {
-        if urb.direction == Direction::Out || urb.payload.is_empty() {
+        if urb.direction == Direction::Out || !Tracker::has_data(urb) {
             return Content::Nothing;
         }
-        let Some(interface) = self.source(urb) else {
+        let Some(interface) = self.source(urb.bus, urb.device, urb.endpoint) else {
             return Content::Nothing;
         };
         if is_in_boot(&self.boots, urb.bus, urb.device, interface) {
             return Content::Unknown;
         }
-        match described_number_of(&self.members, urb.bus, urb.device, interface) {
-            Some(number) => Content::Report {
-                device: number as u8,
+        match described_number_of(&self.interfaces, urb.bus, urb.device, interface) {
+            Some(number) if urb.is_truncated => Content::TruncatedReport {
+                interface: number as u8,
             },
+            Some(number) => Content::Report {
+                interface: number as u8,
+            },
+            None if interface < UNREAD => Content::Undescribed,
             None => Content::Unknown,
         }
     }
 
-    /// The interface that the bytes of a transfer come from has a descriptor that is given for it: [`Content::Descriptor`]
-    /// where it has a number then, else [`Content::TooManyDevices`]; [`Content::Nothing`] if it isn't of the class HID, or
-    /// is in the boot protocol.
+    /// The interface of an interrupt IN endpoint has a descriptor that is given for it: [`Content::Descriptor`] where it has a
+    /// number then, else [`Content::TooManyInterfaces`]; [`Content::Nothing`] if it isn't of the class HID, or is in the boot
+    /// protocol. Where no configuration was read that has the endpoint, it is taken for one of a HID interface: only the user
+    /// can know that.
     ///
     /// # Errors
     /// [`AllocError`] if memory runs out for what is to be kept.
     #[tactic(auto, unfolding(crate::specs::Tracking::outcome_of_given))]
-    pub fn adopt(&mut self, urb: &Urb<'_>) -> Result<Content, AllocError>
+    pub fn adopt(&mut self, bus: u16, device: u16, endpoint: u8) -> Result<Content, AllocError>
         ensures content { IfOk result (λ content.
-            outcome_as content self.new ≡ outcome_of_given (tracking_of self.old) (urb_record urb.now)) }
+            outcome_as content self.new ≡ outcome_of_given (tracking_of self.old) bus device endpoint) }
     {
-        let Some(interface) = self.source(urb) else {
+        let Some(interface) = self.source(bus, device, endpoint) else {
             return Ok(Content::Nothing);
         };
-        if is_in_boot(&self.boots, urb.bus, urb.device, interface) {
+        if is_in_boot(&self.boots, bus, device, interface) {
             return Ok(Content::Nothing);
         }
-        self.describe(urb, interface)
+        self.describe(bus, device, interface)
     }
 }

@@ -1,5 +1,6 @@
 //! The captures of files, a line for each frame, in the columns of `tools/compare/tshark-lines`.
 
+use hid_capture::{Content, Tracker};
 use std::alloc::Global;
 use std::io::{Read, Write};
 use std::{env, fs};
@@ -33,6 +34,7 @@ fn add_file(rt: &HostRuntime, text: &mut String, name: &str) -> Result<(), Unpri
     let mut file = fs::open(rt, name).map_err(|_| Unprinted)?;
     let mut lines = Lines {
         capture: Capture::new(rt.alloc()),
+        tracker: Tracker::new(rt.alloc()),
         count: 0,
     };
     let mut piece = [0u8; 4096];
@@ -46,10 +48,11 @@ fn add_file(rt: &HostRuntime, text: &mut String, name: &str) -> Result<(), Unpri
     Err(Unprinted)
 }
 
-/// A capture, and how many frames came.
+/// A capture, what is known of the HID devices in it, and how many frames came.
 #[derive(Drop)]
 struct Lines {
     capture: Capture,
+    tracker: Tracker,
     count: u64,
 }
 
@@ -64,7 +67,7 @@ impl Lines {
             rest = rest.get(taken..).unwrap_or(&[]);
             if let Some(frame) = self.capture.frame() {
                 self.count = self.count.saturating_add(1);
-                add_line(text, self.count, &frame)?;
+                add_line(text, &mut self.tracker, self.count, &frame)?;
             }
             if rest.is_empty() {
                 break;
@@ -82,18 +85,28 @@ impl Lines {
     }
 }
 
-/// Appends a frame: its number, time, captured length and length, and its URB.
-fn add_line(text: &mut String, number: u64, frame: &Frame<'_>) -> Result<(), Unprinted> {
+/// Appends a frame: its number, time, captured length and length, its URB, and what that says of HID devices.
+fn add_line(
+    text: &mut String,
+    tracker: &mut Tracker,
+    number: u64,
+    frame: &Frame<'_>,
+) -> Result<(), Unprinted> {
     let time = frame.time.unwrap_or(0);
     let seconds = time / 1_000_000_000;
     let nanoseconds = time % 1_000_000_000;
     write!(text, "{number} {seconds}.{nanoseconds:09}").map_err(|_| Unprinted)?;
     let captured = frame.bytes.len();
-    write!(text, " {captured} {}", frame.length).map_err(|_| Unprinted)?;
+    write!(text, " {captured} {}", frame.original_length).map_err(|_| Unprinted)?;
     match read_urb(frame) {
-        Ok(urb) => add_urb(text, &urb),
-        Err(fault) => writeln!(text, " {fault}").map_err(|_| Unprinted),
+        Ok(urb) => {
+            add_urb(text, &urb)?;
+            let content = tracker.take(&urb).map_err(|_| Unprinted)?;
+            add_content(text, content)?;
+        }
+        Err(fault) => write!(text, " {fault}").map_err(|_| Unprinted)?,
     }
+    writeln!(text).map_err(|_| Unprinted)
 }
 
 /// The number that usbmon and USBPcap have for a type of transfer.
@@ -133,7 +146,28 @@ fn add_urb(text: &mut String, urb: &Urb<'_>) -> Result<(), Unprinted> {
     if urb.transfer == Transfer::Interrupt && !urb.payload.is_empty() {
         add_bytes(text, urb.payload)?;
     }
-    writeln!(text).map_err(|_| Unprinted)
+    Ok(())
+}
+
+/// Appends what a URB says of HID devices.
+fn add_content(text: &mut String, content: Content) -> Result<(), Unprinted> {
+    let added = match content {
+        Content::Nothing => Ok(()),
+        Content::Descriptor { interface } => write!(text, " descriptor {interface}"),
+        Content::TruncatedDescriptor => write!(text, " truncated descriptor"),
+        Content::TooManyInterfaces => write!(text, " too many interfaces"),
+        Content::Report { interface } => write!(text, " report {interface}"),
+        Content::TruncatedReport { interface } => write!(text, " truncated report {interface}"),
+        Content::Undescribed => write!(text, " undescribed"),
+        Content::Unknown => write!(text, " unknown"),
+        Content::InterfaceDisconnected { interface } => {
+            write!(text, " interface {interface} disconnected")
+        }
+        Content::DeviceDisconnected { bus, device } => {
+            write!(text, " device {bus}.{device} disconnected")
+        }
+    };
+    added.map_err(|_| Unprinted)
 }
 
 /// Appends bytes.

@@ -15,7 +15,7 @@ fn print_frame(printed: &mut String, frame: &Frame<'_>) -> Result<(), RowFault> 
     add(printed, " ")?;
     add_shown(printed, &frame.link)?;
     add(printed, " ")?;
-    add_shown(printed, &frame.length)?;
+    add_shown(printed, &frame.original_length)?;
     print_bytes(printed, frame.bytes)
 }
 

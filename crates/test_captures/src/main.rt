@@ -1,10 +1,11 @@
 //! Plays the tables of standard input (`stdin`), which are worked out by hand, and prints the frames and URBs of the captures
-//! that its arguments name (`data`), as tshark printed them (`stdout`): the tests of `usb_capture` and `hid_capture`.
+//! that its arguments name (`data`), with the descriptors and reports among them, as tshark printed them (`stdout`): the tests of
+//! `usb_capture` and `hid_capture`.
 //! ```text
 //!   stdin --> test_rows::run --> each row that is wrong, and how many tables and rows there were
 //!                     |
 //!                     +-- question, given --> Questions: frames, cuts, changes, urb; TrackerSteps: tracked
-//!   data  --> usb_capture --> a line for each frame
+//!   data  --> usb_capture --> hid_capture --> a line for each frame
 //! ```
 //! The rule to know: `stdout` has the rows' last line and tshark's lines, so a row that is wrong or lost is seen.
 #![tactic(auto)]

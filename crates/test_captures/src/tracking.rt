@@ -22,10 +22,10 @@ impl TrackerSteps {
         }
     }
 
-    /// Takes a URB, or the descriptor that is given for its interface.
+    /// Takes a URB, or a descriptor that is given for the interface of its endpoint.
     fn take(&mut self, is_given: bool, urb: &Urb<'_>) -> Result<Content, RowFault> {
         if is_given {
-            Ok(self.tracker.adopt(urb)?)
+            Ok(self.tracker.adopt(urb.bus, urb.device, urb.endpoint)?)
         } else {
             Ok(self.tracker.take(urb)?)
         }
@@ -67,7 +67,7 @@ fn setup_of(word: &str, bytes: &[u8]) -> Option<[u8; 8]> {
 }
 
 impl Subject for TrackerSteps {
-    /// `EVENT BUS.DEVICE NUMBER | BYTES`: NUMBER is the id of a control transfer, or an endpoint's number.
+    /// `EVENT BUS.DEVICE NUMBER [truncated] | BYTES`: NUMBER is the id of a control transfer, or an endpoint's number.
     fn step(
         &mut self,
         printed: &mut String,
@@ -77,7 +77,8 @@ impl Subject for TrackerSteps {
         let (head, body) = split(given, '|');
         let bytes = bytes_of(table, body)?;
         let (word, place) = split(head, ' ');
-        let (place, number) = split(place, ' ');
+        let (place, rest) = split(place, ' ');
+        let (number, truncated) = split(rest, ' ');
         let (bus, device) = split(place, '.');
         let (transfer, direction, event) = event_of(word)?;
         let urb = Urb {
@@ -90,6 +91,7 @@ impl Subject for TrackerSteps {
             event,
             setup: setup_of(word, &bytes),
             payload: &bytes,
+            is_truncated: truncated == "truncated",
         };
         let content = self.take(word == "give", &urb)?;
         print_debug(printed, &content)

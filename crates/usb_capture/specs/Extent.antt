@@ -50,11 +50,12 @@ length_extent n =
     else if n % 4 == 0 then (if nat_lt 16777216 n then Err TooLong else Ok n)
     else Err BadLength
 
--- the length of a section header
+-- the length of a section header in this byte order
 abbrev pub ordered_extent : Option ByteOrder → List ℕ → Result ℕ Cause
 ordered_extent None head = Err BadOrder
 ordered_extent (Some order) head = length_extent (field order 4 4 head)
 
+-- the length of a section header, in the byte order that it names
 abbrev pub section_extent : List ℕ → Result ℕ Cause
 section_extent head = ordered_extent (section_order head) head
 

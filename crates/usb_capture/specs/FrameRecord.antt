@@ -4,13 +4,13 @@ use Rattle.usb_capture.specs.declared.field.ByteOrder.{ByteOrder}
 use Rattle.usb_capture.specs.declared.frame.Frame.{Frame}
 use Rattle.usb_capture.specs.declared.reading.FrameHead.{FrameHead}
 
--- place of its block, time in nanoseconds since 1970, link type, byte order of its numbers, length, and what was captured of it
+-- place of its block, time in nanoseconds since 1970, link type, byte order of its numbers, original length, and what was captured of it
 pub record FrameRecord : Type 0 where
   pub at : ℕ
   pub time : Option ℕ
   pub link : ℕ
   pub order : ByteOrder
-  pub length : ℕ
+  pub original_length : ℕ
   pub bytes : List ℕ
 
 -- a frame that a capture shows, with its bytes as a list
@@ -20,7 +20,7 @@ frame_record frame = record {
   time = frame.time;
   link = frame.link;
   order = frame.order;
-  length = frame.length;
+  original_length = frame.original_length;
   bytes = frame.bytes.now;
 }
 
@@ -32,6 +32,6 @@ frame_in at block (Some head) = Some (record {
   time = head.time;
   link = head.link;
   order = head.order;
-  length = head.length;
+  original_length = head.original_length;
   bytes = take head.captured (drop head.from block);
 })

@@ -1,7 +1,7 @@
 -- Pcap files (draft-ietf-opsawg-pcap, 4 and 5).
 --
---   header, 24   0 magic number, 4 | 4 version 2, 2 | 6 version 4, 2 | 8 unused, 8 | 16 longest frame, 4 | 20 link type, 4
---   record       0 seconds, 4 | 4 parts of a second, 4 | 8 captured length, 4 | 12 length, 4 | 16 the frame
+--   header, 24   0 magic number, 4 | 4 version 2, 2 | 6 version 4, 2 | 8 unused, 8 | 16 SnapLen, 4 | 20 link type, 4
+--   record       0 seconds, 4 | 4 parts of a second, 4 | 8 captured length, 4 | 12 original length, 4 | 16 the frame
 use Rattle.std.specs.Prelude.{ℕ, ◌+◌, ◌-◌, ◌*◌, ◌%◌, ◌^◌, ◌==◌, ◌&&◌, nat_lt, if◌then◌else◌, List, length, Some, Result, Ok, Err}
 use Rattle.usb_capture.specs.declared.fault.Cause.{Cause}
 use Rattle.usb_capture.specs.declared.fault.Cause.TheVariants.{BadVersion, TooShort}
@@ -36,7 +36,7 @@ record_reading order fraction link block = Captured (record {
   time = Some (record_time fraction (field order 0 4 block) (field order 4 4 block));
   link = link;
   order = order;
-  length = field order 12 4 block;
+  original_length = field order 12 4 block;
   from = 16;
   captured = length block - 16;
 })

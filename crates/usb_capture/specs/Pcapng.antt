@@ -2,11 +2,11 @@
 --
 --   block                   0 type, 4 | 4 length, 4 | its fields | its length again, 4
 --   section header          0A0D0D0A | 8 byte-order magic, 4 | 12 version 1, 2 | 14 minor version 0 or 2, 2 | 16 section length, 8 | options
---   interface description   1 | 8 link type, 2 | 10 unused, 2 | 12 longest frame, 4 | 16 options
+--   interface description   1 | 8 link type, 2 | 10 unused, 2 | 12 SnapLen, 4 | 16 options
 --   packet (old)            2 | 8 interface, 2 | 10 drops, 2 | as an enhanced packet from 12 on
---   simple packet           3 | 8 length, 4 | 12 the frame
---   enhanced packet         6 | 8 interface, 4 | 12 ticks, higher half, 4 | 16 lower half, 4 | 20 captured length, 4 | 24 length, 4
---                             | 28 the frame | options
+--   simple packet           3 | 8 original length, 4 | 12 the frame
+--   enhanced packet         6 | 8 interface, 4 | 12 timestamp, upper half, 4 | 16 lower half, 4 | 20 captured length, 4
+--                             | 24 original length, 4 | 28 the frame | options
 use Rattle.std.specs.Prelude.{ℕ, ◌+◌, ◌-◌, ◌*◌, ◌^◌, min, Bool, ◌==◌, ◌&&◌, ◌||◌, nat_lt, if◌then◌else◌, List, length, take, drop, slice_get, Option, Some, None, Result, Ok, Err}
 use Rattle.usb_capture.specs.declared.fault.Cause.{Cause}
 use Rattle.usb_capture.specs.declared.fault.Cause.TheVariants.{BadOrder, BadTrailer, TooShort, BadVersion, TooManyInterfaces, NoInterface, CutFrame}
@@ -39,6 +39,7 @@ section_by (Some order) block =
     else Err BadVersion)
     else Err BadTrailer
 
+-- a section header, in the byte order that it names
 abbrev pub section_reading : List ℕ → Result Reading Cause
 section_reading block = section_by (section_order block) block
 
@@ -50,7 +51,7 @@ microseconds = record { rate = 1000000; offset = 0 }
 abbrev pub description_of : ByteOrder → List ℕ → Result Clock Cause → Result Reading Cause
 description_of order block (Err cause) = Err cause
 description_of order block (Ok clock) =
-    Ok (Described (record { link = field order 8 2 block; longest = field order 12 4 block; clock = clock }))
+    Ok (Described (record { link = field order 8 2 block; snap_len = field order 12 4 block; clock = clock }))
 
 -- the description of an interface, after so many others
 unfoldable pub interface_reading : ByteOrder → ℕ → List ℕ → Result Reading Cause
@@ -69,33 +70,35 @@ packet_of order (Some interface) block =
       time = time_of interface.clock (field order 12 4 block * 2 ^ 32 + field order 16 4 block);
       link = interface.link;
       order = order;
-      length = field order 24 4 block;
+      original_length = field order 24 4 block;
       from = 28;
       captured = field order 20 4 block;
     }))
 
+-- an enhanced or an old packet of the interface with this number
 unfoldable pub packet_reading : ByteOrder → List Interface → ℕ → List ℕ → Result Reading Cause
 packet_reading order interfaces n block =
     if nat_lt (length block) 32 then Err TooShort else packet_of order (slice_get interfaces n) block
 
 -- how many bytes of a frame an interface captures; 0 is no limit
 abbrev pub captured_of : ℕ → ℕ → ℕ
-captured_of longest n = if longest == 0 then n else min longest n
+captured_of snap_len n = if snap_len == 0 then n else min snap_len n
 
--- a simple packet, which is of the first interface and has no time
+-- the frame of a simple packet of the first interface, if the section has it; it has no time
 abbrev pub simple_of : ByteOrder → Option Interface → List ℕ → Result Reading Cause
 simple_of order None block = Err NoInterface
 simple_of order (Some interface) block =
-    if nat_lt (length block) (16 + captured_of interface.longest (field order 8 4 block)) then Err CutFrame
+    if nat_lt (length block) (16 + captured_of interface.snap_len (field order 8 4 block)) then Err CutFrame
     else Ok (Captured (record {
       time = None;
       link = interface.link;
       order = order;
-      length = field order 8 4 block;
+      original_length = field order 8 4 block;
       from = 12;
-      captured = captured_of interface.longest (field order 8 4 block);
+      captured = captured_of interface.snap_len (field order 8 4 block);
     }))
 
+-- a simple packet
 unfoldable pub simple_reading : ByteOrder → List Interface → List ℕ → Result Reading Cause
 simple_reading order interfaces block =
     if nat_lt (length block) 16 then Err TooShort else simple_of order (slice_get interfaces 0) block

@@ -18,7 +18,7 @@ pub record Place : Type 0 where
   pub at : ℕ
   pub begun : List ℕ
 
--- The begin of a capture: no byte has come.
+-- The beginning of a capture: no byte has come.
 abbrev pub begin : Place
 begin = record { known = record { format = Unknown; interfaces = [] }; at = 0; begun = [] }
 

@@ -39,19 +39,21 @@ pub record Known : Type 0 where
   pub format : Format
   pub interfaces : List Interface
 
--- what is known after a block: a section begins without interfaces
+-- the form of a capture after a block
 abbrev pub format_after : Format → Reading → Format
 format_after format (Begins begun) = begun
 format_after format (Described interface) = format
 format_after format (Captured head) = format
 format_after format PassedOver = format
 
+-- the interfaces of a section after a block: it begins without any
 abbrev pub interfaces_after : List Interface → Reading → List Interface
 interfaces_after interfaces (Begins begun) = []
 interfaces_after interfaces (Described interface) = interfaces ++ interface ∷ []
 interfaces_after interfaces (Captured head) = interfaces
 interfaces_after interfaces PassedOver = interfaces
 
+-- what is known after a block
 abbrev pub known_after : Known → Reading → Known
 known_after known content =
     record { format = format_after known.format content; interfaces = interfaces_after known.interfaces content }

@@ -15,10 +15,10 @@ with_offset offset time =
     else if nat_lt time ((2 ^ 64 - offset) * 10 ^ 9) then None
     else within (time - (2 ^ 64 - offset) * 10 ^ 9)
 
--- The time after so many ticks, rounded down; a clock that doesn't tick has none. Example: 1500000 ticks of a millionth are 1500000000
+-- The time of a timestamp, which counts ticks, rounded down; a clock that doesn't tick has none. Example: 1500000 ticks of a millionth are 1500000000
 unfoldable pub time_of : Clock → ℕ → Option ℕ
-time_of clock ticks =
-    if clock.rate == 0 then None else with_offset clock.offset (ticks * 10 ^ 9 / clock.rate)
+time_of clock timestamp =
+    if clock.rate == 0 then None else with_offset clock.offset (timestamp * 10 ^ 9 / clock.rate)
 
 -- the ticks of a second: a power of 10, or with the highest bit set one of 2, as far as 64 bits have it
 unfoldable pub clock_rate : ℕ → Result ℕ Cause

@@ -9,7 +9,8 @@ use Rattle.usb_capture.specs.declared.urb.UrbEvent.{UrbEvent}
 use Rattle.usb_capture.specs.declared.urb.UrbEvent.TheVariants.{Completed, Stalled, Failed}
 use Rattle.usb_capture.specs.declared.urb_fault.UrbFault.{UrbFault}
 
--- id, bus, device's address, endpoint's number, direction, transfer, event, SETUP packet, and the data that were captured
+-- id, bus, device's address, endpoint's number, direction, transfer, event, SETUP packet, the data that were captured, and whether
+-- some of the frame is missing
 pub record UrbRecord : Type 0 where
   pub id : ℕ
   pub bus : ℕ
@@ -20,6 +21,7 @@ pub record UrbRecord : Type 0 where
   pub event : UrbEvent
   pub setup : Option (List ℕ)
   pub payload : List ℕ
+  pub is_truncated : Bool
 
 -- a URB that a frame gives, with its bytes as lists
 abbrev pub urb_record : Urb → UrbRecord
@@ -33,6 +35,7 @@ urb_record urb = record {
   event = urb.event;
   setup = urb.setup;
   payload = urb.payload.now;
+  is_truncated = urb.is_truncated;
 }
 
 -- what was read is what the definition reads
@@ -49,22 +52,25 @@ transfer_of number =
     else if number == 3 then Some Bulk
     else None
 
+-- a control transfer
 abbrev pub is_control : Transfer → Bool
 is_control Isochronous = false
 is_control Interrupt = false
 is_control Control = true
 is_control Bulk = false
 
+-- an isochronous transfer
 abbrev pub is_isochronous : Transfer → Bool
 is_isochronous Isochronous = true
 is_isochronous Interrupt = false
 is_isochronous Control = false
 is_isochronous Bulk = false
 
--- the number of an endpoint and its direction, by its address: bit 7 is set where data go to the host
+-- the number of an endpoint, by its address
 abbrev pub endpoint_of : ℕ → ℕ
 endpoint_of address = address % 128
 
+-- the direction of an endpoint, by its address: bit 7 is set where data go to the host
 abbrev pub direction_of : ℕ → Direction
 direction_of address = if nat_lt address 128 then Out else In
 

@@ -6,7 +6,7 @@
 --   | a description of 16 bytes for each of these | the data
 --
 -- The lengths at 32 and 36 and the flag at 15 are not looked at: QEMU writes others than usbmon.
-use Rattle.std.specs.Prelude.{ℕ, ◌+◌, ◌*◌, ◌==◌, ◌&&◌, nat_lt, if◌then◌else◌, List, length, take, drop, Option, Some, None, Result, Ok, Err}
+use Rattle.std.specs.Prelude.{ℕ, ◌+◌, ◌*◌, ◌==◌, ◌&&◌, nat_lt, if◌then◌else◌, Bool, List, length, take, drop, Option, Some, None, Result, Ok, Err}
 use Rattle.usb_capture.specs.declared.field.ByteOrder.{ByteOrder}
 use Rattle.usb_capture.specs.declared.urb.Transfer.{Transfer}
 use Rattle.usb_capture.specs.declared.urb.UrbEvent.{UrbEvent}
@@ -36,8 +36,8 @@ isochronous_bytes order size transfer bytes =
     if (size == 64) && is_isochronous transfer then 16 * field order 60 4 bytes else 0
 
 -- a URB whose data begin at the place `from`
-unfoldable pub usbmon_record : ByteOrder → ℕ → List ℕ → UrbEvent → Transfer → UrbRecord
-usbmon_record order from bytes event transfer = record {
+unfoldable pub usbmon_record : ByteOrder → ℕ → List ℕ → Bool → UrbEvent → Transfer → UrbRecord
+usbmon_record order from bytes truncated event transfer = record {
   id = field order 0 8 bytes;
   bus = field order 12 2 bytes;
   device = byte 11 bytes;
@@ -47,18 +47,19 @@ usbmon_record order from bytes event transfer = record {
   event = event;
   setup = usbmon_setup transfer bytes;
   payload = drop from bytes;
+  is_truncated = truncated;
 }
 
--- a frame that has its header
-abbrev pub usbmon_by : ByteOrder → ℕ → List ℕ → Option UrbEvent → Option Transfer → Result UrbRecord UrbFault
-usbmon_by order size bytes None transfer = Err BadEvent
-usbmon_by order size bytes (Some event) None = Err BadTransfer
-usbmon_by order size bytes (Some event) (Some transfer) =
+-- a frame that has its header, by what came of the URB and by its transfer
+abbrev pub usbmon_by : ByteOrder → ℕ → List ℕ → Bool → Option UrbEvent → Option Transfer → Result UrbRecord UrbFault
+usbmon_by order size bytes truncated None transfer = Err BadEvent
+usbmon_by order size bytes truncated (Some event) None = Err BadTransfer
+usbmon_by order size bytes truncated (Some event) (Some transfer) =
     if nat_lt (length bytes) (size + isochronous_bytes order size transfer bytes) then Err TooShort
-    else Ok (usbmon_record order (size + isochronous_bytes order size transfer bytes) bytes event transfer)
+    else Ok (usbmon_record order (size + isochronous_bytes order size transfer bytes) bytes truncated event transfer)
 
--- the URB of a frame with a header of `size` bytes
-unfoldable pub usbmon_urb : ByteOrder → ℕ → List ℕ → Result UrbRecord UrbFault
-usbmon_urb order size bytes =
+-- the URB of a frame with a header of `size` bytes, of which these bytes were captured
+unfoldable pub usbmon_urb : ByteOrder → ℕ → List ℕ → Bool → Result UrbRecord UrbFault
+usbmon_urb order size bytes truncated =
     if nat_lt (length bytes) size then Err TooShort
-    else usbmon_by order size bytes (usbmon_event (byte 8 bytes) (field order 28 4 bytes)) (transfer_of (byte 9 bytes))
+    else usbmon_by order size bytes truncated (usbmon_event (byte 8 bytes) (field order 28 4 bytes)) (transfer_of (byte 9 bytes))

@@ -28,8 +28,8 @@ unfoldable pub has_setup : Transfer → List ℕ → Bool
 has_setup transfer bytes = is_control transfer && (byte 27 bytes == 0)
 
 -- a URB, by its header, its SETUP packet and its data
-unfoldable pub usbpcap_record : List ℕ → Transfer → UrbEvent → Option (List ℕ) → List ℕ → UrbRecord
-usbpcap_record header transfer event setup payload = record {
+unfoldable pub usbpcap_record : List ℕ → Bool → Transfer → UrbEvent → Option (List ℕ) → List ℕ → UrbRecord
+usbpcap_record header truncated transfer event setup payload = record {
   id = field Little 2 8 header;
   bus = field Little 17 2 header;
   device = field Little 19 2 header;
@@ -39,27 +39,29 @@ usbpcap_record header transfer event setup payload = record {
   event = event;
   setup = setup;
   payload = payload;
+  is_truncated = truncated;
 }
 
 -- a URB whose data may begin with a SETUP packet
-abbrev pub usbpcap_data : List ℕ → Transfer → UrbEvent → Bool → List ℕ → Result UrbRecord UrbFault
-usbpcap_data header transfer event false rest = Ok (usbpcap_record header transfer event None rest)
-usbpcap_data header transfer event true rest =
+abbrev pub usbpcap_data : List ℕ → Bool → Transfer → UrbEvent → Bool → List ℕ → Result UrbRecord UrbFault
+usbpcap_data header truncated transfer event false rest = Ok (usbpcap_record header truncated transfer event None rest)
+usbpcap_data header truncated transfer event true rest =
     if nat_lt (length rest) 8 then Err TooShort
-    else Ok (usbpcap_record header transfer event (Some (take 8 rest)) (drop 8 rest))
+    else Ok (usbpcap_record header truncated transfer event (Some (take 8 rest)) (drop 8 rest))
 
 -- a frame whose header has this length
-abbrev pub usbpcap_sized : List ℕ → Transfer → ℕ → Result UrbRecord UrbFault
-usbpcap_sized bytes transfer size =
+abbrev pub usbpcap_sized : List ℕ → Bool → Transfer → ℕ → Result UrbRecord UrbFault
+usbpcap_sized bytes truncated transfer size =
     if nat_lt size (header_least transfer) then Err TooShort
     else if nat_lt (length bytes) size then Err TooShort
-    else usbpcap_data bytes transfer (usbpcap_event (byte 16 bytes) (field Little 10 4 bytes)) (has_setup transfer bytes) (drop size bytes)
+    else usbpcap_data bytes truncated transfer (usbpcap_event (byte 16 bytes) (field Little 10 4 bytes)) (has_setup transfer bytes) (drop size bytes)
 
-abbrev pub usbpcap_by : List ℕ → Option Transfer → Result UrbRecord UrbFault
-usbpcap_by bytes None = Err BadTransfer
-usbpcap_by bytes (Some transfer) = usbpcap_sized bytes transfer (field Little 0 2 bytes)
+-- a frame whose transfer is of this type
+abbrev pub usbpcap_by : List ℕ → Bool → Option Transfer → Result UrbRecord UrbFault
+usbpcap_by bytes truncated None = Err BadTransfer
+usbpcap_by bytes truncated (Some transfer) = usbpcap_sized bytes truncated transfer (field Little 0 2 bytes)
 
--- the URB of a frame
-unfoldable pub usbpcap_urb : List ℕ → Result UrbRecord UrbFault
-usbpcap_urb bytes =
-    if nat_lt (length bytes) 27 then Err TooShort else usbpcap_by bytes (transfer_of (byte 22 bytes))
+-- the URB of a frame of which these bytes were captured
+unfoldable pub usbpcap_urb : List ℕ → Bool → Result UrbRecord UrbFault
+usbpcap_urb bytes truncated =
+    if nat_lt (length bytes) 27 then Err TooShort else usbpcap_by bytes truncated (transfer_of (byte 22 bytes))

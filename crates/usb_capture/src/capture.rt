@@ -128,7 +128,7 @@ impl Capture {
                 time: head.time,
                 link: head.link,
                 order: head.order,
-                length: head.length,
+                original_length: head.original_length,
                 bytes: &self.block[head.from..head.from + head.captured],
             }),
             _ => None,

@@ -21,13 +21,13 @@ pub(crate) const MICROSECONDS: Clock = Clock {
     offset: 0,
 };
 
-/// In nanoseconds since 1970: so many ticks of the clock. None where 64 bits have no such number, and of a clock
+/// A timestamp, which counts the clock's ticks, in nanoseconds since 1970. None where 64 bits have no such number, and of a clock
 /// that doesn't tick.
 #[tactic(auto, unfolding(crate::specs::Times::time_of))]
-pub(crate) fn time_of(clock: Clock, ticks: u64) -> Option<u64>
-    ensures { result ≡ time_of clock ticks }
+pub(crate) fn time_of(clock: Clock, timestamp: u64) -> Option<u64>
+    ensures { result ≡ time_of clock timestamp }
 {
-    let since = (ticks as u128 * SECOND).checked_div(clock.rate as u128)?;
+    let since = (timestamp as u128 * SECOND).checked_div(clock.rate as u128)?;
     let time = if clock.offset < NEGATIVE {
         since + clock.offset as u128 * SECOND
     } else {

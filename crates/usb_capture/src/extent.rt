@@ -20,7 +20,7 @@ const ORDER: u32 = 0x1A2B_3C4D;
 const SWAPPED_ORDER: u32 = 0x4D3C_2B1A;
 
 /// The bytes of a pcap header.
-const PCAP_HEADER: usize = 24;
+pub(crate) const PCAP_HEADER: usize = 24;
 
 /// The bytes of a pcap record before its frame.
 pub(crate) const RECORD_HEAD: usize = 16;

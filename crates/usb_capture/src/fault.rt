@@ -17,7 +17,7 @@ pub enum Cause {
     BadLength,
     /// K4: a block of pcapng, or the frame of a pcap record, of more than 16,777,216 bytes.
     TooLong,
-    /// K5: the length at the end of a block isn't that at its begin.
+    /// K5: the length at the end of a block isn't that at its beginning.
     BadTrailer,
     /// K6: a block is too short for the fields of its type.
     TooShort,

@@ -40,7 +40,7 @@ pub struct Clock {
 pub struct Interface {
     /// The link type of its frames.
     pub link: u16,
-    /// How many bytes of a frame are captured at most; 0 is no limit.
-    pub longest: u32,
+    /// SnapLen: how many bytes of a frame are captured at most; 0 is no limit.
+    pub snap_len: u32,
     pub clock: Clock,
 }

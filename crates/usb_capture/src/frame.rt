@@ -1,5 +1,9 @@
 //! A frame, as a capture has it.
 
+ghost use Rattle.std.specs.Prelude.{◌≡◌};
+ghost use Rattle.usb_capture.specs.FrameRecord.{frame_record};
+ghost use Rattle.usb_capture.specs.Urbs.{is_truncated};
+
 use super::field::ByteOrder;
 
 /// What was captured at one moment.
@@ -14,7 +18,16 @@ pub struct Frame<'a> {
     /// The order of the numbers of the capture, and so of usbmon's headers.
     pub order: ByteOrder,
     /// How many bytes it had; only some of them may have been captured.
-    pub length: u32,
+    pub original_length: u32,
     /// The bytes that were captured.
     pub bytes: &'a [u8],
+}
+
+impl<'a> Frame<'a> {
+    /// Whether fewer bytes were captured than it had.
+    pub fn is_truncated(&self) -> bool
+        ensures { result ≡ is_truncated (frame_record self.now) }
+    {
+        self.bytes.len() < self.original_length as usize
+    }
 }

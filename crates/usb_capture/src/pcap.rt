@@ -4,11 +4,26 @@ ghost use Rattle.std.specs.Prelude.{◌≡◌, ◌≤◌, length, IfOk};
 ghost use Rattle.usb_capture.specs.Pcap.{header_reading, record_reading, record_time};
 ghost use Rattle.usb_capture.specs.Reading.{HasFrame};
 
-use super::extent::RECORD_HEAD;
+use super::extent::{PCAP_HEADER, RECORD_HEAD};
 use super::fault::Cause;
 use super::field::{ByteOrder, u16_at, u32_at};
 use super::format::{Format, Fraction};
 use super::reading::{FrameHead, Reading};
+
+/// The version before the point.
+const MAJOR_VERSION: u16 = 2;
+
+/// The version after the point.
+const MINOR_VERSION: u16 = 4;
+
+/// How many values the lower half of the number has that begins with the link type.
+const LINK_TYPES: u32 = 0x1_0000;
+
+/// How many nanoseconds a second has.
+const SECOND: u64 = 1_000_000_000;
+
+/// How many nanoseconds a microsecond has.
+const MICROSECOND: u64 = 1_000;
 
 /// The header of a file.
 ///
@@ -23,14 +38,14 @@ pub(crate) fn read_header(
     ensures content { result ≡ header_reading order fraction block.now }
     ensures frame { IfOk result (λ content. HasFrame content (length block.now)) }
 {
-    if block.len() < 24 {
+    if block.len() < PCAP_HEADER {
         return Err(Cause::TooShort);
     }
-    if u16_at(order, block, 4) != 2 || u16_at(order, block, 6) != 4 {
+    if u16_at(order, block, 4) != MAJOR_VERSION || u16_at(order, block, 6) != MINOR_VERSION {
         return Err(Cause::BadVersion);
     }
     // The upper half is of check sequences, which captures of the bus have none of.
-    let link = (u32_at(order, block, 20) % 0x1_0000) as u16;
+    let link = (u32_at(order, block, 20) % LINK_TYPES) as u16;
     Ok(Reading::Begins(Format::Pcap {
         order,
         fraction,
@@ -44,10 +59,10 @@ fn record_time(fraction: Fraction, seconds: u32, parts: u32) -> u64
     ensures { result ≡ record_time fraction seconds parts }
 {
     let part = match fraction {
-        Fraction::Microseconds => 1_000,
+        Fraction::Microseconds => MICROSECOND,
         Fraction::Nanoseconds => 1,
     };
-    seconds as u64 * 1_000_000_000 + parts as u64 * part
+    seconds as u64 * SECOND + parts as u64 * part
 }
 
 /// A record.
@@ -61,7 +76,7 @@ pub(crate) fn read_record(order: ByteOrder, fraction: Fraction, link: u16, block
         time: Some(record_time(fraction, u32_at(order, block, 0), u32_at(order, block, 4))),
         link,
         order,
-        length: u32_at(order, block, 12),
+        original_length: u32_at(order, block, 12),
         from: RECORD_HEAD,
         captured: block.len() - RECORD_HEAD,
     })

@@ -28,6 +28,42 @@ const SIMPLE_PACKET: u32 = 3;
 /// The block type of an enhanced packet.
 const ENHANCED_PACKET: u32 = 6;
 
+/// The bytes of the length at the end of a block.
+const TRAILER: usize = 4;
+
+/// The bytes of a section header without options.
+const SECTION_HEADER: usize = 28;
+
+/// The version of a section before the point.
+const MAJOR_VERSION: u16 = 1;
+
+/// The first version of a section after the point.
+const FIRST_MINOR_VERSION: u16 = 0;
+
+/// A later version after the point, which readers treat as the first.
+const LATER_MINOR_VERSION: u16 = 2;
+
+/// The bytes of an interface description without options.
+const INTERFACE_DESCRIPTION: usize = 20;
+
+/// Where the options of an interface description begin.
+const INTERFACE_OPTIONS: usize = 16;
+
+/// The bytes of an enhanced packet, or of an old one, without its frame and its options.
+const PACKET_WITHOUT_FRAME: usize = 32;
+
+/// Where the frame of such a packet begins.
+const PACKET_FRAME: usize = 28;
+
+/// The bytes of a simple packet without its frame.
+const SIMPLE_PACKET_WITHOUT_FRAME: usize = 16;
+
+/// Where the frame of a simple packet begins.
+const SIMPLE_PACKET_FRAME: usize = 12;
+
+/// What the upper half of a timestamp counts.
+const UPPER_HALF: u64 = 0x1_0000_0000;
+
 /// The header of a section.
 ///
 /// # Errors
@@ -41,14 +77,16 @@ pub(crate) fn read_section(block: &[u8]) -> Result<Reading, Cause>
     let Some(order) = section_order(block) else {
         return Err(Cause::BadOrder);
     };
-    if u32_at(order, block, block.len() - 4) as usize != block.len() {
+    if u32_at(order, block, block.len() - TRAILER) as usize != block.len() {
         return Err(Cause::BadTrailer);
     }
-    if block.len() < 28 {
+    if block.len() < SECTION_HEADER {
         return Err(Cause::TooShort);
     }
     let minor = u16_at(order, block, 14);
-    if u16_at(order, block, 12) != 1 || (minor != 0 && minor != 2) {
+    if u16_at(order, block, 12) != MAJOR_VERSION
+        || (minor != FIRST_MINOR_VERSION && minor != LATER_MINOR_VERSION)
+    {
         return Err(Cause::BadVersion);
     }
     Ok(Reading::Begins(Format::Section { order }))
@@ -72,13 +110,13 @@ pub(crate) fn read_block(
     if kind == SECTION {
         return read_section(block);
     }
-    if u32_at(order, block, block.len() - 4) as usize != block.len() {
+    if u32_at(order, block, block.len() - TRAILER) as usize != block.len() {
         return Err(Cause::BadTrailer);
     }
     match kind {
         INTERFACE => read_interface(order, interfaces.len(), block),
         PACKET => {
-            if block.len() < 32 {
+            if block.len() < PACKET_WITHOUT_FRAME {
                 return Err(Cause::TooShort);
             }
             let interface = u16_at(order, block, 8) as usize;
@@ -86,7 +124,7 @@ pub(crate) fn read_block(
         }
         SIMPLE_PACKET => read_simple_packet(order, interfaces, block),
         ENHANCED_PACKET => {
-            if block.len() < 32 {
+            if block.len() < PACKET_WITHOUT_FRAME {
                 return Err(Cause::TooShort);
             }
             let interface = u32_at(order, block, 8) as usize;
@@ -102,16 +140,20 @@ fn read_interface(order: ByteOrder, count: usize, block: &[u8]) -> Result<Readin
     ensures content { result ≡ interface_reading order count block.now }
     ensures frame { IfOk result (λ content. HasFrame content (length block.now)) }
 {
-    if block.len() < 20 {
+    if block.len() < INTERFACE_DESCRIPTION {
         return Err(Cause::TooShort);
     }
     if count >= MAX_INTERFACES {
         return Err(Cause::TooManyInterfaces);
     }
-    let clock = read_clock(order, MICROSECONDS, &block[16..block.len() - 4])?;
+    let clock = read_clock(
+        order,
+        MICROSECONDS,
+        &block[INTERFACE_OPTIONS..block.len() - TRAILER],
+    )?;
     Ok(Reading::Described(Interface {
         link: u16_at(order, block, 8),
-        longest: u32_at(order, block, 12),
+        snap_len: u32_at(order, block, 12),
         clock,
     }))
 }
@@ -132,16 +174,16 @@ fn read_packet(
         return Err(Cause::NoInterface);
     }
     let captured = u32_at(order, block, 20) as usize;
-    if block.len() < 32 + captured {
+    if block.len() < PACKET_WITHOUT_FRAME + captured {
         return Err(Cause::CutFrame);
     }
-    let ticks = u32_at(order, block, 12) as u64 * 0x1_0000_0000 + u32_at(order, block, 16) as u64;
+    let timestamp = u32_at(order, block, 12) as u64 * UPPER_HALF + u32_at(order, block, 16) as u64;
     Ok(Reading::Captured(FrameHead {
-        time: time_of(interfaces[interface].clock, ticks),
+        time: time_of(interfaces[interface].clock, timestamp),
         link: interfaces[interface].link,
         order,
-        length: u32_at(order, block, 24),
-        from: 28,
+        original_length: u32_at(order, block, 24),
+        from: PACKET_FRAME,
         captured,
     }))
 }
@@ -156,28 +198,28 @@ fn read_simple_packet(
     ensures content { result ≡ simple_reading order interfaces.now block.now }
     ensures frame { IfOk result (λ content. HasFrame content (length block.now)) }
 {
-    if block.len() < 16 {
+    if block.len() < SIMPLE_PACKET_WITHOUT_FRAME {
         return Err(Cause::TooShort);
     }
     if interfaces.is_empty() {
         return Err(Cause::NoInterface);
     }
-    let length = u32_at(order, block, 8);
-    let longest = interfaces[0].longest;
-    let captured = if longest == 0 || length < longest {
-        length as usize
+    let original_length = u32_at(order, block, 8);
+    let snap_len = interfaces[0].snap_len;
+    let captured = if snap_len == 0 || original_length < snap_len {
+        original_length as usize
     } else {
-        longest as usize
+        snap_len as usize
     };
-    if block.len() < 16 + captured {
+    if block.len() < SIMPLE_PACKET_WITHOUT_FRAME + captured {
         return Err(Cause::CutFrame);
     }
     Ok(Reading::Captured(FrameHead {
         time: None,
         link: interfaces[0].link,
         order,
-        length,
-        from: 12,
+        original_length,
+        from: SIMPLE_PACKET_FRAME,
         captured,
     }))
 }

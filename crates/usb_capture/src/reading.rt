@@ -17,7 +17,8 @@ pub struct FrameHead {
     pub time: Option<u64>,
     pub link: u16,
     pub order: ByteOrder,
-    pub length: u32,
+    /// How many bytes the frame had.
+    pub original_length: u32,
     /// Where its bytes begin in the block.
     pub from: usize,
     /// How many bytes were captured.

@@ -68,6 +68,8 @@ pub struct Urb<'a> {
     pub setup: Option<[u8; 8]>,
     /// The data that were captured.
     pub payload: &'a [u8],
+    /// Whether fewer bytes of the frame were captured than it had: some of the data may be missing.
+    pub is_truncated: bool,
 }
 
 /// The type of a transfer, by the number that usbmon and USBPcap have for it.
@@ -116,10 +118,11 @@ pub(crate) fn event_of(status: u32, stall: u32) -> UrbEvent
 pub fn read_urb<'a>(frame: &Frame<'a>) -> Result<Urb<'a>, UrbFault>
     ensures { GivesUrb result (urb_of (frame_record frame.now)) }
 {
+    let is_truncated = frame.is_truncated();
     match frame.link {
-        USBMON_LONG => read_usbmon(frame.order, 64, frame.bytes),
-        USBMON => read_usbmon(frame.order, 48, frame.bytes),
-        USBPCAP => read_usbpcap(frame.bytes),
+        USBMON_LONG => read_usbmon(frame.order, 64, frame.bytes, is_truncated),
+        USBMON => read_usbmon(frame.order, 48, frame.bytes, is_truncated),
+        USBPCAP => read_usbpcap(frame.bytes, is_truncated),
         _ => Err(UrbFault::OtherLink),
     }
 }

@@ -63,9 +63,10 @@ pub(crate) fn read_usbmon<'a>(
     order: ByteOrder,
     size: usize,
     bytes: &'a [u8],
+    is_truncated: bool,
 ) -> Result<Urb<'a>, UrbFault>
     requires { (size ≡ 48) ⊎ (size ≡ 64) }
-    ensures { GivesUrb result (usbmon_urb order size bytes.now) }
+    ensures { GivesUrb result (usbmon_urb order size bytes.now is_truncated) }
 {
     if bytes.len() < size {
         return Err(UrbFault::TooShort);
@@ -91,5 +92,6 @@ pub(crate) fn read_usbmon<'a>(
         event,
         setup: setup_in(transfer, bytes),
         payload: &bytes[from..],
+        is_truncated,
     })
 }

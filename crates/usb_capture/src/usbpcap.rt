@@ -51,8 +51,8 @@ fn has_setup(transfer: Transfer, header: &[u8]) -> bool
 /// # Errors
 /// [`UrbFault::TooShort`] or [`UrbFault::BadTransfer`].
 #[tactic(auto, unfolding(crate::specs::Usbpcap::usbpcap_urb))]
-pub(crate) fn read_usbpcap<'a>(bytes: &'a [u8]) -> Result<Urb<'a>, UrbFault>
-    ensures { GivesUrb result (usbpcap_urb bytes.now) }
+pub(crate) fn read_usbpcap<'a>(bytes: &'a [u8], is_truncated: bool) -> Result<Urb<'a>, UrbFault>
+    ensures { GivesUrb result (usbpcap_urb bytes.now is_truncated) }
 {
     if bytes.len() < HEADER {
         return Err(UrbFault::TooShort);
@@ -67,9 +67,9 @@ pub(crate) fn read_usbpcap<'a>(bytes: &'a [u8]) -> Result<Urb<'a>, UrbFault>
     let event = event_by(byte_at(bytes, 16), u32_at(ByteOrder::Little, bytes, 10));
     let rest = &bytes[size..];
     if has_setup(transfer, bytes) {
-        return urb_with_setup(bytes, transfer, event, rest);
+        return urb_with_setup(bytes, is_truncated, transfer, event, rest);
     }
-    Ok(urb_of(bytes, transfer, event, None, rest))
+    Ok(urb_of(bytes, is_truncated, transfer, event, None, rest))
 }
 
 /// A URB whose data begin with the SETUP packet.
@@ -78,32 +78,41 @@ pub(crate) fn read_usbpcap<'a>(bytes: &'a [u8]) -> Result<Urb<'a>, UrbFault>
 /// [`UrbFault::TooShort`].
 fn urb_with_setup<'a>(
     header: &'a [u8],
+    is_truncated: bool,
     transfer: Transfer,
     event: UrbEvent,
     rest: &'a [u8],
 ) -> Result<Urb<'a>, UrbFault>
     requires { 27 ≤ length header.now }
-    ensures { GivesUrb result (usbpcap_data header.now transfer event true rest.now) }
+    ensures { GivesUrb result (usbpcap_data header.now is_truncated transfer event true rest.now) }
 {
     if rest.len() < 8 {
         return Err(UrbFault::TooShort);
     }
     let mut setup = [0u8; 8];
     setup.copy_from_slice(&rest[..8]);
-    Ok(urb_of(header, transfer, event, Some(setup), &rest[8..]))
+    Ok(urb_of(
+        header,
+        is_truncated,
+        transfer,
+        event,
+        Some(setup),
+        &rest[8..],
+    ))
 }
 
 /// A URB by its header, and by what was found out of it.
 #[tactic(auto, unfolding(crate::specs::Usbpcap::usbpcap_record))]
 fn urb_of<'a>(
     header: &'a [u8],
+    is_truncated: bool,
     transfer: Transfer,
     event: UrbEvent,
     setup: Option<[u8; 8]>,
     payload: &'a [u8],
 ) -> Urb<'a>
     requires { 27 ≤ length header.now }
-    ensures { urb_record result ≡ usbpcap_record header.now transfer event setup payload.now }
+    ensures { urb_record result ≡ usbpcap_record header.now is_truncated transfer event setup payload.now }
 {
     let endpoint = byte_at(header, 21);
     Urb {
@@ -116,5 +125,6 @@ fn urb_of<'a>(
         event,
         setup,
         payload,
+        is_truncated,
     }
 }

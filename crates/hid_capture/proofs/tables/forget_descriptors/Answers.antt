@@ -1,18 +1,18 @@
 use Rattle.std.proofs.Common.{◌<◌, ap, ◌∙◌, get_or, set, length, arith, false}
 use Rattle.std.proofs.lemmas.List.{get_or_default}
 use Rattle.std.proofs.lemmas.List.Edits.{map_over_more}
-use Rattle.hid_capture.specs.declared.tables.Member.{Member}
+use Rattle.hid_capture.specs.declared.tables.TrackedInterface.{TrackedInterface}
 use Rattle.hid_capture.specs.Tracking.{without_descriptor_on}
 use Rattle.hid_capture.proofs.tables.forget_descriptors.Goals as goal
 
-pub loop-m-preserved : goal.loop-m-preserved
-loop-m-preserved c =
-    let members = c.loop-m.members in
-    let i = c.loop-m.m-index in
-    let blank : Member = record { bus = 0; device = 0; interface = 0; is_described = false } in
-    let here : Member = get_or members i blank in
-    let within : i < length c.args.members.now = omega arith in
-    let kept : i < length members = omega arith in
-    ap (λ (m : Member). set members i m) c.forget_descriptor_on.ensures
-    ∙ map_over_more (without_descriptor_on c.args.bus c.args.device) c.args.members.now members i here within c.loop-m.invariant
-    (get_or_default members i blank here kept)
+pub loop-tracked-preserved : goal.loop-tracked-preserved
+loop-tracked-preserved c =
+    let interfaces = c.loop-tracked.interfaces in
+    let i = c.loop-tracked.tracked-index in
+    let blank : TrackedInterface = record { bus = 0; device = 0; interface = 0; is_described = false } in
+    let here : TrackedInterface = get_or interfaces i blank in
+    let within : i < length c.args.interfaces.now = omega arith in
+    let kept : i < length interfaces = omega arith in
+    ap (λ (tracked : TrackedInterface). set interfaces i tracked) c.forget_descriptor_on.ensures
+    ∙ map_over_more (without_descriptor_on c.args.bus c.args.device) c.args.interfaces.now interfaces i here within c.loop-tracked.invariant
+    (get_or_default interfaces i blank here kept)

@@ -3,5 +3,5 @@ use Rattle.hid_capture.specs.Tracking.{without_descriptor_on}
 use Rattle.hid_capture.proofs.tables.forget_descriptors.Given as goal
 
 -- the interfaces so far are as they should be
-abbrev pub invariant-loop-m : goal.invariant-loop-m
-invariant-loop-m l = l.members ≡ map (without_descriptor_on l.bus l.device) (take l.m-index l.fn.members) ++ drop l.m-index l.fn.members
+abbrev pub invariant-loop-tracked : goal.invariant-loop-tracked
+invariant-loop-tracked l = l.interfaces ≡ map (without_descriptor_on l.bus l.device) (take l.tracked-index l.fn.interfaces) ++ drop l.tracked-index l.fn.interfaces
