@@ -11,9 +11,9 @@ use Rattle.hid_host.specs.Ready.{ReadyHostState, ready_host_after_clear, ready_h
 use Rattle.hid_any_device.specs.Sender.{Readiness, ReportPieces, Sender, reply_at_host, sender_after_poll}
 use Rattle.hid_any_device.specs.Endpoint.{events_of_taken, host_of_taken, result_of_taken}
 
--- A step of the pipe: the device queues a report; or the host polls a device that sends, waits or is halted, and the poll
--- has this fate; or a halt of the endpoint is cleared, after which the device has these reports to send, whichever it
--- chooses (9.4.5).
+-- A step of the pipe. `Queues`: the device queues a report. `Polls`: the host polls a device that sends, waits or is halted,
+-- and the poll has this fate. `Clears`: a halt is cleared, and the device has these reports to send then, chosen freely
+-- (9.4.5).
 pub data PipeStep : Type 0 where
   Queues : ReportPieces → PipeStep
   Polls : Readiness → Fate → PipeStep

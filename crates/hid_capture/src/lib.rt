@@ -11,9 +11,9 @@
 //!   an endpoint that is gone          Content::InterfaceDisconnected, where its interface had a descriptor
 //! ```
 //! A request and its answer come in two URBs, which are joined by bus, device and the URB's id. QEMU has one id for all
-//! control transfers, which are one after another there. A device is known by bus and address. Everything is forgotten of it
-//! where another device gets its address (SET_ADDRESS), and its descriptors where it changes its configuration; that of an
-//! interface where its endpoint is gone. A player releases then what the device or the interface holds. Firmware speaks to a
+//! control transfers, which are one after another there. A device is known by bus and address. SET_ADDRESS of another device to
+//! its address forgets the device. A change of its configuration forgets its descriptors. An endpoint that is gone forgets its
+//! interface's descriptor. A player releases then what the device or the interface holds. Firmware speaks to a
 //! device first, and mostly reads no report descriptor: its reports are left alone.
 //!
 //! [`Tracker::adopt`] gives an interface a descriptor that isn't in the capture. Content::Undescribed is of a HID interface

@@ -98,10 +98,9 @@ impl Device {
         }
     }
 
-    /// A reset of the bus (USB 2.0, 7.1.7.5 and 9.1.1.3): it isn't configured, no request is open at its endpoint 0, the open
-    /// round ends, and so does a halt, parts last fixed are blank, counts of frames and idle times are 0, reports are in the
-    /// report protocol, and Output and Feature reports are zeros again. The snapshot stays, and so does the address. No memory
-    /// is taken.
+    /// A reset of the bus (USB 2.0, 7.1.7.5 and 9.1.1.3). It ends the configuration, the open request, the open round and a
+    /// halt. Parts last fixed are blank; counts of frames, idle times, and Output and Feature reports are 0. The report
+    /// protocol is set. The snapshot and the address stay. No memory is taken.
     pub fn reset(&mut self)
         ensures { self.new ≡ reset_device self.old }
     {

@@ -46,7 +46,7 @@ pipe_with_flow flow pipe = record pipe { flow = flow; receiving = without_collec
 abbrev pub event_of : ℕ → Event → DriverEvent
 event_of interface event = record { interface = interface; event = event }
 
--- a transfer of so many bytes has full packets alone, of which there are some (5.7.3)
+-- whether n bytes are one or more full packets, with no short one (5.7.3)
 abbrev pub is_full : ℕ → ℕ → Bool
 is_full packet_size came = not (came == 0) && (came % packet_size == 0)
 
@@ -80,8 +80,8 @@ report_end (Some len) = max len 1
 abbrev pub has_packet_past : ℕ → Option ℕ → ℕ → Bool
 has_packet_past packet_size begun came = nat_le (report_end begun + max packet_size 1) came
 
--- in bytes, the longest of the first so many reports of a layout, and at least the longest report of a bus, which is
--- awaited where bytes begin no report
+-- the length of the longest of the first n reports, in bytes, but not less than that of the longest report of a bus: so
+-- much is awaited of bytes that begin no report
 abbrev pub longest_of : Contents → ℕ → ℕ
 longest_of layout zero = MAX_REPORT_BYTES
 longest_of layout (suc count) = max (longest_of layout count) (report_bytes layout count)
@@ -118,7 +118,7 @@ transfer_outcome pipe bytes =
     if is_long pipe bytes then Err LongTransfer
     else transfer_told (packet_outcome (size_with pipe bytes) pipe.receiving bytes)
 
--- The receiver after a transfer. Of one that is too long, and of what came of its report before, nothing is kept.
+-- The receiver after a transfer. One that is too long is dropped, with the bytes kept of its report.
 abbrev pub receiving_after_transfer : PipeState → List ℕ → ReceiverState
 receiving_after_transfer pipe bytes =
     if is_long pipe bytes then without_collected pipe.receiving

@@ -33,7 +33,7 @@ transfers_of (report ∷ reports) = report_transfers report ++ transfers_of repo
 abbrev pub HasNonePast : ℕ → Contents → List ℕ → Type 0
 HasNonePast packet_size layout bytes = has_packet_past packet_size (length_begun layout bytes) (length bytes) ≡ false
 
--- whether the report that these bytes begin ends with its last transfer, of so many bytes
+-- whether the report that these bytes begin ends with its last transfer, of n bytes
 abbrev pub ends_after : ℕ → Contents → List ℕ → ℕ → Bool
 ends_after packet_size layout bytes last = transfer_ends packet_size (length_begun layout bytes) (length bytes) last
 

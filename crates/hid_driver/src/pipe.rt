@@ -72,7 +72,7 @@ pub(crate) fn longest_report(layout: &Layout) -> usize
     longest
 }
 
-/// Whether a transfer of so many bytes has full packets alone (USB 2.0, 5.7.3).
+/// Whether a transfer of n bytes has full packets alone (USB 2.0, 5.7.3).
 fn is_full(packet_size: u16, came: usize) -> bool
     requires { 0 < packet_size }
     ensures { result ≡ is_full packet_size came }
@@ -128,7 +128,7 @@ fn report_end(begun: Option<u16>) -> u16
     }
 }
 
-/// Whether a whole packet or more lies past the end of a report of which so many bytes came.
+/// Whether a whole packet or more lies past the end of a report of which n bytes came.
 fn has_packet_past(packet_size: u16, begun: Option<u16>, came: usize) -> bool
     ensures { result ≡ has_packet_past packet_size begun came }
 {
@@ -212,7 +212,7 @@ impl Pipe {
         Pipe::with_room(packet_size, room, receiver, events)
     }
 
-    /// The pipe of an endpoint with this receiver, once it has room for so many bytes. It takes what the receiver was made of,
+    /// The pipe of an endpoint with this receiver, once it has room for n bytes. It takes what the receiver was made of,
     /// so that its proof has one early return.
     fn with_room(
         packet_size: u16,

@@ -294,7 +294,7 @@ impl Gadget {
     }
 }
 
-/// How many pieces of so many bytes fit a room: all where the bytes do, else full ones.
+/// How many pieces of n bytes fit a room: all where the bytes do, else full ones.
 fn fitting(left: usize, room: usize) -> usize
     ensures { result ≡ (if nat_le left room then pieces_for left else room / 64) }
 {

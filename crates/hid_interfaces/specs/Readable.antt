@@ -7,8 +7,8 @@ use Rattle.hid_interfaces.specs.declared.interface.EndpointInfo.{EndpointInfo}
 use Rattle.hid_interfaces.specs.declared.interface.InterfaceInfo.{InterfaceInfo}
 use Rattle.hid_interfaces.specs.Interfaces.{is_shared, is_taken}
 
--- Why an endpoint can't be read: a full packet has no byte, or too many; or an interface has it that can be read and stands
--- before.
+-- Why an endpoint can't be read: wMaxPacketSize is 0 or over 1,024; or an earlier interface that can be read has the
+-- endpoint.
 abbrev pub endpoint_fault : List InterfaceInfo → EndpointInfo → Option InterfaceFault
 endpoint_fault earlier endpoint =
     if (endpoint.packet_size == 0) || nat_lt MAX_PACKET_SIZE endpoint.packet_size then Some PacketSize
@@ -25,8 +25,8 @@ fault_by_length earlier None endpoint = Some NoReportDescriptor
 fault_by_length earlier (Some len) endpoint =
     if len == 0 then Some NoReportDescriptor else fault_by_endpoint earlier endpoint
 
--- Why an interface can't be read, where these stand before it, which can be: one of them has its number; no report
--- descriptor, or an empty one; no endpoint; a size of packets that no endpoint has; or an endpoint that one of them has.
+-- Why an interface can't be read, beside the earlier ones that can be: one of them has its number; no report descriptor, or
+-- an empty one; no endpoint; a packet size that no endpoint has; or an endpoint that one of them has.
 abbrev pub interface_fault : List InterfaceInfo → InterfaceInfo → Option InterfaceFault
 interface_fault earlier info =
     if is_taken earlier info.number then Some SharedNumber else fault_by_length earlier info.report_length info.endpoint

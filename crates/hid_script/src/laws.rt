@@ -36,9 +36,9 @@ pub fn prefixes()
     one_attaching();
 }
 
-/// The headline, of the text that is printed: over all lines of a script, or all before the one at which a run ends and the
-/// first times of that one, the lines printed of a device's events are, in order, the texts of the events of its
-/// history from its attach on, with whatever happens to it there; of no other device are there any.
+/// The headline, of the text that is printed: for each device of a script, the lines printed of its events are the texts of
+/// the events of its history since its attach, in order. If a run ends early, this holds of the lines before the last one, and
+/// of the times of the last one that were done. No lines are printed of other devices.
 pub fn histories_are_printed()
     ensures lines { LinesPrintLives }
     ensures runs { RunsPrintLives }

@@ -131,9 +131,9 @@ pub fn transfers_are_whole()
 {}
 
 /// A report is delivered whole or not at all, and never from two rounds: a poll delivers the part that was fixed as the open
-/// round opened exactly where the last of its pieces crosses with it, and nothing before that or where that piece is repeated;
-/// and whatever comes between two pieces, changes, frames, polls of which packets are lost, requests and their tries, halts,
-/// clears and resets, the open round ends with it, or it is of the same report and the same part.
+/// round opened exactly where the last of its pieces crosses with it, and nothing before that or where that piece is repeated.
+/// Between two pieces anything may happen: changes, frames, polls of which packets are lost, requests and their tries, halts,
+/// clears and resets. After each the open round has ended, or it still carries the same part of the same report.
 pub fn reports_are_delivered_whole()
     ensures polls { (m : Member) (fate : Fate) → IsWholeOrNothing m fate }
     ensures rounds { (m : Member) (x : MemberStep) → KeepsToRound m x }
