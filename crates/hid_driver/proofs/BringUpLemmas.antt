@@ -22,7 +22,7 @@ use Rattle.hid_driver.specs.declared.state.DriverState.{DriverState}
 use Rattle.hid_driver.specs.declared.state.DriverState.TheVariants as states
 use Rattle.hid_driver.specs.declared.state.Moved.{Moved}
 use Rattle.hid_driver.specs.Answers.{ReportCame, device_answer, length_answer, status_answer}
-use Rattle.hid_driver.specs.BringUp.{MovesOn, waiting}
+use Rattle.hid_driver.specs.BringUp.{MovesOn, waiting_count}
 use Rattle.hid_driver.specs.Driver.{DriverValue, driver_at_start}
 use Rattle.hid_driver.specs.Interfaces.{has_halt, interfaces_after, is_halted, is_halted_flow, is_waiting, reading_by_fault, waits}
 use Rattle.hid_driver.specs.Moves.{ConfigurationMoves, Goes, IdleMoves, Moves, MovesAt, ReportMovesOf, Settles, driver_settled, driver_with_configuration, driver_with_next, settled_at}
@@ -49,44 +49,44 @@ waiting_unless b count is = ap (λ (t : Bool). cond t (count + 1) count) is
 
 -- one interface waits no more
 waiting_set : (xs : List Interface) (place : ℕ) (old new : Interface) → slice_get xs place ≡ Some old → is_waiting old ≡ true → is_waiting new ≡ false
-    → waiting (slice_set xs place new) + 1 ≡ waiting xs
+    → waiting_count (slice_set xs place new) + 1 ≡ waiting_count xs
 waiting_set [] place old new is waits ends = let wrong : None ≡ Some old = is in cc
 waiting_set (x ∷ xs) zero old new is waits ends =
     let same : x ≡ old = (let found : Some x ≡ Some old = is in cc) in
-    let before : waiting (x ∷ xs) ≡ waiting xs + 1 = waiting_if (is_waiting x) (waiting xs) (ap is_waiting same ∙ waits) in
-    let after : waiting (new ∷ xs) ≡ waiting xs = waiting_unless (is_waiting new) (waiting xs) ends in
+    let before : waiting_count (x ∷ xs) ≡ waiting_count xs + 1 = waiting_if (is_waiting x) (waiting_count xs) (ap is_waiting same ∙ waits) in
+    let after : waiting_count (new ∷ xs) ≡ waiting_count xs = waiting_unless (is_waiting new) (waiting_count xs) ends in
     ap (λ (n : ℕ). n + 1) after ∙ sym before
 waiting_set (x ∷ xs) (suc place) old new is waits ends = by_first (is_waiting x) (waiting_set xs place old new is waits ends)
   where
-    by_first : (b : Bool) → waiting (slice_set xs place new) + 1 ≡ waiting xs
-        → cond b (waiting (slice_set xs place new) + 1) (waiting (slice_set xs place new)) + 1 ≡ cond b (waiting xs + 1) (waiting xs)
+    by_first : (b : Bool) → waiting_count (slice_set xs place new) + 1 ≡ waiting_count xs
+        → cond b (waiting_count (slice_set xs place new) + 1) (waiting_count (slice_set xs place new)) + 1 ≡ cond b (waiting_count xs + 1) (waiting_count xs)
     by_first true e = ap (λ (n : ℕ). n + 1) e
     by_first false e = e
 
 -- where an interface is found, some wait
-waiting_at : (xs : List Interface) (place : ℕ) (old : Interface) → slice_get xs place ≡ Some old → is_waiting old ≡ true → 0 < waiting xs
+waiting_at : (xs : List Interface) (place : ℕ) (old : Interface) → slice_get xs place ≡ Some old → is_waiting old ≡ true → 0 < waiting_count xs
 waiting_at [] place old is waits = let wrong : None ≡ Some old = is in cc
 waiting_at (x ∷ xs) zero old is waits =
     let same : x ≡ old = (let found : Some x ≡ Some old = is in cc) in
-    let one : waiting (x ∷ xs) ≡ waiting xs + 1 = waiting_if (is_waiting x) (waiting xs) (ap is_waiting same ∙ waits) in
+    let one : waiting_count (x ∷ xs) ≡ waiting_count xs + 1 = waiting_if (is_waiting x) (waiting_count xs) (ap is_waiting same ∙ waits) in
     omega (arith, one)
 waiting_at (x ∷ xs) (suc place) old is waits = by_first (is_waiting x) (waiting_at xs place old is waits)
   where
-    by_first : (b : Bool) → 0 < waiting xs → 0 < cond b (waiting xs + 1) (waiting xs)
+    by_first : (b : Bool) → 0 < waiting_count xs → 0 < cond b (waiting_count xs + 1) (waiting_count xs)
     by_first true some = omega arith
     by_first false some = some
 
 -- where none is found, none waits
-none_by : (b : Bool) (xs : List Interface) (x : Interface) → (length xs ≤ position_or_len is_waiting xs → waiting xs ≡ 0)
-    → length (x ∷ xs) ≤ cond (not b) (1 + position_or_len is_waiting xs) 0 → cond b (waiting xs + 1) (waiting xs) ≡ 0
+none_by : (b : Bool) (xs : List Interface) (x : Interface) → (length xs ≤ position_or_len is_waiting xs → waiting_count xs ≡ 0)
+    → length (x ∷ xs) ≤ cond (not b) (1 + position_or_len is_waiting xs) 0 → cond b (waiting_count xs + 1) (waiting_count xs) ≡ 0
 none_by true xs x rest h = absurd (omega arith)
 none_by false xs x rest h = rest (omega arith)
 
-none_left : (xs : List Interface) → length xs ≤ position_or_len is_waiting xs → waiting xs ≡ 0
+none_left : (xs : List Interface) → length xs ≤ position_or_len is_waiting xs → waiting_count xs ≡ 0
 none_left [] past = refl
 none_left (x ∷ xs) past = none_by (is_waiting x) xs x (λ h. none_left xs h) past
 
-none_found : (xs : List Interface) → position is_waiting xs ≡ None → waiting xs ≡ 0
+none_found : (xs : List Interface) → position is_waiting xs ≡ None → waiting_count xs ≡ 0
 none_found xs none =
     elim (cases_lt (position_or_len is_waiting xs) (length xs)) [
       | inl before ↦
@@ -162,7 +162,7 @@ two_moves driver next after place o1 o2 m1 m2 idle first second =
 record GoesOn (driver : DriverValue) (count : ℕ) : Type 0 where
   state : driver.state ≡ next_state driver.interfaces
   quiet : AreQuiet driver.interfaces
-  waits : waiting driver.interfaces ≡ count
+  waits : waiting_count driver.interfaces ≡ count
 
 settled_goes : (place count : ℕ) (interface : Interface) (driver after : DriverValue) → slice_get driver.interfaces place ≡ Some interface
     → is_waiting interface ≡ true → GoesOn driver (suc count) → IsSettled place (record driver { state = states.Report place }) after → GoesOn after count
@@ -260,13 +260,13 @@ three_moves configured moves =
     subst IsConfigured (sym third.4) known
 
 -- Four transfers, and two for each interface that waits.
-pub brings_up : (configured after : DriverValue) → MovesOn 3 driver_at_start configured → MovesOn (1 + 2 * waiting configured.interfaces) configured after
+pub brings_up : (configured after : DriverValue) → MovesOn 3 driver_at_start configured → MovesOn (1 + 2 * waiting_count configured.interfaces) configured after
     → after.state ≡ states.Ready
 brings_up configured after first rest =
     let known = three_moves configured first in
-    let more : 1 + 2 * waiting configured.interfaces ≡ suc (2 * waiting configured.interfaces) = omega arith in
+    let more : 1 + 2 * waiting_count configured.interfaces ≡ suc (2 * waiting_count configured.interfaces) = omega arith in
     let moves = subst (λ (n : ℕ). MovesOn n configured after) more rest in
     let goes = goes_ok configured (λ (done : Unit {0}). record configured { state = next_state configured.interfaces }) (status_answer moves.0) moves.1 moves.2
     (subst (λ (s : DriverState). MovesAt s configured moves.0 (Ok moves.1) moves.2) known.state moves.3) in
-    comes_up (waiting configured.interfaces) moves.2 after
-    (subst (λ (d : DriverValue). GoesOn d (waiting configured.interfaces)) (sym goes.1) (record { state = refl; quiet = known.quiet; waits = refl })) moves.4
+    comes_up (waiting_count configured.interfaces) moves.2 after
+    (subst (λ (d : DriverValue). GoesOn d (waiting_count configured.interfaces)) (sym goes.1) (record { state = refl; quiet = known.quiet; waits = refl })) moves.4

@@ -25,7 +25,7 @@ use Rattle.hid_driver.specs.Holding.{ChangesOne, HoldsOn, IsDue, IsDueIn, KeepsA
 use Rattle.hid_driver.specs.Interfaces.{AreUnread, has_halt, is_waiting, pipe_of, reading_after_outcome, reading_with_flow, waits}
 use Rattle.hid_driver.specs.Moves.{ClearMovesOf, Goes, MovesAt, Moves, ProtocolMovesOf, ReportMovesOf, Settles, driver_refused, driver_with_configuration, flow_after_clear, interface_after_clear, reading_after_protocol, settled_at}
 use Rattle.hid_driver.specs.Answers.{device_answer, length_answer, status_answer}
-use Rattle.hid_driver.specs.Pipe.{PipeState, heard_pipe, pipe_with_flow}
+use Rattle.hid_driver.specs.Pipe.{PipeState, pipe_after_outcome, pipe_with_flow}
 use Rattle.hid_driver.specs.Requests.{next_state, state_by_halt, state_by_waiting}
 
 -- a list with one element changed, by place
@@ -222,7 +222,7 @@ pub ask_holds : (before : DriverValue) (place : ℕ) (ask : Ask) → IsDue befor
 ask_holds before place ask due = asked_holds before ask (ask_answer before place ask) due
 
 -- an interrupt transfer changes its own interface alone
-heard_pipe_of : (reading : Reading) (outcome : Outcome) → pipe_of (reading_after_outcome reading outcome) ≡ option_map (λ pipe. heard_pipe pipe outcome) (pipe_of reading)
+heard_pipe_of : (reading : Reading) (outcome : Outcome) → pipe_of (reading_after_outcome reading outcome) ≡ option_map (λ pipe. pipe_after_outcome pipe outcome) (pipe_of reading)
 heard_pipe_of Waiting outcome = refl
 heard_pipe_of (Open pipe) outcome = refl
 heard_pipe_of Boot outcome = refl
@@ -238,7 +238,7 @@ none_kept xs i j old outcome is none =
           ap (pipe_at (slice_set xs i (interface_after_outcome old outcome))) same
           ∙ pipe_set_same xs i old (interface_after_outcome old outcome) is
           ∙ heard_pipe_of old.reading outcome
-          ∙ ap (option_map (λ (pipe : PipeState). heard_pipe pipe outcome)) before
+          ∙ ap (option_map (λ (pipe : PipeState). pipe_after_outcome pipe outcome)) before
           )
       | inr apart ↦ pipe_set_other xs i j (interface_after_outcome old outcome) apart ∙ none
     ]
@@ -251,7 +251,7 @@ unread_set xs i old outcome is unread =
     let one : pipe_of old.reading ≡ None =
     subst (λ (x : Interface). pipe_of x.reading ≡ None) same (All-get_or (λ (x : Interface). pipe_of x.reading ≡ None) xs i old within unread) in
     All-set (λ (x : Interface). pipe_of x.reading ≡ None) xs i (interface_after_outcome old outcome)
-    (heard_pipe_of old.reading outcome ∙ ap (option_map (λ (pipe : PipeState). heard_pipe pipe outcome)) one) unread
+    (heard_pipe_of old.reading outcome ∙ ap (option_map (λ (pipe : PipeState). pipe_after_outcome pipe outcome)) one) unread
 
 keep_due : (state : DriverState) (xs : List Interface) (i : ℕ) (old : Interface) (outcome : Outcome) → slice_get xs i ≡ Some old → IsDueIn state xs
     → IsDueIn state (slice_set xs i (interface_after_outcome old outcome))
@@ -286,15 +286,15 @@ outcome_due state Stalled ys due = stall_due state ys due
 outcome_due state Failed ys due = due
 
 own_pipe : (xs : List Interface) (i : ℕ) (old : Interface) (outcome : Outcome) → slice_get xs i ≡ Some old
-    → pipe_at (slice_set xs i (interface_after_outcome old outcome)) i ≡ option_map (λ pipe. heard_pipe pipe outcome) (pipe_at xs i)
+    → pipe_at (slice_set xs i (interface_after_outcome old outcome)) i ≡ option_map (λ pipe. pipe_after_outcome pipe outcome) (pipe_at xs i)
 own_pipe xs i old outcome is =
     pipe_set_same xs i old (interface_after_outcome old outcome) is ∙ heard_pipe_of old.reading outcome
-    ∙ ap (option_map (λ (pipe : PipeState). heard_pipe pipe outcome)) (sym (pipe_here xs i old is))
+    ∙ ap (option_map (λ (pipe : PipeState). pipe_after_outcome pipe outcome)) (sym (pipe_here xs i old is))
 
-no_interface : (xs : List Interface) (i : ℕ) (outcome : Outcome) → slice_get xs i ≡ None → pipe_at xs i ≡ option_map (λ pipe. heard_pipe pipe outcome) (pipe_at xs i)
+no_interface : (xs : List Interface) (i : ℕ) (outcome : Outcome) → slice_get xs i ≡ None → pipe_at xs i ≡ option_map (λ pipe. pipe_after_outcome pipe outcome) (pipe_at xs i)
 no_interface xs i outcome is =
     let none : pipe_at xs i ≡ None = ap (λ (o : Option Interface). option_and_then (λ (x : Interface). pipe_of x.reading) o) is in
-    none ∙ ap (option_map (λ (pipe : PipeState). heard_pipe pipe outcome)) (sym none)
+    none ∙ ap (option_map (λ (pipe : PipeState). pipe_after_outcome pipe outcome)) (sym none)
 
 changes : (before : DriverValue) (place : ℕ) (outcome : Outcome) (o : Option Interface) → slice_get before.interfaces place ≡ o → IsDue before
     → ChangesOne before place outcome (driver_after_outcome before place outcome o)

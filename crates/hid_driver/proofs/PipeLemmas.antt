@@ -12,7 +12,7 @@ use Rattle.hid_usages.specs.Receiving.{ReceiverState, after_packet, is_whole, wi
 use Rattle.hid_driver.specs.declared.outcome.DriverEvent.{DriverEvent}
 use Rattle.hid_driver.specs.declared.outcome.Outcome.{Outcome}
 use Rattle.hid_driver.specs.declared.outcome.Outcome.TheVariants.{Done, Stalled, Failed}
-use Rattle.hid_driver.specs.Pipe.{PipeState, event_of, full_size, has_come, heard_pipe, is_full, is_live, is_long, length_begun, live_pipe, longest_of, size_with, transfer_ends}
+use Rattle.hid_driver.specs.Pipe.{PipeState, event_of, full_size, has_come, pipe_after_outcome, is_full, is_live, is_long, length_begun, live_pipe, longest_of, size_with, transfer_ends}
 
 -- the longest of one more report
 pub longest_more : (layout : Contents) (count : ℕ) → longest_of layout (count + 1) ≡ max (longest_of layout count) (report_bytes layout count)
@@ -34,7 +34,7 @@ heard_layout_if : (live : Bool) (pipe : PipeState) (outcome : Outcome)
 heard_layout_if true pipe outcome = live_layout pipe outcome
 heard_layout_if false pipe outcome = refl
 
-pub heard_layout : (pipe : PipeState) (outcome : Outcome) → (heard_pipe pipe outcome).receiving.layout ≡ pipe.receiving.layout
+pub heard_layout : (pipe : PipeState) (outcome : Outcome) → (pipe_after_outcome pipe outcome).receiving.layout ≡ pipe.receiving.layout
 heard_layout pipe outcome = heard_layout_if (is_live pipe.flow) pipe outcome
 
 -- by the size with which a transfer is received, a report ends where a transfer ends it

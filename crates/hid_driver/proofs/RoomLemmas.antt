@@ -13,7 +13,7 @@ use Rattle.hid_usages.specs.Reading.{bytes_awaited, first_byte, is_input_with, r
 use Rattle.hid_usages.specs.Receiving.{ReceiverState, after_packet, bytes_with, is_whole, without_collected}
 use Rattle.hid_driver.specs.declared.outcome.Outcome.{Outcome}
 use Rattle.hid_driver.specs.declared.outcome.Outcome.TheVariants.{Done, Stalled, Failed}
-use Rattle.hid_driver.specs.Pipe.{KeepsFew, PipeState, has_packet_past, heard_pipe, is_live, is_long, length_begun, live_pipe, longest_of, longest_report, pipe_at_start, report_end, size_with, transfer_room}
+use Rattle.hid_driver.specs.Pipe.{KeepsFew, PipeState, has_packet_past, pipe_after_outcome, is_live, is_long, length_begun, live_pipe, longest_of, longest_report, pipe_at_start, report_end, size_with, transfer_room}
 
 -- no report is longer than the longest one
 least_longest : (layout : Contents) (count : ℕ) → MAX_REPORT_BYTES ≤ longest_of layout count
@@ -135,7 +135,7 @@ heard_few_if : (live : Bool) (pipe : PipeState) (outcome : Outcome) → KeepsFew
 heard_few_if true pipe outcome few = live_few pipe outcome few
 heard_few_if false pipe outcome few = few
 
-pub heard_few : (pipe : PipeState) (outcome : Outcome) → KeepsFew pipe → KeepsFew (heard_pipe pipe outcome)
+pub heard_few : (pipe : PipeState) (outcome : Outcome) → KeepsFew pipe → KeepsFew (pipe_after_outcome pipe outcome)
 heard_few pipe outcome few = heard_few_if (is_live pipe.flow) pipe outcome few
 
 pub start_few : (packet_size : ℕ) (layout : Contents) → KeepsFew (pipe_at_start packet_size layout)

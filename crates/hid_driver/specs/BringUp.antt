@@ -8,9 +8,9 @@ use Rattle.hid_driver.specs.Interfaces.{is_waiting}
 use Rattle.hid_driver.specs.Moves.{Moves}
 
 -- how many interfaces wait for their report descriptor
-abbrev pub waiting : List Interface → ℕ
-waiting [] = 0
-waiting (interface ∷ rest) = if is_waiting interface then waiting rest + 1 else waiting rest
+abbrev pub waiting_count : List Interface → ℕ
+waiting_count [] = 0
+waiting_count (interface ∷ rest) = if is_waiting interface then waiting_count rest + 1 else waiting_count rest
 
 -- A number of moves, one after another: none refuses the device, and memory runs out at none.
 abbrev pub MovesOn : ℕ → DriverValue → DriverValue → Type 0

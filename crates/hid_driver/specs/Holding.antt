@@ -6,7 +6,7 @@ use Rattle.hid_driver.specs.declared.state.DriverState.{DriverState}
 use Rattle.hid_driver.specs.declared.state.DriverState.TheVariants.{Device, Length, Configuration, Configure, Idle, Report, Clear, Protocol, Asked, Ready, Refused}
 use Rattle.hid_driver.specs.Driver.{DriverValue}
 use Rattle.hid_driver.specs.Interfaces.{AreUnread, pipe_of}
-use Rattle.hid_driver.specs.Pipe.{PipeState, heard_pipe}
+use Rattle.hid_driver.specs.Pipe.{PipeState, pipe_after_outcome}
 
 -- what the reports of the interface at a place come out of, once they are laid out
 abbrev pub pipe_at : List Interface → ℕ → Option PipeState
@@ -46,7 +46,7 @@ pub record KeepsAll (before after : DriverValue) : Type 0 where
 -- An interrupt transfer changes what is held of its own interface alone, by the transfer.
 pub record ChangesOne (before : DriverValue) (place : ℕ) (outcome : Outcome) (after : DriverValue) : Type 0 where
   pub due : IsDue after
-  pub own : pipe_at after.interfaces place ≡ option_map (λ pipe. heard_pipe pipe outcome) (pipe_at before.interfaces place)
+  pub own : pipe_at after.interfaces place ≡ option_map (λ pipe. pipe_after_outcome pipe outcome) (pipe_at before.interfaces place)
   pub others : (other : ℕ) → other ≢ place → pipe_at after.interfaces other ≡ pipe_at before.interfaces other
 
 -- asking for a protocol changes what is held of that interface alone: nothing is held of it then

@@ -20,7 +20,7 @@ use Rattle.hid_driver.specs.declared.interface.Reading.TheVariants.{Waiting, Ope
 use Rattle.hid_driver.specs.declared.interface.Interface.{Interface}
 use Rattle.hid_driver.specs.declared.interface.InterfaceState.{InterfaceState}
 use Rattle.hid_driver.specs.declared.interface.InterfaceState.TheVariants as states
-use Rattle.hid_driver.specs.Pipe.{PipeState, event_of, events_back, heard_events, heard_outcome, heard_pipe, pipe_with_flow}
+use Rattle.hid_driver.specs.Pipe.{PipeState, event_of, events_back, pipe_events, pipe_outcome, pipe_after_outcome, pipe_with_flow}
 
 -- what is known of an interface whose descriptors are read: it waits, or it is refused
 abbrev pub reading_by_fault : Option InterfaceFault → Reading
@@ -121,21 +121,21 @@ total_room interfaces = sum_by event_room interfaces
 -- What an interrupt transfer of an interface returns: one whose reports aren't laid out, or may be boot reports, is
 -- refused.
 abbrev pub reading_outcome : Reading → Outcome → Result (Unit {0}) DriverFault
-reading_outcome (Open pipe) outcome = heard_outcome pipe outcome
+reading_outcome (Open pipe) outcome = pipe_outcome pipe outcome
 reading_outcome Waiting outcome = Err NotRead
 reading_outcome Boot outcome = Err BootProtocol
 reading_outcome (Refused cause) outcome = Err NotRead
 
 -- what an interrupt transfer leaves of it
 abbrev pub reading_after_outcome : Reading → Outcome → Reading
-reading_after_outcome (Open pipe) outcome = Open (heard_pipe pipe outcome)
+reading_after_outcome (Open pipe) outcome = Open (pipe_after_outcome pipe outcome)
 reading_after_outcome Waiting outcome = Waiting
 reading_after_outcome Boot outcome = Boot
 reading_after_outcome (Refused cause) outcome = Refused cause
 
 -- the events of an interrupt transfer of it
 abbrev pub reading_events : Reading → Outcome → List Event
-reading_events (Open pipe) outcome = heard_events pipe outcome
+reading_events (Open pipe) outcome = pipe_events pipe outcome
 reading_events Waiting outcome = []
 reading_events Boot outcome = []
 reading_events (Refused cause) outcome = []

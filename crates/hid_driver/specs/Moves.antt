@@ -138,9 +138,9 @@ ClearMoves place before outcome result after =
     ClearMovesOf place before outcome result after (slice_get before.interfaces place)
 
 -- what came of what was asked for
-abbrev pub answer_told : Result (Unit {0}) DriverFault → Result Moved DriverFault
-answer_told (Ok done) = Ok moves.Answered
-answer_told (Err fault) = Err fault
+abbrev pub answer_result : Result (Unit {0}) DriverFault → Result Moved DriverFault
+answer_result (Ok done) = Ok moves.Answered
+answer_result (Err fault) = Err fault
 
 -- an interface in the boot protocol, or in the report protocol, whose report descriptor is to be asked for
 abbrev pub reading_in_protocol : Bool → Reading
@@ -158,7 +158,7 @@ abbrev pub ProtocolMovesOf : ℕ → Bool → Bool → DriverValue → Outcome �
     → Type 0
 ProtocolMovesOf place boot was_boot before outcome result after None = HasNone before result after
 ProtocolMovesOf place boot was_boot before outcome result after (Some interface) =
-    (result ≡ answer_told (status_answer outcome))
+    (result ≡ answer_result (status_answer outcome))
     × (after ≡ driver_settled place (reading_after_protocol boot was_boot outcome) before)
 
 -- `Protocol`: the interface waits for its report descriptor, or sends boot reports; the others stay
@@ -169,7 +169,7 @@ ProtocolMoves place boot was_boot before outcome result after =
 -- `Asked`: whatever came, it is over
 abbrev pub AnswerMoves : DriverValue → Outcome → Result Moved DriverFault → DriverValue → Type 0
 AnswerMoves before outcome result after =
-    (result ≡ answer_told (status_answer outcome))
+    (result ≡ answer_result (status_answer outcome))
     × (after ≡ record before { state = next_state before.interfaces; asked = [] })
 
 -- what a driver does with the outcome of a control transfer, by the state in which it stands

@@ -108,15 +108,15 @@ abbrev pub size_with : PipeState → List ℕ → ℕ
 size_with pipe bytes = full_size pipe.packet_size (begun_with pipe.receiving bytes) (length bytes)
 
 -- what a transfer returns that is received
-abbrev pub transfer_told : Result Arrived ReportFault → Result (Unit {0}) DriverFault
-transfer_told (Ok arrived) = Ok tt
-transfer_told (Err fault) = Err (Report fault)
+abbrev pub transfer_result : Result Arrived ReportFault → Result (Unit {0}) DriverFault
+transfer_result (Ok arrived) = Ok tt
+transfer_result (Err fault) = Err (Report fault)
 
 -- What a transfer returns: it is too long; its report goes on; or the report ends, and is read or refused.
 abbrev pub transfer_outcome : PipeState → List ℕ → Result (Unit {0}) DriverFault
 transfer_outcome pipe bytes =
     if is_long pipe bytes then Err LongTransfer
-    else transfer_told (packet_outcome (size_with pipe bytes) pipe.receiving bytes)
+    else transfer_result (packet_outcome (size_with pipe bytes) pipe.receiving bytes)
 
 -- The receiver after a transfer. One that is too long is dropped, with the bytes kept of its report.
 abbrev pub receiving_after_transfer : PipeState → List ℕ → ReceiverState
@@ -159,16 +159,16 @@ live_events pipe outcomes.Stalled = []
 live_events pipe outcomes.Failed = []
 
 -- What an interrupt transfer returns: that of an endpoint that isn't live is refused.
-abbrev pub heard_outcome : PipeState → Outcome → Result (Unit {0}) DriverFault
-heard_outcome pipe outcome = if is_live pipe.flow then live_outcome pipe outcome else Err NotRead
+abbrev pub pipe_outcome : PipeState → Outcome → Result (Unit {0}) DriverFault
+pipe_outcome pipe outcome = if is_live pipe.flow then live_outcome pipe outcome else Err NotRead
 
 -- The pipe after an interrupt transfer: one that isn't live stays.
-abbrev pub heard_pipe : PipeState → Outcome → PipeState
-heard_pipe pipe outcome = if is_live pipe.flow then live_pipe pipe outcome else pipe
+abbrev pub pipe_after_outcome : PipeState → Outcome → PipeState
+pipe_after_outcome pipe outcome = if is_live pipe.flow then live_pipe pipe outcome else pipe
 
 -- The events of an interrupt transfer.
-abbrev pub heard_events : PipeState → Outcome → List Event
-heard_events pipe outcome = if is_live pipe.flow then live_events pipe outcome else []
+abbrev pub pipe_events : PipeState → Outcome → List Event
+pipe_events pipe outcome = if is_live pipe.flow then live_events pipe outcome else []
 
 -- the events that lead back to the initial view
 abbrev pub events_back : PipeState → List Event

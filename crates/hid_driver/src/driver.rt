@@ -3,7 +3,7 @@ ghost use Rattle.std.specs.Prelude.{◌≡◌, ◌≤◌, ◌<◌, ◌+◌, ◌+
 ghost use Rattle.hid_driver.specs.Driver.{IsTodo, data_awaited, state_after_outcome, ask_answer, ask_outcome, driver_after_ask, driver_after_protocol, driver_after_report, driver_at_start, driver_asking, events_asking, protocol_answer, protocol_events, protocol_outcome, report_events, report_outcome};
 ghost use Rattle.hid_driver.specs.Interfaces.{AreUnread, SetsReading, all_back_events, pipe_of, total_room};
 ghost use Rattle.hid_driver.specs.Requests.{next_state};
-ghost use Rattle.hid_driver.specs.Moves.{AnswerMoves, ClearMoves, ConfigurationMoves, ConfigureMoves, DeviceMoves, IdleMoves, LengthMoves, Moves, ProtocolMoves, ReportMoves, answer_told, driver_refused, driver_settled, reading_after_protocol};
+ghost use Rattle.hid_driver.specs.Moves.{AnswerMoves, ClearMoves, ConfigurationMoves, ConfigureMoves, DeviceMoves, IdleMoves, LengthMoves, Moves, ProtocolMoves, ReportMoves, answer_result, driver_refused, driver_settled, reading_after_protocol};
 ghost use Rattle.hid_driver.specs.declared.interface.Reading.TheVariants.{Open, Refused};
 ghost use Rattle.hid_driver.specs.declared.state.DriverState.TheVariants.{Configure};
 
@@ -147,8 +147,8 @@ fn reading_after_protocol(boot: bool, was_boot: bool, outcome: Outcome<'_>) -> R
 }
 
 /// What is returned of what was asked for.
-fn answer_told(status: Result<(), DriverFault>) -> Result<Moved, DriverFault>
-    ensures { result ≡ answer_told status }
+fn answer_result(status: Result<(), DriverFault>) -> Result<Moved, DriverFault>
+    ensures { result ≡ answer_result status }
 {
     match status {
         Ok(()) => Ok(Moved::Answered),
@@ -411,7 +411,7 @@ impl Driver {
             return Err(DriverFault::NoRequest);
         }
         self.close(interface, reading_after_protocol(boot, was_boot, outcome));
-        answer_told(status_answer(outcome))
+        answer_result(status_answer(outcome))
     }
 
     /// What was asked for is done, or refused.
@@ -420,7 +420,7 @@ impl Driver {
     {
         self.asked.clear();
         self.state = next_state(&self.interfaces);
-        answer_told(status_answer(outcome))
+        answer_result(status_answer(outcome))
     }
 
     /// What came of the control transfer that was to be made: the driver goes on by the table of [`DriverState`].

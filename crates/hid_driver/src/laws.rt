@@ -13,9 +13,9 @@ ghost use Rattle.hid_driver.specs.declared.state.Moved.{Moved};
 ghost use Rattle.hid_driver.specs.Driver.{DriverValue, driver_after_ask, driver_after_protocol, driver_after_report, driver_at_start, protocol_outcome};
 ghost use Rattle.hid_driver.specs.Holding.{ChangesOne, IsDue, KeepsAll, ReleasesOne};
 ghost use Rattle.hid_driver.specs.Moves.{Moves};
-ghost use Rattle.hid_driver.specs.BringUp.{MovesOn, waiting};
+ghost use Rattle.hid_driver.specs.BringUp.{MovesOn, waiting_count};
 ghost use Rattle.hid_driver.specs.VirtualDevices.{MovesBesideBy, VirtualDevice, ready_for};
-ghost use Rattle.hid_driver.specs.Pipe.{KeepsFew, PipeState, heard_pipe, is_long, pipe_at_start};
+ghost use Rattle.hid_driver.specs.Pipe.{KeepsFew, PipeState, pipe_after_outcome, is_long, pipe_at_start};
 ghost use Rattle.hid_driver.specs.Transfers.{DeliversReports, IsReport, Last, ReportEnds, ReportsEnd, SentReport, cut_in_packets, sent_bytes};
 
 use hid_report_descriptor::laws::{accepted_or_refused, one_reading, real_accepts_bus};
@@ -60,7 +60,7 @@ pub fn nothing_is_forgotten()
 /// A transfer of at most a packet is never too long, whatever came before it: what is kept of a report leaves room for one.
 pub fn packets_have_room()
     ensures begins { (packet_size : ℕ) (layout : Contents) → KeepsFew (pipe_at_start packet_size layout) }
-    ensures stays { (pipe : PipeState) (outcome : Outcome) → KeepsFew pipe → KeepsFew (heard_pipe pipe outcome) }
+    ensures stays { (pipe : PipeState) (outcome : Outcome) → KeepsFew pipe → KeepsFew (pipe_after_outcome pipe outcome) }
     ensures fits { (pipe : PipeState) (bytes : List ℕ) → KeepsFew pipe → length bytes ≤ pipe.packet_size
         → is_long pipe bytes ≡ false }
 {}
@@ -69,7 +69,7 @@ pub fn packets_have_room()
 /// configuration is read, whatever comes of those two.
 pub fn devices_come_up()
     ensures { (configured after : DriverValue) → MovesOn 3 driver_at_start configured
-        → MovesOn (1 + 2 * waiting configured.interfaces) configured after → after.state ≡ Ready }
+        → MovesOn (1 + 2 * waiting_count configured.interfaces) configured after → after.state ≡ Ready }
 {}
 
 /// Beside a virtual device, of which nothing is lost, a driver is ready after six control transfers, whatever it asks in them:

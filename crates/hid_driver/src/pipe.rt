@@ -4,7 +4,7 @@ ghost use Rattle.hid_layout.specs.Controls.{items_of, max_events};
 ghost use Rattle.hid_layout.specs.Reports.{IsLayout, report_bytes};
 ghost use Rattle.hid_report_descriptor.specs.declared.limits.TheConstants.{MAX_REAL_REPORT_BYTES};
 ghost use Rattle.hid_snapshots.specs.ControlStates.{FitsView};
-ghost use Rattle.hid_driver.specs.Pipe.{event_of, events_back, full_size, has_packet_past, heard_events, heard_outcome, heard_pipe, is_full, is_long, length_begun, longest_report, pipe_after_transfer, pipe_at_start, pipe_of_receiver, pipe_with_flow, receiving_after_transfer, report_end, transfer_events, transfer_outcome, transfer_room};
+ghost use Rattle.hid_driver.specs.Pipe.{event_of, events_back, full_size, has_packet_past, pipe_events, pipe_outcome, pipe_after_outcome, is_full, is_long, length_begun, longest_report, pipe_after_transfer, pipe_at_start, pipe_of_receiver, pipe_with_flow, receiving_after_transfer, report_end, transfer_events, transfer_outcome, transfer_room};
 
 use crate::ask::report_size;
 use crate::fault::DriverFault;
@@ -325,10 +325,10 @@ impl Pipe {
     ) -> Result<(), DriverFault>
         requires room { vec_len out.old + max_events (items_of self.old.receiving.layout)
             ≤ vec_capacity out.old }
-        ensures outcome { result ≡ heard_outcome self.old outcome.entry }
-        ensures after { self.new ≡ heard_pipe self.old outcome.entry }
+        ensures outcome { result ≡ pipe_outcome self.old outcome.entry }
+        ensures after { self.new ≡ pipe_after_outcome self.old outcome.entry }
         ensures events { out.new.items
-            ≡ out.old.items ++ map (event_of interface) (heard_events self.old outcome.entry) }
+            ≡ out.old.items ++ map (event_of interface) (pipe_events self.old outcome.entry) }
         ensures few { vec_len out.new
             ≤ vec_len out.old + max_events (items_of self.old.receiving.layout) }
         ensures room { vec_capacity out.new ≡ vec_capacity out.old }
