@@ -107,11 +107,11 @@ abbrev pub is_endpoint : Option Configuration → ℕ → ℕ → ℕ → Interr
 is_endpoint active bus device endpoint e =
     is_of_device bus device e && (e.endpoint == endpoint) && may_be_active active e.configuration
 
--- an interface of which only an endpoint is known, in place of its number: it isn't below 256, as numbers of interfaces are
+-- Stands for the number of an interface of which only an endpoint is known: it is over 255, the greatest number of an interface.
 abbrev pub unread_interface : ℕ → ℕ
 unread_interface endpoint = 256 + endpoint
 
--- an endpoint in the configuration that is set: it alone was known of this interface
+-- an endpoint in the configuration that is set, of an interface of which only this endpoint was known
 abbrev pub is_endpoint_of : Option Configuration → TrackedInterface → InterruptEndpoint → Bool
 is_endpoint_of active tracked e =
     is_of_device tracked.bus tracked.device e && (unread_interface e.endpoint == tracked.interface) && may_be_active active e.configuration

@@ -8,7 +8,8 @@ ghost use Rattle.hid_capture.specs.Tracking.{has_id, is_of_device, is_of_configu
 use super::configuration::{Configuration, InterruptEndpoint};
 use std::alloc::AllocError;
 
-/// What an interface of which only an endpoint is known has in place of its number, less the endpoint's: numbers are below.
+/// Stands for the number of an interface of which only an endpoint is known, with the endpoint's number added to it: it is
+/// over 255, the greatest number of an interface.
 pub(crate) const UNREAD: u16 = 256;
 
 /// How many interfaces have a number at most (our choice).
@@ -44,7 +45,7 @@ pub struct TrackedInterface {
     pub bus: u16,
     /// The device's address.
     pub device: u16,
-    /// The number of the interface; where no configuration was read that has it, that of its endpoint and 256.
+    /// The number of the interface; where no configuration was read that has it, its endpoint's number and 256.
     pub interface: u16,
     /// Whether its descriptor is known.
     pub is_described: bool,
@@ -213,7 +214,7 @@ fn endpoint_at(
         .find(|e| is_endpoint(e, active, bus, device, endpoint))
 }
 
-/// What an interface of which only this endpoint is known has in place of its number.
+/// Stands for the number of an interface of which only this endpoint is known.
 fn unread_interface(endpoint: u8) -> u16
     ensures { result ≡ unread_interface endpoint }
 {
