@@ -47,7 +47,7 @@ abbrev pub device_host_after_all : HostDeviceState → List (Option Packet) → 
 device_host_after_all host [] = host
 device_host_after_all host (reply ∷ replies) = device_host_after_all (device_host_after host reply) replies
 
--- the events of a host of this phase of what came at a poll
+-- the events that a host in this phase delivers for what came at a poll: none unless it is ready
 abbrev pub device_host_events_at : HostPhase → Option Packet → List Event
 device_host_events_at (Ready known) reply = events_of_reply known reply
 device_host_events_at Cold reply = []

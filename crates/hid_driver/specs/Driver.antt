@@ -32,11 +32,12 @@ pub record DriverValue : Type 0 where
 abbrev pub driver_at_start : DriverValue
 driver_at_start = record { state = states.Device; device = None; interfaces = []; asked = [] }
 
--- the data of the request that a state waits for
+-- the data of a request that was asked for; no other state sends any
 abbrev pub data_by_state : DriverState → List ℕ → List ℕ
 data_by_state (states.Asked setup) asked = asked
 data_by_state _ asked = []
 
+-- the data of the request that a driver waits for
 abbrev pub data_awaited : DriverValue → List ℕ
 data_awaited driver = data_by_state driver.state driver.asked
 
@@ -118,7 +119,7 @@ ask_of_interface state ask (Some interface) = ask_of_pipe state interface ask (p
 abbrev pub ask_answer : DriverValue → ℕ → Ask → Result Setup DriverFault
 ask_answer driver place ask = ask_of_interface driver.state ask (slice_get driver.interfaces place)
 
--- what asking returns
+-- the result of a call that asks, without its setup
 abbrev pub ask_outcome : Result Setup DriverFault → Result (Unit {0}) DriverFault
 ask_outcome (Ok setup) = Ok tt
 ask_outcome (Err fault) = Err fault
@@ -170,11 +171,12 @@ abbrev pub events_asking : ℕ → Option Interface → List DriverEvent
 events_asking place None = []
 events_asking place (Some interface) = map (event_of place) (back_events interface.reading)
 
--- the driver after it asks, if it does
+-- the driver with the new request, or as it was where the request is refused
 abbrev pub driver_by_protocol : DriverValue → ℕ → Bool → Interface → Result (Unit {0}) DriverFault → DriverValue
 driver_by_protocol driver place boot interface (Ok asks) = driver_with_protocol driver place boot interface
 driver_by_protocol driver place boot interface (Err fault) = driver
 
+-- the driver after this interface, if there is one, is to be asked for a protocol
 abbrev pub driver_after_protocol_of : DriverValue → ℕ → Bool → Option Interface → DriverValue
 driver_after_protocol_of driver place boot None = driver
 driver_after_protocol_of driver place boot (Some interface) =
@@ -190,6 +192,7 @@ abbrev pub events_by_protocol : ℕ → Interface → Result (Unit {0}) DriverFa
 events_by_protocol place interface (Ok asks) = map (event_of place) (back_events interface.reading)
 events_by_protocol place interface (Err fault) = []
 
+-- the events of asking this interface, if there is one, for a protocol
 abbrev pub protocol_events_of : DriverState → ℕ → Option Interface → List DriverEvent
 protocol_events_of state place None = []
 protocol_events_of state place (Some interface) = events_by_protocol place interface (protocol_answer state interface)

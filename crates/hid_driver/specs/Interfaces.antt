@@ -71,6 +71,7 @@ is_boot (Open pipe) = false
 is_boot Boot = true
 is_boot (Refused cause) = false
 
+-- an interface whose report descriptor is still to be asked for
 abbrev pub is_waiting : Interface → Bool
 is_waiting interface = waits interface.reading
 
@@ -101,16 +102,18 @@ is_halted (Open pipe) = is_halted_flow pipe.flow
 is_halted Boot = false
 is_halted (Refused cause) = false
 
+-- an interface whose endpoint is halted, and whose halt is still to be cleared
 abbrev pub has_halt : Interface → Bool
 has_halt interface = is_halted interface.reading
 
--- how many events it gives at most
+-- how many events a reading gives at most
 abbrev pub reading_room : Reading → ℕ
 reading_room Waiting = 0
 reading_room (Open pipe) = max_events (items_of pipe.receiving.layout)
 reading_room Boot = 0
 reading_room (Refused cause) = 0
 
+-- how many events an interface gives at most
 abbrev pub event_room : Interface → ℕ
 event_room interface = reading_room interface.reading
 

@@ -115,6 +115,7 @@ flow_after_clear (Done bytes) = flows.Live
 flow_after_clear Stalled = flows.Stopped
 flow_after_clear Failed = flows.Stopped
 
+-- what a driver returns for a clear: the halt is cleared, or the interface is stopped
 abbrev pub moved_by_clear : ℕ → Outcome → Moved
 moved_by_clear place (Done bytes) = moves.Cleared place
 moved_by_clear place Stalled = moves.Stopped place

@@ -86,7 +86,7 @@ abbrev pub longest_of : Contents → ℕ → ℕ
 longest_of layout zero = MAX_REPORT_BYTES
 longest_of layout (suc count) = max (longest_of layout count) (report_bytes layout count)
 
--- in bytes, the longest report of a layout, and at least the longest report of a bus
+-- in bytes, the longer of two: the longest report of a layout, and the longest of a bus
 abbrev pub longest_report : Contents → ℕ
 longest_report layout = longest_of layout (length layout.reports)
 
@@ -107,7 +107,7 @@ is_long pipe bytes =
 abbrev pub size_with : PipeState → List ℕ → ℕ
 size_with pipe bytes = full_size pipe.packet_size (begun_with pipe.receiving bytes) (length bytes)
 
--- what a transfer returns that is received
+-- the result of a transfer that is received: nothing, or why its report is refused
 abbrev pub transfer_result : Result Arrived ReportFault → Result (Unit {0}) DriverFault
 transfer_result (Ok arrived) = Ok tt
 transfer_result (Err fault) = Err (Report fault)

@@ -4,7 +4,7 @@ use Rattle.std.proofs.Common.{◌≡◌, ◌∷◌, [], ◌++◌, ℕ, List, map
 use Rattle.std.specs.Prelude.{codes}
 use Rattle.std.specs.Fmt.{digits}
 use Rattle.std.specs.List.{flat_map}
-use Rattle.hid_page.specs.ItemTable.{item_name, item_data_words, number_text}
+use Rattle.hid_page.specs.ItemTable.{item_name, name_of_item, number_text}
 use Rattle.hid_page.specs.declared.field_table.TheConstants.{FIELDS_HEAD, NEXT}
 use Rattle.hid_page.specs.declared.item_table.TheConstants.{ITEMS_HEAD}
 
@@ -37,7 +37,7 @@ unfolding item_name
 other_items = refl
 
 -- FE begins a long item (6.2.2.3), and FD a reserved short one
-long_items : map item_data_words ((0xFE ∷ 0x00 ∷ 0x77 ∷ []) ∷ (0xFD ∷ 0x00 ∷ []) ∷ []) ≡ codes "Long item"
+long_items : map name_of_item ((0xFE ∷ 0x00 ∷ 0x77 ∷ []) ∷ (0xFD ∷ 0x00 ∷ []) ∷ []) ≡ codes "Long item"
     ∷ codes "Reserved" ∷ []
 unfolding item_name
 long_items = refl

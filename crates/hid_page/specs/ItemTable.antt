@@ -34,8 +34,8 @@ first_of [] = 0
 first_of (first ∷ rest) = first
 
 -- what an item is called: FE is the first byte of a long item (6.2.2.3)
-abbrev pub item_data_words : EncodedItem → List ℕ
-item_data_words item = if first_of item == 0xFE then codes "Long item" else item_name (prefix_of item)
+abbrev pub name_of_item : EncodedItem → List ℕ
+name_of_item item = if first_of item == 0xFE then codes "Long item" else item_name (prefix_of item)
 
 -- the next main item, where the first of these items stands at a place
 abbrev pub next_main : ℕ → List Item → Option ℕ
@@ -116,7 +116,7 @@ item_row_head at =
 -- an item is indented by the collections round it
 unfoldable pub item_words : List Item → ℕ → EncodedItem → List ℕ
 item_words items k item =
-    concat_below (round_at items k) (λ i. codes "&emsp;") ++ item_data_words item
+    concat_below (round_at items k) (λ i. codes "&emsp;") ++ name_of_item item
     ++ data_text (page_at items k) item
 
 -- the row of an item: its place, its bytes, and what it is

@@ -5,7 +5,7 @@ ghost use Rattle.hid_notation.specs.Text.{concat_below};
 ghost use Rattle.hid_drawing.specs.Escape.{escaped_words};
 ghost use Rattle.hid_drawing.specs.Items.{IsWholeItem};
 ghost use Rattle.hid_drawing.specs.Label.{usage_label};
-ghost use Rattle.hid_page.specs.ItemTable.{name_in_table, names_of, item_name, first_of, item_data_words, next_main, page_place, item_number, signed_number, exponent_of, item_number_at, page_at, usage_on, is_item_signed, is_usage, number_text, data_text, item_row_head, item_words, item_row, item_rows, item_table};
+ghost use Rattle.hid_page.specs.ItemTable.{name_in_table, names_of, item_name, first_of, name_of_item, next_main, page_place, item_number, signed_number, exponent_of, item_number_at, page_at, usage_on, is_item_signed, is_usage, number_text, data_text, item_row_head, item_words, item_row, item_rows, item_table};
 
 use hid_drawing::{
     UsageLabel, collection_name, global_place, is_field, is_main, prefix_of, print_flags,
@@ -71,7 +71,7 @@ fn first_of(bytes: &[u8]) -> u8
 
 /// What an item is called.
 fn words_of(bytes: &[u8]) -> &'static str
-    ensures { result.now ≡ item_data_words bytes.now }
+    ensures { result.now ≡ name_of_item bytes.now }
 {
     if first_of(bytes) == 0xFE {
         return "Long item";

@@ -116,7 +116,7 @@ dump_begin address content (Ok time) = Ok (Begins address content time)
 dump_begin address contents.Descriptor (Err refusal) = Ok (Unread (Some address) refusal)
 dump_begin address contents.Stream (Err refusal) = Err refusal
 
--- a dump of an interface and a content; Syntax where one of them is missing
+-- a dump of an interface and a content; Syntax where one of them is missing, else what its time allows
 abbrev pub dump_begin_of : Option Address → Option Content → Result (List ℕ) Refusal
     → Result LineMeaning Refusal
 dump_begin_of None content time = Err Syntax

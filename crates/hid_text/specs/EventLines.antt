@@ -27,8 +27,8 @@ is_event_line dev line = list_any (λ word. begins_with (decimal dev ++ word) li
 abbrev pub event_lines : ℕ → List ℕ → List (List ℕ)
 event_lines dev text = filter (is_event_line dev) (lines text)
 
--- A text that has these events: its lines of the events of a device are the texts of those, in order, whatever comes
--- then.
+-- A text shows these events: whatever text follows, its event lines of each device are the texts of that device's events,
+-- in order.
 abbrev pub ShowsEvents : List ℕ → List Delivered → Type 0
 ShowsEvents text delivered = (dev : ℕ) (rest : List ℕ)
     → event_lines dev (text ++ rest) ≡ map (event_text dev) (from_device dev delivered) ++ event_lines dev rest

@@ -7,7 +7,7 @@ use Rattle.hid_snapshots.specs.declared.event.Event.TheVariants.{Down, Up, Value
 use Rattle.hidstack_session.specs.declared.event.HidEvent.{HidEvent}
 use Rattle.hidstack_session.specs.declared.event.TheConstants.{UP, DOWN, VALUE, NULL, MOTION, DROPPED}
 
--- a record of this kind, of a control with its usage, and of a number
+-- the record of an event: its kind, its control, its usage and its number
 abbrev pub event_record : ℕ → ControlId → Usage → ℤ → HidEvent
 event_record kind control usage value =
     record { value = value; item = control.item; index = control.index; page = usage.page; id = usage.id; kind = kind }
