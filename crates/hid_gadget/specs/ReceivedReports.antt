@@ -115,7 +115,8 @@ write_of_transfer core setup =
     if core_table.accepts core setup && not (reads setup) then (core_table.prepared core setup).pending
     else pendings.Nothing
 
--- a write as what happens to the rounds of a device: to most of them nothing does
+-- a write as what happens to the rounds of a device with these idle times: a report or a protocol that is set is nothing to
+-- them
 abbrev pub events_of_write : List ℕ → PendingWrite → List BusEvent
 events_of_write idle pendings.Nothing = []
 events_of_write idle pendings.Configure = Configures ∷ []
