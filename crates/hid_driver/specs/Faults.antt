@@ -14,24 +14,24 @@ abbrev pub cause_text : InterfaceCause → List ℕ
 cause_text (causes.Descriptors fault) = interface_code_of fault
 cause_text causes.ReportLength = codes "B6"
 cause_text (causes.Layout fault) = layout_fault_text fault
-cause_text causes.Stalled = codes "D8"
-cause_text causes.Failed = codes "D9"
+cause_text causes.Stalled = codes "H8"
+cause_text causes.Failed = codes "H9"
 
 -- the code of a call that is refused, with that of its cause
 abbrev pub fault_text : DriverFault → List ℕ
-fault_text NoRequest = codes "D1"
-fault_text Memory = codes "D2"
-fault_text NoInterface = codes "D3"
-fault_text NotRead = codes "D4"
-fault_text Busy = codes "D5"
-fault_text NoReport = codes "D6"
-fault_text TooLong = codes "D7"
-fault_text Stalled = codes "D8"
-fault_text Failed = codes "D9"
-fault_text (Device fault) = codes "D10 " ++ info_code_of fault
-fault_text (Configuration fault) = codes "D11 " ++ configuration_code_of fault
-fault_text (Report fault) = codes "D12 " ++ report_code fault
-fault_text LongTransfer = codes "D13"
-fault_text BootProtocol = codes "D14"
-fault_text NoBootProtocol = codes "D15"
-fault_text WrongId = codes "D16"
+fault_text NoRequest = codes "H1"
+fault_text Memory = codes "H2"
+fault_text NoInterface = codes "H3"
+fault_text NotRead = codes "H4"
+fault_text Busy = codes "H5"
+fault_text NoReport = codes "H6"
+fault_text TooLong = codes "H7"
+fault_text Stalled = codes "H8"
+fault_text Failed = codes "H9"
+fault_text (Device fault) = codes "H10 " ++ info_code_of fault
+fault_text (Configuration fault) = codes "H11 " ++ configuration_code_of fault
+fault_text (Report fault) = codes "H12 " ++ report_code fault
+fault_text LongTransfer = codes "H13"
+fault_text BootProtocol = codes "H14"
+fault_text NoBootProtocol = codes "H15"
+fault_text WrongId = codes "H16"
