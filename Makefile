@@ -130,6 +130,7 @@ examples: $(HIDRUN) $(HIDPLAY) $(HIDMAP) $(BENCH)  ## runs all examples on the p
 	tools/check/second-reader examples/*/*.script
 	tools/check/recordings examples/*/*.hid
 	tools/check/pictures $(HIDMAP) $(PICTURED)
+	tools/check/inputs $(HIDMAP) examples/recordings/*.hid
 	tools/check/hidplay $(HIDPLAY)
 	tools/check/commands $(HIDRUN) $(HIDPLAY) $(HIDMAP) $(BENCH)
 	tools/check/manual $(HIDRUN) $(HIDPLAY) $(HIDMAP)

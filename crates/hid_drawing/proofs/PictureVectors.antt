@@ -7,7 +7,7 @@ use Rattle.hid_drawing.specs.declared.pieces.BitSource.TheVariants.{Field}
 use Rattle.hid_drawing.specs.Areas.{left_of, piece_area}
 use Rattle.hid_drawing.specs.Escape.{escaped_words}
 use Rattle.hid_drawing.specs.Lines.{line_at, line_count}
-use Rattle.hid_drawing.specs.Terminal.{row_number}
+use Rattle.hid_drawing.specs.Terminal.{padded_words, bit_columns, bit_line, bit_ruler, row_number}
 use Rattle.hid_drawing.specs.declared.glyphs.TheConstants as glyphs
 
 -- the lowest bit of byte 1 stands at the right end of the second row, right of 52 and of one bracket
@@ -69,11 +69,17 @@ brackets : glyphs.BRACKET_FIRST.now ∷ glyphs.BRACKET_LAST.now ∷ glyphs.SIDE.
 unfolding in_utf8
 brackets = refl
 
--- nine of the horizontal ones are a bit
-bit_line : glyphs.BIT_LINE.now ≡ concat_below 9 (λ k. glyphs.FLAT.now)
-bit_line = refl
+-- after its corner a bit of ten columns has nine of the horizontal ones
+ten_columns : bit_line 10 ≡ concat_below 9 (λ k. glyphs.FLAT.now)
+unfolding bit_line
+ten_columns = refl
 
--- a bit has ten columns from the fourth on: after its corner stands its number, and that of bit 7 after a word
-ruler : map (λ column. unwrap_or (slice_get glyphs.BIT_RULER.now column) 0)
+-- with ten columns a bit begins in the fourth, and its number stands there; that of bit 7 stands after a word
+ruler : map (λ column. unwrap_or (slice_get (bit_ruler 10) column) 0)
     (8 ∷ 14 ∷ 24 ∷ 34 ∷ 44 ∷ 54 ∷ 64 ∷ 74 ∷ []) ≡ codes "76543210"
+unfolding bit_ruler padded_words
 ruler = refl
+
+-- two brackets in 80 columns: 4 for the number and the last side, 2 for the brackets, and nine for each bit; in 100 ten
+widths : bit_columns 80 2 ∷ bit_columns 100 2 ∷ bit_columns 84 0 ∷ bit_columns 40 1 ∷ [] ≡ 9 ∷ 10 ∷ 10 ∷ 6 ∷ []
+widths = refl

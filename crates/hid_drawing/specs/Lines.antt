@@ -1,11 +1,13 @@
 -- Words in lines of n columns, and how high they make a row (our choice: docs/PICTURES.md).
-use Rattle.std.specs.Prelude.{ℕ, zero, suc, ◌+◌, ◌-◌, ◌*◌, ◌^◌, min, max, Bool, true, ◌==◌, nat_lt, List, [], ◌∷◌, length, slice_get, unwrap_or, take, drop, if◌then◌else◌, Option, None, Some}
+use Rattle.std.specs.Prelude.{ℕ, zero, suc, ◌+◌, ◌-◌, ◌*◌, ◌^◌, min, max, ◌==◌, nat_lt, List, [], ◌∷◌, length, slice_get, unwrap_or, take, drop, if◌then◌else◌, Option, None, Some}
 use Rattle.hid_layout.specs.Layout.{Contents}
 use Rattle.hid_notation.specs.Text.{concat_below}
 use Rattle.hid_drawing.specs.declared.brackets.Bracket.{Bracket}
 use Rattle.hid_drawing.specs.declared.pieces.ByteSlice.{ByteSlice}
 use Rattle.hid_drawing.specs.Words.{piece_name, part_details}
 use Rattle.hid_drawing.specs.declared.lines.TheConstants.{NAME_COLUMNS, MIN_LINES}
+use Rattle.hid_drawing.specs.declared.lines.Medium.{Medium}
+use Rattle.hid_drawing.specs.declared.lines.Medium.TheVariants.{Svg, Characters}
 use Rattle.hid_drawing.specs.BracketNames.{bracket_name}
 
 -- the byte at a place, and a space after the end
@@ -52,33 +54,33 @@ lines_below words columns (suc n) =
 abbrev pub line_count : List ℕ → ℕ → ℕ
 line_count words columns = lines_below words columns (length words)
 
--- how many columns a cell has: ten for each bit in characters, and fourteen narrow ones in a drawing
-abbrev pub columns_of : Bool → ByteSlice → ℕ
-columns_of drawn piece =
-    if drawn then 14 * (piece.high - piece.low) - 2 else 10 * (piece.high - piece.low) - 1
+-- how many columns a cell has: so many for each bit in characters, with its side, and fourteen narrow ones in a drawing
+abbrev pub columns_of : Medium → ByteSlice → ℕ
+columns_of Svg piece = 14 * (piece.high - piece.low) - 2
+columns_of (Characters columns) piece = min (columns * (piece.high - piece.low)) (2 ^ 64 - 1) - 1
 
 -- how many lines two texts take, one below the other
 abbrev pub both_counts : List ℕ → List ℕ → ℕ → ℕ
 both_counts name details columns = min (line_count name columns + line_count details columns) (2 ^ 16 - 1)
 
 -- how many lines a cell has: its name, and what is said of it
-abbrev pub piece_lines : Contents → ℕ → Bool → ByteSlice → ℕ
-piece_lines layout r drawn piece =
-    both_counts (piece_name layout piece) (part_details layout r piece.part) (columns_of drawn piece)
+abbrev pub piece_lines : Contents → ℕ → Medium → ByteSlice → ℕ
+piece_lines layout r medium piece =
+    both_counts (piece_name layout piece) (part_details layout r piece.part) (columns_of medium piece)
 
 -- how many lines a piece has in a byte: none where it lies in another one
-abbrev pub byte_lines : Contents → ℕ → Bool → ℕ → ByteSlice → ℕ
-byte_lines layout r drawn byte piece = if piece.byte == byte then piece_lines layout r drawn piece else 0
+abbrev pub byte_lines : Contents → ℕ → Medium → ℕ → ByteSlice → ℕ
+byte_lines layout r medium byte piece = if piece.byte == byte then piece_lines layout r medium piece else 0
 
 -- the most of some lines and of those of the pieces
-abbrev pub most_lines : Contents → ℕ → Bool → ℕ → ℕ → List ByteSlice → ℕ
-most_lines layout r drawn byte lines [] = lines
-most_lines layout r drawn byte lines (piece ∷ pieces) =
-    most_lines layout r drawn byte (max lines (byte_lines layout r drawn byte piece)) pieces
+abbrev pub most_lines : Contents → ℕ → Medium → ℕ → ℕ → List ByteSlice → ℕ
+most_lines layout r medium byte lines [] = lines
+most_lines layout r medium byte lines (piece ∷ pieces) =
+    most_lines layout r medium byte (max lines (byte_lines layout r medium byte piece)) pieces
 
 -- how many lines a row has: those of its cells, and no less than two
-abbrev pub row_lines : Contents → ℕ → Bool → ℕ → List ByteSlice → ℕ
-row_lines layout r drawn byte pieces = most_lines layout r drawn byte MIN_LINES pieces
+abbrev pub row_lines : Contents → ℕ → Medium → ℕ → List ByteSlice → ℕ
+row_lines layout r medium byte pieces = most_lines layout r medium byte MIN_LINES pieces
 
 -- a line of a cell: of its name, and below that of what is said of it. A line ends at the last space that has room, or
 -- when it is full. Example: Keyboard LeftControl in nine columns has three lines
@@ -102,7 +104,7 @@ lines_in_front layout brackets byte (suc k) =
 -- how many lines a row of a drawing has, for its cells and for the names of the brackets beside it
 abbrev pub drawn_lines : Contents → ℕ → List Bracket → List ByteSlice → ℕ → ℕ
 drawn_lines layout r brackets pieces byte =
-    max (row_lines layout r true byte pieces) (lines_in_front layout brackets byte (length brackets))
+    max (row_lines layout r Svg byte pieces) (lines_in_front layout brackets byte (length brackets))
 
 -- the numbers of lines of the rows of a drawing
 abbrev pub rows_of : Contents → ℕ → ℕ → List Bracket → List ByteSlice → List ℕ

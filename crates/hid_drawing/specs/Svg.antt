@@ -1,6 +1,6 @@
 -- The picture of a report: a row of eight bits for each byte, bit 7 at the left as in the tables of the standard (HID
 -- 1.11, B.1 and 8.3; colors and measures are our choice: docs/PICTURES.md).
-use Rattle.std.specs.Prelude.{ℕ, ◌+◌, ◌-◌, ◌*◌, ◌%◌, Bool, true, nat_lt, if◌then◌else◌, List, [], ◌∷◌, ◌++◌, length, slice_get, Option, None, Some, codes}
+use Rattle.std.specs.Prelude.{ℕ, ◌+◌, ◌-◌, ◌*◌, ◌%◌, Bool, nat_lt, if◌then◌else◌, List, [], ◌∷◌, ◌++◌, length, slice_get, Option, None, Some, codes}
 use Rattle.std.specs.List.{flat_map}
 use Rattle.std.specs.Fmt.{decimal}
 use Rattle.hid_report_descriptor.specs.declared.report.Report.{Report}
@@ -22,6 +22,7 @@ use Rattle.hid_drawing.specs.Escape.{escaped_words}
 use Rattle.hid_drawing.specs.Brackets.{bracket_depth}
 use Rattle.hid_drawing.specs.Words.{report_title, count_text, piece_name, part_details, part_flags, place_text}
 use Rattle.hid_drawing.specs.Areas.{left_of, cell_height, row_top, piece_area, bracket_area, bit_middle, name_left}
+use Rattle.hid_drawing.specs.declared.lines.Medium.TheVariants.{Svg}
 use Rattle.hid_drawing.specs.Lines.{line_count, both_counts, columns_of, name_line_of, lines_in_front, rows_of}
 use Rattle.hid_drawing.specs.BracketNames.{bracket_name}
 
@@ -87,7 +88,7 @@ text_lines name details columns =
 -- what a cell shows: its name, and what is said of it
 unfoldable pub cell_words : Contents → ℕ → ByteSlice → List ℕ
 cell_words layout r piece =
-    text_lines (piece_name layout piece) (part_details layout r piece.part) (columns_of true piece)
+    text_lines (piece_name layout piece) (part_details layout r piece.part) (columns_of Svg piece)
 
 -- the edge of a cell
 unfoldable pub edge_text : ℕ → List ℕ

@@ -1,5 +1,5 @@
--- The picture of a report in characters: a row for each byte, ten columns for each bit (our choice: docs/PICTURES.md).
-use Rattle.std.specs.Prelude.{ℕ, ◌+◌, ◌-◌, min, Bool, false, ◌==◌, ◌&&◌, ◌||◌, nat_le, nat_lt, List, [], ◌∷◌, ◌++◌, length, slice_get, if◌then◌else◌, Option, None, Some, codes}
+-- The picture of a report in characters: a row for each byte, and some columns for each bit (our choice: docs/PICTURES.md).
+use Rattle.std.specs.Prelude.{ℕ, ◌+◌, ◌-◌, ◌/◌, min, max, Bool, ◌==◌, ◌&&◌, ◌||◌, nat_le, nat_lt, List, [], ◌∷◌, ◌++◌, length, slice_get, if◌then◌else◌, Option, None, Some, codes}
 use Rattle.std.specs.List.{flat_map, list_any}
 use Rattle.std.specs.Fmt.{decimal}
 use Rattle.hid_report_descriptor.specs.Usages.{Entry}
@@ -11,9 +11,10 @@ use Rattle.hid_notation.specs.Text.{concat_below}
 use Rattle.hid_drawing.specs.declared.brackets.Bracket.{Bracket}
 use Rattle.hid_drawing.specs.declared.pieces.ByteSlice.{ByteSlice}
 use Rattle.hid_drawing.specs.declared.glyphs.TheConstants as glyphs
-use Rattle.hid_drawing.specs.declared.terminal.TheConstants.{MAX_DRAWN, MAX_STEPS, NO_PICTURE}
+use Rattle.hid_drawing.specs.declared.terminal.TheConstants.{MAX_DRAWN, LEAST_COLUMNS, MOST_COLUMNS, NO_PICTURE}
 use Rattle.hid_drawing.specs.Escape.{printable_byte}
 use Rattle.hid_drawing.specs.Brackets.{bracket_depth}
+use Rattle.hid_drawing.specs.declared.lines.Medium.TheVariants.{Characters}
 use Rattle.hid_drawing.specs.Lines.{byte_at, columns_of, name_line_of, row_lines}
 use Rattle.hid_drawing.specs.BracketNames.{bracket_name}
 use Rattle.hid_drawing.specs.Words.{report_title, count_text, piece_name, part_details, entry_text, bit_text, flags_text, is_input_item}
@@ -46,10 +47,19 @@ corner k above below =
 unfoldable pub corner_at : List ByteSlice → ℕ → ℕ → List ℕ
 corner_at pieces byte k = corner k (is_edge_above pieces byte k) (is_edge pieces byte k)
 
+-- how many columns a bit has: as many as eight bits, the number in front of them, their last side and the brackets have room
+-- for, but six at least and ten at most
+abbrev pub bit_columns : ℕ → ℕ → ℕ
+bit_columns width depth = min (max (((width - 4) - depth) / 8) LEAST_COLUMNS) MOST_COLUMNS
+
+-- what stands after a corner, as wide as a bit with it
+unfoldable pub bit_line : ℕ → List ℕ
+bit_line columns = concat_below (columns - 1) (λ i. glyphs.FLAT.now)
+
 -- the line above a byte, bit 7 first
-unfoldable pub edge_line : List ByteSlice → ℕ → List ℕ
-edge_line pieces byte =
-    concat_below 8 (λ i. corner_at pieces byte (8 - i) ++ glyphs.BIT_LINE.now) ++ corner_at pieces byte 0
+unfoldable pub edge_line : ℕ → List ByteSlice → ℕ → List ℕ
+edge_line columns pieces byte =
+    concat_below 8 (λ i. corner_at pieces byte (8 - i) ++ bit_line columns) ++ corner_at pieces byte 0
 
 -- whether a bracket of a level holds a byte
 abbrev pub is_held : List Bracket → ℕ → ℕ → Bool
@@ -87,27 +97,27 @@ unfoldable pub sides : List Bracket → ℕ → ℕ → List ℕ
 sides brackets depth byte = concat_below depth (λ i. side_at brackets (depth - i) byte)
 
 -- a line of a cell: its name, and below it what is said of it
-unfoldable pub cell_line : Contents → ℕ → ℕ → ByteSlice → List ℕ
-cell_line layout r k piece =
+unfoldable pub cell_line : ℕ → Contents → ℕ → ℕ → ByteSlice → List ℕ
+cell_line columns layout r k piece =
     glyphs.SIDE.now
     ++ padded_words
-    (name_line_of (piece_name layout piece) (part_details layout r piece.part) (columns_of false piece) k)
-    (columns_of false piece)
+    (name_line_of (piece_name layout piece) (part_details layout r piece.part) (columns_of (Characters columns) piece) k)
+    (columns_of (Characters columns) piece)
 
 -- a line of a piece that lies in the byte; no text for another piece or none
-abbrev pub byte_cell : Contents → ℕ → ℕ → ℕ → Option ByteSlice → List ℕ
-byte_cell layout r k byte None = []
-byte_cell layout r k byte (Some piece) = if piece.byte == byte then cell_line layout r k piece else []
+abbrev pub byte_cell : ℕ → Contents → ℕ → ℕ → ℕ → Option ByteSlice → List ℕ
+byte_cell columns layout r k byte None = []
+byte_cell columns layout r k byte (Some piece) = if piece.byte == byte then cell_line columns layout r k piece else []
 
 -- a line of the cells of a byte, the last one first
-unfoldable pub cells_line : Contents → ℕ → ℕ → ℕ → List ByteSlice → List ℕ
-cells_line layout r k byte pieces =
-    concat_below (length pieces) (λ i. byte_cell layout r k byte (slice_get pieces ((length pieces - 1) - i)))
+unfoldable pub cells_line : ℕ → Contents → ℕ → ℕ → ℕ → List ByteSlice → List ℕ
+cells_line columns layout r k byte pieces =
+    concat_below (length pieces) (λ i. byte_cell columns layout r k byte (slice_get pieces ((length pieces - 1) - i)))
 
 -- the line above a row
-unfoldable pub line_above : ℕ → List Bracket → List ByteSlice → List ℕ
-line_above byte brackets pieces =
-    codes "   " ++ edge_line pieces byte ++ bracket_corners brackets (bracket_depth brackets) byte ++ 10 ∷ []
+unfoldable pub line_above : ℕ → ℕ → List Bracket → List ByteSlice → List ℕ
+line_above columns byte brackets pieces =
+    codes "   " ++ edge_line columns pieces byte ++ bracket_corners brackets (bracket_depth brackets) byte ++ 10 ∷ []
 
 -- the number of a byte, at the right of two columns
 abbrev pub two_columns : ℕ → List ℕ
@@ -125,23 +135,27 @@ abbrev pub line_number : ℕ → ℕ → ℕ → List ℕ
 line_number bytes byte k = if k == 0 then row_number bytes byte else codes "   "
 
 -- a line of a row
-unfoldable pub row_line : Contents → ℕ → ℕ → ℕ → List Bracket → List ByteSlice → ℕ → List ℕ
-row_line layout r bytes byte brackets pieces k =
-    line_number bytes byte k ++ cells_line layout r k byte pieces ++ glyphs.SIDE.now
+unfoldable pub row_line : ℕ → Contents → ℕ → ℕ → ℕ → List Bracket → List ByteSlice → ℕ → List ℕ
+row_line columns layout r bytes byte brackets pieces k =
+    line_number bytes byte k ++ cells_line columns layout r k byte pieces ++ glyphs.SIDE.now
     ++ sides brackets (bracket_depth brackets) byte ++ 10 ∷ []
 
 -- a row: the line above it, and the lines of its cells
-unfoldable pub row_text : Contents → ℕ → ℕ → List Bracket → List ByteSlice → ℕ → List ℕ
-row_text layout r bytes brackets pieces byte =
-    line_above byte brackets pieces
-    ++ concat_below (row_lines layout r false byte pieces) (row_line layout r bytes byte brackets pieces)
+unfoldable pub row_text : ℕ → Contents → ℕ → ℕ → List Bracket → List ByteSlice → ℕ → List ℕ
+row_text columns layout r bytes brackets pieces byte =
+    line_above columns byte brackets pieces
+    ++ concat_below (row_lines layout r (Characters columns) byte pieces) (row_line columns layout r bytes byte brackets pieces)
 
--- a bracket by its name and its bytes, indented by its level as far as the columns have room for it
-unfoldable pub bracket_line : Contents → Bracket → List ℕ
-bracket_line layout bracket =
-    concat_below (min (bracket.level - 1) MAX_STEPS) (λ i. codes "  ") ++ bracket_name layout bracket
-    ++ codes ": bytes "
-    ++ decimal bracket.first ++ codes " to " ++ decimal bracket.last ++ 10 ∷ []
+-- the name of a bracket and its bytes
+unfoldable pub bracket_words : Contents → Bracket → List ℕ
+bracket_words layout bracket =
+    bracket_name layout bracket ++ codes ": bytes " ++ decimal bracket.first ++ codes " to " ++ decimal bracket.last
+
+-- a bracket by its name and its bytes, indented by its level as far as the width has room for it
+unfoldable pub bracket_line : ℕ → Contents → Bracket → List ℕ
+bracket_line width layout bracket =
+    concat_below (min (bracket.level - 1) ((width - length (bracket_words layout bracket)) / 2)) (λ i. codes "  ")
+    ++ bracket_words layout bracket ++ 10 ∷ []
 
 -- the usages of a field, a line each
 unfoldable pub usage_lines : List Entry → List ℕ
@@ -170,32 +184,39 @@ terminal_head numbered bytes report =
     report_title numbered report ++ 58 ∷ 32 ∷ count_text bytes (codes "byte") ++ 10 ∷ []
 
 -- the rows of a report
-unfoldable pub rows_text : Contents → ℕ → ℕ → List Bracket → List ByteSlice → List ℕ
-rows_text layout r bytes brackets pieces =
-    concat_below bytes (row_text layout r bytes brackets pieces) ++ line_above bytes brackets pieces
+unfoldable pub rows_text : ℕ → Contents → ℕ → ℕ → List Bracket → List ByteSlice → List ℕ
+rows_text columns layout r bytes brackets pieces =
+    concat_below bytes (row_text columns layout r bytes brackets pieces) ++ line_above columns bytes brackets pieces
+
+-- the numbers of the bits, each where its bit begins, after a word in front of the first
+unfoldable pub bit_ruler : ℕ → List ℕ
+bit_ruler columns =
+    codes "    " ++ padded_words (codes "bit 7") columns
+    ++ concat_below 6 (λ i. padded_words ((54 - i) ∷ []) columns) ++ codes "0\n"
 
 -- the numbers of the bits, and the rows of a report
-unfoldable pub numbered_rows : Contents → ℕ → ℕ → List Bracket → List ByteSlice → List ℕ
-numbered_rows layout r bytes brackets pieces = glyphs.BIT_RULER.now ++ rows_text layout r bytes brackets pieces
+unfoldable pub numbered_rows : ℕ → Contents → ℕ → ℕ → List Bracket → List ByteSlice → List ℕ
+numbered_rows columns layout r bytes brackets pieces =
+    bit_ruler columns ++ rows_text columns layout r bytes brackets pieces
 
 -- the rows of a report of at most 1,000 bytes; a longer one isn't drawn
-abbrev pub drawn_text : Contents → ℕ → ℕ → List Bracket → List ByteSlice → List ℕ
-drawn_text layout r bytes brackets pieces =
+abbrev pub drawn_text : ℕ → Contents → ℕ → ℕ → List Bracket → List ByteSlice → List ℕ
+drawn_text columns layout r bytes brackets pieces =
     if nat_lt MAX_DRAWN bytes then NO_PICTURE.now
-    else numbered_rows layout r bytes brackets pieces
+    else numbered_rows columns layout r bytes brackets pieces
 
 -- the brackets of a report
-unfoldable pub bracket_lines : Contents → List Bracket → List ℕ
-bracket_lines layout brackets = flat_map (λ bracket. bracket_line layout bracket) brackets
+unfoldable pub bracket_lines : ℕ → Contents → List Bracket → List ℕ
+bracket_lines width layout brackets = flat_map (λ bracket. bracket_line width layout bracket) brackets
 
 -- the picture of a report of n bytes
-unfoldable pub terminal_of : Contents → ℕ → ℕ → List Bracket → List ByteSlice → Report → List ℕ
-terminal_of layout r bytes brackets pieces report =
-    terminal_head layout.numbered bytes report ++ drawn_text layout r bytes brackets pieces
-    ++ bracket_lines layout brackets ++ fields_text layout r
+unfoldable pub terminal_of : ℕ → Contents → ℕ → ℕ → List Bracket → List ByteSlice → Report → List ℕ
+terminal_of width layout r bytes brackets pieces report =
+    terminal_head layout.numbered bytes report ++ drawn_text (bit_columns width (bracket_depth brackets)) layout r bytes brackets pieces
+    ++ bracket_lines width layout brackets ++ fields_text layout r
 
 -- the picture in characters of the report at a place, or nothing if there is none
-abbrev pub terminal_at : Contents → ℕ → List Bracket → List ByteSlice → Option Report → List ℕ
-terminal_at layout r brackets pieces None = []
-terminal_at layout r brackets pieces (Some report) =
-    terminal_of layout r (report_bytes layout r) brackets pieces report
+abbrev pub terminal_at : ℕ → Contents → ℕ → List Bracket → List ByteSlice → Option Report → List ℕ
+terminal_at width layout r brackets pieces None = []
+terminal_at width layout r brackets pieces (Some report) =
+    terminal_of width layout r (report_bytes layout r) brackets pieces report

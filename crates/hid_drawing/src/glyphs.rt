@@ -30,9 +30,6 @@ pub const CROSS: &str = "┼";
 /// An edge without a side.
 pub const FLAT: &str = "─";
 
-/// After a corner, as wide as a bit.
-pub const BIT_LINE: &str = "─────────";
-
 /// The side of a cell or a bracket.
 pub const SIDE: &str = "│";
 
@@ -44,7 +41,3 @@ pub const BRACKET_LAST: &str = "╯";
 
 /// No line.
 pub const BLANK: &str = " ";
-
-/// The numbers of the bits.
-pub const BIT_RULER: &str =
-    "    bit 7     6         5         4         3         2         1         0\n";

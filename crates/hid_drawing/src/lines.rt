@@ -16,6 +16,15 @@ pub const NAME_COLUMNS: usize = 24;
 /// The least lines of a row.
 pub const MIN_LINES: u16 = 2;
 
+/// What cells are drawn in.
+#[derive(Clone, Copy, Debug, PartialEq, Eq)]
+pub enum Medium {
+    /// Narrow letters, fourteen for each bit.
+    Svg,
+    /// So many columns for each bit, with the side of the cell.
+    Characters(u8),
+}
+
 /// The byte at a place, and a space after the end.
 pub fn byte_at(words: &[u8], k: usize) -> u8
     ensures { result ≡ byte_at words.now k }
@@ -87,14 +96,15 @@ pub fn line_count(words: &[u8], columns: usize) -> u16
 }
 
 /// How many columns a cell has.
-pub fn columns_of(drawn: bool, piece: &ByteSlice) -> usize
-    ensures { result ≡ columns_of drawn piece.now }
+pub fn columns_of(medium: Medium, piece: &ByteSlice) -> usize
+    ensures { result ≡ columns_of medium piece.now }
 {
     let bits = u64::from(piece.high.saturating_sub(piece.low));
-    if drawn {
-        (14 * bits).saturating_sub(2) as usize
-    } else {
-        (10 * bits).saturating_sub(1) as usize
+    match medium {
+        Medium::Svg => (14 * bits).saturating_sub(2) as usize,
+        Medium::Characters(columns) => {
+            u64::from(columns).saturating_mul(bits).saturating_sub(1) as usize
+        }
     }
 }
 
@@ -122,13 +132,13 @@ fn piece_lines(
     alloc: Global,
     layout: &Layout,
     r: usize,
-    drawn: bool,
+    medium: Medium,
     piece: &ByteSlice,
 ) -> Result<u16, AllocError>
     requires { r < length layout.now.reports }
-    ensures { IfOk result (λ lines. lines ≡ piece_lines layout.now r drawn piece.now) }
+    ensures { IfOk result (λ lines. lines ≡ piece_lines layout.now r medium piece.now) }
 {
-    let columns = columns_of(drawn, piece);
+    let columns = columns_of(medium, piece);
     let mut name = String::new(alloc);
     print_piece_name(&mut name, layout, piece)?;
     let mut details = String::new(alloc);
@@ -144,17 +154,17 @@ pub fn row_lines(
     alloc: Global,
     layout: &Layout,
     r: usize,
-    drawn: bool,
+    medium: Medium,
     byte: u32,
     pieces: &[ByteSlice],
 ) -> Result<u16, AllocError>
     requires { r < length layout.now.reports }
-    ensures { IfOk result (λ lines. lines ≡ row_lines layout.now r drawn byte pieces.now) }
+    ensures { IfOk result (λ lines. lines ≡ row_lines layout.now r medium byte pieces.now) }
 {
     let mut lines = MIN_LINES;
     for piece in pieces {
         if piece.byte == byte {
-            lines = lines.max(piece_lines(alloc, layout, r, drawn, piece)?);
+            lines = lines.max(piece_lines(alloc, layout, r, medium, piece)?);
         }
     }
     Ok(lines)
@@ -216,7 +226,7 @@ pub fn rows_of(
 {
     let mut rows = Vec::new(alloc);
     for byte in 0..bytes {
-        let cells = row_lines(alloc, layout, r, true, byte, pieces)?;
+        let cells = row_lines(alloc, layout, r, Medium::Svg, byte, pieces)?;
         let names = lines_in_front(alloc, layout, brackets, byte, brackets.len())?;
         rows.push(cells.max(names))?;
     }

@@ -19,7 +19,7 @@ use crate::captions::{
 };
 use crate::escape::push_escaped;
 use crate::lines::{
-    NAME_COLUMNS, both_counts, columns_of, line_count, line_of, lines_in_front, rows_of,
+    Medium, NAME_COLUMNS, both_counts, columns_of, line_count, line_of, lines_in_front, rows_of,
 };
 use crate::lookups::{item_at, report_at};
 use crate::pieces::{BitSource, ByteSlice};
@@ -230,7 +230,7 @@ fn print_words(
         text,
         name.as_bytes(),
         details.as_bytes(),
-        columns_of(true, piece),
+        columns_of(Medium::Svg, piece),
     )
 }
 

@@ -1,10 +1,9 @@
-//! The picture of a report in characters: a row for each byte, ten columns for each bit.
+//! The picture of a report in characters: a row for each byte, and six to ten columns for each bit, as the width has room.
 
-ghost use Rattle.std.specs.Prelude.{◌≡◌, ◌++◌, ◌-◌, ◌<◌, min, codes, length, slice_get, Some, OnOk, string_bytes};
+ghost use Rattle.std.specs.Prelude.{◌≡◌, ◌++◌, ◌<◌, codes, length, slice_get, Some, IfOk, OnOk, string_bytes};
 ghost use Rattle.hid_notation.specs.Text.{concat_below};
 ghost use Rattle.hid_drawing.specs.Pieces.{SliceLiesIn};
-ghost use Rattle.hid_drawing.specs.declared.terminal.TheConstants.{MAX_STEPS};
-ghost use Rattle.hid_drawing.specs.Terminal.{padded_words, is_edge, is_edge_above, end_corner, corner, corner_at, edge_line, is_held, is_held_on, bracket_corner, bracket_corner_at, bracket_corners, side_at, sides, cell_line, byte_cell, cells_line, line_number, row_line, line_above, two_columns, row_number, row_text, bracket_line, bracket_lines, usage_lines, item_lines, field_lines, fields_text, terminal_head, rows_text, numbered_rows, drawn_text, terminal_of, terminal_at};
+ghost use Rattle.hid_drawing.specs.Terminal.{padded_words, bit_columns, bit_line, bit_ruler, bracket_words, is_edge, is_edge_above, end_corner, corner, corner_at, edge_line, is_held, is_held_on, bracket_corner, bracket_corner_at, bracket_corners, side_at, sides, cell_line, byte_cell, cells_line, line_number, row_line, line_above, two_columns, row_number, row_text, bracket_line, bracket_lines, usage_lines, item_lines, field_lines, fields_text, terminal_head, rows_text, numbered_rows, drawn_text, terminal_of, terminal_at};
 
 use crate::bracket_names::print_bracket_name;
 use crate::brackets::{Bracket, bracket_depth};
@@ -14,18 +13,20 @@ use crate::captions::{
 };
 use crate::escape::push_printed;
 use crate::glyphs::{
-    BIT_LINE, BIT_RULER, BLANK, BRACKET_FIRST, BRACKET_LAST, CROSS, DOWNWARD, FLAT, LEFT_BOTH,
-    LEFT_FIRST, LEFT_LAST, RIGHT_BOTH, RIGHT_FIRST, RIGHT_LAST, SIDE, UPWARD,
+    BLANK, BRACKET_FIRST, BRACKET_LAST, CROSS, DOWNWARD, FLAT, LEFT_BOTH, LEFT_FIRST, LEFT_LAST,
+    RIGHT_BOTH, RIGHT_FIRST, RIGHT_LAST, SIDE, UPWARD,
 };
-use crate::lines::{byte_at, columns_of, line_of, row_lines};
+use crate::lines::{Medium, byte_at, columns_of, line_of, row_lines};
 use crate::lookups::{first_bit_of, item_at, report_at};
 use crate::pieces::{ByteSlice, piece_at};
 use hid_layout::{Layout, MainItem, Report, Usage};
 use std::alloc::{AllocError, Global};
 
-/// The name of a bracket is indented by n steps at most: the longest line, of a name of
-/// 55 columns and bytes of three digits, then has 99.
-pub const MAX_STEPS: usize = 13;
+/// The least columns of a bit: the word and the number of bit 7 have five.
+pub const LEAST_COLUMNS: usize = 6;
+
+/// The most columns of a bit (our choice): a row then has 84, and a bracket one more.
+pub const MOST_COLUMNS: usize = 10;
 
 /// The most bytes of a report that is drawn (our choice): the number of a byte has three columns.
 pub const MAX_DRAWN: usize = 1000;
@@ -112,15 +113,45 @@ fn print_corner(
     text.push_str(corner(k, above, below))
 }
 
+/// How many columns a bit has in a picture of a width with brackets of a depth.
+fn bit_columns(width: u16, depth: usize) -> u8
+    ensures { result ≡ bit_columns width depth }
+{
+    let room = usize::from(width).saturating_sub(4).saturating_sub(depth) / 8;
+    if room < LEAST_COLUMNS {
+        LEAST_COLUMNS as u8
+    } else if room < MOST_COLUMNS {
+        room as u8
+    } else {
+        MOST_COLUMNS as u8
+    }
+}
+
+/// Adds what stands after a corner, as wide as a bit with it.
+#[tactic(auto, unfolding(crate::specs::Terminal::bit_line))]
+fn print_bit_line(text: &mut String, columns: u8) -> Result<(), AllocError>
+    ensures { OnOk result (string_bytes text.new ≡ string_bytes text.old ++ bit_line columns) }
+{
+    for _i in 0..columns.saturating_sub(1) {
+        text.push_str(FLAT)?;
+    }
+    Ok(())
+}
+
 /// Adds the line above a byte, bit 7 first.
 #[tactic(auto, unfolding(crate::specs::Terminal::edge_line))]
-fn print_edge_line(text: &mut String, pieces: &[ByteSlice], byte: u32) -> Result<(), AllocError>
+fn print_edge_line(
+    text: &mut String,
+    columns: u8,
+    pieces: &[ByteSlice],
+    byte: u32,
+) -> Result<(), AllocError>
     ensures { OnOk result (string_bytes text.new
-        ≡ string_bytes text.old ++ edge_line pieces.now byte) }
+        ≡ string_bytes text.old ++ edge_line columns pieces.now byte) }
 {
     for i in 0..8u32 {
         print_corner(text, pieces, byte, 8 - i)?;
-        text.push_str(BIT_LINE)?;
+        print_bit_line(text, columns)?;
     }
     print_corner(text, pieces, byte, 0)
 }
@@ -229,6 +260,7 @@ fn print_sides(
 fn print_cell_line(
     alloc: Global,
     text: &mut String,
+    columns: u8,
     layout: &Layout,
     r: usize,
     k: u16,
@@ -236,18 +268,18 @@ fn print_cell_line(
 ) -> Result<(), AllocError>
     requires { r < length layout.now.reports }
     ensures { OnOk result (string_bytes text.new
-        ≡ string_bytes text.old ++ cell_line layout.now r k piece.now) }
+        ≡ string_bytes text.old ++ cell_line columns layout.now r k piece.now) }
 {
     let mut name = String::new(alloc);
     print_piece_name(&mut name, layout, piece)?;
     let mut details = String::new(alloc);
     print_part_details(&mut details, layout, r, piece.part)?;
-    let columns = columns_of(false, piece);
+    let width = columns_of(Medium::Characters(columns), piece);
     text.push_str(SIDE)?;
     push_fitted(
         text,
-        line_of(name.as_bytes(), details.as_bytes(), columns, k),
-        columns,
+        line_of(name.as_bytes(), details.as_bytes(), width, k),
+        width,
     )
 }
 
@@ -255,6 +287,7 @@ fn print_cell_line(
 fn print_byte_cell(
     alloc: Global,
     text: &mut String,
+    columns: u8,
     layout: &Layout,
     r: usize,
     k: u16,
@@ -263,12 +296,12 @@ fn print_byte_cell(
 ) -> Result<(), AllocError>
     requires { r < length layout.now.reports }
     ensures { OnOk result (string_bytes text.new
-        ≡ string_bytes text.old ++ byte_cell layout.now r k byte (Some piece.now)) }
+        ≡ string_bytes text.old ++ byte_cell columns layout.now r k byte (Some piece.now)) }
 {
     if piece.byte != byte {
         return Ok(());
     }
-    print_cell_line(alloc, text, layout, r, k, piece)
+    print_cell_line(alloc, text, columns, layout, r, k, piece)
 }
 
 /// Adds a line of the cells of a byte, the last one first.
@@ -276,6 +309,7 @@ fn print_byte_cell(
 fn print_cells_line(
     alloc: Global,
     text: &mut String,
+    columns: u8,
     layout: &Layout,
     r: usize,
     k: u16,
@@ -284,11 +318,11 @@ fn print_cells_line(
 ) -> Result<(), AllocError>
     requires { r < length layout.now.reports }
     ensures { OnOk result (string_bytes text.new
-        ≡ string_bytes text.old ++ cells_line layout.now r k byte pieces.now) }
+        ≡ string_bytes text.old ++ cells_line columns layout.now r k byte pieces.now) }
 {
     for i in 0..pieces.len() {
         let piece = piece_at(pieces, pieces.len() - 1 - i);
-        print_byte_cell(alloc, text, layout, r, k, byte, piece)?;
+        print_byte_cell(alloc, text, columns, layout, r, k, byte, piece)?;
     }
     Ok(())
 }
@@ -297,15 +331,16 @@ fn print_cells_line(
 #[tactic(auto, unfolding(crate::specs::Terminal::line_above))]
 fn print_line_above(
     text: &mut String,
+    columns: u8,
     byte: u32,
     brackets: &[Bracket],
     pieces: &[ByteSlice],
 ) -> Result<(), AllocError>
     ensures { OnOk result (string_bytes text.new
-        ≡ string_bytes text.old ++ line_above byte brackets.now pieces.now) }
+        ≡ string_bytes text.old ++ line_above columns byte brackets.now pieces.now) }
 {
     text.push_str("   ")?;
-    print_edge_line(text, pieces, byte)?;
+    print_edge_line(text, columns, pieces, byte)?;
     print_bracket_corners(text, brackets, bracket_depth(brackets), byte)?;
     text.push_str("\n")
 }
@@ -354,6 +389,7 @@ fn print_line_number(text: &mut String, bytes: u32, byte: u32, k: u16) -> Result
 fn print_row_line(
     alloc: Global,
     text: &mut String,
+    columns: u8,
     layout: &Layout,
     r: usize,
     bytes: u32,
@@ -364,10 +400,10 @@ fn print_row_line(
 ) -> Result<(), AllocError>
     requires { r < length layout.now.reports }
     ensures { OnOk result (string_bytes text.new
-        ≡ string_bytes text.old ++ row_line layout.now r bytes byte brackets.now pieces.now k) }
+        ≡ string_bytes text.old ++ row_line columns layout.now r bytes byte brackets.now pieces.now k) }
 {
     print_line_number(text, bytes, byte, k)?;
-    print_cells_line(alloc, text, layout, r, k, byte, pieces)?;
+    print_cells_line(alloc, text, columns, layout, r, k, byte, pieces)?;
     text.push_str(SIDE)?;
     print_sides(text, brackets, bracket_depth(brackets), byte)?;
     text.push_str("\n")
@@ -378,6 +414,7 @@ fn print_row_line(
 fn print_row(
     alloc: Global,
     text: &mut String,
+    columns: u8,
     layout: &Layout,
     r: usize,
     bytes: u32,
@@ -387,55 +424,75 @@ fn print_row(
 ) -> Result<(), AllocError>
     requires { r < length layout.now.reports }
     ensures { OnOk result (string_bytes text.new
-        ≡ string_bytes text.old ++ row_text layout.now r bytes brackets.now pieces.now byte) }
+        ≡ string_bytes text.old ++ row_text columns layout.now r bytes brackets.now pieces.now byte) }
 {
-    print_line_above(text, byte, brackets, pieces)?;
-    let lines = row_lines(alloc, layout, r, false, byte, pieces)?;
+    print_line_above(text, columns, byte, brackets, pieces)?;
+    let medium = Medium::Characters(columns);
+    let lines = row_lines(alloc, layout, r, medium, byte, pieces)?;
     for k in 0..lines {
-        print_row_line(alloc, text, layout, r, bytes, brackets, pieces, byte, k)?;
+        print_row_line(
+            alloc, text, columns, layout, r, bytes, brackets, pieces, byte, k,
+        )?;
     }
     Ok(())
 }
 
-/// Adds the indentation of a level.
-fn print_indentation(text: &mut String, level: usize) -> Result<(), AllocError>
+/// Adds n steps of indentation.
+fn print_indentation(text: &mut String, steps: usize) -> Result<(), AllocError>
     ensures { OnOk result (string_bytes text.new
-        ≡ string_bytes text.old ++ concat_below (min (level - 1) MAX_STEPS) (λ i. codes "  ")) }
+        ≡ string_bytes text.old ++ concat_below steps (λ i. codes "  ")) }
 {
-    for _i in 0..level.saturating_sub(1).min(MAX_STEPS) {
+    for _i in 0..steps {
         text.push_str("  ")?;
     }
     Ok(())
 }
 
-/// Adds a bracket by its name and its bytes.
+/// The name of a bracket and its bytes.
+#[tactic(auto, unfolding(crate::specs::Terminal::bracket_words))]
+fn bracket_words(alloc: Global, layout: &Layout, bracket: &Bracket) -> Result<String, AllocError>
+    ensures { IfOk result (λ words. string_bytes words ≡ bracket_words layout.now bracket.now) }
+{
+    let Bracket { first, last, .. } = *bracket;
+    let mut words = String::new(alloc);
+    print_bracket_name(&mut words, layout, bracket)?;
+    write!(words, ": bytes {first} to {last}")?;
+    Ok(words)
+}
+
+/// Adds a bracket, indented by its level as far as the width has room.
 #[tactic(auto, unfolding(crate::specs::Terminal::bracket_line))]
 fn print_bracket_line(
+    alloc: Global,
     text: &mut String,
+    width: u16,
     layout: &Layout,
     bracket: &Bracket,
 ) -> Result<(), AllocError>
     ensures { OnOk result (string_bytes text.new
-        ≡ string_bytes text.old ++ bracket_line layout.now bracket.now) }
+        ≡ string_bytes text.old ++ bracket_line width layout.now bracket.now) }
 {
-    let Bracket { first, last, .. } = *bracket;
-    print_indentation(text, bracket.level)?;
-    print_bracket_name(text, layout, bracket)?;
-    writeln!(text, ": bytes {first} to {last}")
+    let words = bracket_words(alloc, layout, bracket)?;
+    let room = usize::from(width).saturating_sub(words.len()) / 2;
+    print_indentation(text, bracket.level.saturating_sub(1).min(room))?;
+    text.push_str(words.as_str())?;
+    text.push_str("\n")
 }
 
 /// Adds the brackets of a report.
 #[tactic(auto, unfolding(crate::specs::Terminal::bracket_lines))]
 fn print_bracket_lines(
+    alloc: Global,
     text: &mut String,
+    width: u16,
     layout: &Layout,
     brackets: &[Bracket],
 ) -> Result<(), AllocError>
     ensures { OnOk result (string_bytes text.new
-        ≡ string_bytes text.old ++ bracket_lines layout.now brackets.now) }
+        ≡ string_bytes text.old ++ bracket_lines width layout.now brackets.now) }
 {
     for bracket in brackets {
-        print_bracket_line(text, layout, bracket)?;
+        print_bracket_line(alloc, text, width, layout, bracket)?;
     }
     Ok(())
 }
@@ -528,6 +585,7 @@ fn print_head(
 fn print_rows(
     alloc: Global,
     text: &mut String,
+    columns: u8,
     layout: &Layout,
     r: usize,
     bytes: u32,
@@ -536,12 +594,28 @@ fn print_rows(
 ) -> Result<(), AllocError>
     requires { r < length layout.now.reports }
     ensures { OnOk result (string_bytes text.new
-        ≡ string_bytes text.old ++ rows_text layout.now r bytes brackets.now pieces.now) }
+        ≡ string_bytes text.old ++ rows_text columns layout.now r bytes brackets.now pieces.now) }
 {
     for byte in 0..bytes {
-        print_row(alloc, text, layout, r, bytes, brackets, pieces, byte)?;
+        print_row(
+            alloc, text, columns, layout, r, bytes, brackets, pieces, byte,
+        )?;
     }
-    print_line_above(text, bytes, brackets, pieces)
+    print_line_above(text, columns, bytes, brackets, pieces)
+}
+
+/// Adds the numbers of the bits, each where its bit begins.
+#[tactic(auto, unfolding(crate::specs::Terminal::bit_ruler))]
+fn print_bit_ruler(text: &mut String, columns: u8) -> Result<(), AllocError>
+    ensures { OnOk result (string_bytes text.new ≡ string_bytes text.old ++ bit_ruler columns) }
+{
+    let columns = usize::from(columns);
+    text.push_str("    ")?;
+    push_fitted(text, b"bit 7", columns)?;
+    for i in 0..6u8 {
+        push_fitted(text, &[b'6' - i], columns)?;
+    }
+    text.push_str("0\n")
 }
 
 /// Adds the numbers of the bits, and the rows of a report of n bytes.
@@ -549,6 +623,7 @@ fn print_rows(
 fn print_numbered_rows(
     alloc: Global,
     text: &mut String,
+    columns: u8,
     layout: &Layout,
     r: usize,
     bytes: u32,
@@ -557,16 +632,17 @@ fn print_numbered_rows(
 ) -> Result<(), AllocError>
     requires { r < length layout.now.reports }
     ensures { OnOk result (string_bytes text.new
-        ≡ string_bytes text.old ++ numbered_rows layout.now r bytes brackets.now pieces.now) }
+        ≡ string_bytes text.old ++ numbered_rows columns layout.now r bytes brackets.now pieces.now) }
 {
-    text.push_str(BIT_RULER)?;
-    print_rows(alloc, text, layout, r, bytes, brackets, pieces)
+    print_bit_ruler(text, columns)?;
+    print_rows(alloc, text, columns, layout, r, bytes, brackets, pieces)
 }
 
 /// Adds the rows of a report of n bytes, or that it isn't drawn.
 fn print_drawn(
     alloc: Global,
     text: &mut String,
+    columns: u8,
     layout: &Layout,
     r: usize,
     bytes: u32,
@@ -575,12 +651,12 @@ fn print_drawn(
 ) -> Result<(), AllocError>
     requires { r < length layout.now.reports }
     ensures { OnOk result (string_bytes text.new
-        ≡ string_bytes text.old ++ drawn_text layout.now r bytes brackets.now pieces.now) }
+        ≡ string_bytes text.old ++ drawn_text columns layout.now r bytes brackets.now pieces.now) }
 {
     if bytes as usize > MAX_DRAWN {
         text.push_str(NO_PICTURE)
     } else {
-        print_numbered_rows(alloc, text, layout, r, bytes, brackets, pieces)
+        print_numbered_rows(alloc, text, columns, layout, r, bytes, brackets, pieces)
     }
 }
 
@@ -589,6 +665,7 @@ fn print_drawn(
 fn print_sized(
     alloc: Global,
     text: &mut String,
+    width: u16,
     layout: &Layout,
     r: usize,
     bytes: u32,
@@ -598,21 +675,24 @@ fn print_sized(
 ) -> Result<(), AllocError>
     requires { r < length layout.now.reports }
     ensures { OnOk result (string_bytes text.new ≡ string_bytes text.old
-        ++ terminal_of layout.now r bytes brackets.now pieces.now report.now) }
+        ++ terminal_of width layout.now r bytes brackets.now pieces.now report.now) }
 {
     print_head(text, layout.numbered(), u64::from(bytes), report)?;
-    print_drawn(alloc, text, layout, r, bytes, brackets, pieces)?;
-    print_bracket_lines(text, layout, brackets)?;
+    let columns = bit_columns(width, bracket_depth(brackets));
+    print_drawn(alloc, text, columns, layout, r, bytes, brackets, pieces)?;
+    print_bracket_lines(alloc, text, width, layout, brackets)?;
     print_fields(text, layout, r)
 }
 
-/// Adds the picture of a report in characters, by its brackets and its pieces.
+/// Adds the picture of a report in characters, by its brackets and its pieces. Where the width has no room for six columns of
+/// each bit, it is wider.
 ///
 /// # Errors
 /// Out of memory; part of the text may be added then.
 pub fn print_terminal(
     alloc: Global,
     text: &mut String,
+    width: u16,
     layout: &Layout,
     r: usize,
     brackets: &[Bracket],
@@ -620,9 +700,11 @@ pub fn print_terminal(
 ) -> Result<(), AllocError>
     requires { r < length layout.now.reports }
     ensures { OnOk result (string_bytes text.new ≡ string_bytes text.old
-        ++ terminal_at layout.now r brackets.now pieces.now (slice_get layout.now.reports r)) }
+        ++ terminal_at width layout.now r brackets.now pieces.now (slice_get layout.now.reports r)) }
 {
     let report = report_at(layout, r);
     let bytes = layout.report_bytes(r) as u32;
-    print_sized(alloc, text, layout, r, bytes, brackets, pieces, report)
+    print_sized(
+        alloc, text, width, layout, r, bytes, brackets, pieces, report,
+    )
 }

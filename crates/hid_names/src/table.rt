@@ -77,8 +77,8 @@ pub static GAME: [(u16, &str); 28] = [
 
 /// 07: Keyboard/Keypad.
 #[rattlefmt::skip]
-pub static KEYBOARD: [(u16, &str); 172] = [
-    (0x01, "Keyboard ErrorRollOver"), (0x02, "Keyboard POSTFail"), (0x03, "Keyboard ErrorUndefined"),
+pub static KEYBOARD: [(u16, &str); 173] = [
+    (0x00, "No Event"), (0x01, "Keyboard ErrorRollOver"), (0x02, "Keyboard POSTFail"), (0x03, "Keyboard ErrorUndefined"),
     (0x04, "Keyboard a and A"), (0x05, "Keyboard b and B"), (0x06, "Keyboard c and C"), (0x07, "Keyboard d and D"),
     (0x08, "Keyboard e and E"), (0x09, "Keyboard f and F"), (0x0A, "Keyboard g and G"), (0x0B, "Keyboard h and H"),
     (0x0C, "Keyboard i and I"), (0x0D, "Keyboard j and J"), (0x0E, "Keyboard k and K"), (0x0F, "Keyboard l and L"),

@@ -11,14 +11,14 @@ use Rattle.hid_drawing.specs.Items.{AreItemsOf, item_place}
 use Rattle.hid_page.specs.Page.{page_of, refused_page, svg_of, characters_of, is_drawn, mains_of}
 
 -- the pictures of all reports in characters, an empty line after each
-unfoldable pub all_characters : Contents → List Item → List ℕ → List ℕ
-all_characters layout items mains =
-    concat_below (length layout.reports) (λ r. characters_of layout items mains r ++ 10 ∷ [])
+unfoldable pub all_characters : ℕ → Contents → List Item → List ℕ → List ℕ
+all_characters width layout items mains =
+    concat_below (length layout.reports) (λ r. characters_of width layout items mains r ++ 10 ∷ [])
 
 -- what is drawn of a layout; no picture alone of a report that there isn't, or that isn't drawn
 abbrev pub form_text : Form → Contents → List Item → List ℕ → Option (List ℕ)
 form_text Page layout items mains = Some (page_of layout items mains)
-form_text Characters layout items mains = Some (all_characters layout items mains)
+form_text (Characters width) layout items mains = Some (all_characters width layout items mains)
 form_text (Svg r) layout items mains =
     if nat_lt r (length layout.reports) && is_drawn layout r then Some (svg_of layout items mains r) else None
 

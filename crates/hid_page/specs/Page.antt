@@ -163,9 +163,9 @@ abbrev pub is_drawn : Contents → ℕ → Bool
 is_drawn layout r = nat_le (report_bytes layout r) MAX_DRAWN
 
 -- the picture of a report in characters
-unfoldable pub characters_of : Contents → List Item → List ℕ → ℕ → List ℕ
-characters_of layout items mains r =
-    terminal_at layout r (brackets_of layout items mains r) (pieces_of layout r) (slice_get layout.reports r)
+unfoldable pub characters_of : ℕ → Contents → List Item → List ℕ → ℕ → List ℕ
+characters_of width layout items mains r =
+    terminal_at width layout r (brackets_of layout items mains r) (pieces_of layout r) (slice_get layout.reports r)
 
 -- the windows of a report's picture
 unfoldable pub windows_of : Contents → List Item → List ℕ → ℕ → List ℕ

@@ -19,8 +19,8 @@ pub enum Form {
     Page,
     /// The picture of a report alone, by its place among the reports.
     Svg(usize),
-    /// The pictures of all reports in characters.
-    Characters,
+    /// The pictures of all reports in characters, for a terminal of so many columns.
+    Characters(u16),
 }
 
 /// Adds the pictures of all reports in characters.
@@ -31,12 +31,13 @@ fn print_all_characters(
     layout: &Layout,
     items: &[Item],
     mains: &[usize],
+    width: u16,
 ) -> Result<(), AllocError>
     ensures { OnOk result (string_bytes text.new
-        ≡ string_bytes text.old ++ all_characters layout.now items.now mains.now) }
+        ≡ string_bytes text.old ++ all_characters width layout.now items.now mains.now) }
 {
     for r in 0..layout.reports().len() {
-        print_characters(alloc, text, layout, items, mains, r)?;
+        print_characters(alloc, text, width, layout, items, mains, r)?;
         text.push_str("\n")?;
     }
     Ok(())
@@ -57,7 +58,9 @@ fn draw_form(
     let mut text = String::new(alloc);
     match form {
         Form::Page => print_page(alloc, &mut text, layout, items, mains)?,
-        Form::Characters => print_all_characters(alloc, &mut text, layout, items, mains)?,
+        Form::Characters(width) => {
+            print_all_characters(alloc, &mut text, layout, items, mains, width)?
+        }
         Form::Svg(r) => {
             if r >= layout.reports().len() || !is_drawn(layout, r) {
                 return Ok(None);

@@ -92,7 +92,7 @@ pub fn print_svg(
     print_picture(alloc, text, layout, r, &brackets, &pieces)
 }
 
-/// Adds the same picture in characters.
+/// Adds the same picture in characters, for a terminal of so many columns.
 ///
 /// # Errors
 /// Out of memory; part of the text may be added then.
@@ -100,6 +100,7 @@ pub fn print_svg(
 pub fn print_characters(
     alloc: Global,
     text: &mut String,
+    width: u16,
     layout: &Layout,
     items: &[Item],
     mains: &[usize],
@@ -107,11 +108,11 @@ pub fn print_characters(
 ) -> Result<(), AllocError>
     requires { r < length layout.now.reports }
     ensures { OnOk result (string_bytes text.new
-        ≡ string_bytes text.old ++ characters_of layout.now items.now mains.now r) }
+        ≡ string_bytes text.old ++ characters_of width layout.now items.now mains.now r) }
 {
     let brackets = brackets_in(alloc, layout, items, mains, r)?;
     let pieces = pieces_of(alloc, layout, r)?;
-    print_terminal(alloc, text, layout, r, &brackets, &pieces)
+    print_terminal(alloc, text, width, layout, r, &brackets, &pieces)
 }
 
 /// Adds the picture of the report r and its windows, or that it isn't drawn.

@@ -13,7 +13,7 @@ pub struct CliArgs<'a> {
 }
 
 const CODES: &str =
-    "A descriptor is read as binary, or as text: the first R: line of hid-recorder, hex digits, what usbhid-dump prints, or\nan array of C.\nL1 to L16 are why it is refused: docs/RECORDINGS.md. The pictures: docs/PICTURES.md.\nBoth are installed in share/doc/rulohevian.";
+    "A descriptor is read as binary, or as text: a line R: of hid-recorder, what\nusbhid-dump, lsusb -v, xxd, hexdump -C, od -t x1 or Wireshark print, hex, an\narray or a string of C.\nL1 to L16 are why it is refused: docs/RECORDINGS.md. The pictures:\ndocs/PICTURES.md. Both are installed in share/doc/rulohevian.";
 
 /// The option `--svg N`.
 fn svg<'a>(alloc: Global) -> Result<Arg<'a>, AllocError> {
@@ -21,9 +21,7 @@ fn svg<'a>(alloc: Global) -> Result<Arg<'a>, AllocError> {
         .long("svg")
         .value_name("N")
         .value_parser(value_parser!(u16))
-        .help(
-            "Draw the picture of the report N alone, as SVG: Input, Output, then Feature reports, each by ID, from 0",
-        )
+        .help("Draw the picture of report N alone, as SVG, from 0")
         .conflicts_with("text")
 }
 
@@ -33,6 +31,16 @@ fn text<'a>(alloc: Global) -> Arg<'a> {
         .long("text")
         .action(ArgAction::SetTrue)
         .help("Draw the pictures in characters")
+}
+
+/// The option `--width N`.
+fn width<'a>(alloc: Global) -> Result<Arg<'a>, AllocError> {
+    Arg::new(alloc, "width")
+        .long("width")
+        .value_name("N")
+        .value_parser(value_parser!(u16))
+        .help("Draw characters for a terminal of N columns (COLUMNS, else 80)")
+        .conflicts_with("svg")
 }
 
 /// The argument FILE.
@@ -52,26 +60,42 @@ fn drawing<'a>(alloc: Global) -> Result<Command<'a>, AllocError> {
 
 /// The command line.
 fn command<'a>(alloc: Global) -> Result<Command<'a>, AllocError> {
-    drawing(alloc)?.arg(text(alloc))?.arg(file(alloc))
+    let command = drawing(alloc)?.arg(text(alloc))?;
+    match width(alloc) {
+        Ok(width) => command.arg(width)?.arg(file(alloc)),
+        Err(error) => {
+            drop(command);
+            Err(error)
+        }
+    }
 }
 
-/// What the words after the first ask for, which is the program's name.
+/// What the words after the first ask for, which is the program's name. Characters are drawn for a terminal of so many columns,
+/// where no other width is asked for.
 ///
 /// # Errors
 /// The error of clap: words that it refuses, help or version that they ask for, or out of memory.
-pub fn parse_args<'a>(alloc: Global, words: &'a [String]) -> Result<CliArgs<'a>, Error> {
+pub fn parse_args<'a>(
+    alloc: Global,
+    words: &'a [String],
+    columns: u16,
+) -> Result<CliArgs<'a>, Error> {
     let matches = command(alloc)?.try_get_matches_from(words)?;
-    let asked = read_matches(&matches);
+    let asked = read_matches(&matches, columns);
     drop(matches);
     Ok(asked)
 }
 
 /// The arguments of the words that clap found.
-fn read_matches<'a>(matches: &ArgMatches<'a>) -> CliArgs<'a> {
+fn read_matches<'a>(matches: &ArgMatches<'a>, columns: u16) -> CliArgs<'a> {
+    let width = matches.get_one::<u16>("width");
     let form = match matches.get_one::<u16>("svg") {
         Some(report) => Form::Svg(usize::from(report)),
-        None if matches.get_flag("text") => Form::Characters,
-        None => Form::Page,
+        None if matches.get_flag("text") => Form::Characters(width.unwrap_or(columns)),
+        None => match width {
+            Some(width) => Form::Characters(width),
+            None => Form::Page,
+        },
     };
     let file = matches.get_str("FILE").unwrap_or("-");
     CliArgs { form, file }

@@ -3,7 +3,7 @@
 //!   hidmap [OPTIONS] [FILE]
 //!
 //!   FILE, or standard input --> descriptor_in --> Layout::parse_within --> hid_page::draw --> standard output
-//!     binary, hex, R:, a dump or C                   |
+//!     whatever its form: hid_input                   |
 //!                                                    +-- refused --> draw_refused --> standard output
 //!                                                                    and in words --> standard error
 //! ```
@@ -15,18 +15,17 @@ ghost use Rattle.std.specs.Prelude.{◌≤◌, length};
 ghost use Rattle.hidmap.specs.declared.TheConstants.{MOST};
 
 mod args;
-mod input;
 mod status;
 
 use args::{CliArgs, parse_args};
 use clap::error::ErrorKind;
+use hid_input::{FileName, InputCause, InputFault, descriptor_in};
 use hid_layout::{Cause, Layout, LayoutFault, Limits, MAX_DESCRIPTOR, long_report};
 use hid_notation::RefusalText;
 use hid_page::{Form, MAX_DRAWN, draw, draw_refused};
-use input::{InputFault, descriptor_in};
 use status::{FINE, OUTSIDE, REFUSED, WRONG_USAGE};
 use std::alloc::Global;
-use std::io::{self, Read, Write};
+use std::io::{self, IsTerminal, Read, Write};
 use std::process::ExitCode;
 use std::{env, fs};
 
@@ -38,6 +37,9 @@ const UNWRITTEN: &str = "standard output can't be written";
 
 /// The longest input: a descriptor of 4,096 bytes takes 12,300 in an R: line, and what lies after it is of no use.
 const LONGEST: usize = 1 << 24;
+
+/// The columns of a terminal that doesn't say how many it has.
+const COLUMNS: u16 = 80;
 
 /// The most bytes of a descriptor that are read. One that is longer is refused at byte 4,096, and the item that begins there
 /// has 258 at most.
@@ -53,9 +55,20 @@ fn main(rt: HostRuntime) -> ExitCode {
     let Ok(words) = words else {
         return ExitCode::from(OUTSIDE);
     };
-    match parse_args(alloc, words.as_slice()) {
+    match parse_args(alloc, words.as_slice(), terminal_columns(&rt)) {
         Ok(asked) => ExitCode::from(draw_file(&rt, &asked)),
         Err(error) => ExitCode::from(print_bad_words(&rt, &error)),
+    }
+}
+
+/// The columns of pictures where none are asked for: those that COLUMNS has, where standard output is a terminal; else 80.
+fn terminal_columns(rt: &HostRuntime) -> u16 {
+    if !rt.stdout().is_terminal() {
+        return COLUMNS;
+    }
+    match env::var(rt, "COLUMNS") {
+        Ok(text) => text.as_str().parse::<u16>().unwrap_or(COLUMNS),
+        Err(_) => COLUMNS,
     }
 }
 
@@ -98,6 +111,7 @@ fn print_unread_fault(rt: &HostRuntime, name: &str, error: &io::Error) -> u8 {
     if error.kind() == io::ErrorKind::OutOfMemory {
         return print_outside_fault(rt, NO_MEMORY);
     }
+    let name = FileName(name);
     let _ = eprintln!(rt; "hidmap: {name}: it can't be read: {error}");
     OUTSIDE
 }
@@ -126,13 +140,20 @@ fn draw_file(rt: &HostRuntime, asked: &CliArgs<'_>) -> u8 {
         Err(error) => return print_unread_fault(rt, name, &error),
     };
     if bytes.len() > LONGEST {
+        let name = FileName(name);
         let _ = eprintln!(rt; "hidmap: {name}: over {LONGEST} bytes");
         return REFUSED;
     }
     match descriptor_in(rt.alloc(), bytes.as_slice()) {
         Ok(descriptor) => draw_bytes(rt, asked, descriptor.as_slice()),
-        Err(InputFault::Memory) => print_outside_fault(rt, NO_MEMORY),
+        Err(
+            InputFault {
+                cause: InputCause::Memory,
+                ..
+            },
+        ) => print_outside_fault(rt, NO_MEMORY),
         Err(fault) => {
+            let name = FileName(name);
             let _ = eprintln!(rt; "hidmap: {name}: {fault}");
             REFUSED
         }
@@ -145,7 +166,7 @@ fn draw_bytes(rt: &HostRuntime, asked: &CliArgs<'_>, descriptor: &[u8]) -> u8 {
     match Layout::parse_within(rt.alloc(), Limits::Real, descriptor) {
         Ok(layout) => {
             if layout.reports().is_empty() {
-                let name = asked.file;
+                let name = FileName(asked.file);
                 let _ = eprintln!(rt; "hidmap: {name}: no reports");
             }
             draw_layout(rt, &layout, descriptor, asked.form)
@@ -206,10 +227,10 @@ fn draw_refusal(
 ) -> u8
     requires { length descriptor.now ≤ MOST }
 {
-    let name = asked.file;
+    let name = FileName(asked.file);
     let _ = eprintln!(rt; "hidmap: {name}: {refusal}");
     match asked.form {
-        Form::Svg(_) | Form::Characters => REFUSED,
+        Form::Svg(_) | Form::Characters(_) => REFUSED,
         Form::Page => match draw_refused(rt.alloc(), descriptor, refusal) {
             Ok(text) => write_out(rt, &text, REFUSED),
             Err(_) => print_outside_fault(rt, NO_MEMORY),

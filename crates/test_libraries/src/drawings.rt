@@ -45,10 +45,10 @@ const HOLDS: [(&[u8], Form, &str); 25] = [
     (&MOUSE, Form::Page,        "body:has(.f0:hover,.f0:focus,#f0:target) :is(#f0,#at4,#at8,#at10,#at12,#at14,#at16,#at18,#at20,#at22,#at24){"),
     (&MOUSE, Form::Page,        "&emsp;&emsp;Usage Maximum Button 3</td>"),
     (&MOUSE, Form::Page,        " C0</code></td><td>End Collection</td></tr>"),
-    (&MOUSE, Form::Characters,  " 0 │padding                                          │Button 3 │Button 2 │Button 1 │││\n"),
-    (&LONG,     Form::Characters, "\n  0│X      "),
-    (&LONG,     Form::Characters, "\n 99│X      "),
-    (&LONG,     Form::Characters, "\n100│X      "),
+    (&MOUSE, Form::Characters(100),  " 0 │padding                                          │Button 3 │Button 2 │Button 1 │││\n"),
+    (&LONG,     Form::Characters(100), "\n  0│X      "),
+    (&LONG,     Form::Characters(100), "\n 99│X      "),
+    (&LONG,     Form::Characters(100), "\n100│X      "),
     (&EXTREMES, Form::Page,     "FFFF:FFFF (Vendor-defined)"),
     (&EXTREMES, Form::Page,     "<td>-2147483648 to 2147483647, signed</td>"),
     (&EXTREMES, Form::Page,     "data, variable, relative, wrap, nonlinear, no preferred, null state, reserved, buffered bytes"),
@@ -98,16 +98,16 @@ fn deepest(alloc: Global, front: u8) -> Result<Vec<u8>, AllocError> {
     Ok(deep)
 }
 
-/// In characters no line has over 100 columns, and one of a picture under 16 collections has as many: in reports of 64,
-/// 100, 102 and 256 bytes, whose collections take the bytes from 32, 50, 51 and 128 on.
+/// In characters of a terminal of 100 columns no line of a picture has more, and one under 16 collections has as many: in reports
+/// of 64, 100, 102 and 256 bytes, whose collections take the bytes from 32, 50, 51 and 128 on.
 #[test]
 fn lines_fit_a_terminal(rt: HostRuntime) -> Result<(), Fail> {
     for front in [32, 50, 51, 128] {
         let deep = deepest(rt.alloc(), front)?;
-        let text = drawn(rt.alloc(), deep.as_slice(), Form::Characters)?;
+        let text = drawn(rt.alloc(), deep.as_slice(), Form::Characters(100))?;
         assert_eq!(rt; widest(text.as_str()), 100, "{front}");
     }
-    let text = drawn(rt.alloc(), &EXTREMES, Form::Characters)?;
+    let text = drawn(rt.alloc(), &EXTREMES, Form::Characters(100))?;
     assert!(rt; widest(text.as_str()) <= 100);
     Ok(())
 }

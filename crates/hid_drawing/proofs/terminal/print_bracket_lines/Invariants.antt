@@ -8,4 +8,4 @@ use Rattle.hid_drawing.proofs.terminal.print_bracket_lines.Given as goal
 abbrev pub invariant-loop-bracket : goal.invariant-loop-bracket
 invariant-loop-bracket l =
     string_bytes l.text
-    ≡ string_bytes l.fn.text ++ flat_map (λ bracket. bracket_line l.layout bracket) (take l.bracket-index l.brackets)
+    ≡ string_bytes l.fn.text ++ flat_map (λ bracket. bracket_line l.width l.layout bracket) (take l.bracket-index l.brackets)

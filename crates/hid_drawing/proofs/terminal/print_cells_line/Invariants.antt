@@ -9,4 +9,4 @@ abbrev pub invariant-loop-i : goal.invariant-loop-i
 invariant-loop-i l =
     string_bytes l.text
     ≡ string_bytes l.fn.text
-    ++ concat_below l.i (λ i. byte_cell l.layout l.r l.k l.byte (slice_get l.pieces ((length l.pieces - 1) - i)))
+    ++ concat_below l.i (λ i. byte_cell l.columns l.layout l.r l.k l.byte (slice_get l.pieces ((length l.pieces - 1) - i)))

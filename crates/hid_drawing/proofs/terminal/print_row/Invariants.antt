@@ -8,5 +8,5 @@ use Rattle.hid_drawing.proofs.terminal.print_row.Given as goal
 abbrev pub invariant-loop-k : goal.invariant-loop-k
 invariant-loop-k l =
     string_bytes l.text
-    ≡ (string_bytes l.fn.text ++ line_above l.byte l.brackets l.pieces)
-    ++ concat_below l.k (row_line l.layout l.r l.bytes l.byte l.brackets l.pieces)
+    ≡ (string_bytes l.fn.text ++ line_above l.columns l.byte l.brackets l.pieces)
+    ++ concat_below l.k (row_line l.columns l.layout l.r l.bytes l.byte l.brackets l.pieces)

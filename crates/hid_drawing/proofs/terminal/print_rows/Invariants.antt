@@ -8,4 +8,4 @@ use Rattle.hid_drawing.proofs.terminal.print_rows.Given as goal
 abbrev pub invariant-loop-byte : goal.invariant-loop-byte
 invariant-loop-byte l =
     string_bytes l.text ≡ string_bytes l.fn.text
-    ++ concat_below l.byte (row_text l.layout l.r l.bytes l.brackets l.pieces)
+    ++ concat_below l.byte (row_text l.columns l.layout l.r l.bytes l.brackets l.pieces)

@@ -8,4 +8,4 @@ use Rattle.hid_page.proofs.drawing.print_all_characters.Given as goal
 abbrev pub invariant-loop-r : goal.invariant-loop-r
 invariant-loop-r l =
     string_bytes l.text
-    ≡ string_bytes l.fn.text ++ concat_below l.r (λ r. characters_of l.layout l.items l.mains r ++ 10 ∷ [])
+    ≡ string_bytes l.fn.text ++ concat_below l.r (λ r. characters_of l.width l.layout l.items l.mains r ++ 10 ∷ [])

@@ -1,0 +1,28 @@
+-- Which files are text (our choice: docs/PICTURES.md).
+use Rattle.std.specs.Prelude.{ℕ, ◌==◌, Bool, not, ◌&&◌, ◌||◌, nat_le, List, length, slice_index, drop, if◌then◌else◌}
+use Rattle.std.specs.List.{list_any, list_all}
+
+-- a blank, a tab, or an end of a line or of a page
+abbrev pub is_space : ℕ → Bool
+is_space byte = (byte == 9) || ((byte == 10) || ((byte == 12) || ((byte == 13) || (byte == 32))))
+
+-- a byte that text may have: any but control bytes, of which it may have spaces
+abbrev pub is_text_byte : ℕ → Bool
+is_text_byte byte = is_space byte || (nat_le 32 byte && not (byte == 127))
+
+-- a byte is no space
+abbrev pub has_printed : List ℕ → Bool
+has_printed bytes = list_any (λ byte. not (is_space byte)) bytes
+
+-- bytes are text if something is printed, and no control byte is among them but spaces. They need not be UTF-8
+abbrev pub is_text : List ℕ → Bool
+is_text bytes = has_printed bytes && list_all is_text_byte bytes
+
+-- the bytes begin with the byte order mark of UTF-8 (Unicode, 23.8)
+abbrev pub has_mark : List ℕ → Bool
+has_mark bytes =
+    nat_le 3 (length bytes) && ((slice_index bytes 0 == 0xEF) && ((slice_index bytes 1 == 0xBB) && (slice_index bytes 2 == 0xBF)))
+
+-- the bytes after a byte order mark, or all where there is none
+abbrev pub without_mark : List ℕ → List ℕ
+without_mark bytes = if has_mark bytes then drop 3 bytes else bytes

@@ -1,0 +1,40 @@
+//! Words of digits, and the numbers that they encode.
+
+/// The value of a digit, where it is one in this base.
+pub fn digit_of(byte: u8, base: u32) -> Option<u32> {
+    if base > 36 || base < 2 {
+        return None;
+    }
+    char::from(byte).to_digit(base)
+}
+
+/// The number that digits encode; none where there is no digit, or another character.
+pub fn number_of(word: &[u8], base: u32) -> Option<u64> {
+    if word.is_empty() {
+        return None;
+    }
+    let mut number = 0u64;
+    for byte in word {
+        let digit = digit_of(*byte, base)?;
+        number = number
+            .saturating_mul(u64::from(base))
+            .saturating_add(u64::from(digit));
+    }
+    Some(number)
+}
+
+/// The byte that digits encode.
+pub fn byte_of(word: &[u8], base: u32) -> Option<u8> {
+    match number_of(word, base)? {
+        number @ 0..=255 => Some(number as u8),
+        _ => None,
+    }
+}
+
+/// The byte that two hex digits encode.
+pub fn pair_of(word: &[u8]) -> Option<u8> {
+    match word {
+        [_, _] => byte_of(word, 16),
+        _ => None,
+    }
+}

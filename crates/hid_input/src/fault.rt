@@ -1,0 +1,105 @@
+//! Why a file has no descriptor.
+
+ghost use Rattle.std.specs.Prelude.{◌≡◌};
+
+use std::alloc::AllocError;
+use std::fmt;
+
+/// Why no descriptor is read.
+#[derive(Clone, Copy, Debug, PartialEq, Eq)]
+pub enum InputCause {
+    /// A byte isn't two hex digits.
+    BadHex,
+    /// The count of an `R:` line, or the length that lsusb prints, isn't that of the bytes.
+    BadCount { said: u64, found: u64 },
+    /// An element of an array of C is no byte.
+    BadArray,
+    /// An escape of a string of C is no byte, or a digit follows it.
+    BadEscape,
+    /// Words of more than two digits, of which nothing says in which order their bytes are.
+    WordOrder,
+    /// A first word that is longer than the others, and doesn't count the bytes.
+    Offset,
+    /// A line of a dump that no way of reading dumps reads.
+    Dump,
+    /// An item of lsusb that is none of HID 1.11, 6.2.2.
+    BadItem,
+    /// Two ways to read it, which give different bytes.
+    TwoWays,
+    /// Text of UTF-16.
+    Utf16,
+    /// Text in which no descriptor is found.
+    NoDescriptor,
+    Memory,
+}
+
+/// Why a file has no descriptor, and in which line.
+#[derive(Clone, Copy, Debug, PartialEq, Eq)]
+pub struct InputFault {
+    /// From 1 on; none where the whole text is meant.
+    pub line: Option<u64>,
+    pub cause: InputCause,
+}
+
+impl InputFault {
+    ghost use Rattle.hid_input.specs.Faults.{of_text, of_line};
+
+    /// What is wrong with the whole text.
+    pub fn of_text(cause: InputCause) -> InputFault
+        ensures { result ≡ of_text cause }
+    {
+        InputFault { line: None, cause }
+    }
+
+    /// What is wrong with a line.
+    pub fn of_line(line: u64, cause: InputCause) -> InputFault
+        ensures { result ≡ of_line line cause }
+    {
+        InputFault {
+            line: Some(line),
+            cause,
+        }
+    }
+}
+
+impl From<AllocError> for InputFault {
+    fn from(_error: AllocError) -> InputFault {
+        InputFault::of_text(InputCause::Memory)
+    }
+}
+
+impl fmt::Display for InputCause {
+    fn fmt<W: fmt::Write>(&self, f: &mut fmt::Formatter<W>) -> fmt::Result {
+        let words = match *self {
+            InputCause::BadCount { said, found } => {
+                return write!(f, "the count says {said}, there are {found} bytes");
+            }
+            InputCause::BadHex => "a byte isn't two hex digits",
+            InputCause::BadArray => "an element of the array is no byte",
+            InputCause::BadEscape => "an escape of the string is no byte, or a digit follows it",
+            InputCause::WordOrder => {
+                "words of two bytes or more: their order isn't known (try xxd, hexdump -C or od -t x1)"
+            }
+            InputCause::Offset => "an offset? The first word doesn't count the bytes before it",
+            InputCause::Dump => "a dump with offsets, of which this line can't be read",
+            InputCause::BadItem => "no item as lsusb prints them",
+            InputCause::TwoWays => "it can be read in two ways, which give different bytes",
+            InputCause::Utf16 => "text of UTF-16: write it as UTF-8",
+            InputCause::NoDescriptor => {
+                "text without a descriptor: an R: line, hex, an array of C, or what xxd, hexdump -C, od, Wireshark, lsusb -v or usbhid-dump print is expected"
+            }
+            InputCause::Memory => "out of memory",
+        };
+        f.write_str(words)
+    }
+}
+
+impl fmt::Display for InputFault {
+    fn fmt<W: fmt::Write>(&self, f: &mut fmt::Formatter<W>) -> fmt::Result {
+        let cause = self.cause;
+        match self.line {
+            Some(line) => write!(f, "line {line}: {cause}"),
+            None => write!(f, "{cause}"),
+        }
+    }
+}

@@ -1,0 +1,167 @@
+//! The descriptor of a file, whatever form it has.
+
+ghost use Rattle.std.specs.Prelude.{◌≡◌, false, IfOk};
+ghost use Rattle.std.specs.List.{list_all};
+ghost use Rattle.hid_input.specs.Text.{is_space, is_text_byte, has_printed, is_text, without_mark};
+
+use crate::code::{has_array, has_string, read_array, read_string};
+use crate::fault::{InputCause, InputFault};
+use crate::items::{has_items, read_items};
+use crate::recorded::{has_recorded, read_dumped, read_recorded};
+use crate::spelled::{is_spelled, read_spelled};
+use crate::ways::{add_dumps, agreed};
+use std::alloc::{AllocError, Global};
+
+/// Whether a byte is a blank, a tab, or an end of a line or of a page.
+fn is_space(byte: u8) -> bool
+    ensures { result ≡ is_space byte }
+{
+    matches!(byte, b'\t' | b'\n' | 0x0C | b'\r' | b' ')
+}
+
+/// Whether a byte may stand in text: any but control bytes, of which spaces may.
+fn is_text_byte(byte: u8) -> bool
+    ensures { result ≡ is_text_byte byte }
+{
+    is_space(byte) || (b' ' <= byte && byte != 127)
+}
+
+/// Whether a byte is no space.
+fn has_printed(bytes: &[u8]) -> bool
+    ensures { result ≡ has_printed bytes.now }
+{
+    bytes.iter().any(|byte| !is_space(*byte))
+}
+
+/// Whether each byte may stand in text.
+fn are_text_bytes(bytes: &[u8]) -> bool
+    ensures { result ≡ list_all is_text_byte bytes.now }
+{
+    bytes.iter().all(|byte| is_text_byte(*byte))
+}
+
+/// Whether the bytes are text: something is printed, and there are no control bytes but spaces. They need not be UTF-8.
+fn is_text(bytes: &[u8]) -> bool
+    ensures { result ≡ is_text bytes.now }
+{
+    has_printed(bytes) && are_text_bytes(bytes)
+}
+
+/// The bytes after a byte order mark of UTF-8, or all where there is none.
+fn without_mark(bytes: &[u8]) -> &[u8]
+    ensures { result.now ≡ without_mark bytes.now }
+{
+    if bytes.len() >= 3 && bytes[0] == 0xEF && bytes[1] == 0xBB && bytes[2] == 0xBF {
+        &bytes[3..]
+    } else {
+        bytes
+    }
+}
+
+/// The first word of a text.
+fn first_word(text: &[u8]) -> &[u8] {
+    let text = text.trim_ascii_start();
+    match text.split(|byte| byte.is_ascii_whitespace()).next() {
+        Some(word) => word,
+        None => text,
+    }
+}
+
+/// Whether a word is an offset by its looks: a colon after it, or four zeros or more.
+fn is_offset(word: &[u8]) -> bool {
+    match word {
+        [digits @ .., b':'] => digits.iter().all(|byte| byte.is_ascii_hexdigit()),
+        _ => word.len() >= 4 && word.iter().all(|byte| *byte == b'0'),
+    }
+}
+
+/// Whether a word is hex digits of several bytes.
+fn is_long(word: &[u8]) -> bool {
+    word.len() >= 4 && word.iter().all(|byte| byte.is_ascii_hexdigit())
+}
+
+/// Why a line of a dump can't be read: it has nothing but words of several bytes, or something else.
+fn dump_cause(text: &[u8], reached: u64) -> InputCause {
+    let mut number = 0u64;
+    for line in text.split(|byte| *byte == b'\n') {
+        number = number.saturating_add(1);
+        if number == reached {
+            let mut words = line
+                .split(|byte| byte.is_ascii_whitespace())
+                .filter(|word| !word.is_empty());
+            let _offset = words.next();
+            return match words.next() {
+                Some(word) if is_long(word) && words.all(is_long) => InputCause::WordOrder,
+                _ => InputCause::Dump,
+            };
+        }
+    }
+    InputCause::Dump
+}
+
+/// The bytes of a dump: in each way in which the text can be read they are the same.
+fn read_offset_dump(alloc: Global, text: &[u8]) -> Result<Vec<u8>, InputFault> {
+    let mut readings = Vec::new(alloc);
+    let reached = add_dumps(alloc, text, &mut readings)?;
+    match agreed(readings)? {
+        Some(bytes) => Ok(bytes),
+        None => Err(InputFault::of_line(reached, dump_cause(text, reached))),
+    }
+}
+
+/// The bytes of hex, of which a first column may count the bytes: in each way in which the text can be read they are the same.
+fn read_hex(alloc: Global, text: &[u8]) -> Result<Vec<u8>, InputFault> {
+    let spelled = read_spelled(alloc, text)?;
+    let mut readings = Vec::new(alloc);
+    readings.push(spelled).map_err(AllocError::from)?;
+    let _reached = add_dumps(alloc, text, &mut readings)?;
+    match agreed(readings)? {
+        Some(bytes) => Ok(bytes),
+        None => Err(InputFault::of_text(InputCause::NoDescriptor)),
+    }
+}
+
+/// The descriptor in text.
+fn descriptor_in_text(alloc: Global, text: &[u8]) -> Result<Vec<u8>, InputFault> {
+    if is_offset(first_word(text)) {
+        return read_offset_dump(alloc, text);
+    }
+    if has_recorded(text) {
+        return read_recorded(alloc, text);
+    }
+    if let Some(bytes) = read_dumped(alloc, text)? {
+        return Ok(bytes);
+    }
+    if has_items(text) {
+        return read_items(alloc, text);
+    }
+    if is_spelled(text) {
+        return read_hex(alloc, text);
+    }
+    if has_array(text) {
+        return read_array(alloc, text);
+    }
+    if has_string(text) {
+        return read_string(alloc, text);
+    }
+    Err(InputFault::of_text(InputCause::NoDescriptor))
+}
+
+/// The descriptor in the bytes of a file. Text is read as the first of these that it has: a dump whose first word is an offset,
+/// a line `R:` of hid-recorder, a descriptor of usbhid-dump or of lsusb, hex, an array or a string of C. Other bytes are taken as
+/// they are.
+///
+/// # Errors
+/// An [`InputFault`]: what is wrong with the form that is found, or that there is none.
+pub fn descriptor_in(alloc: Global, bytes: &[u8]) -> Result<Vec<u8>, InputFault>
+    ensures { is_text (without_mark bytes.now) ≡ false → IfOk result (λ read. read.items ≡ bytes.now) }
+{
+    if let [0xFF, 0xFE, _, 0x00, ..] = bytes {
+        return Err(InputFault::of_text(InputCause::Utf16));
+    }
+    let text = without_mark(bytes);
+    if is_text(text) {
+        return descriptor_in_text(alloc, text);
+    }
+    Ok(Vec::from_slice(alloc, bytes)?)
+}
