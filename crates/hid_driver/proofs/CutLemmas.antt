@@ -31,11 +31,11 @@ begun_is layout bytes false first r is = whole_is layout bytes (position (is_inp
 begun_is layout bytes true None r is = let wrong : ◌≡◌ {A = Result ℕ ReportFault} (Err Short) (Ok r) = is in cc
 begun_is layout bytes true (Some id) r is = whole_is layout bytes (position (is_input_with id) layout.reports) r is
 
-report_begins : (layout : Contents) (bytes : List ℕ) (r : ℕ) → report_named layout bytes ≡ Ok r → report_begun layout bytes ≡ Some r
+pub report_begins : (layout : Contents) (bytes : List ℕ) (r : ℕ) → report_named layout bytes ≡ Ok r → report_begun layout bytes ≡ Some r
 report_begins layout bytes r named = begun_is layout bytes layout.numbered (first_byte bytes) r named
 
 -- the beginning of a report begins it too
-same_first : (layout : Contents) (front bytes : List ℕ) (r : ℕ) → first_byte front ≡ first_byte bytes → report_begun layout bytes ≡ Some r
+pub same_first : (layout : Contents) (front bytes : List ℕ) (r : ℕ) → first_byte front ≡ first_byte bytes → report_begun layout bytes ≡ Some r
     → report_begun layout front ≡ Some r
 same_first layout front bytes r same begun =
     ap (λ (first : Option ℕ). cond layout.numbered (option_and_then (λ id. position (is_input_with id) layout.reports) first)

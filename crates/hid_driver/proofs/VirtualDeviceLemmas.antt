@@ -130,32 +130,32 @@ whole device = refl
 -- ---- the moves
 
 -- a move whose answer is read
-goes_when : {A : Type 0} (before : DriverValue) (next : A → DriverValue) (answer : Result A DriverFault) (read : A) (result : Result Moved DriverFault) (after : DriverValue)
+pub goes_when : {A : Type 0} (before : DriverValue) (next : A → DriverValue) (answer : Result A DriverFault) (read : A) (result : Result Moved DriverFault) (after : DriverValue)
     → answer ≡ Ok read → Goes before next answer result after → after ≡ next read
 goes_when {A = A} before next answer read result after is goes =
     (subst (λ (a : Result A DriverFault). Goes before next a result after) is goes).1
 
 -- an outcome that gives bytes is done
-device_when : (device : VirtualDevice) (outcome : Outcome) → FitsDevice device.info → IsOutcome (Some (device_bytes device.info)) outcome
+pub device_when : (device : VirtualDevice) (outcome : Outcome) → FitsDevice device.info → IsOutcome (Some (device_bytes device.info)) outcome
     → device_answer outcome ≡ Ok device.info
 device_when device (Done bytes) fits comes =
     ap (λ (bs : List ℕ). answers.device_read bs) comes ∙ ap (λ (info : DeviceInfo). Ok info) (device_read device.info fits)
 device_when device Stalled fits comes = absurd comes
 device_when device Failed fits comes = absurd comes
 
-length_when : (device : VirtualDevice) (outcome : Outcome) → IsOutcome (Some (take 9 (configuration_bytes device.known device.interval))) outcome
+pub length_when : (device : VirtualDevice) (outcome : Outcome) → IsOutcome (Some (take 9 (configuration_bytes device.known device.interval))) outcome
     → length_answer outcome ≡ Ok 34
 length_when device (Done bytes) comes = ap (λ (bs : List ℕ). length_read (total_length bs)) comes
 length_when device Stalled comes = absurd comes
 length_when device Failed comes = absurd comes
 
-status_when : (given : List ℕ) (outcome : Outcome) → IsOutcome (Some given) outcome → status_answer outcome ≡ Ok tt
+pub status_when : (given : List ℕ) (outcome : Outcome) → IsOutcome (Some given) outcome → status_answer outcome ≡ Ok tt
 status_when given (Done bytes) comes = refl
 status_when given Stalled comes = absurd comes
 status_when given Failed comes = absurd comes
 
 -- the driver that knows the configuration
-abbrev waiting_for : VirtualDevice → Interface
+abbrev pub waiting_for : VirtualDevice → Interface
 waiting_for device = record { info = virtual_interface device; reading = Waiting }
 
 -- the only interface can be read
@@ -166,7 +166,7 @@ listed_one device some =
     rw any refl
 
 -- a refusal that it isn't
-not_refused : (device : VirtualDevice) (fault : ConfigurationFault) → FitsConfig device.known → 0 < device.known.endpoint
+pub not_refused : (device : VirtualDevice) (fault : ConfigurationFault) → FitsConfig device.known → 0 < device.known.endpoint
     → Refuses (configuration_bytes device.known device.interval) fault → fault ≡ faults.Memory
 not_refused device faults.TooShort fits some refuses = let wrong : ◌≡◌ {A = Result (Unit {0}) ConfigurationFault} (Ok tt) (Err faults.TooShort) = refuses in cc
 not_refused device faults.WrongType fits some refuses = let wrong : ◌≡◌ {A = Result (Unit {0}) ConfigurationFault} (Ok tt) (Err faults.WrongType) = refuses in cc
@@ -194,7 +194,7 @@ configuration_read_as device before (Err refused) result after fits some any mem
     let out : came.0 ≡ faults.Memory = not_refused device came.0 fits some came.1 in
     absurd (memory (goes.0 ∙ ap (λ (f : DriverFault). Err f) (came.2 ∙ ap configuration_refusal out)))
 
-configuration_when : (device : VirtualDevice) (before : DriverValue) (outcome : Outcome) (result : Result Moved DriverFault) (after : DriverValue)
+pub configuration_when : (device : VirtualDevice) (before : DriverValue) (outcome : Outcome) (result : Result Moved DriverFault) (after : DriverValue)
     → FitsConfig device.known → 0 < device.known.endpoint → 0 < device.known.report_length → result ≢ Err Memory
     → IsOutcome (Some (configuration_bytes device.known device.interval)) outcome → ConfigurationMoves before outcome result after
     → after ≡ record before { state = states.Configure 1; interfaces = waiting_for device ∷ [] }
@@ -232,7 +232,7 @@ opens device layout items before (Err (pipes.Refused (causes.Layout fault))) res
     absurd (no_refusal device.descriptor items fault.cause fault.at accepts came.1)
 opens device layout items before (Err (pipes.Refused cause)) result after one_reading no_refusal accepts laid len memory is came settled = absurd came
 
-report_when : (device : VirtualDevice) (layout : Contents) (items : List EncodedItem) (before : DriverValue) (outcome : Outcome) (result : Result Moved DriverFault) (after : DriverValue)
+pub report_when : (device : VirtualDevice) (layout : Contents) (items : List EncodedItem) (before : DriverValue) (outcome : Outcome) (result : Result Moved DriverFault) (after : DriverValue)
     → HasOneReading Real → AcceptsNoRefused Real → Accepts device.descriptor items → layout ≡ layout_of items
     → device.known.report_length ≡ length device.descriptor → result ≢ Err Memory
     → before.interfaces ≡ waiting_for device ∷ [] → IsOutcome (Some device.descriptor) outcome

@@ -1,0 +1,4 @@
+pub mod ControlLemmas
+pub mod InterruptLemmas
+pub mod BringUpLemmas
+pub mod RunLemmas

@@ -1,0 +1,4 @@
+pub mod ControlTransfers
+pub mod InterruptTransfers
+pub mod BringUp
+pub mod Runs

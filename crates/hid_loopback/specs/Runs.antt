@@ -1,0 +1,59 @@
+-- A gadget and the driver of its reports, step by step (USB 2.0, 8.5.4; HID 1.11, 5.6 and 8).
+use Rattle.std.specs.Prelude.{◌≡◌, false, List, [], ◌∷◌, ◌++◌, map, Result}
+use Rattle.hid_layout.specs.Controls.{items_of}
+use Rattle.hid_usages.specs.Receiving.{ReceiverState}
+use Rattle.hid_interfaces.specs.declared.interface.InterfaceInfo.{InterfaceInfo}
+use Rattle.hid_bus.specs.DeviceHistory.{events_of_history}
+use Rattle.hid_device.specs.Core.{CoreState}
+use Rattle.hid_driver.specs.declared.fault.DriverFault.{DriverFault}
+use Rattle.hid_driver.specs.declared.interface.Interface.{Interface}
+use Rattle.hid_driver.specs.declared.interface.Reading.TheVariants.{Open}
+use Rattle.hid_driver.specs.declared.outcome.DriverEvent.{DriverEvent}
+use Rattle.hid_driver.specs.Driver.{DriverValue}
+use Rattle.hid_driver.specs.Pipe.{event_of, pipe_of_receiver}
+use Rattle.hid_gadget.specs.ReceivedReports.{AreInStep, Asks, Changes, Frame, GadgetStep, Transfers, bus_events, core_after_step, core_after_steps, link_with}
+use Rattle.hid_gadget.specs.WholeReports.{bytes_taken, report_result}
+use Rattle.hid_loopback.specs.InterruptTransfers.{Hears}
+
+-- the driver gives no event, and its interfaces stay: it may ask for something, and be given the outcome of a control
+-- transfer that it asked for
+abbrev pub IsQuiet : DriverValue → DriverValue → List DriverEvent → Type 0
+IsQuiet driver later events = (later.interfaces ≡ driver.interfaces) × (events ≡ [])
+
+-- a driver at a step of its gadget, and the events that it gives: it takes each interrupt transfer, with room for any
+-- number of bytes
+abbrev pub RunsStep : CoreState → GadgetStep → DriverValue → DriverValue → List DriverEvent → Type 0
+RunsStep core (Asks room) driver later events =
+    (told : Result (Unit {0}) DriverFault)
+    × Hears (report_result core room) (bytes_taken core room) driver told later events
+RunsStep core (Changes change) driver later events = IsQuiet driver later events
+RunsStep core Frame driver later events = IsQuiet driver later events
+RunsStep core (Transfers setup written) driver later events = IsQuiet driver later events
+
+-- A driver over a list of steps of its gadget, and the events that it gives, in order.
+abbrev pub Runs : CoreState → List GadgetStep → DriverValue → DriverValue → List DriverEvent → Type 0
+Runs core [] driver later events = (later ≡ driver) × (events ≡ [])
+Runs core (step ∷ rest) driver later events =
+    (next : DriverValue) × (now : List DriverEvent) × (more : List DriverEvent)
+    × RunsStep core step driver next now × Runs (core_after_step core step) rest next later more × (events ≡ now ++ more)
+
+-- the interface of a gadget whose reports are read out of its packets of 64 bytes, by this receiver
+abbrev pub live_interface : InterfaceInfo → ReceiverState → Interface
+live_interface info receiving = record { info = info; reading = Open (pipe_of_receiver 64 receiving) }
+
+-- A driver is beside a configured gadget: its one interface is live, and has what came of the round that is open. The
+-- endpoint isn't halted.
+pub record IsBeside (core : CoreState) (info : InterfaceInfo) (receiving : ReceiverState) (driver : DriverValue)
+    : Type 0 where
+  pub interface : driver.interfaces ≡ live_interface info receiving ∷ []
+  pub in_step : AreInStep core receiving
+  pub going : core.halted ≡ false
+
+-- The events of a driver are those of the history of its gadget's rounds, each once, and both stand after them as before:
+-- beside one another.
+pub record Delivers (core : CoreState) (info : InterfaceInfo) (receiving : ReceiverState) (gadget_steps : List GadgetStep)
+    (later : DriverValue) (events : List DriverEvent) : Type 0 where
+  pub gives : events
+      ≡ map (event_of 0) (events_of_history (items_of core.layout) (link_with core receiving.view) (bus_events core gadget_steps))
+  pub seen : ReceiverState
+  pub beside : IsBeside (core_after_steps core gadget_steps) info seen later

@@ -1,0 +1,42 @@
+//! What follows where a driver and a gadget are joined.
+ghost use Rattle.std.specs.Prelude.{◌≡◌, List, map};
+ghost use Rattle.hid_layout.specs.Controls.{items_of};
+ghost use Rattle.hid_usages.specs.Receiving.{ReceiverState};
+ghost use Rattle.hid_interfaces.specs.declared.interface.InterfaceInfo.{InterfaceInfo};
+ghost use Rattle.hid_bus.specs.ReportState.{no_idle};
+ghost use Rattle.hid_bus.specs.Rounds.{OwnStep, events_of_epoch};
+ghost use Rattle.hid_bus.specs.DeviceHistory.{AreWithinEpoch, steps_as_events};
+ghost use Rattle.hid_device.specs.Core.{CoreState, IsSound};
+ghost use Rattle.hid_driver.specs.declared.outcome.DriverEvent.{DriverEvent};
+ghost use Rattle.hid_driver.specs.Driver.{DriverValue};
+ghost use Rattle.hid_driver.specs.Pipe.{event_of};
+ghost use Rattle.hid_driver.specs.VirtualDevices.{ready_for};
+ghost use Rattle.hid_gadget.specs.ReceivedReports.{GadgetStep, IsFresh, bus_events, events_of_crossed};
+ghost use Rattle.hid_loopback.specs.BringUp.{core_brought_up, device_of};
+ghost use Rattle.hid_loopback.specs.Runs.{Delivers, IsBeside, Runs};
+
+/// Once a driver is up beside a gadget, its events are the changes between the reports of the gadget's rounds that crossed, in
+/// order, none twice: for every list of changes, frames, interrupt transfers with any room, and control transfers that
+/// neither configure the gadget nor halt or clear its endpoint, as those that the driver asks for.
+pub fn events_cross_once()
+    ensures headline { (core : CoreState) (steps : List GadgetStep) (later : DriverValue)
+        (events : List DriverEvent) → IsSound core → AreWithinEpoch (bus_events (core_brought_up core) steps)
+        → Runs (core_brought_up core) steps (ready_for (device_of core) core.layout) later events
+        → events ≡ map (event_of 0) (events_of_crossed (items_of core.layout) core.reports.snapshot
+        (no_idle core.reports.idle) (bus_events (core_brought_up core) steps)) }
+    // Where no idle time is set, they are the events of the schedule of the gadget's own steps.
+    ensures schedule { (core : CoreState) (steps : List GadgetStep) (later : DriverValue)
+        (events : List DriverEvent) (own : List OwnStep) → IsSound core
+        → bus_events (core_brought_up core) steps ≡ steps_as_events own
+        → Runs (core_brought_up core) steps (ready_for (device_of core) core.layout) later events
+        → events ≡ map (event_of 0) (events_of_epoch (items_of core.layout) core.reports.snapshot
+        (no_idle core.reports.idle) own) }
+    // The gadget was just configured then, with no idle time, and its snapshot is as it was.
+    ensures fresh { (core : CoreState) → IsSound core
+        → IsFresh (core_brought_up core) core.reports.snapshot (no_idle core.reports.idle) }
+    // So it goes on from any open round, where both stand beside one another.
+    ensures given { (core : CoreState) (info : InterfaceInfo) (receiving : ReceiverState)
+        (steps : List GadgetStep) (driver later : DriverValue) (events : List DriverEvent)
+        → IsBeside core info receiving driver → AreWithinEpoch (bus_events core steps)
+        → Runs core steps driver later events → Delivers core info receiving steps later events }
+{}
