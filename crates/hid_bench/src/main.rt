@@ -4,6 +4,10 @@
 //!   hid_bench read  TURNS DESCRIPTOR REPORT..    reads each Input report in turn by one reader
 //!   hid_bench write TURNS DESCRIPTOR USAGE..     writes the report of the first usage, with each pressed, moved or set
 //!   hid_bench step  TURNS DESCRIPTOR USAGE..     moves the controls of the usages, if there are any, and polls the device
+//!   hid_bench drive TURNS DESCRIPTOR REPORT..    reads each Input report in turn by a driver, a transfer each
+//!   hid_bench report TURNS DESCRIPTOR USAGE..    moves the controls of the usages, and takes the report as a whole transfer
+//!   hid_bench transfer TURNS DESCRIPTOR SETUP..  makes each request as a whole transfer; of a write its data follow SETUP
+//!   hid_bench try   TURNS DESCRIPTOR SETUP..     makes each request by its tries, packet by packet
 //! ```
 //! Descriptors and reports are hex digits; a usage has four digits of its page and four of its ID. The program prints how many
 //! items were listed, events came or bytes were written, in all turns together.
@@ -16,9 +20,12 @@
 #![tactic(auto)]
 
 mod args;
+mod driving;
 mod fault;
 mod reading;
+mod reporting;
 mod stepping;
+mod transferring;
 mod work;
 mod writing;
 

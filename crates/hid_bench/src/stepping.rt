@@ -13,7 +13,7 @@ use std::marker::Model;
 use usb_transact::Fate;
 
 /// No boot device, which is polled each 10 ms.
-const CONFIG: Config = Config {
+pub(crate) const CONFIG: Config = Config {
     vendor: 0xFFFF,
     product: 0x0001,
     interval: 10,

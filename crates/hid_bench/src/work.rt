@@ -1,9 +1,12 @@
 //! The work of a number of turns.
 
 use crate::args::{CliArgs, Work};
+use crate::driving::Driving;
 use crate::fault::BenchFault;
 use crate::reading::{Reading, parsed};
+use crate::reporting::Reporting;
 use crate::stepping::Stepping;
+use crate::transferring::{Transferring, Trying};
 use crate::writing::Writing;
 use arrayvec::ArrayVec;
 use std::alloc::Global;
@@ -19,6 +22,10 @@ pub fn done(alloc: Global, asked: &CliArgs) -> Result<u64, BenchFault> {
         Work::Read => reads(alloc, descriptor, asked.rest.as_slice(), asked.turns),
         Work::Write => writes(alloc, descriptor, asked.rest.as_slice(), asked.turns),
         Work::Step => steps(alloc, descriptor, asked.rest.as_slice(), asked.turns),
+        Work::Drive => drives(alloc, descriptor, asked.rest.as_slice(), asked.turns),
+        Work::Report => reports(alloc, descriptor, asked.rest.as_slice(), asked.turns),
+        Work::Transfer => transfers(alloc, descriptor, asked.rest.as_slice(), asked.turns),
+        Work::Try => tries(alloc, descriptor, asked.rest.as_slice(), asked.turns),
     }
 }
 
@@ -79,4 +86,66 @@ fn steps(
         told = told.wrapping_add(stepping.turn()? as u64);
     }
     Ok(told)
+}
+
+/// Reads all reports in each turn by a driver; returns how many events there were in all.
+fn drives(
+    alloc: Global,
+    descriptor: &[u8],
+    reports: &[Vec<u8>],
+    turns: u32,
+) -> Result<u64, BenchFault> {
+    let mut driving = Driving::open(alloc, descriptor)?;
+    let mut told: u64 = 0;
+    for _ in 0..turns {
+        for report in reports {
+            told = told.wrapping_add(driving.read(report)? as u64);
+        }
+    }
+    Ok(told)
+}
+
+/// Makes whole transfers of all requests in each turn; returns how many bytes were answered in all.
+fn transfers(
+    alloc: Global,
+    descriptor: &[u8],
+    requests: &[Vec<u8>],
+    turns: u32,
+) -> Result<u64, BenchFault> {
+    let mut transferring = Transferring::open(alloc, descriptor, requests)?;
+    let mut answered: u64 = 0;
+    for _ in 0..turns {
+        answered = answered.wrapping_add(transferring.turn()? as u64);
+    }
+    Ok(answered)
+}
+
+/// Takes a device's reports as whole transfers in each turn; returns how many bytes there were in all.
+fn reports(
+    alloc: Global,
+    descriptor: &[u8],
+    usages: &[Vec<u8>],
+    turns: u32,
+) -> Result<u64, BenchFault> {
+    let mut reporting = Reporting::open(alloc, descriptor, usages)?;
+    let mut taken: u64 = 0;
+    for _ in 0..turns {
+        taken = taken.wrapping_add(reporting.turn()? as u64);
+    }
+    Ok(taken)
+}
+
+/// Makes the tries of all requests in each turn; returns how many bytes were answered in all.
+fn tries(
+    alloc: Global,
+    descriptor: &[u8],
+    requests: &[Vec<u8>],
+    turns: u32,
+) -> Result<u64, BenchFault> {
+    let mut trying = Trying::open(alloc, descriptor, requests)?;
+    let mut answered: u64 = 0;
+    for _ in 0..turns {
+        answered = answered.wrapping_add(trying.turn()? as u64);
+    }
+    Ok(answered)
 }

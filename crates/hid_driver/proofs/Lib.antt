@@ -1,4 +1,5 @@
 pub mod PipeLemmas
+pub mod AtOnceLemmas
 pub mod InterfaceLemmas
 pub mod TransferLemmas
 pub mod HoldingLemmas

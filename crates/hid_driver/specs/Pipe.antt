@@ -1,6 +1,6 @@
 -- The reports of an interface, out of the interrupt transfers in which they come (USB 2.0, 5.7.3, 8.4.5 and 9.6.6; HID
 -- 1.11, 5.6).
-use Rattle.std.specs.Prelude.{ℕ, zero, suc, ◌+◌, ◌%◌, ◌<◌, max, Bool, true, false, not, nat_le, ◌==◌, ◌&&◌, ◌||◌, if◌then◌else◌, List, [], length, Option, Some, None, option_map, is_some, Result, Ok, Err}
+use Rattle.std.specs.Prelude.{◌≡◌, ◌⊎◌, ℕ, zero, suc, ◌+◌, ◌%◌, ◌<◌, max, Bool, true, false, not, nat_le, ◌==◌, ◌&&◌, ◌||◌, if◌then◌else◌, List, [], length, Option, Some, None, option_map, is_some, Result, Ok, Err}
 use Rattle.hid_report_descriptor.specs.declared.limits.TheConstants.{MAX_REPORT_BYTES}
 use Rattle.hid_layout.specs.Layout.{Contents}
 use Rattle.hid_layout.specs.Controls.{items_of}
@@ -54,6 +54,10 @@ is_full packet_size came = not (came == 0) && (came % packet_size == 0)
 abbrev pub length_begun : Contents → List ℕ → Option ℕ
 length_begun layout bytes = option_map (report_bytes layout) (report_begun layout bytes)
 
+-- in bytes, the Input report of a layout without Report IDs, where there is one (HID 1.11, 5.6)
+abbrev pub unnumbered_length : Contents → Option ℕ
+unnumbered_length layout = if layout.numbered then None else length_begun layout []
+
 -- a report is whole with this number of bytes; where it is no Input report, nothing more is awaited
 abbrev pub has_come : Option ℕ → ℕ → Bool
 has_come None came = true
@@ -102,6 +106,13 @@ begun_with receiving bytes = length_begun receiving.layout (bytes_with receiving
 abbrev pub is_long : PipeState → List ℕ → Bool
 is_long pipe bytes =
     has_packet_past pipe.packet_size (begun_with pipe.receiving bytes) (length (bytes_with pipe.receiving bytes))
+
+-- A report ends with its first transfer: nothing came of it before, and the transfer is shorter than a packet, or as long
+-- as the Input report of a layout without Report IDs.
+abbrev pub EndsAtOnce : PipeState → List ℕ → Type 0
+EndsAtOnce pipe bytes =
+    (pipe.receiving.collected ≡ [])
+    × ((length bytes < pipe.packet_size) ⊎ (unnumbered_length pipe.receiving.layout ≡ Some (length bytes)))
 
 -- the size of a full packet with which a transfer is received
 abbrev pub size_with : PipeState → List ℕ → ℕ

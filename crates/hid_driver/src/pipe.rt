@@ -4,7 +4,10 @@ ghost use Rattle.hid_layout.specs.Controls.{items_of, max_events};
 ghost use Rattle.hid_layout.specs.Reports.{IsLayout, report_bytes};
 ghost use Rattle.hid_report_descriptor.specs.declared.limits.TheConstants.{MAX_REAL_REPORT_BYTES};
 ghost use Rattle.hid_snapshots.specs.ControlStates.{FitsView};
-ghost use Rattle.hid_driver.specs.Pipe.{event_of, events_back, full_size, has_packet_past, pipe_events, pipe_outcome, pipe_after_outcome, is_full, is_long, length_begun, longest_report, pipe_after_transfer, pipe_at_start, pipe_of_receiver, pipe_with_flow, receiving_after_transfer, report_end, transfer_events, transfer_outcome, transfer_room};
+ghost use Rattle.hid_usages.specs.Reading.{report_named};
+ghost use Rattle.hid_usages.specs.Receiving.{events_of_report, view_after_report, whole_outcome};
+ghost use Rattle.std.specs.Bool.{OnTrue};
+ghost use Rattle.hid_driver.specs.Pipe.{EndsAtOnce, event_of, events_back, full_size, has_packet_past, pipe_events, pipe_outcome, pipe_after_outcome, is_full, is_long, length_begun, longest_report, pipe_after_transfer, pipe_at_start, pipe_of_receiver, pipe_with_flow, receiving_after_transfer, report_end, transfer_events, transfer_outcome, transfer_result, transfer_room, unnumbered_length};
 
 use crate::ask::report_size;
 use crate::fault::DriverFault;
@@ -33,6 +36,8 @@ pub struct Pipe {
     flow: Flow,
     /// In bytes, a full packet: wMaxPacketSize (USB 2.0, 9.6.6).
     packet_size: u16,
+    /// In bytes, the Input report of a layout without Report IDs, where there is one: it isn't looked up for each transfer.
+    fixed_length: Option<u16>,
     /// It has room for the longest report and a packet.
     receiver: Receiver,
     events: Vec<Event>,
@@ -41,7 +46,7 @@ pub struct Pipe {
 impl Model for Pipe {
     ghost use Rattle.std.specs.Prelude.{◌≡◌, ◌<◌, ◌≤◌, vec_capacity};
     ghost use Rattle.hid_layout.specs.Controls.{items_of, max_events};
-    ghost use Rattle.hid_driver.specs.Pipe.{PipeState, transfer_room};
+    ghost use Rattle.hid_driver.specs.Pipe.{PipeState, transfer_room, unnumbered_length};
 
     ghost Value = { PipeState };
 
@@ -53,7 +58,8 @@ impl Model for Pipe {
 
     ghost invariant = { λ p. (0 < p.packet_size)
         × (transfer_room p.packet_size p.receiver.state.layout ≤ p.receiver.room)
-        × (max_events (items_of p.receiver.state.layout) ≤ vec_capacity p.events) };
+        × (max_events (items_of p.receiver.state.layout) ≤ vec_capacity p.events)
+        × (p.fixed_length ≡ unnumbered_length p.receiver.state.layout) };
 }
 
 /// In bytes, the longest report of a layout, and at least the longest report of a bus.
@@ -91,6 +97,16 @@ fn length_begun(layout: &Layout, bytes: &[u8]) -> Option<u16>
         Some(id) => report_size(layout, ReportKind::Input, *id),
         None => None,
     }
+}
+
+/// In bytes, the Input report of a layout without Report IDs, where there is one (HID 1.11, 5.6).
+fn unnumbered_length(layout: &Layout) -> Option<u16>
+    ensures { result ≡ unnumbered_length layout.now }
+{
+    if layout.numbered() {
+        return None;
+    }
+    report_size(layout, ReportKind::Input, 0)
 }
 
 /// In bytes, the Input report that begins with what came of it before, and with these, if there is one.
@@ -162,8 +178,54 @@ fn deliver(interface: usize, events: &[Event], out: &mut Vec<DriverEvent>)
     }
 }
 
-/// Receives a transfer, for which there is room where it isn't too long.
-fn receive(
+/// Whether a report ends with its first transfer, whatever it begins with. No report is looked up.
+fn ends_at_once(
+    packet_size: u16,
+    fixed_length: &Option<u16>,
+    receiver: &Receiver,
+    bytes: &[u8],
+) -> bool
+    requires { fixed_length.now ≡ unnumbered_length receiver.now.state.layout }
+    ensures { OnTrue result
+        (EndsAtOnce (pipe_of_receiver packet_size receiver.now.state) bytes.now) }
+{
+    if !receiver.collected().is_empty() {
+        return false;
+    }
+    if bytes.len() < usize::from(packet_size) {
+        return true;
+    }
+    match fixed_length {
+        Some(length) => usize::from(*length) == bytes.len(),
+        None => false,
+    }
+}
+
+/// Reads a transfer that is a report, where it lies.
+fn read(receiver: &mut Receiver, bytes: &[u8], out: &mut Vec<Event>) -> Result<(), DriverFault>
+    requires room { vec_len out.old + max_events (items_of receiver.old.state.layout)
+        ≤ vec_capacity out.old }
+    ensures outcome { result
+        ≡ transfer_result (whole_outcome (report_named receiver.old.state.layout bytes.now)) }
+    ensures layout { receiver.new.state.layout ≡ receiver.old.state.layout }
+    ensures view { receiver.new.state.view
+        ≡ view_after_report receiver.old.state.layout bytes.now receiver.old.state.view }
+    ensures collected { receiver.new.state.collected ≡ receiver.old.state.collected }
+    ensures kept { receiver.new.room ≡ receiver.old.room }
+    ensures events { out.new.items ≡ out.old.items
+        ++ events_of_report receiver.old.state.layout bytes.now receiver.old.state.view }
+    ensures few { vec_len out.new ≤ vec_len out.old + max_events (items_of receiver.old.state.layout) }
+    ensures room { vec_capacity out.new ≡ vec_capacity out.old }
+{
+    match receiver.take_report::<WordCodec>(bytes, out) {
+        Ok(()) => Ok(()),
+        Err(fault) => Err(DriverFault::Report(fault)),
+    }
+}
+
+/// Receives a transfer of a report that may have several, for which there is room where it isn't too long.
+#[inline(never)]
+fn join(
     packet_size: u16,
     receiver: &mut Receiver,
     bytes: &[u8],
@@ -192,6 +254,36 @@ fn receive(
         Ok(_) => Ok(()),
         Err(fault) => Err(DriverFault::Report(fault)),
     }
+}
+
+/// Receives a transfer, for which there is room where it isn't too long.
+#[inline(always)]
+fn receive(
+    packet_size: u16,
+    fixed_length: &Option<u16>,
+    receiver: &mut Receiver,
+    bytes: &[u8],
+    out: &mut Vec<Event>,
+) -> Result<(), DriverFault>
+    requires size { 0 < packet_size }
+    requires length { fixed_length.now ≡ unnumbered_length receiver.old.state.layout }
+    requires place { transfer_room packet_size receiver.old.state.layout ≤ receiver.old.room }
+    requires room { vec_len out.old + max_events (items_of receiver.old.state.layout)
+        ≤ vec_capacity out.old }
+    ensures outcome { result
+        ≡ transfer_outcome (pipe_of_receiver packet_size receiver.old.state) bytes.now }
+    ensures after { receiver.new.state
+        ≡ receiving_after_transfer (pipe_of_receiver packet_size receiver.old.state) bytes.now }
+    ensures grows { receiver.old.room ≤ receiver.new.room }
+    ensures events { out.new.items ≡ out.old.items
+        ++ transfer_events (pipe_of_receiver packet_size receiver.old.state) bytes.now }
+    ensures few { vec_len out.new ≤ vec_len out.old + max_events (items_of receiver.old.state.layout) }
+    ensures room { vec_capacity out.new ≡ vec_capacity out.old }
+{
+    if ends_at_once(packet_size, fixed_length, receiver, bytes) {
+        return read(receiver, bytes, out);
+    }
+    join(packet_size, receiver, bytes, out)
 }
 
 impl Pipe {
@@ -226,10 +318,12 @@ impl Pipe {
         ensures { IfOk result (λ pipe. pipe ≡ pipe_of_receiver packet_size receiver.state) }
     {
         let mut receiver = receiver;
+        let fixed_length = unnumbered_length(receiver.layout());
         match receiver.reserve(room) {
             Ok(()) => Ok(Pipe {
                 flow: Flow::Live,
                 packet_size,
+                fixed_length,
                 receiver,
                 events,
             }),
@@ -304,6 +398,7 @@ impl Pipe {
         self.events.clear();
         let told = receive(
             self.packet_size,
+            &self.fixed_length,
             &mut self.receiver,
             bytes,
             &mut self.events,
