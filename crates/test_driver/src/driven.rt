@@ -15,6 +15,7 @@
 ghost use Rattle.std.specs.Prelude.{◌≡◌, ◌≤◌, IfOk, vec_len, vec_capacity};
 ghost use Rattle.hid_driver.specs.Interfaces.{total_room};
 
+use crate::imported::play_import;
 use crate::printed::{
     print_events, print_interface, print_moved, print_refusal, print_state, print_todo,
 };
@@ -36,6 +37,9 @@ impl Answers for Questions {
         table: &Table<'_>,
         row: &Row<'_>,
     ) -> Result<(), RowFault> {
+        if row.question == "import" {
+            return play_import(verdict, table, row);
+        }
         if row.question != "driver" || row.given != "new" {
             return Err(RowFault::Unread);
         }

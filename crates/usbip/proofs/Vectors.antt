@@ -2,7 +2,6 @@
 use Rattle.std.proofs.Common.{◌≡◌, ℕ, [], ◌∷◌, ◌++◌, refl, replicate, lit≤}
 use Rattle.usbip.specs.declared.message.Direction.TheVariants.{In}
 use Rattle.usbip.specs.declared.message.Status.TheVariants.{Success, Stalled, Unlinked, Overflow}
-use Rattle.usbip.specs.declared.message.Submit.{Submit}
 use Rattle.usbip.specs.declared.message.Command.TheVariants as commands
 use Rattle.usbip.specs.declared.message.Reply.TheVariants as replies
 use Rattle.usbip.specs.declared.operation.Operation.TheVariants.{DeviceList, Import}

@@ -6,7 +6,7 @@ use std::fmt;
 pub enum UsbipFault {
     /// N1: an operation of another version than 1.1.1.
     BadVersion,
-    /// N2: an operation that is neither a list of devices nor an import.
+    /// N2: an operation that is neither a list of devices nor an import; of replies, another than was asked for.
     UnknownOperation,
     /// N3: neither CMD_SUBMIT nor CMD_UNLINK; of replies, neither RET_SUBMIT nor RET_UNLINK.
     UnknownCommand,

@@ -5,6 +5,7 @@
 //!                              OP_REP_DEVLIST     <-  encode_operation_reply, encode_description of each device
 //!   OP_REQ_IMPORT, 8 bytes, and a bus ID of 32    ->  decode_operation
 //!                              OP_REP_IMPORT      <-  encode_operation_reply, encode_description
+//!   decode_operation_reply, decode_device_number
 //!   CMD_SUBMIT, 48 bytes, and data to the device  ->  decode_command; PendingSubmits::submit where it waits for a report
 //!                              RET_SUBMIT, data   <-  PendingSubmits::answer, encode_reply
 //!   CMD_UNLINK, 48 bytes                          ->  decode_command; PendingSubmits::unlink
@@ -34,6 +35,7 @@ mod fault;
 pub mod laws;
 mod message;
 mod operation;
+mod operation_reply;
 mod pending;
 
 pub use decoding::{decode_command, decode_reply};
@@ -46,4 +48,5 @@ pub use operation::{
     DeviceDescription, Operation, OperationStatus, Speed, VERSION, decode_operation,
     encode_description, encode_operation, encode_operation_reply,
 };
+pub use operation_reply::{decode_device_number, decode_operation_reply};
 pub use pending::{MAX_PENDING, PendingSubmit, PendingSubmits};

@@ -1,0 +1,3 @@
+pub mod FlightLemmas
+pub mod SendingLemmas
+pub mod RunLemmas
