@@ -1,5 +1,5 @@
-/* Each allocation of an opening, a table, a run and a text fails in turn, alone and with all after it. Calls that only read
-   take no memory, and a handle goes to another thread.
+/* Each allocation of an opening, also of a virtual device, a table, a run and a text fails
+   in turn, alone and with all after it. Calls that only read take no memory, and a handle goes to another thread.
    cc -Wl,--wrap=malloc -Wl,--wrap=realloc -pthread */
 #include "hidstack.h"
 #include <pthread.h>
@@ -48,6 +48,44 @@ static int openings(struct hidstack *device)
         if (status == HIDSTACK_OK) /* it does without */
             hidstack_close(device);
         else if (status != HIDSTACK_REFUSED || opened.cause != 17 || opened.at != 0 || device->session)
+            return 1;
+    }
+}
+
+/* Every other call of a device, and its closing. */
+static int transfers(struct hidstack_device *device)
+{
+    const struct hidstack_setup configure = {0, 9, 1, 0, 0}, read = {0x81, 6, 0x2200, 0, 64};
+    uint8_t answer[64];
+    uint64_t item, index, length;
+    uint32_t configured;
+    calls = 0;
+    if (hidstack_device_control(device, &configure, NULL, 0, NULL, 0, &length) || hidstack_device_find(device, 1, 0x30, 0, &item, &index) ||
+        hidstack_device_move(device, item, index, 5) || hidstack_device_press(device, 0, 0) || hidstack_device_release(device, 0, 0) ||
+        hidstack_device_report(device, answer, 64, &length) || length != 3 || hidstack_device_frame(device) || hidstack_device_halt(device) ||
+        hidstack_device_set(device, 0, 0, 1) != HIDSTACK_WRONG_KIND || hidstack_device_null(device, 0, 0) != HIDSTACK_WRONG_KIND ||
+        hidstack_device_control(device, &read, NULL, 0, answer, 64, &length) || length != sizeof mouse || hidstack_device_reset(device) ||
+        hidstack_device_output(device, HIDSTACK_OUTPUT, 0, answer, 64, &length) != HIDSTACK_NONE || hidstack_device_configured(device, &configured))
+        return 1;
+    hidstack_device_close(device);
+    return calls != 0 || configured != 0 || device->gadget != NULL;
+}
+
+/* Each allocation of the opening of a virtual device fails; what is done with it then takes none. */
+static int devices(void)
+{
+    static const struct hidstack_config config = {1, 2, 10, 0, 0};
+    struct hidstack_device device = HIDSTACK_DEVICE_INIT;
+    struct hidstack_device_opened opened;
+    for (fails = 0;; fails++) {
+        uint32_t status;
+        calls = 0;
+        status = hidstack_device_open(&config, mouse, sizeof mouse, &device, &opened);
+        if (calls <= fails)
+            return status != HIDSTACK_OK || transfers(&device);
+        if (status == HIDSTACK_OK) /* it does without */
+            hidstack_device_close(&device);
+        else if (status != HIDSTACK_REFUSED || (opened.cause != 17 && opened.cause != 21) || opened.at != 0 || device.gadget)
             return 1;
     }
 }
@@ -197,7 +235,7 @@ int main(void)
     pthread_t thread;
     void *answer;
     for (all = 0; all < 2; all++)
-        if (openings(&device) || tables() || runs() || codes() || texts() || refusals() || names())
+        if (openings(&device) || devices() || tables() || runs() || codes() || texts() || refusals() || names())
             return 1;
         else
             hidstack_close(&device);

@@ -1,4 +1,4 @@
--- The machine values of an address and of a handle, and what is owned at them. Assumes `Logic`.
+-- The machine values of what is kept by its address, and what is owned there. Assumes `Logic`.
 use Rattle.std.proofs.Common.{◌≡◌, ℕ, List, [], ◌∷◌, ◌++◌, refl, subst}
 use seplogic.Ra.Ura.{Ura}
 use mir.Syntax.{Dict, impl, tnil, tcons, dnil, ty_ptr}
@@ -29,10 +29,9 @@ use Rattle.std_alloc.specs.Box.Ownership.{box_owns}
 use Rattle.std_heap.specs.contracts.Global as heap
 use Rattle.std_heap.specs.contracts.GlobalAllocator.TheImpl.{ghosts, dict}
 use Rattle.std_heap.proofs.Global.TheLaws as heap_laws
-use Rattle.hidstack_session.specs.contracts.session.Session as session
 use Rattle.hidstack.specs.Held.{block_right, owned_box}
 use Rattle.hidstack.specs.contracts.address.Address as address
-use Rattle.hidstack.specs.contracts.handle.Handle as handle
+use Rattle.hidstack.specs.contracts.owner.Owner as owner
 
 abbrev pub Heap : RattleType
 Heap = heap.the_row
@@ -52,14 +51,11 @@ undropped = impl ("hidstack::Destruct++none::drop" ∷ []) (tcons (layout Passed
 abbrev pub on_heap : (T : RattleType) → Laws T → Bx
 on_heap T L = record { row = T; laws = L; al = record { row = Passed; laws = passed_laws; g = ghosts; d = dict; drops = undropped } }
 
-abbrev pub Session : RattleType
-Session = session.the_row
-
-abbrev pub Handle : RattleType
-Handle = handle.the_row
-
 abbrev pub At : RattleType → RattleType
 At R = address.the_row R
+
+abbrev pub OwnerAt : RattleType → RattleType
+OwnerAt R = owner.the_row R
 
 -- a struct of one field
 abbrev pub alone : Val → Val
@@ -68,17 +64,17 @@ alone v = vstruct (vcons v vnil)
 pub address_good : (R : RattleType) (p : Ptr) → Good (layout (At R)) (alone (ptr_val p))
 address_good R p = (and_tt (has_ty ty_ptr (ptr_val p)) (Ptr-Good p).0, ((Ptr-Good p).1, tt))
 
-pub handle_good : (p : Ptr) → Good (layout Handle) (alone (ptr_val p))
-handle_good p = (and_tt (has_ty ty_ptr (ptr_val p)) (Ptr-Good p).0, ((Ptr-Good p).1, tt))
+pub owner_good : (R : RattleType) (p : Ptr) → Good (layout (OwnerAt R)) (alone (ptr_val p))
+owner_good R p = (and_tt (has_ty ty_ptr (ptr_val p)) (Ptr-Good p).0, ((Ptr-Good p).1, tt))
 
 -- the start of a block of the heap may be compared with null
-pub tested : {M : Type 1} {𝓤 : Ura M} (𝓛 : Logic 𝓤) (p : Ptr) (x : Session.Denot)
-    → ent 𝓤 (sem 𝓛 (box_owns block_right Session p x)) (guard 𝓤 (Testable p) (sem 𝓛 (box_owns block_right Session p x)))
-tested {𝓤 = 𝓤} 𝓛 p x =
-    let block = bare (lone Session.mir) in
-    let right = snd∗ 𝓤 (sem 𝓛 (points_to Session p x)) (sem 𝓛 (block_right block p)) in
+pub tested : {M : Type 1} {𝓤 : Ura M} (𝓛 : Logic 𝓤) (R : RattleType) (p : Ptr) (x : R.Denot)
+    → ent 𝓤 (sem 𝓛 (box_owns block_right R p x)) (guard 𝓤 (Testable p) (sem 𝓛 (box_owns block_right R p x)))
+tested {𝓤 = 𝓤} 𝓛 R p x =
+    let block = bare (lone R.mir) in
+    let right = snd∗ 𝓤 (sem 𝓛 (points_to R p x)) (sem 𝓛 (block_right block p)) in
     fact_use 𝓤 (Testable p) (via 𝓤 _ right (dealloc_token-Testable 𝓛 (record { memory = record { seal = tt } }) block p))
-    (guard_i 𝓤 (Testable p) (sem 𝓛 (box_owns block_right Session p x)))
+    (guard_i 𝓤 (Testable p) (sem 𝓛 (box_owns block_right R p x)))
 
 module _ {M : Type 1} {𝓤 : Ura M} {𝓛 : Logic 𝓤} {K : Type 0} {Γ : List (Item 𝓤)} {G : Goal 𝓤 𝓛.H} where
   pub address_in : K → (R : RattleType) (p : Ptr) (x : R.Denot)
@@ -93,27 +89,25 @@ module _ {M : Type 1} {𝓤 : Ura M} {𝓛 : Logic 𝓤} {K : Type 0} {Γ : List
       fsplit t $ fpick t (λ vss. fsplit t $ feq_l t (λ ev. fsplit t $ feq_l t (λ ep. drop t $ k
       (subst (λ (ps : List Val). vs ≡ vstruct (of_list (ps ++ [])) ∷ []) ep ev))))
 
-  pub handle_in : K → (p : Ptr) (kept : Option Session.Denot)
-      → Step K 𝓛 (‵ (Handle.own_val (record { at = p; kept = kept }) (alone (ptr_val p) ∷ [])) ∷ Γ) G
-      (‵ (owned_box Session p kept) ∷ Γ) G
-  handle_in t p kept = step (λ s. let v : Val = alone (ptr_val p) in
+  pub owner_in : K → (R : RattleType) (p : Ptr) (x : Option R.Denot)
+      → Step K 𝓛 (‵ ((OwnerAt R).own_val (record { at = p; kept = x }) (alone (ptr_val p) ∷ [])) ∷ Γ) G (‵ (owned_box R p x) ∷ Γ) G
+  owner_in t R p x = step (λ s. let v : Val = alone (ptr_val p) in
       nothing t $ feq_i t (List Val) (ptr_val p ∷ []) (ptr_val p ∷ []) refl $ fjoin t $ feq_i t (List Val) (v ∷ []) (v ∷ []) refl $ fjoin t $
-      fpack t (Valss (RawPtr ∷ [])) (within (shape handle.the_type) (p, tt) (v ∷ [])) (ptr_val p ∷ [], tt) $ fjoin t $ s)
+      fpack t (Valss (RawPtr ∷ [])) (within (shape (owner.the_type R)) (p, tt) (v ∷ [])) (ptr_val p ∷ [], tt) $ fjoin t $ s)
 
-  pub handle_out : K → (d : Handle.Denot) (vs : List Val)
-      → (vs ≡ alone (ptr_val d.at) ∷ [] → Seq K 𝓛 (‵ (owned_box Session d.at d.kept) ∷ Γ) G)
-      → Seq K 𝓛 (‵ (Handle.own_val d vs) ∷ Γ) G
-  handle_out t d vs k =
+  pub owner_out : K → (R : RattleType) (d : (OwnerAt R).Denot) (vs : List Val)
+      → (vs ≡ alone (ptr_val d.at) ∷ [] → Seq K 𝓛 (‵ (owned_box R d.at d.kept) ∷ Γ) G) → Seq K 𝓛 (‵ ((OwnerAt R).own_val d vs) ∷ Γ) G
+  owner_out t R d vs k =
       fsplit t $ fpick t (λ vss. fsplit t $ feq_l t (λ ev. fsplit t $ feq_l t (λ ep. drop t $ k
       (subst (λ (ps : List Val). vs ≡ vstruct (of_list (ps ++ [])) ∷ []) ep ev))))
 
   -- null, or a block that may be compared with null
-  pub held_out : K → (p : Ptr) (kept : Option Session.Denot)
-      → (p ≡ null_ptr → kept ≡ None → Seq K 𝓛 Γ G)
-      → ((b o : ℕ) (x : Session.Denot) → p ≡ block_ptr b o → kept ≡ Some x → Testable (block_ptr b o)
-      → Seq K 𝓛 (‵ (box_owns block_right Session (block_ptr b o) x) ∷ Γ) G)
-      → Seq K 𝓛 (‵ (owned_box Session p kept) ∷ Γ) G
-  held_out t p None none one = feq_l t (λ e. none e refl)
-  held_out t p (Some x) none one =
-      use1 𝓛 (given (Testable p) (‵ (box_owns block_right Session p x))) (tested 𝓛 p x) $ learn t (λ ok.
-      in_a_block t p (λ q. box_owns block_right Session q x) (fst∗ 𝓤 (never 𝓤) (sem 𝓛 (block_right (bare (lone Session.mir)) null_ptr))) (λ b o e. one b o x e refl (subst Testable e ok)))
+  pub held_out : K → (R : RattleType) (p : Ptr) (x : Option R.Denot)
+      → (p ≡ null_ptr → x ≡ None → Seq K 𝓛 Γ G)
+      → ((b o : ℕ) (y : R.Denot) → p ≡ block_ptr b o → x ≡ Some y → Testable (block_ptr b o)
+      → Seq K 𝓛 (‵ (box_owns block_right R (block_ptr b o) y) ∷ Γ) G)
+      → Seq K 𝓛 (‵ (owned_box R p x) ∷ Γ) G
+  held_out t R p None none one = feq_l t (λ e. none e refl)
+  held_out t R p (Some y) none one =
+      use1 𝓛 (given (Testable p) (‵ (box_owns block_right R p y))) (tested 𝓛 R p y) $ learn t (λ ok.
+      in_a_block t p (λ q. box_owns block_right R q y) (fst∗ 𝓤 (never 𝓤) (sem 𝓛 (block_right (bare (lone R.mir)) null_ptr))) (λ b o e. one b o y e refl (subst Testable e ok)))

@@ -1,4 +1,4 @@
--- What a handle owns: the block of its session where it has one, else nothing, at null (our choice).
+-- What a handle owns: the block of what it keeps, where it keeps something, else nothing, at null (our choice).
 use Rattle.std.specs.Prelude.{Option, Some, None}
 use base.Fml.{Fml, feq}
 use denote.RattleType.{RattleType}

@@ -1,4 +1,5 @@
 pub mod Held
+pub mod Closing
 pub mod Opening
 pub mod Feeding
 pub mod Accessors
@@ -6,3 +7,8 @@ pub mod Tables
 pub mod Texts
 pub mod Running
 pub mod Writing
+pub mod Setups
+pub mod Devices
+pub mod Outcomes
+pub mod Hosting
+pub mod HostReading

@@ -1,7 +1,6 @@
 -- Reports written, what is held let go, and the boot descriptors (our choice; a number in a report: hidstack_session).
-use Rattle.std.specs.Prelude.{◌≡◌, ℕ, ◌<◌, ◌≤◌, ◌==◌, ◌⊎◌, if◌then◌else◌, ℤ, List, ◌++◌, length, drop, position, Option, Some, None, Result, Ok, Err}
+use Rattle.std.specs.Prelude.{◌≡◌, ℕ, ◌==◌, if◌then◌else◌, ℤ, List, position, Option, Some, None, Result, Ok, Err}
 use Rattle.hid_layout.specs.Layout.{Contents}
-use Rattle.hid_layout.specs.Reports.{report_bytes}
 use Rattle.hid_layout.specs.declared.boot.TheConstants.{KEYBOARD, MOUSE}
 use Rattle.hid_snapshots.specs.declared.fault.ReportFault.TheVariants.{Short, UnknownReport}
 use Rattle.hid_snapshots.specs.Encoding.{bare_report}

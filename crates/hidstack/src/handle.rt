@@ -5,12 +5,11 @@ ghost use Rattle.hidstack_session.specs.States.{SessionState};
 ghost use Rattle.hidstack_session.specs.contracts.session.Session.{the_row};
 ghost use Rattle.hidstack.specs.Held.{owned_box};
 
-use crate::address::{Address, lower, raise};
+use crate::owner::Owner;
 use hidstack_session::Session;
 use std::alloc::Global;
 use std::marker::Model;
 use std::mem;
-use std::ptr::null_mut;
 
 /// A session, or none: null. It may go to another thread.
 #[repr(C)]
@@ -25,32 +24,21 @@ impl Model for Handle {
 }
 
 impl Handle {
-    /// Nothing is kept.
-    fn closed() -> Handle
-        ensures { result.kept ≡ None }
+    /// The handle of an owner.
+    fn of_owner(owner: Owner<Session>) -> Handle
+        ensures { result.kept ≡ owner.kept }
     {
-        Handle { at: null_mut() }
-    }
-
-    /// The handle of an address.
-    fn of_address(address: Address<Session>) -> Handle
-        ensures { result.kept ≡ Some address.value }
-    {
-        let Address { at } = address;
+        let Owner { at } = owner;
         Handle { at: at as *mut u8 }
     }
 
-    /// The address of a handle; none if it is closed.
-    fn into_address(self) -> Option<Address<Session>>
-        ensures { MatchOption result (self.kept ≡ None) (λ a. self.kept ≡ Some a.value) }
+    /// The owner of what a handle keeps.
+    fn into_owner(self) -> Owner<Session>
+        ensures { result.kept ≡ self.kept }
     {
         let Handle { at } = self;
-        if at.is_null() {
-            None
-        } else {
-            Some(Address {
-                at: at as *mut Session,
-            })
+        Owner {
+            at: at as *mut Session,
         }
     }
 
@@ -58,7 +46,7 @@ impl Handle {
     pub fn of(session: Box<Session>) -> Handle
         ensures { result.kept ≡ Some session.value }
     {
-        Handle::of_address(lower(session))
+        Handle::of_owner(Owner::of(session))
     }
 
     /// Takes the session out, which leaves the handle closed.
@@ -67,11 +55,8 @@ impl Handle {
             (λ session. self.old.kept ≡ Some session.value) }
         ensures closed { self.new.kept ≡ None }
     {
-        let handle = mem::replace(self, Handle::closed());
-        match handle.into_address() {
-            Some(address) => Some(raise(alloc, address)),
-            None => None,
-        }
+        let handle = mem::replace(self, Handle::of_owner(Owner::empty()));
+        handle.into_owner().into_box(alloc)
     }
 }
 

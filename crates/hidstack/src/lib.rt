@@ -8,6 +8,11 @@
 //!   hidstack_blank    a handle, a kind and an ID --> a report of zeros
 //!   hidstack_close    a handle --> closed, as it was before
 //!
+//!   hidstack_device_open     a configuration and a report descriptor --> a handle of a virtual device
+//!   hidstack_device_press ..  it and a place --> a control has changed
+//!   hidstack_device_control   it and a request --> the answer, or STALL
+//!   hidstack_device_report    it --> the report that is due, or NAK or STALL
+//!
 //!   hidstack_table    a report descriptor --> all elements, in the caller's table, with no handle
 //!   hidstack_number   an element and a report --> the element's number
 //!   hidstack_put      an element, a report and a number --> the report with that number
@@ -22,11 +27,20 @@
 
 pub mod accessors;
 mod address;
+pub mod device;
+pub mod device_changes;
+pub mod device_handle;
+pub mod device_transfers;
 pub mod elements;
 pub mod handle;
+pub mod host;
+pub mod host_handle;
+pub mod host_reading;
 pub mod names;
+mod owner;
 pub mod reading;
 pub mod run;
 pub mod session;
+pub mod setup;
 pub mod status;
 pub mod writing;

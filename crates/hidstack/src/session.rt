@@ -8,6 +8,12 @@ ghost use Rattle.hidstack_session.specs.Sessions.{IsFirst};
 ghost use Rattle.hidstack.specs.Opening.{Opens, Refuses, IsBusy, opened_result};
 ghost use Rattle.hidstack.specs.Feeding.{FeedsHandle, status_of};
 ghost use Rattle.hidstack.specs.Writing.{ReleasesHandle};
+ghost use types.Logic.{sem};
+ghost use denote.RawPtr.{Testable};
+ghost use Rattle.core.specs.Ptr.{if_non_null, points_to};
+ghost use Rattle.hidstack.specs.Closing.{closed_at};
+ghost use Rattle.hidstack.specs.contracts.handle.Handle.{the_row};
+ghost use Rattle.hidstack.specs.declared.handle.Handle.{Handle};
 
 use crate::handle::Handle;
 use crate::status::{BUSY, CLOSED, NO_ROOM, OK, REFUSED, SHORT, UNKNOWN};
@@ -178,9 +184,25 @@ pub extern "C" fn hidstack_release(
 }
 
 /// Gives back what an open handle keeps. A closed one stays as it is.
-#[unsafe(no_mangle)]
-pub extern "C" fn hidstack_close(alloc: Global, handle: &mut Handle)
+fn close(alloc: Global, handle: &mut Handle)
     ensures { handle.new.kept ≡ None }
 {
     drop(handle.take(alloc));
+}
+
+/// Gives back what an open handle keeps. A closed one stays as it is. A null pointer is to none.
+///
+/// # Safety
+/// The pointer is null, or to a handle that nothing else uses.
+#[unsafe(no_mangle)]
+pub unsafe extern "C" fn hidstack_close(alloc: Global, handle: *mut Handle)
+    ghost was: { Handle }
+    requires testable { Testable handle }
+    requires* open { sem 𝓛 (if_non_null handle (points_to the_row handle was)) }
+    ensures* closed { sem 𝓛 (if_non_null handle (closed_at the_row (λ h. h.kept) handle)) }
+{
+    if handle.is_null() {
+        return;
+    }
+    close(alloc, unsafe { &mut *handle });
 }

@@ -29,3 +29,21 @@ pub const MEMORY: u32 = 8;
 
 /// The element has no pattern for the number.
 pub const RANGE: u32 = 9;
+
+/// The device refuses it: STALL (USB 2.0, 8.4.5). Of a transfer too, what came of it.
+pub const STALLED: u32 = 10;
+
+/// The transfer failed.
+pub const FAILED: u32 = 11;
+
+/// U2: the control is of a kind that can't change so.
+pub const WRONG_KIND: u32 = 12;
+
+/// U4: the control has no null.
+pub const NO_NULL: u32 = 13;
+
+/// U5: no value that can be sent has the sign of the amount.
+pub const NO_DIRECTION: u32 = 14;
+
+/// U6: the motion that isn't reported yet would no longer fit an `i32`; U7: all elements of the array are taken.
+pub const FULL: u32 = 15;

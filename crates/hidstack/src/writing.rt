@@ -6,9 +6,10 @@ ghost use Rattle.hidstack.specs.Writing.{BlankIsReturned, BlanksHandle, BootIsRe
 use crate::handle::Handle;
 use crate::names::{put_text, write_text};
 use crate::status::{CLOSED, NO_ROOM, NONE, OK, RANGE, SHORT, UNKNOWN};
+use hid_layout::Layout;
 use hid_layout::boot::{KEYBOARD, MOUSE};
 use hidstack_session::{
-    HidElement, PutFault, ReportFault, Session, put_blank_report, put_number, report_with,
+    HidElement, PutFault, ReportFault, put_blank_report, put_number, report_with,
 };
 use std::alloc::Global;
 
@@ -32,11 +33,16 @@ pub extern "C" fn hidstack_put(element: &HidElement, report: &mut [u8], value: i
 }
 
 /// Writes the report of zeros of this kind and ID over the first bytes of a room, and its length.
-fn write_blank(session: &Session, kind: u32, id: u8, out: &mut [u8], length: &mut u64) -> u32
+pub(crate) fn write_blank(
+    layout: &Layout,
+    kind: u32,
+    id: u8,
+    out: &mut [u8],
+    length: &mut u64,
+) -> u32
     requires { length.old ≡ 0 }
-    ensures { BlankIsReturned session.now.layout kind id out.old result out.new length.new }
+    ensures { BlankIsReturned layout.now kind id out.old result out.new length.new }
 {
-    let layout = session.layout();
     let Some(report) = report_with(layout, kind, id) else {
         return NONE;
     };
@@ -66,7 +72,7 @@ pub extern "C" fn hidstack_blank(
     let Some(session) = handle.take(alloc) else {
         return CLOSED;
     };
-    let status = write_blank(&session, kind, id, out, length);
+    let status = write_blank(session.layout(), kind, id, out, length);
     *handle = Handle::of(session);
     status
 }

@@ -1,0 +1,24 @@
+-- A handle goes to another thread as its device does.
+use mir.Raw.{raw}
+use denote.Memory.{lone}
+use denote.Struct.Struct.{exits_of}
+use denote.Struct.Owning.{shape, fields, to}
+use denote.RawPtr.{Ptr}
+use denote.Param.Send.{IsSend, AllSend, owning_send, struct_send, sendable}
+use Rattle.std.specs.Prelude.{Option, None, Some}
+use Rattle.std_alloc.proofs.SendSync.{quiet, lies}
+use Rattle.std.proofs.Crossing as heap
+use Rattle.hidstack.specs.Held.{owned_box}
+use Rattle.hid_gadget.specs.contracts.gadget.Gadget as gadget
+use Rattle.hid_gadget.proofs.gadget.Gadget.TheSendSync.{the_send as gadget_send}
+use Rattle.hidstack.specs.contracts.device_handle.DeviceHandle.{the_row, the_type}
+
+keyless : (p : Ptr) (kept : Option (gadget.the_row).Denot) → base.Shift.Keyless (owned_box gadget.the_row p kept)
+keyless p None = tt
+keyless p (Some x) = (lies gadget.the_row gadget_send p x, heap.frees.frees (record { memory = record { seal = tt } }) (raw (lone (gadget.the_row).mir)) p)
+
+pub send : IsSend the_row
+send =
+    let all : AllSend (fields the_type) = (search sendable, tt) in
+    owning_send the_type all (λ d. keyless d.at d.kept)
+    (λ k. quiet (to the_type) (exits_of k (fields the_type)) ((struct_send (shape the_type) all).leaving k))

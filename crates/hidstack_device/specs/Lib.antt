@@ -1,0 +1,5 @@
+pub mod Causes
+pub mod Making
+pub mod Finding
+pub mod Outputs
+pub mod Transfers
