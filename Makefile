@@ -132,6 +132,7 @@ examples: $(HIDRUN) $(HIDPLAY) $(HIDMAP) $(BENCH)  ## runs all examples on the p
 	tools/check/pictures $(HIDMAP) $(PICTURED)
 	tools/check/inputs $(HIDMAP) examples/recordings/*.hid
 	tools/check/hidplay $(HIDPLAY)
+	tools/check/damaged-captures $(HIDPLAY)
 	tools/check/commands $(HIDRUN) $(HIDPLAY) $(HIDMAP) $(BENCH)
 	tools/check/manual $(HIDRUN) $(HIDPLAY) $(HIDMAP)
 	tools/check/failures $(HIDRUN) $(HIDMAP)
@@ -174,6 +175,7 @@ compare-linux: $(HIDPLAY)  ## compares hidplay with Linux, tshark and QEMU: SEED
 	tools/compare/tshark $(HIDPLAY) --seed $(SEED) --self-test
 	tools/compare/linux $(HIDPLAY) --seed $(SEED) --self-test
 	tools/compare/qemu $(HIDPLAY)
+	tools/compare/captures $(HIDPLAY)
 
 # Runs each example script on the proved program, and each test of calls that take memory, with each of its allocations
 # refused in turn: half a minute. It needs a C compiler, and the test programs that `rt ci` or `rt test` made from the current

@@ -92,6 +92,27 @@ class Here:
                 events += [(place, *event) for event in read(place, item, layout.numbers(item, report))]
         return events
 
+    def back(self):
+        """The events that lead back to the first view, as where a device is gone."""
+        events = []
+        for place, item in enumerate(self.layout.items):
+            if item.kind == "input" and not item.is_padding:
+                back = self.variable_back if item.flags & VARIABLE else self.array_back
+                events += [(place, *event) for event in back(place, item)]
+        self.held = {}
+        return events
+
+    def variable_back(self, place, item):
+        is_switch = (item.least, item.greatest) == (0, 1) and not item.flags & NULL
+        for j, (usage, first) in enumerate(zip(spread(item), self.first(item))):
+            if self.held.get((place, j), first) != first:
+                yield j, "up" if is_switch else "null" if first is None else "value", usage, first
+
+    def array_back(self, place, item):
+        usages = usage_list(item)
+        for i in sorted(self.held.get(place, set())):
+            yield i, "up", usages[i], 0
+
     @staticmethod
     def has_null(item):
         low, high = carried(item)

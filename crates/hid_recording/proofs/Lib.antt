@@ -4,4 +4,6 @@ pub mod FlushLemmas
 pub mod WordLemmas
 pub mod PlayerLemmas
 pub mod JsonLemmas
+pub mod ActLemmas
+pub mod CaptureLemmas
 mod Vectors

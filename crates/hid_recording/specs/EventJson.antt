@@ -12,6 +12,8 @@ use Rattle.hid_snapshots.specs.declared.event.Event.{Event}
 use Rattle.hid_snapshots.specs.declared.event.Event.TheVariants.{Down, Up, Value, Null, Motion, Dropped}
 use Rattle.hid_names.specs.Names.{Name, name_of, name_text}
 use Rattle.hid_text.specs.LayoutText.{collections_text}
+use Rattle.hid_recording.specs.declared.options.Counted.{Counted}
+use Rattle.hid_recording.specs.declared.options.Counted.TheVariants.{Lines, Frames, Reports}
 
 -- the usage of an event's control
 abbrev pub usage_in : Event → Usage
@@ -109,14 +111,20 @@ event_members time device names layout event =
 unfoldable pub event_tokens : List ℕ → ℕ → Bool → Contents → Event → List Token
 event_tokens time device names layout event = object (event_members time device names layout event)
 
--- the members of a refusal: "line":N,"refused":"CODE: WORDS"
-abbrev pub refusal_members : ℕ → List ℕ → List Token
-refusal_members line words =
-    key (codes "line") ∷ number (decimal line) ∷ key (codes "refused") ∷ string words ∷ []
+-- what is counted: lines of a recording, frames of a capture, or reports of a device
+abbrev pub counted_word : Counted → List ℕ
+counted_word Lines = codes "line"
+counted_word Frames = codes "frame"
+counted_word Reports = codes "report"
+
+-- the members of a refusal: "line":N,"refused":"CODE: WORDS"; of a capture "frame":N
+abbrev pub refusal_members : Counted → ℕ → List ℕ → List Token
+refusal_members counted place words =
+    key (counted_word counted) ∷ number (decimal place) ∷ key (codes "refused") ∷ string words ∷ []
 
 -- a refusal as a JSON object
-unfoldable pub refusal_tokens : ℕ → List ℕ → List Token
-refusal_tokens line words = object (refusal_members line words)
+unfoldable pub refusal_tokens : Counted → ℕ → List ℕ → List Token
+refusal_tokens counted place words = object (refusal_members counted place words)
 
 -- a line of JSON: the text of these tokens. Example: {"line":1,"refused":"R4: the count isn't that of the bytes"}
 abbrev pub json_text : List Token → List ℕ

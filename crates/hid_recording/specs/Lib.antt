@@ -16,3 +16,8 @@ pub mod Binary
 pub mod Runs
 pub mod Place
 pub mod Recording
+pub mod Moments
+pub mod Acts
+pub mod FrameActs
+pub mod CaptureRuns
+pub mod CaptureRun

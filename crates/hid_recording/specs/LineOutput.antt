@@ -33,7 +33,7 @@ use Rattle.hid_recording.specs.Dumps.{no_dump, dropped_dump, empty_dump, describ
 -- the outcome of a line that is refused: its place and why are printed, and it is counted
 abbrev pub outcome_after_refusal : Session → Refusal → Outcome
 outcome_after_refusal session refusal =
-    success (refusal_line session.options.json session.lines refusal)
+    success (refusal_line session.options session.lines refusal)
     (record session { refused = saturating_sum session.refused 1 })
 
 -- a line that is refused: of a strict run it is the end, else the run goes on

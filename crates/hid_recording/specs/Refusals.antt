@@ -1,12 +1,13 @@
 -- Refusals as they are printed (our choice: docs/RECORDINGS.md).
-use Rattle.std.specs.Prelude.{ℕ, Bool, List, [], ◌∷◌, ◌++◌, if◌then◌else◌, codes}
+use Rattle.std.specs.Prelude.{ℕ, List, [], ◌∷◌, ◌++◌, if◌then◌else◌, codes}
 use Rattle.std.specs.Fmt.{decimal}
 use Rattle.hid_snapshots.specs.declared.fault.ReportFault.{ReportFault}
 use Rattle.hid_snapshots.specs.declared.fault.ReportFault.TheVariants.{Short, UnknownReport}
 use Rattle.hid_notation.specs.Causes.{layout_refusal_text}
 use Rattle.hid_usages.specs.Faults.{report_code}
-use Rattle.hid_recording.specs.EventJson.{refusal_tokens, json_text}
+use Rattle.hid_recording.specs.EventJson.{counted_word, refusal_tokens, json_text}
 use Rattle.hid_recording.specs.declared.fault.Refusal.{Refusal}
+use Rattle.hid_recording.specs.declared.options.Options.{Options}
 use Rattle.hid_recording.specs.declared.fault.Refusal.TheVariants.{Syntax, BadHex, BadCount, BadDevice, BadTime, NoLayout, Unended, DumpTooLong, TooManyDevices, PartMissing, Layout, Report}
 use Rattle.hid_recording.specs.declared.fault.Cause.{Cause}
 use Rattle.hid_recording.specs.declared.fault.Cause.TheVariants as causes
@@ -26,7 +27,7 @@ refusal_text BadTime = codes "R6: the time isn't digits and points"
 refusal_text NoLayout = codes "R7: the device has no descriptor"
 refusal_text Unended = codes "R12: no empty line ends the dump before"
 refusal_text DumpTooLong = codes "R13: a dump of over 16384 bytes"
-refusal_text TooManyDevices = codes "R14: dumps of over 16 interfaces"
+refusal_text TooManyDevices = codes "R14: over 16 interfaces"
 refusal_text PartMissing = codes "R15: a part of the report may be missing"
 refusal_text (Layout fault report) = layout_refusal_text fault report
 refusal_text (Report fault) = report_code fault ++ codes ": " ++ report_words fault
@@ -41,8 +42,9 @@ cause_text causes.Memory = codes "R10: out of memory"
 cause_text causes.TooManyReads = codes "R11: the end didn't come in 1000000000000 reads"
 cause_text causes.Unended = codes "R12: no empty line ends the last dump"
 
--- the line of a refusal: line N: CODE: WORDS, or with --json an object. Example: line 1: R4: the count isn't that of the bytes
-abbrev pub refusal_line : Bool → ℕ → Refusal → List ℕ
-refusal_line json line refusal =
-    if json then json_text (refusal_tokens line (refusal_text refusal))
-    else codes "line " ++ decimal line ++ codes ": " ++ refusal_text refusal ++ 10 ∷ []
+-- The line of a refusal: line N: CODE: WORDS, of a capture frame N: CODE: WORDS, or with --json an object. Example: line 1: R4: the
+-- count isn't that of the bytes
+abbrev pub refusal_line : Options → ℕ → Refusal → List ℕ
+refusal_line options place refusal =
+    if options.json then json_text (refusal_tokens options.counted place (refusal_text refusal))
+    else counted_word options.counted ++ 32 ∷ decimal place ++ codes ": " ++ refusal_text refusal ++ 10 ∷ []

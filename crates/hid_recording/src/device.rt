@@ -1,6 +1,6 @@
 //! A device of a recording: the receiver of its reports, and what a chunk of a dump makes of one.
 
-ghost use Rattle.std.specs.Prelude.{◌≡◌, ◌++◌, ◌&&◌, true, false, Some, Ok, Err, IfOk, IfErr, IfSome, OnOk, is_ok, List, [], string_bytes};
+ghost use Rattle.std.specs.Prelude.{◌≡◌, ◌++◌, ◌&&◌, true, false, Some, Ok, Err, IfOk, IfErr, IfSome, OnOk, is_ok, List, [], length, string_bytes};
 ghost use Rattle.std.specs.Option.{IfNone};
 ghost use Rattle.hid_report_descriptor.specs.Items.{EncodedItem};
 ghost use Rattle.hid_report_descriptor.specs.Real.{Accepts, Explains};
@@ -9,6 +9,8 @@ ghost use Rattle.hid_recording.specs.Session.{fresh_device};
 ghost use Rattle.hid_report_descriptor.specs.declared.fault.Cause.TheVariants.{Memory};
 ghost use Rattle.hid_recording.specs.LineOutput.{values_output, values_asked};
 ghost use Rattle.hid_recording.specs.Playing.{PlaysMember};
+ghost use Rattle.hid_recording.specs.Taking.{member_events_back};
+ghost use Rattle.hid_recording.specs.EventLines.{event_lines};
 ghost use Rattle.hid_recording.specs.MemoryUse.{RunsOutIf, is_joined};
 ghost use Rattle.hid_recording.specs.Joining.{is_long, has_long, member_after_doubt, Joins, IsRefusedAs};
 ghost use Rattle.hid_usages.specs.Reading.{report_named};
@@ -195,6 +197,23 @@ impl RecordedDevice {
         }
         let events = self.events.as_slice();
         print_events(text, source, self.receiver.layout(), events)?;
+        Ok(events.len() as u64)
+    }
+
+    /// Adds the events that lead back to the initial view, and returns how many there are. The view stays.
+    ///
+    /// # Errors
+    /// [`AllocError`] if memory runs out for the text of the events.
+    pub fn play_back(&mut self, text: &mut String, source: &Source<'_>) -> Result<u64, AllocError>
+        ensures { IfOk result (λ events. (events ≡ length (member_events_back self.old))
+            × (string_bytes text.new ≡ string_bytes text.old ++ event_lines source.now.time.now
+            source.now.device source.now.options self.old.layout (member_events_back self.old))) }
+    {
+        self.events.clear();
+        let layout = self.receiver.layout();
+        self.receiver.view().changes_back(layout, &mut self.events);
+        let events = self.events.as_slice();
+        print_events(text, source, layout, events)?;
         Ok(events.len() as u64)
     }
 }

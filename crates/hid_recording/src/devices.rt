@@ -1,6 +1,7 @@
 //! The devices of a recording.
 
-ghost use Rattle.std.specs.Prelude.{◌≡◌, ◌<◌, Option, length, map, set, slice_get, string_bytes, true, IfOk, IfErr};
+ghost use Rattle.std.specs.Prelude.{◌≡◌, ◌<◌, ◌++◌, None, Option, length, map, set, slice_get, string_bytes, true, IfOk, IfErr, OnOk};
+ghost use Rattle.hid_recording.specs.Acts.{slot_events_back, slot_text_back};
 ghost use Rattle.std.specs.Option.{option_map};
 ghost use Rattle.hid_recording.specs.Session.{PlayedDevice, no_devices};
 ghost use Rattle.hid_recording.specs.Joining.{slot_after_doubt, Joins};
@@ -104,6 +105,35 @@ impl Devices {
         join_chunk(&mut self.slots[i], alloc, chunk)
     }
 
+    /// The current device lets go of what it holds, and has no descriptor then: returns the number of events.
+    ///
+    /// # Errors
+    /// [`AllocError`] if memory runs out for the text of the events.
+    pub fn release(
+        &mut self,
+        alloc: Global,
+        text: &mut String,
+        time: &str,
+        options: Options,
+    ) -> Result<u64, AllocError>
+        ensures events { IfOk result (λ events. events ≡ length (slot_events_back
+            (member_in_slot (slice_get self.old.slots.items self.old.current)))) }
+        ensures text { OnOk result (string_bytes text.new ≡ string_bytes text.old
+            ++ slot_text_back time.now self.old.current options
+            (member_in_slot (slice_get self.old.slots.items self.old.current))) }
+        ensures slots { self.new.slots.items ≡ set self.old.slots.items self.old.current None }
+        ensures current { self.new.current ≡ self.old.current }
+    {
+        let source = Source {
+            alloc,
+            time,
+            device: self.current,
+            options,
+        };
+        let i = usize::from(self.current);
+        release_slot(&mut self.slots[i], text, &source)
+    }
+
     /// Plays a report of the current device, and returns its number of events.
     ///
     /// # Errors
@@ -131,6 +161,29 @@ impl Devices {
         };
         let i = usize::from(self.current);
         play_report(&mut self.slots[i], text, &source, bytes)
+    }
+}
+
+/// The device in a slot, if there is one, is gone: adds the events that lead back to its initial view, and returns how many
+/// there are.
+fn release_slot(
+    slot: &mut Option<RecordedDevice>,
+    text: &mut String,
+    source: &Source<'_>,
+) -> Result<u64, AllocError>
+    ensures events { IfOk result (λ events. events ≡ length (slot_events_back slot.old)) }
+    ensures text { OnOk result (string_bytes text.new ≡ string_bytes text.old
+        ++ slot_text_back source.now.time.now source.now.device source.now.options slot.old) }
+    ensures gone { slot.new ≡ None }
+{
+    match mem::replace(slot, None) {
+        None => Ok(0),
+        Some(recorded) => {
+            let mut recorded = recorded;
+            let events = recorded.play_back(text, source);
+            drop(recorded);
+            events
+        }
     }
 }
 

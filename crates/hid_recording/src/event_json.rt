@@ -2,11 +2,12 @@
 
 ghost use Rattle.std.specs.Prelude.{◌≡◌, ◌++◌, [], Some, OnOk, string_bytes};
 ghost use Rattle.hid_names.specs.Names.{name_of_value, name_of};
-ghost use Rattle.hid_recording.specs.EventJson.{usage_in, control_in, path_round, event_word, source_tokens, usage_tokens, place_tokens, path_tokens, control_tokens, number_tokens, value_tokens, named_tokens, name_tokens, event_members, event_tokens, refusal_members, refusal_tokens, json_text};
+ghost use Rattle.hid_recording.specs.EventJson.{usage_in, control_in, path_round, event_word, source_tokens, usage_tokens, place_tokens, path_tokens, control_tokens, number_tokens, value_tokens, named_tokens, name_tokens, event_members, event_tokens, counted_word, refusal_members, refusal_tokens, json_text};
 ghost use Rattle.hid_recording.specs.Refusals.{refusal_text};
 
 use super::event_line::Source;
 use super::fault::Refusal;
+use super::options::Counted;
 use hid_layout::{Collection, ControlId, Layout, Usage};
 use hid_names::{UsageName, usage_name};
 use hid_text::print_collections;
@@ -208,24 +209,47 @@ fn put_event(
     json.end_object()
 }
 
+/// What is counted, in a word.
+pub fn counted_word(counted: Counted) -> &'static str
+    ensures { result.now ≡ counted_word counted }
+{
+    match counted {
+        Counted::Lines => "line",
+        Counted::Frames => "frame",
+        Counted::Reports => "report",
+    }
+}
+
 /// Writes the members of a refusal.
-fn put_refusal_members(json: &mut Writer, line: u64, words: &str) -> Result<(), AllocError>
-    ensures tokens { OnOk result (json.new.tokens ≡ json.old.tokens ++ refusal_members line words.now) }
+fn put_refusal_members(
+    json: &mut Writer,
+    counted: Counted,
+    place: u64,
+    words: &str,
+) -> Result<(), AllocError>
+    ensures tokens { OnOk result (json.new.tokens
+        ≡ json.old.tokens ++ refusal_members counted place words.now) }
     ensures before { json.new.before ≡ json.old.before }
 {
-    json.key("line")?;
-    json.u64(line)?;
+    json.key(counted_word(counted))?;
+    json.u64(place)?;
     json.key("refused")?;
     json.string(words)
 }
 
-/// Writes the refusal of a line as an object.
-fn put_refusal(json: &mut Writer, line: u64, words: &str) -> Result<(), AllocError>
-    ensures tokens { OnOk result (json.new.tokens ≡ json.old.tokens ++ refusal_tokens line words.now) }
+/// Writes a refusal as an object.
+fn put_refusal(
+    json: &mut Writer,
+    counted: Counted,
+    place: u64,
+    words: &str,
+) -> Result<(), AllocError>
+    ensures tokens { OnOk result (json.new.tokens
+        ≡ json.old.tokens ++ refusal_tokens counted place words.now) }
     ensures before { json.new.before ≡ json.old.before }
 {
     json.begin_object()?;
-    put_refusal_members(json, line, words)?;
+    put_refusal_members(json, counted, place, words)?;
     json.end_object()
 }
 
@@ -266,15 +290,16 @@ pub fn print_json(
 pub fn print_refusal_json(
     text: &mut String,
     alloc: Global,
-    line: u64,
+    counted: Counted,
+    place: u64,
     refusal: Refusal,
 ) -> Result<(), AllocError>
     ensures { OnOk result (string_bytes text.new ≡ string_bytes text.old
-        ++ json_text (refusal_tokens line (refusal_text refusal))) }
+        ++ json_text (refusal_tokens counted place (refusal_text refusal))) }
 {
     let words = format!(in alloc; "{refusal}")?;
     let mut json = Writer::new(Vec::new(alloc));
-    match put_refusal(&mut json, line, words.as_str()) {
+    match put_refusal(&mut json, counted, place, words.as_str()) {
         Ok(()) => push_line(text, json),
         Err(error) => Err(error),
     }

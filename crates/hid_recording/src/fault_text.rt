@@ -31,7 +31,7 @@ impl fmt::Display for Refusal {
             Refusal::NoLayout => "R7: the device has no descriptor",
             Refusal::Unended => "R12: no empty line ends the dump before",
             Refusal::DumpTooLong => "R13: a dump of over 16384 bytes",
-            Refusal::TooManyDevices => "R14: dumps of over 16 interfaces",
+            Refusal::TooManyDevices => "R14: over 16 interfaces",
             Refusal::PartMissing => "R15: a part of the report may be missing",
             Refusal::Layout(fault, report) => {
                 let text = RefusalText {

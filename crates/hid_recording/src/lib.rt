@@ -26,7 +26,11 @@
 //! The promise: [`play`] writes exactly the text of the recording, by its clause.
 #![tactic(auto)]
 
+mod act;
 mod binary;
+mod capture_fault;
+mod capture_player;
+mod capture_run;
 mod device;
 mod devices;
 mod dump;
@@ -34,7 +38,9 @@ mod event_json;
 mod event_line;
 mod fault;
 mod fault_text;
+mod given;
 mod line_fields;
+mod moment;
 mod options;
 mod output;
 mod player;
@@ -44,7 +50,10 @@ mod runs;
 mod summary;
 
 pub use binary::descriptor_line;
+pub use capture_fault::{CaptureCause, CaptureRunFault};
+pub use capture_run::play_capture;
 pub use fault::{Cause, RecordingFault, Refusal};
-pub use options::Options;
+pub use given::{EndpointAddress, GivenDescriptor};
+pub use options::{Counted, Options};
 pub use runs::{Watch, play};
 pub use summary::Summary;

@@ -4,7 +4,7 @@ ghost use Rattle.std.specs.Prelude.{◌≡◌, ◌+◌, ◌*◌, ◌<◌, Some, 
 ghost use Rattle.std.specs.List.{slice_split};
 ghost use Rattle.std.specs.Option.{option_map};
 ghost use Rattle.hid_recording.specs.declared.line_fields.TheConstants.{MAX_DEVICES};
-ghost use Rattle.hid_recording.specs.Words.{byte_of_word, bytes_of, IsNoBytes, is_count, device_of_word, is_time, time_of, is_colon, address_of, content_of};
+ghost use Rattle.hid_recording.specs.Words.{byte_of_word, bytes_of, IsNoBytes, is_count, in_devices, device_of_word, is_time, time_of, is_colon, address_of, content_of};
 
 use super::dump::{Address, Content};
 use super::fault::{Cause, Refusal};
@@ -65,6 +65,17 @@ pub fn is_count(word: &[u8], count: usize) -> bool
 pub struct DeviceNumber {
     pub number: u8,
     ghost small: { number < MAX_DEVICES },
+}
+
+/// The device of this number, if there is one.
+pub fn device_of(number: u8) -> Option<DeviceNumber>
+    ensures { option_map (λ device. device.number) result ≡ in_devices (Some number) }
+{
+    if usize::from(number) < MAX_DEVICES {
+        Some(DeviceNumber { number })
+    } else {
+        None
+    }
 }
 
 /// The device that a word names: decimal digits, 0 to 15.

@@ -1,11 +1,11 @@
-//! A session: what stands between two lines, and how a line is played.
+//! A session: what stands between two lines or frames, and how a line is played.
 
-ghost use Rattle.std.specs.Prelude.{◌≡◌, ◌++◌, true, None, Option, IfOk, IfErr, OnOk, is_some, string_bytes};
+ghost use Rattle.std.specs.Prelude.{◌≡◌, ◌++◌, [], ◌∷◌, true, None, Option, IfOk, IfErr, OnOk, is_some, string_bytes};
 ghost use Rattle.std.specs.Option.{option_map};
 ghost use Rattle.hid_report_descriptor.specs.Real.{Explains};
 ghost use Rattle.hid_recording.specs.Session.{at_first};
 ghost use Rattle.hid_recording.specs.Records.{record_of};
-ghost use Rattle.hid_recording.specs.LineOutput.{described_text, LineGives, LineBegins, MeaningGives, DescriptorGives, DumpEndGives, with_device, outcome_of_device, outcome_of_refusal, DescriptorIsRefused, with_dropped_dump, outcome_of_unread_descriptor, outcome_of_dump_head, outcome_of_dump_bytes, outcome_of_stray_bytes, chunk_outcome, stream_outcome, report_outcome};
+ghost use Rattle.hid_recording.specs.LineOutput.{described_text, LineGives, LineBegins, MeaningGives, DescriptorGives, DumpEndGives, with_device, outcome_of_device, outcome_of_refusal, DescriptorIsRefused, with_dropped_dump, outcome_of_unread_descriptor, outcome_of_dump_head, outcome_of_dump_bytes, outcome_of_stray_bytes, with_line_counted, chunk_outcome, stream_outcome, report_outcome};
 ghost use Rattle.hid_recording.specs.Words.{time_of};
 ghost use Rattle.hid_recording.specs.Player.{summary_of};
 ghost use Rattle.hid_recording.specs.Refusals.{refusal_line};
@@ -14,13 +14,15 @@ ghost use Rattle.hid_recording.specs.MemoryUse.{RunsOutIf, refusal_allocates, la
 ghost use Rattle.hid_recording.specs.Dumps.{number_of_address};
 ghost use Rattle.hid_recording.specs.declared.fault.Refusal.TheVariants as refusals;
 ghost use Rattle.hid_recording.specs.Place.{AppendsOutput};
+ghost use Rattle.hid_recording.specs.Acts.{act_of, ActGives, AppendsActs, turned_to, slot_text_back, without_member, current_member, DescriptionGives};
 
+use super::act::Act;
 use super::device::{Joined, RecordedDevice};
 use super::devices::Devices;
 use super::dump::{Address, Addresses, Content, Dump, MAX_DUMP};
-use super::event_json::print_refusal_json;
+use super::event_json::{counted_word, print_refusal_json};
 use super::fault::{Cause, Refusal};
-use super::line_fields::read_time;
+use super::line_fields::{DeviceNumber, read_time};
 use super::options::Options;
 use super::output::write_text;
 use super::record::{Record, read_record};
@@ -34,7 +36,7 @@ use std::mem;
 /// The longest line, without its end (our choice): a report of 16,384 bytes has some 49,200.
 pub const MAX_LINE: usize = 65_536;
 
-/// The devices with what is known of them, counts, and room for the output of a line.
+/// The devices with what is known of them, counts, and room for the output of a line or of an act.
 #[derive(Drop)]
 pub struct Player {
     alloc: Global,
@@ -73,17 +75,17 @@ fn print_refusal(
     text: &mut String,
     alloc: Global,
     options: Options,
-    line: u64,
+    place: u64,
     refusal: Refusal,
 ) -> Result<(), AllocError>
     ensures { OnOk result (string_bytes text.new
-        ≡ string_bytes text.old ++ refusal_line options.json line refusal) }
+        ≡ string_bytes text.old ++ refusal_line options place refusal) }
 {
     if options.json {
-        print_refusal_json(text, alloc, line, refusal)
-    } else {
-        writeln!(text, "line {line}: {refusal}")
+        return print_refusal_json(text, alloc, options.counted, place, refusal);
     }
+    let word = counted_word(options.counted);
+    writeln!(text, "{word} {place}: {refusal}")
 }
 
 impl Player {
@@ -125,6 +127,13 @@ impl Player {
             events: self.events,
             refused: self.refused,
         }
+    }
+
+    /// What was played, in as many lines or frames as were counted.
+    pub fn summary_so_far(&self) -> Summary
+        ensures { result ≡ summary_of (session_of self.now) (session_of self.now).lines }
+    {
+        self.summary(self.lines)
     }
 
     /// Plays a line, without its end, and writes its output.
@@ -404,6 +413,98 @@ impl Player {
             }
             Err(refusal) => self.refuse(refusal),
         }
+    }
+
+    /// The next frame of a capture is counted.
+    pub fn begin_frame(&mut self)
+        ensures { session_of self.new ≡ with_line_counted (session_of self.old) }
+    {
+        self.lines = self.lines.saturating_add(1);
+    }
+
+    /// Plays what a capture says at a time, and writes its output.
+    ///
+    /// # Errors
+    /// In a strict run the refusal; R10 if memory runs out; R9 if the writer fails.
+    pub fn act<W: Write>(&mut self, time: &str, act: Act<'_>, writer: &mut W) -> Result<(), Cause>
+        ensures { AppendsActs (W.contents writer.old) (W.contents writer.new) time.now
+            (session_of self.old) (act_of act.entry ∷ []) result (session_of self.new) }
+    {
+        self.play_act(time, act)?;
+        write_text(writer, self.text.as_bytes())
+    }
+
+    /// Gathers the output of what a capture says, in place of what was gathered before.
+    fn play_act(&mut self, time: &str, act: Act<'_>) -> Result<(), Cause>
+        ensures { Gathers (ActGives time.now (session_of self.old) (act_of act.entry)) result
+            (string_bytes self.new.text) (session_of self.new) }
+    {
+        match act {
+            Act::Descriptor { device, bytes } => {
+                self.turn_to(device);
+                self.redescribe(time, bytes)
+            }
+            Act::Report { device, bytes } => {
+                self.turn_to(device);
+                self.report(time, bytes)
+            }
+            Act::RefusedFrame(refusal) => self.refuse(refusal),
+            Act::Disconnection { device } => {
+                self.turn_to(device);
+                Ok(self.release(time)?)
+            }
+        }
+    }
+
+    /// What comes next is of this device.
+    fn turn_to(&mut self, device: DeviceNumber)
+        ensures { session_of self.new ≡ turned_to (session_of self.old) device.number }
+    {
+        self.devices.select(device.number);
+    }
+
+    /// The current device lets go of what it holds, and has no descriptor then.
+    fn release(&mut self, time: &str) -> Result<(), AllocError>
+        ensures text { OnOk result (string_bytes self.new.text ≡ slot_text_back time.now
+            self.old.devices.current self.old.options (current_member (session_of self.old))) }
+        ensures session { OnOk result (session_of self.new
+            ≡ without_member (session_of self.old) (current_member (session_of self.old))) }
+    {
+        self.text.clear();
+        let events = self
+            .devices
+            .release(self.alloc, &mut self.text, time, self.options)?;
+        self.events = self.events.saturating_add(events);
+        Ok(())
+    }
+
+    /// Takes a report descriptor of the current device, which lets go of what it held by another one.
+    fn redescribe(&mut self, time: &str, descriptor: &[u8]) -> Result<(), Cause>
+        ensures { Gathers (DescriptionGives time.now descriptor.now (session_of self.old)) result
+            (string_bytes self.new.text) (session_of self.new) }
+    {
+        self.release(time)?;
+        let before = mem::replace(&mut self.text, String::new(self.alloc));
+        match self.describe(descriptor) {
+            Ok(()) => self.put_before(before),
+            Err(cause) => {
+                drop(before);
+                Err(cause)
+            }
+        }
+    }
+
+    /// Puts a text before what was gathered.
+    fn put_before(&mut self, before: String) -> Result<(), Cause>
+        ensures text { OnOk result (string_bytes self.new.text
+            ≡ string_bytes before ++ string_bytes self.old.text) }
+        ensures memory { IfErr result (λ cause. cause ≡ Cause.Memory) }
+        ensures session { session_of self.new ≡ session_of self.old }
+    {
+        let mut before = before;
+        let joined = before.push_str(self.text.as_str());
+        drop(mem::replace(&mut self.text, before));
+        joined.map_err(Cause::from)
     }
 
     /// Whether a dump is open.

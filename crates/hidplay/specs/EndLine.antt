@@ -2,10 +2,12 @@
 use Rattle.std.specs.Prelude.{ℕ, ◌+◌, ◌-◌, ◌^◌, min, List, [], ◌∷◌, ◌++◌, codes}
 use Rattle.std.specs.Fmt.{decimal}
 use Rattle.json.specs.Token.{Token, begin_object, end_object, key, string, number}
-use Rattle.hid_recording.specs.declared.fault.RecordingFault.{RecordingFault}
 use Rattle.hid_recording.specs.declared.fault.Cause.{Cause}
 use Rattle.hid_recording.specs.declared.fault.Cause.TheVariants.{Refused, LineTooLong, Read, Write, Memory, TooManyReads, Unended}
-use Rattle.hid_recording.specs.Refusals.{cause_text}
+use Rattle.hidplay.specs.declared.fault.FileFault.{FileFault}
+use Rattle.hidplay.specs.declared.fault.Why.{Why}
+use Rattle.hidplay.specs.declared.fault.Why.TheVariants.{Recording, Capture}
+use Rattle.hidplay.specs.FileFault.{place_word, place_number, why_text}
 
 -- a count of refusals, one more if what ended the file is one; it stops at the greatest number of 64 bits
 abbrev pub with_cause : Cause → ℕ → ℕ
@@ -17,20 +19,25 @@ with_cause Write count = count
 with_cause Memory count = count
 with_cause TooManyReads count = count
 
--- how many lines were refused, with what ended the file
-abbrev pub refusals_of : RecordingFault → ℕ
-refusals_of fault = with_cause fault.cause fault.played.refused
+-- a count of refusals, with what ended the file: a capture that can't be read is one more
+abbrev pub with_why : Why → ℕ → ℕ
+with_why (Recording cause) count = with_cause cause count
+with_why (Capture cause) count = min (count + 1) (2 ^ 64 - 1)
+
+-- how many lines and frames were refused, with what ended the file
+abbrev pub refusals_of : FileFault → ℕ
+refusals_of fault = with_why fault.why fault.played.refused
 
 -- a count as a member: "NAME":N
 abbrev pub count_tokens : List ℕ → ℕ → List Token
 count_tokens name count = key name ∷ number (decimal count) ∷ []
 
--- what ended a file, as members: "line":N,"ended":"CODE: WORDS"
-abbrev pub cause_tokens : ℕ → List ℕ → List Token
-cause_tokens line words = key (codes "line") ∷ number (decimal line) ∷ key (codes "ended") ∷ string words ∷ []
+-- what ended a file, as members: "line":N,"ended":"CODE: WORDS", or with "frame" or "byte"
+abbrev pub cause_tokens : List ℕ → ℕ → List ℕ → List Token
+cause_tokens word place words = key word ∷ number (decimal place) ∷ key (codes "ended") ∷ string words ∷ []
 
 -- what was played, as members: "descriptors":N,"reports":N,"events":N,"refusals":N
-abbrev pub played_tokens : RecordingFault → List Token
+abbrev pub played_tokens : FileFault → List Token
 played_tokens fault =
     key (codes "descriptors") ∷ number (decimal fault.played.descriptors)
     ∷ key (codes "reports") ∷ number (decimal fault.played.reports)
@@ -38,6 +45,7 @@ played_tokens fault =
     ∷ key (codes "refusals") ∷ number (decimal (refusals_of fault)) ∷ []
 
 -- what ended a file early and what was played of it, as a JSON object
-unfoldable pub end_tokens : RecordingFault → List Token
+unfoldable pub end_tokens : FileFault → List Token
 end_tokens fault =
-    begin_object ∷ cause_tokens fault.line (cause_text fault.cause) ++ played_tokens fault ++ end_object ∷ []
+    begin_object ∷ cause_tokens (place_word fault.place) (place_number fault.place) (why_text fault.why)
+    ++ played_tokens fault ++ end_object ∷ []

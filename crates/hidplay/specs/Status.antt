@@ -1,9 +1,11 @@
 -- The exit status of a run (our choice: docs/RECORDINGS.md).
 use Rattle.std.specs.Prelude.{ℕ, nat_lt, Bool, true, false, if◌then◌else◌, Result, Ok, Err}
 use Rattle.hid_recording.specs.declared.summary.Summary.{Summary}
-use Rattle.hid_recording.specs.declared.fault.RecordingFault.{RecordingFault}
 use Rattle.hid_recording.specs.declared.fault.Cause.{Cause}
 use Rattle.hid_recording.specs.declared.fault.Cause.TheVariants.{Refused, LineTooLong, Read, Write, Memory, TooManyReads, Unended}
+use Rattle.hidplay.specs.declared.fault.FileFault.{FileFault}
+use Rattle.hidplay.specs.declared.fault.Why.{Why}
+use Rattle.hidplay.specs.declared.fault.Why.TheVariants.{Recording, Capture}
 
 -- the exit status of a cause: 1 if a line is refused, 3 if the cause lies outside of the recording
 abbrev pub cause_status : Cause → ℕ
@@ -15,11 +17,16 @@ cause_status Memory = 3
 cause_status TooManyReads = 3
 cause_status Unended = 1
 
--- the exit status of a run: 0 if nothing was refused, 1 if a line is refused or too long or a dump isn't ended, 3 if the
--- file, the writer or memory failed
-abbrev pub status_of : Result Summary RecordingFault → ℕ
+-- the exit status of what ended a file: 1 if it is a capture that can't be read
+abbrev pub why_status : Why → ℕ
+why_status (Recording cause) = cause_status cause
+why_status (Capture cause) = 1
+
+-- the exit status of a run: 0 if nothing was refused, 1 if a line is refused or too long, a dump isn't ended or a capture can't
+-- be read, 3 if the file, the writer or memory failed
+abbrev pub status_of : Result Summary FileFault → ℕ
 status_of (Ok summary) = if nat_lt 0 summary.refused then 1 else 0
-status_of (Err fault) = cause_status fault.cause
+status_of (Err fault) = why_status fault.why
 
 -- what ends all files: standard output failed, or a refusal of a strict run
 abbrev pub ends_all_by : Bool → Cause → Bool
@@ -31,7 +38,12 @@ ends_all_by strict Read = false
 ends_all_by strict Memory = false
 ends_all_by strict TooManyReads = false
 
+-- what ends all files, of recordings and of captures
+abbrev pub ends_all_for : Bool → Why → Bool
+ends_all_for strict (Recording cause) = ends_all_by strict cause
+ends_all_for strict (Capture cause) = strict
+
 -- whether no further file is begun: standard output failed, or a strict run met a refusal
-abbrev pub ends_all : Bool → Result Summary RecordingFault → Bool
+abbrev pub ends_all : Bool → Result Summary FileFault → Bool
 ends_all strict (Ok summary) = false
-ends_all strict (Err fault) = ends_all_by strict fault.cause
+ends_all strict (Err fault) = ends_all_for strict fault.why

@@ -2,7 +2,7 @@
 use Rattle.std.specs.Prelude.{ℕ, ◌+◌, ◌-◌, ◌^◌, min, List, ◌++◌, codes, Result, Ok, Err}
 use Rattle.std.specs.Fmt.{decimal}
 use Rattle.hid_recording.specs.declared.summary.Summary.{Summary}
-use Rattle.hid_recording.specs.declared.fault.RecordingFault.{RecordingFault}
+use Rattle.hidplay.specs.declared.fault.FileFault.{FileFault}
 use Rattle.hidplay.specs.declared.total.Total.{Total}
 use Rattle.hidplay.specs.EndLine.{refusals_of}
 
@@ -21,7 +21,7 @@ with_summary total played = record total {
 
 -- The counts with one more file: one that was played to its end counts as a file; of another one what was played is added,
 -- and one refusal more if a refusal ended it.
-abbrev pub with_result : Total → Result Summary RecordingFault → Total
+abbrev pub with_result : Total → Result Summary FileFault → Total
 with_result total (Ok summary) = with_summary (record total { files = plus total.files 1 }) summary
 with_result total (Err fault) = with_summary total (record fault.played { refused = refusals_of fault })
 

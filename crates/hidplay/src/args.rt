@@ -2,9 +2,13 @@
 
 use super::codes::CODES;
 use super::source::Kind;
+use clap::error::ErrorKind;
 use clap::{Arg, ArgAction, ArgMatches, Command, Error};
-use hid_recording::Options;
+use hid_recording::{Counted, EndpointAddress, Options};
 use std::alloc::{AllocError, Global};
+
+/// The greatest number of an endpoint (USB 2.0, 9.6.6).
+const MAX_ENDPOINT: u8 = 15;
 
 /// What the words ask for.
 #[derive(Drop)]
@@ -12,6 +16,10 @@ pub struct CliArgs<'a> {
     pub options: Options,
     /// What the files are taken for.
     pub kind: Kind,
+    /// The file with the descriptor of a capture's interfaces that have none in it, if one is given.
+    pub descriptor: Option<&'a str>,
+    /// The endpoint whose interface that descriptor is of, if one is named.
+    pub endpoint: Option<EndpointAddress>,
     /// The files in their order; `-` is standard input.
     pub files: Vec<&'a str>,
 }
@@ -30,7 +38,7 @@ fn files<'a>(alloc: Global) -> Arg<'a> {
         .action(ArgAction::Append)
         .num_args(0..)
         .help(
-            "Text of hid-recorder or usbhid-dump, or a binary report descriptor; - and no FILE are standard input",
+            "Text of hid-recorder or usbhid-dump, a capture (pcap, pcapng), or a binary report descriptor; - and no FILE are standard input",
         )
 }
 
@@ -53,6 +61,25 @@ fn text<'a>(alloc: Global) -> Result<Arg<'a>, AllocError> {
         "Take each file for text, whatever its first byte is",
     )
     .conflicts_with("binary")
+}
+
+/// The option `--descriptor FILE`.
+fn descriptor<'a>(alloc: Global) -> Arg<'a> {
+    Arg::new(alloc, "descriptor")
+        .long("descriptor")
+        .value_name("FILE")
+        .help("The binary report descriptor of a capture's devices that have none in it")
+}
+
+/// The option `--endpoint BUS.DEV.EP`.
+fn endpoint<'a>(alloc: Global) -> Result<Arg<'a>, AllocError> {
+    Arg::new(alloc, "endpoint")
+        .long("endpoint")
+        .value_name("BUS.DEV.EP")
+        .help(
+            "The endpoint whose device has that descriptor, as 1.4.1; without it each HID interface has it that has none",
+        )
+        .requires_arg("descriptor")
 }
 
 /// Adds an argument, if memory was there for the command and for it.
@@ -124,6 +151,8 @@ fn command<'a>(alloc: Global) -> Result<Command<'a>, AllocError> {
             "Take each file for a binary report descriptor",
         )),
     );
+    let command = add(command, Ok(descriptor(alloc)));
+    let command = add(command, endpoint(alloc));
     add(command, Ok(files(alloc)))
 }
 
@@ -149,8 +178,39 @@ pub fn parse_args<'a>(alloc: Global, words: &'a [String]) -> Result<CliArgs<'a>,
     asked
 }
 
+/// The endpoint that a word names: numbers of a bus, of a device and of an endpoint, with points between them.
+fn read_endpoint(word: &str) -> Option<EndpointAddress> {
+    let mut parts = word.split('.');
+    let bus = parts.next()?.parse::<u16>().ok()?;
+    let device = parts.next()?.parse::<u16>().ok()?;
+    let endpoint = parts.next()?.parse::<u8>().ok()?;
+    if parts.next().is_some() || endpoint > MAX_ENDPOINT {
+        return None;
+    }
+    Some(EndpointAddress {
+        bus,
+        device,
+        endpoint,
+    })
+}
+
+/// The endpoint that is named, if one is.
+fn named_endpoint(alloc: Global, word: Option<&str>) -> Result<Option<EndpointAddress>, Error> {
+    let Some(word) = word else {
+        return Ok(None);
+    };
+    match read_endpoint(word) {
+        Some(endpoint) => Ok(Some(endpoint)),
+        None => Err(command(alloc)?.error(
+            ErrorKind::ValueValidation,
+            "--endpoint is the numbers of a bus, a device and an endpoint, as 1.4.1",
+        )?),
+    }
+}
+
 /// The arguments of the words that clap found.
 fn read_matches<'a>(alloc: Global, matches: &ArgMatches<'a>) -> Result<CliArgs<'a>, Error> {
+    let endpoint = named_endpoint(alloc, matches.get_str("endpoint"))?;
     let mut files = Vec::new(alloc);
     if let Some(names) = matches.get_strs("FILE") {
         for name in names {
@@ -165,7 +225,10 @@ fn read_matches<'a>(alloc: Global, matches: &ArgMatches<'a>) -> Result<CliArgs<'
             places: matches.get_flag("places"),
             strict: matches.get_flag("strict"),
             json: matches.get_flag("json"),
+            counted: Counted::Lines,
         },
+        descriptor: matches.get_str("descriptor"),
+        endpoint,
         kind: kind_of(matches.get_flag("text"), matches.get_flag("binary")),
         files,
     })

@@ -11,7 +11,7 @@ pub const CODES: &str = "Refusals are reported in place, with their line, and th
   R7: the device has no descriptor
   R12: no empty line ends the dump before
   R13: a dump of over 16384 bytes
-  R14: dumps of over 16 interfaces
+  R14: over 16 interfaces
   R15: a part of the report may be missing
   U8: the report is too short
   U9: the device has no such Input report
@@ -38,4 +38,17 @@ These end a file, and R9 and the first refusal with --strict all of them:
   R9: its text can't be written
   R10: out of memory
   R11: the end didn't come in 1000000000000 reads
-  R12: no empty line ends the last dump";
+  R12: no empty line ends the last dump
+These end a capture, at the byte where the block begins that can't be read:
+  K2: a section without its byte order
+  K3: the length of a block is under 12, or no multiple of 4
+  K4: a block of over 16777216 bytes
+  K5: the two lengths of a block differ
+  K6: a block is too short for its fields
+  K7: the version is neither pcap 2.4 nor pcapng 1.0 or 1.2
+  K8: over 256 interfaces
+  K9: an option of an interface has a wrong length
+  K10: the ticks of an interface's clock are too short
+  K11: a frame of an interface that isn't described
+  K12: a frame is longer than its block
+  K13: the file ends in the middle of a block";

@@ -1,23 +1,32 @@
 //! The line of JSON that says what ended a file early, and what was played of it.
 
 ghost use Rattle.std.specs.Prelude.{◌≡◌, ◌++◌, IfOk, OnOk};
-ghost use Rattle.hidplay.specs.EndLine.{count_tokens, cause_tokens, played_tokens, end_tokens, refusals_of};
+ghost use Rattle.hidplay.specs.EndLine.{with_cause, count_tokens, cause_tokens, played_tokens, end_tokens, refusals_of};
 ghost use Rattle.hid_recording.specs.EventJson.{json_text};
-ghost use Rattle.hid_recording.specs.Refusals.{cause_text};
+ghost use Rattle.hidplay.specs.FileFault.{why_text, place_word, place_number};
 
-use hid_recording::{Cause, RecordingFault};
+use super::fault::{FileFault, Place, Why};
+use hid_recording::Cause;
 use json::Writer;
 use std::alloc::{AllocError, Global};
 
-/// How many lines were refused, with what ended the file if it is a refusal.
-pub fn refusals_of(fault: &RecordingFault) -> u64
+/// A count of refusals, one more if the cause is one.
+fn with_cause(cause: Cause, count: u64) -> u64
+    ensures { result ≡ with_cause cause count }
+{
+    match cause {
+        Cause::Refused(_) | Cause::LineTooLong | Cause::Unended => count.saturating_add(1),
+        Cause::Read | Cause::Write | Cause::Memory | Cause::TooManyReads => count,
+    }
+}
+
+/// How many lines and frames were refused, with what ended the file if it is a refusal.
+pub fn refusals_of(fault: &FileFault) -> u64
     ensures { result ≡ refusals_of fault.now }
 {
-    match fault.cause {
-        Cause::Refused(_) | Cause::LineTooLong | Cause::Unended => {
-            fault.played.refused.saturating_add(1)
-        }
-        Cause::Read | Cause::Write | Cause::Memory | Cause::TooManyReads => fault.played.refused,
+    match fault.why {
+        Why::Recording(cause) => with_cause(cause, fault.played.refused),
+        Why::Capture(_) => fault.played.refused.saturating_add(1),
     }
 }
 
@@ -31,17 +40,18 @@ fn put_count(json: &mut Writer, name: &str, count: u64) -> Result<(), AllocError
 }
 
 /// Writes where and why a file ended.
-fn put_cause(json: &mut Writer, line: u64, words: &str) -> Result<(), AllocError>
-    ensures tokens { OnOk result (json.new.tokens ≡ json.old.tokens ++ cause_tokens line words.now) }
+fn put_cause(json: &mut Writer, place: &Place, words: &str) -> Result<(), AllocError>
+    ensures tokens { OnOk result (json.new.tokens ≡ json.old.tokens
+        ++ cause_tokens (place_word place.now) (place_number place.now) words.now) }
     ensures before { json.new.before ≡ json.old.before }
 {
-    put_count(json, "line", line)?;
+    put_count(json, place.word(), place.number())?;
     json.key("ended")?;
     json.string(words)
 }
 
 /// Writes what was played of a file.
-fn put_played(json: &mut Writer, fault: &RecordingFault) -> Result<(), AllocError>
+fn put_played(json: &mut Writer, fault: &FileFault) -> Result<(), AllocError>
     ensures tokens { OnOk result (json.new.tokens ≡ json.old.tokens ++ played_tokens fault.now) }
     ensures before { json.new.before ≡ json.old.before }
 {
@@ -52,13 +62,13 @@ fn put_played(json: &mut Writer, fault: &RecordingFault) -> Result<(), AllocErro
 }
 
 /// Writes what ended a file and what was played of it, as an object.
-fn put_end(json: &mut Writer, fault: &RecordingFault, words: &str) -> Result<(), AllocError>
-    requires { words.now ≡ cause_text fault.now.cause }
+fn put_end(json: &mut Writer, fault: &FileFault, words: &str) -> Result<(), AllocError>
+    requires { words.now ≡ why_text fault.now.why }
     ensures tokens { OnOk result (json.new.tokens ≡ json.old.tokens ++ end_tokens fault.now) }
     ensures before { json.new.before ≡ json.old.before }
 {
     json.begin_object()?;
-    put_cause(json, fault.line, words)?;
+    put_cause(json, &fault.place, words)?;
     put_played(json, fault)?;
     json.end_object()
 }
@@ -67,11 +77,11 @@ fn put_end(json: &mut Writer, fault: &RecordingFault, words: &str) -> Result<(),
 ///
 /// # Errors
 /// Out of memory.
-pub fn end_line(alloc: Global, fault: &RecordingFault) -> Result<Vec<u8>, AllocError>
+pub fn end_line(alloc: Global, fault: &FileFault) -> Result<Vec<u8>, AllocError>
     ensures { IfOk result (λ line. line.items ≡ json_text (end_tokens fault.now)) }
 {
-    let cause = fault.cause;
-    let words = format!(in alloc; "{cause}")?;
+    let why = fault.why;
+    let words = format!(in alloc; "{why}")?;
     let mut json = Writer::new(Vec::new(alloc));
     match put_end(&mut json, fault, words.as_str()) {
         Ok(()) => {

@@ -3,7 +3,8 @@
 //!   hidplay [OPTIONS] [FILE]...
 //!
 //!   each FILE, or standard input --> text, or a binary descriptor --> hid_recording::play --> a buffer --> standard output
-//!                                                                          |
+//!                                --> a capture --> hid_recording::play_capture ^  |
+//!                                                                                 |
 //!                                           progress, what ended a run, a summary --> standard error
 //! ```
 //! R9 ends all files, and so does a refusal with --strict; anything else ends one file.
@@ -14,6 +15,7 @@
 mod args;
 mod codes;
 mod end_line;
+mod fault;
 mod file_line;
 mod progress;
 mod source;
@@ -23,10 +25,11 @@ mod total;
 use args::{CliArgs, parse_args};
 use clap::error::ErrorKind;
 use end_line::end_line;
+use fault::{FileFault, Why, before_all};
 use file_line::file_line;
-use hid_recording::{Cause, RecordingFault, Summary};
+use hid_recording::{Cause, GivenDescriptor, Summary};
 use progress::Progress;
-use source::{before_all, play_source};
+use source::{Manner, play_source, read_descriptor};
 use status::{FINE, OUTSIDE, WRONG_USAGE, ends_all, exit_of, worse};
 use std::alloc::Global;
 use std::io::{BufWriter, IsTerminal, Stderr, Write};
@@ -44,8 +47,37 @@ fn main(rt: HostRuntime) -> ExitCode {
         return ExitCode::from(OUTSIDE);
     };
     match parse_args(alloc, words.as_slice()) {
-        Ok(asked) => ExitCode::from(play_all(&rt, &asked)),
+        Ok(asked) => ExitCode::from(play_with_descriptor(&rt, &asked)),
         Err(error) => ExitCode::from(print_bad_words(&rt, &error)),
+    }
+}
+
+/// Reads the descriptor that is given, if one is, and plays each file.
+fn play_with_descriptor(rt: &HostRuntime, asked: &CliArgs<'_>) -> u8 {
+    let Some(name) = asked.descriptor else {
+        return play_all(rt, asked, None);
+    };
+    match open_descriptor(rt, name) {
+        Ok(bytes) => {
+            let given = GivenDescriptor {
+                bytes: bytes.as_slice(),
+                endpoint: asked.endpoint,
+            };
+            play_all(rt, asked, Some(given))
+        }
+        Err(fault) => {
+            let why = fault.why;
+            let _ = eprintln!(rt; "{name}: {why}");
+            OUTSIDE
+        }
+    }
+}
+
+/// The bytes of a binary report descriptor.
+fn open_descriptor(rt: &HostRuntime, name: &str) -> Result<Vec<u8>, FileFault> {
+    match fs::open(rt, name) {
+        Ok(mut file) => read_descriptor(rt.alloc(), &mut file),
+        Err(_) => Err(before_all(Cause::Read)),
     }
 }
 
@@ -68,19 +100,24 @@ fn print_bad_words(rt: &HostRuntime, error: &clap::Error) -> u8 {
 }
 
 /// Plays each file, or standard input where none is named, and prints the summary.
-fn play_all(rt: &HostRuntime, asked: &CliArgs<'_>) -> u8 {
+fn play_all(rt: &HostRuntime, asked: &CliArgs<'_>, given: Option<GivenDescriptor<'_>>) -> u8 {
+    let manner = Manner {
+        kind: asked.kind,
+        options: asked.options,
+        given,
+    };
     let Ok(mut out) = BufWriter::new(rt.alloc(), rt.stdout()) else {
         return OUTSIDE;
     };
     let mut total = Total::default();
     let mut status = FINE;
     if asked.files.is_empty() {
-        let end = play_one(rt, asked, "-", &mut out);
+        let end = play_one(rt, asked, manner, "-", &mut out);
         total.add(&end);
         status = exit_of(&end);
     }
     for name in &asked.files {
-        let end = play_one(rt, asked, *name, &mut out);
+        let end = play_one(rt, asked, manner, *name, &mut out);
         total.add(&end);
         status = worse(status, exit_of(&end));
         if ends_all(asked.options.strict, &end) {
@@ -95,19 +132,22 @@ fn play_all(rt: &HostRuntime, asked: &CliArgs<'_>) -> u8 {
 fn play_one<W: Write>(
     rt: &HostRuntime,
     asked: &CliArgs<'_>,
+    manner: Manner<'_>,
     name: &str,
     out: &mut W,
-) -> Result<Summary, RecordingFault> {
+) -> Result<Summary, FileFault> {
     let end = match print_file(rt.alloc(), asked, name, out) {
-        Ok(()) => play_named(rt, asked, name, out),
+        Ok(()) => play_named(rt, manner, name, out),
         Err(cause) => Err(before_all(cause)),
     };
     let Err(fault) = end else {
         return end;
     };
     let fault = print_end(rt.alloc(), asked, fault, out);
-    let RecordingFault { line, cause, .. } = fault;
-    let _ = eprintln!(rt; "{name}: line {line}: {cause}");
+    let FileFault { place, why, .. } = fault;
+    let word = place.word();
+    let number = place.number();
+    let _ = eprintln!(rt; "{name}: {word} {number}: {why}");
     Err(fault)
 }
 
@@ -115,10 +155,10 @@ fn play_one<W: Write>(
 fn print_end<W: Write>(
     alloc: Global,
     asked: &CliArgs<'_>,
-    fault: RecordingFault,
+    fault: FileFault,
     out: &mut W,
-) -> RecordingFault {
-    if !asked.options.json || fault.cause == Cause::Write {
+) -> FileFault {
+    if !asked.options.json || matches!(fault.why, Why::Recording(Cause::Write)) {
         return fault;
     }
     let Ok(line) = end_line(alloc, &fault) else {
@@ -127,8 +167,8 @@ fn print_end<W: Write>(
     if out.write_all(line.as_slice()).is_ok() && out.flush().is_ok() {
         return fault;
     }
-    RecordingFault {
-        cause: Cause::Write,
+    FileFault {
+        why: Why::Recording(Cause::Write),
         ..fault
     }
 }
@@ -166,20 +206,13 @@ fn terminal(rt: &HostRuntime) -> Option<Stderr> {
 /// Plays a file, or standard input where the name is `-`.
 fn play_named<W: Write>(
     rt: &HostRuntime,
-    asked: &CliArgs<'_>,
+    manner: Manner<'_>,
     name: &str,
     out: &mut W,
-) -> Result<Summary, RecordingFault> {
+) -> Result<Summary, FileFault> {
     if name == "-" {
         let mut progress = Progress::new(terminal(rt), None);
-        let end = play_source(
-            rt.alloc(),
-            rt.stdin(),
-            asked.kind,
-            out,
-            asked.options,
-            &mut progress,
-        );
+        let end = play_source(rt.alloc(), rt.stdin(), manner, out, &mut progress);
         progress.clear();
         return end;
     }
@@ -192,14 +225,7 @@ fn play_named<W: Write>(
         _ => None,
     };
     let mut progress = Progress::new(terminal(rt), size);
-    let end = play_source(
-        rt.alloc(),
-        file,
-        asked.kind,
-        out,
-        asked.options,
-        &mut progress,
-    );
+    let end = play_source(rt.alloc(), file, manner, out, &mut progress);
     progress.clear();
     end
 }

@@ -1,8 +1,12 @@
-//! What a file is: the text of a recording, or a binary report descriptor.
+//! What a file is: the text of a recording, a capture, or a binary report descriptor.
 
-use hid_recording::{Cause, Options, RecordingFault, Summary, Watch, descriptor_line, play};
+use super::fault::{FileFault, before_all};
+use hid_recording::{
+    Cause, GivenDescriptor, Options, Summary, Watch, descriptor_line, play, play_capture,
+};
 use std::alloc::Global;
 use std::io::{BufRead, BufReader, ErrorKind, Read, Write};
+use usb_capture::is_capture;
 
 /// What a file is taken for.
 #[derive(Clone, Copy, Debug, PartialEq, Eq)]
@@ -22,15 +26,6 @@ const MARK: [u8; 3] = [0xEF, 0xBB, 0xBF];
 /// How often a reader is asked at most.
 const MAX_READS: u32 = 1_000_000;
 
-/// What ended a run before its first line was played.
-pub fn before_all(cause: Cause) -> RecordingFault {
-    RecordingFault {
-        line: 1,
-        cause,
-        played: Summary::none(),
-    }
-}
-
 /// A text begins with no control character but a tab and the ends of lines, and a descriptor with the prefix of an item,
 /// which is one mostly: 05 or 06, of a usage page.
 pub fn begins_binary(first: u8) -> bool {
@@ -38,7 +33,7 @@ pub fn begins_binary(first: u8) -> bool {
 }
 
 /// The first byte, if there is one. A read that is interrupted is tried again.
-fn first_byte<R: Read>(reader: &mut BufReader<R>) -> Result<Option<u8>, RecordingFault> {
+fn first_byte<R: Read>(reader: &mut BufReader<R>) -> Result<Option<u8>, FileFault> {
     for _ in 0..MAX_READS {
         match reader.fill_buf() {
             Ok(front) => return Ok(front.first().copied()),
@@ -50,7 +45,10 @@ fn first_byte<R: Read>(reader: &mut BufReader<R>) -> Result<Option<u8>, Recordin
 }
 
 /// The bytes of a descriptor, up to the read that brings one too many.
-fn read_descriptor<R: Read>(alloc: Global, reader: &mut R) -> Result<Vec<u8>, RecordingFault> {
+///
+/// # Errors
+/// [`Cause::Memory`], [`Cause::Read`] and [`Cause::TooManyReads`], before anything is played.
+pub fn read_descriptor<R: Read>(alloc: Global, reader: &mut R) -> Result<Vec<u8>, FileFault> {
     let mut bytes = Vec::new(alloc);
     let mut piece = [0u8; 512];
     for _ in 0..MAX_READS {
@@ -78,17 +76,17 @@ fn play_binary<R: Read, W: Write, H: Watch>(
     out: &mut W,
     options: Options,
     watch: &mut H,
-) -> Result<Summary, RecordingFault> {
+) -> Result<Summary, FileFault> {
     let bytes = read_descriptor(alloc, reader)?;
     let Ok(line) = descriptor_line(alloc, bytes.as_slice()) else {
         return Err(before_all(Cause::Memory));
     };
     let mut recording = line.as_bytes();
-    play(alloc, &mut recording, out, options, watch)
+    Ok(play(alloc, &mut recording, out, options, watch)?)
 }
 
 /// Passes over a byte order mark, if the front that is there has it whole.
-fn skip_mark<R: Read>(reader: &mut BufReader<R>) -> Result<(), RecordingFault> {
+fn skip_mark<R: Read>(reader: &mut BufReader<R>) -> Result<(), FileFault> {
     if let Some(0xEF) = first_byte(reader)? {
         if reader.buffer().starts_with(&MARK) {
             reader.consume(MARK.len());
@@ -97,44 +95,84 @@ fn skip_mark<R: Read>(reader: &mut BufReader<R>) -> Result<(), RecordingFault> {
     Ok(())
 }
 
+/// Whether a file is a capture, by its first four bytes, if the front that is there has them.
+fn begins_capture<R: Read>(reader: &mut BufReader<R>) -> Result<bool, FileFault> {
+    match first_byte(reader)? {
+        None => Ok(false),
+        Some(_) => Ok(is_capture(reader.buffer())),
+    }
+}
+
+/// How a file is played.
+#[derive(Clone, Copy)]
+pub struct Manner<'a> {
+    /// What it is taken for.
+    pub kind: Kind,
+    pub options: Options,
+    /// The descriptor of a capture's interfaces that have none in it, if one is given.
+    pub given: Option<GivenDescriptor<'a>>,
+}
+
 /// Plays a file, as what it is.
 ///
 /// # Errors
 /// At line 1, before anything is played: [`Cause::Memory`] where there is none to read with, [`Cause::Read`] and
-/// [`Cause::TooManyReads`] where the first bytes, or those of a binary descriptor, can't be read. Later what [`play`]
-/// gives.
+/// [`Cause::TooManyReads`] where the first bytes, or those of a binary descriptor, can't be read. Later what [`play`] and
+/// [`play_capture`] give.
 pub fn play_source<R: Read + Drop, W: Write, H: Watch>(
     alloc: Global,
     reader: R,
-    kind: Kind,
+    manner: Manner<'_>,
+    out: &mut W,
+    watch: &mut H,
+) -> Result<Summary, FileFault> {
+    match BufReader::new(alloc, reader) {
+        Ok(mut reader) => play_buffered(alloc, &mut reader, manner, out, watch),
+        Err(_) => Err(before_all(Cause::Memory)),
+    }
+}
+
+/// Plays a file that is a capture, a binary descriptor or a text, by what its first bytes say.
+fn play_detected<R: Read, W: Write, H: Watch>(
+    alloc: Global,
+    reader: &mut BufReader<R>,
+    manner: Manner<'_>,
+    out: &mut W,
+    watch: &mut H,
+) -> Result<Summary, FileFault> {
+    if begins_capture(reader)? {
+        return Ok(play_capture(alloc, reader, out, manner.options, manner.given, watch)?);
+    }
+    if matches!(first_byte(reader)?, Some(first) if begins_binary(first)) {
+        play_binary(alloc, reader, out, manner.options, watch)
+    } else {
+        play_text(alloc, reader, out, manner.options, watch)
+    }
+}
+
+/// Plays a text.
+fn play_text<R: Read, W: Write, H: Watch>(
+    alloc: Global,
+    reader: &mut BufReader<R>,
     out: &mut W,
     options: Options,
     watch: &mut H,
-) -> Result<Summary, RecordingFault> {
-    match BufReader::new(alloc, reader) {
-        Ok(mut reader) => play_buffered(alloc, &mut reader, kind, out, options, watch),
-        Err(_) => Err(before_all(Cause::Memory)),
-    }
+) -> Result<Summary, FileFault> {
+    skip_mark(reader)?;
+    Ok(play(alloc, reader, out, options, watch)?)
 }
 
 /// Plays a file by its buffered reader.
 fn play_buffered<R: Read, W: Write, H: Watch>(
     alloc: Global,
     reader: &mut BufReader<R>,
-    kind: Kind,
+    manner: Manner<'_>,
     out: &mut W,
-    options: Options,
     watch: &mut H,
-) -> Result<Summary, RecordingFault> {
-    let is_binary = match kind {
-        Kind::Binary => true,
-        Kind::Text => false,
-        Kind::Detected => matches!(first_byte(reader)?, Some(first) if begins_binary(first)),
-    };
-    if is_binary {
-        play_binary(alloc, reader, out, options, watch)
-    } else {
-        skip_mark(reader)?;
-        play(alloc, reader, out, options, watch)
+) -> Result<Summary, FileFault> {
+    match manner.kind {
+        Kind::Binary => play_binary(alloc, reader, out, manner.options, watch),
+        Kind::Text => play_text(alloc, reader, out, manner.options, watch),
+        Kind::Detected => play_detected(alloc, reader, manner, out, watch),
     }
 }

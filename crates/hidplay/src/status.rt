@@ -1,9 +1,10 @@
 //! Exit statuses.
 
 ghost use Rattle.std.specs.Prelude.{◌≡◌, max};
-ghost use Rattle.hidplay.specs.Status.{ends_all, status_of};
+ghost use Rattle.hidplay.specs.Status.{cause_status, status_of, ends_all_by, ends_all};
 
-use hid_recording::{Cause, RecordingFault, Summary};
+use super::fault::{FileFault, Why};
+use hid_recording::{Cause, Summary};
 
 /// Nothing was refused.
 pub const FINE: u8 = 0;
@@ -17,30 +18,50 @@ pub const WRONG_USAGE: u8 = 2;
 /// A file, standard output or memory failed.
 pub const OUTSIDE: u8 = 3;
 
+/// The exit status of a cause.
+fn cause_status(cause: Cause) -> u8
+    ensures { result ≡ cause_status cause }
+{
+    match cause {
+        Cause::Refused(_) | Cause::LineTooLong | Cause::Unended => REFUSED,
+        Cause::Read | Cause::Write | Cause::Memory | Cause::TooManyReads => OUTSIDE,
+    }
+}
+
 /// The exit status of a run.
-pub fn exit_of(end: &Result<Summary, RecordingFault>) -> u8
+pub fn exit_of(end: &Result<Summary, FileFault>) -> u8
     ensures { result ≡ status_of end.now }
 {
     match end {
         Ok(summary) if summary.refused > 0 => REFUSED,
         Ok(_) => FINE,
-        Err(fault) => match fault.cause {
-            Cause::Refused(_) | Cause::LineTooLong | Cause::Unended => REFUSED,
-            Cause::Read | Cause::Write | Cause::Memory | Cause::TooManyReads => OUTSIDE,
+        Err(fault) => match fault.why {
+            Why::Recording(cause) => cause_status(cause),
+            Why::Capture(_) => REFUSED,
         },
     }
 }
 
+/// Whether a cause ends all files.
+fn ends_all_by(strict: bool, cause: Cause) -> bool
+    ensures { result ≡ ends_all_by strict cause }
+{
+    match cause {
+        Cause::Refused(_) | Cause::LineTooLong | Cause::Unended => strict,
+        Cause::Write => true,
+        Cause::Read | Cause::Memory | Cause::TooManyReads => false,
+    }
+}
+
 /// Whether no further file is begun: standard output failed, or a strict run met a refusal.
-pub fn ends_all(strict: bool, end: &Result<Summary, RecordingFault>) -> bool
+pub fn ends_all(strict: bool, end: &Result<Summary, FileFault>) -> bool
     ensures { result ≡ ends_all strict end.now }
 {
     match end {
         Ok(_) => false,
-        Err(fault) => match fault.cause {
-            Cause::Refused(_) | Cause::LineTooLong | Cause::Unended => strict,
-            Cause::Write => true,
-            Cause::Read | Cause::Memory | Cause::TooManyReads => false,
+        Err(fault) => match fault.why {
+            Why::Recording(cause) => ends_all_by(strict, cause),
+            Why::Capture(_) => strict,
         },
     }
 }

@@ -4,7 +4,8 @@ ghost use Rattle.std.specs.Prelude.{◌≡◌, Some};
 ghost use Rattle.hidplay.specs.Total.{total_text, with_result, with_summary};
 
 use super::end_line::refusals_of;
-use hid_recording::{RecordingFault, Summary};
+use super::fault::FileFault;
+use hid_recording::Summary;
 use std::fmt;
 
 /// Files that were played to their end, and counts over these and over what was played of others. They stop at the greatest
@@ -20,7 +21,7 @@ pub struct Total {
 
 impl Total {
     /// Adds a file that was played to its end, or what was played of another, with what ended it.
-    pub fn add(&mut self, end: &Result<Summary, RecordingFault>)
+    pub fn add(&mut self, end: &Result<Summary, FileFault>)
         ensures { self.new ≡ with_result self.old end.now }
     {
         match end {

@@ -2,7 +2,7 @@
 //! The mouse is that of HID 1.11, appendix E.10; its reports were worked out by hand from appendix B.2, and every expected
 //! text from docs/RECORDINGS.md.
 
-use hid_recording::{Cause, Options, RecordingFault, Refusal, Summary, play};
+use hid_recording::{Cause, Counted, Options, RecordingFault, Refusal, Summary, play};
 use std::alloc::{AllocError, Global};
 use std::test::Fail;
 
@@ -13,6 +13,7 @@ const PLAIN: Options = Options {
     places: false,
     strict: false,
     json: false,
+    counted: Counted::Lines,
 };
 
 const ALL: Options = Options {
@@ -22,6 +23,7 @@ const ALL: Options = Options {
     places: false,
     strict: false,
     json: false,
+    counted: Counted::Lines,
 };
 
 const STRICT: Options = Options {
@@ -31,6 +33,7 @@ const STRICT: Options = Options {
     places: false,
     strict: true,
     json: false,
+    counted: Counted::Lines,
 };
 
 const JSON: Options = Options {
@@ -40,6 +43,7 @@ const JSON: Options = Options {
     places: false,
     strict: false,
     json: true,
+    counted: Counted::Lines,
 };
 
 const NO_NAMES: Options = Options {
@@ -49,6 +53,7 @@ const NO_NAMES: Options = Options {
     places: false,
     strict: false,
     json: true,
+    counted: Counted::Lines,
 };
 
 const PLACES: Options = Options {
@@ -58,6 +63,7 @@ const PLACES: Options = Options {
     places: true,
     strict: false,
     json: false,
+    counted: Counted::Lines,
 };
 
 /// What a recording is about, the options, the recording, and its output.
@@ -123,7 +129,7 @@ const TOLD: [Recorded; 31] = [
         "{\"line\":1,\"refused\":\"R4: the count isn't that of the bytes\"}\n{\"time\":\".1\",\"device\":0,\"event\":\"value\",\"page\":1,\"id\":48,\"item\":0,\"index\":0,\"path\":\"\",\"value\":9}\n{\"time\":\".1\",\"device\":0,\"event\":\"motion\",\"page\":1,\"id\":49,\"item\":1,\"index\":0,\"path\":\"\",\"value\":-1}\n{\"time\":\".1\",\"device\":0,\"event\":\"value\",\"page\":1,\"id\":57,\"item\":2,\"index\":0,\"path\":\"\",\"value\":1}\n{\"time\":\".2\",\"device\":0,\"event\":\"null\",\"page\":1,\"id\":57,\"item\":2,\"index\":0,\"path\":\"\"}\n"),
     ("dumps of seventeen interfaces", PLAIN,
         "1:1:0:DESCRIPTOR 1\n\n1:1:1:DESCRIPTOR 1\n\n1:1:2:DESCRIPTOR 1\n\n1:1:3:DESCRIPTOR 1\n\n1:1:4:DESCRIPTOR 1\n\n1:1:5:DESCRIPTOR 1\n\n1:1:6:DESCRIPTOR 1\n\n1:1:7:DESCRIPTOR 1\n\n1:1:8:DESCRIPTOR 1\n\n1:1:9:DESCRIPTOR 1\n\n1:1:10:DESCRIPTOR 1\n\n1:1:11:DESCRIPTOR 1\n\n1:1:12:DESCRIPTOR 1\n\n1:1:13:DESCRIPTOR 1\n\n1:1:14:DESCRIPTOR 1\n\n1:1:15:DESCRIPTOR 1\n\n1:1:16:DESCRIPTOR 1\n 05 01\n 09 02\n\n",
-        "line 33: R14: dumps of over 16 interfaces\n"),
+        "line 33: R14: over 16 interfaces\n"),
     ("a device that a dump is of is that of the next lines", PLAIN,
         "D: 5\n1:1:0:DESCRIPTOR 1\n 05 09 09 01 15 00 25 01 75 01 95 01 81 02\n\nE: 2 1 01\nD: 1\nE: 3 1 01\n",
         "2 0 down 09:01\nline 7: R7: the device has no descriptor\n"),
@@ -197,7 +203,7 @@ const UNREAD: [Recorded; 14] = [
         "1 0 down 09:01\nline 3: R6: the time isn't digits and points\nline 8: R7: the device has no descriptor\n3 1 down 09:01\n"),
     ("a head of a seventeenth interface in a second descriptor", PLAIN,
         "1:1:0:DESCRIPTOR 1\n 05 09 09 01 15 00 25 01 75 01 95 01 81 02\n\n1:1:1:DESCRIPTOR 1\n\n1:1:2:DESCRIPTOR 1\n\n1:1:3:DESCRIPTOR 1\n\n1:1:4:DESCRIPTOR 1\n\n1:1:5:DESCRIPTOR 1\n\n1:1:6:DESCRIPTOR 1\n\n1:1:7:DESCRIPTOR 1\n\n1:1:8:DESCRIPTOR 1\n\n1:1:9:DESCRIPTOR 1\n\n1:1:10:DESCRIPTOR 1\n\n1:1:11:DESCRIPTOR 1\n\n1:1:12:DESCRIPTOR 1\n\n1:1:13:DESCRIPTOR 1\n\n1:1:14:DESCRIPTOR 1\n\n1:1:15:DESCRIPTOR 1\n\n1:1:0:DESCRIPTOR 2\n1:1:16:STREAM 3\n\n1:1:0:STREAM 4\n 01\n\n",
-        "line 35: R14: dumps of over 16 interfaces\nline 39: R7: the device has no descriptor\n"),
+        "line 35: R14: over 16 interfaces\nline 39: R7: the device has no descriptor\n"),
     ("a head of a descriptor of a seventeenth interface that is refused", PLAIN,
         "1:1:0:DESCRIPTOR 1\n 05 09 09 01 15 00 25 01 75 01 95 01 81 02\n\n1:1:1:DESCRIPTOR 1\n\n1:1:2:DESCRIPTOR 1\n\n1:1:3:DESCRIPTOR 1\n\n1:1:4:DESCRIPTOR 1\n\n1:1:5:DESCRIPTOR 1\n\n1:1:6:DESCRIPTOR 1\n\n1:1:7:DESCRIPTOR 1\n\n1:1:8:DESCRIPTOR 1\n\n1:1:9:DESCRIPTOR 1\n\n1:1:10:DESCRIPTOR 1\n\n1:1:11:DESCRIPTOR 1\n\n1:1:12:DESCRIPTOR 1\n\n1:1:13:DESCRIPTOR 1\n\n1:1:14:DESCRIPTOR 1\n\n1:1:15:DESCRIPTOR 1\n\n1:1:16:DESCRIPTOR\n\n1:1:0:STREAM 4\n 01\n\n",
         "line 34: R1: no line of a recording\n4 0 down 09:01\n"),

@@ -1,6 +1,6 @@
 //! The blocks of a capture, from bytes that come in pieces.
 
-ghost use Rattle.std.specs.Prelude.{◌≡◌, ◌<◌, ◌≤◌, [], true, length, take, option_map, IfOk};
+ghost use Rattle.std.specs.Prelude.{◌≡◌, ◌<◌, ◌≤◌, [], true, None, length, take, option_map, IfOk};
 ghost use Rattle.usb_capture.specs.Place.{is_sound};
 
 use super::advance::{Advanced, advance};
@@ -42,7 +42,8 @@ impl Capture {
 
     /// A capture of which nothing has come.
     pub fn new(alloc: Global) -> Self
-        ensures { place_of result ≡ begin }
+        ensures place { place_of result ≡ begin }
+        ensures accepted { refusal_of result.part ≡ None }
     {
         Capture {
             format: Format::Unknown,

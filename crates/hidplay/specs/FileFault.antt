@@ -1,0 +1,48 @@
+-- What ended a file early (our choice: docs/RECORDINGS.md).
+use Rattle.std.specs.Prelude.{ℕ, List, codes}
+use Rattle.hid_recording.specs.declared.fault.RecordingFault.{RecordingFault}
+use Rattle.hid_recording.specs.declared.capture_fault.CaptureCause.{CaptureCause}
+use Rattle.hid_recording.specs.declared.capture_fault.CaptureCause.TheVariants.{Run, Format}
+use Rattle.hid_recording.specs.declared.capture_fault.CaptureRunFault.{CaptureRunFault}
+use Rattle.hid_recording.specs.Refusals.{cause_text}
+use Rattle.usb_capture.specs.FaultText as capture
+use Rattle.hidplay.specs.declared.fault.FileFault.{FileFault}
+use Rattle.hidplay.specs.declared.fault.Place.{Place}
+use Rattle.hidplay.specs.declared.fault.Place.TheVariants.{Line, Frame, Byte}
+use Rattle.hidplay.specs.declared.fault.Why.{Why}
+use Rattle.hidplay.specs.declared.fault.Why.TheVariants.{Recording, Capture}
+
+-- what a place counts
+abbrev pub place_word : Place → List ℕ
+place_word (Line n) = codes "line"
+place_word (Frame n) = codes "frame"
+place_word (Byte n) = codes "byte"
+
+-- the number of the line, the frame or the byte
+abbrev pub place_number : Place → ℕ
+place_number (Line n) = n
+place_number (Frame n) = n
+place_number (Byte n) = n
+
+-- why a file ended, as its code and words
+abbrev pub why_text : Why → List ℕ
+why_text (Recording cause) = cause_text cause
+why_text (Capture cause) = capture.cause_text cause
+
+-- what ended a recording, at its line
+abbrev pub at_line : RecordingFault → FileFault
+at_line fault = record { place = Line fault.line; why = Recording fault.cause; played = fault.played }
+
+-- where a capture ended: at a frame, or at the block that can't be read
+abbrev pub place_of : CaptureCause → ℕ → Place
+place_of (Run cause) frame = Frame frame
+place_of (Format fault) frame = Byte fault.at
+
+-- why a capture ended
+abbrev pub why_of : CaptureCause → Why
+why_of (Run cause) = Recording cause
+why_of (Format fault) = Capture fault.cause
+
+-- what ended a capture, at its frame or its byte
+abbrev pub at_frame : CaptureRunFault → FileFault
+at_frame fault = record { place = place_of fault.cause fault.frame; why = why_of fault.cause; played = fault.played }
