@@ -1,4 +1,4 @@
-/* Each allocation of an opening, also of a virtual device, a table, a run and a text fails
+/* Each allocation of an opening, also of a virtual device, of a host until its interface is live, of a table, a run and a text fails
    in turn, alone and with all after it. Calls that only read take no memory, and a handle goes to another thread.
    cc -Wl,--wrap=malloc -Wl,--wrap=realloc -pthread */
 #include "hidstack.h"
@@ -87,6 +87,66 @@ static int devices(void)
             hidstack_device_close(&device);
         else if (status != HIDSTACK_REFUSED || (opened.cause != 17 && opened.cause != 21) || opened.at != 0 || device.gadget)
             return 1;
+    }
+}
+
+/* A mouse comes up at a host; a request for which memory runs out is made again. What it does then takes none. */
+static int comes_up(struct hidstack_host *host, struct hidstack_device *device, int *retried)
+{
+    struct hidstack_host_event told[16];
+    struct hidstack_host_result result;
+    struct hidstack_setup setup, again;
+    struct hidstack_moved moved;
+    uint8_t answer[64];
+    uint64_t length, answered;
+    int steps = 0;
+    while (hidstack_host_todo(host, &setup, NULL, 0, &length) == HIDSTACK_OK) {
+        uint32_t status = hidstack_device_control(device, &setup, NULL, 0, answer, 64, &answered);
+        status = hidstack_host_done(host, status, answer, answered, &moved);
+        if (++steps > 99 || (status != HIDSTACK_OK && status != HIDSTACK_MEMORY))
+            return 1;
+        if (status == HIDSTACK_MEMORY) {
+            ++*retried;
+            if (moved.cause != 2 || hidstack_host_todo(host, &again, NULL, 0, &length) != HIDSTACK_OK || memcmp(&setup, &again, sizeof setup))
+                return 1;
+            if (all)
+                return 0;
+        }
+    }
+    calls = 0;
+    answered = 0;
+    hidstack_device_press(device, 0, 0);
+    return hidstack_device_report(device, answer, 64, &length) || hidstack_host_report(host, 0, HIDSTACK_OK, answer, length, told, 16, &result) ||
+        result.count != 1 || hidstack_host_reset(host, told, 16, &result) || result.count != 1 || calls != 0;
+}
+
+/* Each allocation of a host fails: of its opening, and of what it makes until its interface is live. */
+static int hosts(void)
+{
+    static const struct hidstack_config config = {1, 2, 10, 0, 0};
+    long fail;
+    for (fail = 0;; fail++) {
+        struct hidstack_device device = HIDSTACK_DEVICE_INIT;
+        struct hidstack_host host = HIDSTACK_HOST_INIT;
+        struct hidstack_device_opened opened;
+        int retried = 0, wrong = 0;
+        uint32_t status;
+        fails = -1;
+        if (hidstack_device_open(&config, mouse, sizeof mouse, &device, &opened))
+            return 1;
+        calls = 0;
+        fails = fail;
+        status = hidstack_host_open(&host);
+        if (status == HIDSTACK_OK)
+            wrong = comes_up(&host, &device, &retried);
+        else
+            wrong = status != HIDSTACK_MEMORY || host.driver != NULL || fail != 0;
+        hidstack_host_close(&host);
+        hidstack_device_close(&device);
+        if (wrong)
+            return 1;
+        if (status == HIDSTACK_OK && !retried && fail > 40)
+            return 0;
     }
 }
 
@@ -235,7 +295,7 @@ int main(void)
     pthread_t thread;
     void *answer;
     for (all = 0; all < 2; all++)
-        if (openings(&device) || devices() || tables() || runs() || codes() || texts() || refusals() || names())
+        if (openings(&device) || devices() || hosts() || tables() || runs() || codes() || texts() || refusals() || names())
             return 1;
         else
             hidstack_close(&device);
