@@ -15,7 +15,7 @@ pub enum Refusal {
     Syntax,
     /// R3: a word that should be a byte isn't two hex digits.
     BadHex,
-    /// R4: the count isn't that of the bytes.
+    /// R4: the count isn't that of the bytes; of a frame fewer bytes were captured than it had.
     BadCount,
     /// R5: the device isn't a number from 0 to 15.
     BadDevice,
@@ -27,7 +27,7 @@ pub enum Refusal {
     Unended,
     /// R13: a dump of over 16,384 bytes.
     DumpTooLong,
-    /// R14: a dump of a seventeenth interface.
+    /// R14: a dump, or in a capture a descriptor, of a seventeenth interface.
     TooManyDevices,
     /// R15: a chunk of a dump, and a part of its report may be missing.
     PartMissing,
