@@ -1,12 +1,12 @@
-/* hidstack: HID report descriptors and reports, read by code that is proved (HID 1.11).
+/* hidstack: HID report descriptors and reports, virtual devices, and hosts of real ones, by code that is proved (HID 1.11).
  *
  * What each call promises is a contract that was proved of the library's code: docs/C.md names the contract of each call. No
  * proof covers the C program that calls, so it must keep these rules:
  *
  *   - Pointers are to what their types say, and live for the call. The pointer of a descriptor, a report or a script is to as
  *     many bytes as its length says, and that of a table or a text to as many places as its room says: no call can check
- *     this. A pointer may be null only with a length or room of 0, and at the calls that close a handle. Nothing that a call writes
- *     overlaps another of its arguments.
+ *     this. A pointer may be null only with a length or room of 0, and at the calls that close a handle. Nothing that a call
+ *     writes overlaps another of its arguments.
  *   - A `struct hidstack` is all bytes zero before its first call (HIDSTACK_INIT), or was left by a call. While it is
  *     open, don't copy it, and end it by hidstack_close alone: otherwise its memory leaks.
  *   - No two calls work on one `struct hidstack` at once, not even calls that only read it. It may go from one thread to
@@ -22,14 +22,13 @@
  * of an array the place of its key in the item's usage list. Bytes and numbers are those of the machine, which has 64
  * bits. Each struct but `struct hidstack` has only fields of fixed width, each at a multiple of its own width.
  *
- * What is said of a `struct hidstack` is so of a `struct hidstack_device` and a `struct hidstack_host` too, with the calls of their
- * own.
+ * What is said of a `struct hidstack` is so of a `struct hidstack_device` and a `struct hidstack_host` too, with the calls of
+ * their own.
  *
- * Memory: hidstack_open takes some, until hidstack_close, hidstack_device_open, until hidstack_device_close, and hidstack_host_open
- * and hidstack_host_done, until hidstack_host_close. Calls that read a handle take none, and neither do all others of a device and
- * of a host, hidstack_feed, hidstack_release, hidstack_number, hidstack_put, hidstack_boot_descriptor and hidstack_cause_words. The
- * others give back what they took. A call takes 10 kB of stack,
- * hidstack_device_open 23 kB and hidstack_run 37 kB, with what a thread takes itself (measured: docs/C.md).
+ * Memory: an opening takes memory, of a host hidstack_host_done too; the closing gives it back. No other call on a handle
+ * takes any, nor do hidstack_number, hidstack_put, hidstack_boot_descriptor and hidstack_cause_words. The rest give back what
+ * they took. Of stack a call takes up to 10 kB, hidstack_device_open 23 kB and hidstack_run 37 kB, with what a thread takes
+ * itself (measured, but for hosts: docs/C.md).
  *
  * It compiles as C99 and as C++17. Link with -lhidstack. docs/C.md and docs/SCRIPT.md are installed below PREFIX as
  * share/doc/rulohevian, with the Debian package as /usr/share/doc/rulohevian. */
@@ -56,13 +55,15 @@ extern "C" {
 /* What calls return. A call that doesn't return HIDSTACK_OK writes only what its comment says. */
 enum hidstack_status {
     HIDSTACK_OK = 0,            /* done */
-    HIDSTACK_REFUSED = 1,       /* the descriptor, device or call is refused, or the script ended at a line: the cause is returned */
+    HIDSTACK_REFUSED = 1,       /* the descriptor, device or call is refused, or the script ended at a line: the cause is
+                                   returned */
     HIDSTACK_BUSY = 2,          /* the handle is open already */
     HIDSTACK_CLOSED = 3,        /* the handle is closed */
     HIDSTACK_NO_ROOM = 4,       /* the table or text is too small: the room that it needs is returned */
     HIDSTACK_SHORT = 5,         /* the report has fewer bytes than it should, or no such bits */
     HIDSTACK_UNKNOWN = 6,       /* no Input report of the device, or another report than the element's */
-    HIDSTACK_NONE = 7,          /* nothing stands at that place, or it has no value */
+    HIDSTACK_NONE = 7,          /* nothing stands at that place, or it has no value; no report is due, no transfer is to be made,
+                                   or nothing is asked for */
     HIDSTACK_MEMORY = 8,        /* out of memory */
     HIDSTACK_RANGE = 9,         /* the element's bits, or the control's range, don't hold the number */
     HIDSTACK_STALLED = 10,      /* the device refuses the transfer: STALL */
@@ -215,7 +216,8 @@ struct hidstack_config {
     uint16_t vendor;  /* idVendor */
     uint16_t product; /* idProduct */
     uint8_t interval; /* bInterval: how often it is polled, in frames of 1 ms, from 1 */
-    uint8_t boot;     /* enum hidstack_boot of a device with that report descriptor that has the boot protocol; else 0 */
+    uint8_t boot;     /* enum hidstack_boot of a device with the boot protocol, whose report descriptor is then that of
+                         hidstack_boot_descriptor; else 0 */
     uint16_t spare;   /* 0; nothing reads it */
 };
 
@@ -289,7 +291,8 @@ struct hidstack_host_info {
     uint16_t product;    /* idProduct, once the device descriptor is read; else 0 */
 };
 
-/* What is known of an interface. Its endpoint is of interrupt transfers to the host: its address is 0x80 and the number together. */
+/* What is known of an interface. Its endpoint is of interrupt transfers to the host: its address is 0x80 and the number
+ * together. */
 struct hidstack_interface_info {
     uint64_t at;          /* where the refused item of its report descriptor begins, in bytes; else 0 */
     uint64_t room;        /* how many events one of its reports gives at most */
@@ -310,7 +313,7 @@ struct hidstack_interface_info {
 
 /* What came of a control transfer. */
 struct hidstack_moved {
-    uint64_t interface; /* the place of the interface that it is of, else 0 */
+    uint64_t interface; /* of MOVE_LIVE, MOVE_REFUSED, MOVE_CLEARED and MOVE_STOPPED the place of the interface; else 0 */
     uint32_t step;      /* enum hidstack_move; 0 where it is refused */
     uint32_t cause;     /* where it is refused, 1 for H1 to 16 for H16 of docs/FORMATS.md; else 0 */
     uint32_t detail;    /* of H10 and H11 the number of the inner code: 2 of `H10 B2`; else 0 */
@@ -371,7 +374,7 @@ uint32_t hidstack_release(struct hidstack *handle, struct hidstack_event *events
 /* Closes a handle, and gives back its memory. A closed one stays as it is, and a null pointer is to none. */
 void hidstack_close(struct hidstack *handle);
 
-/* ---- Reading an open handle. With NONE and CLOSED nothing is written, but for a `length`; no call here changes the handle. ---- */
+/* ---- Reading an open handle. With NONE and CLOSED nothing is written, but for a `length`; no call here changes it. ---- */
 
 /* The report at a place, from 0, Input before Output before Feature and then by ID; NONE past the last. */
 uint32_t hidstack_report(struct hidstack *handle, uint64_t place, struct hidstack_report_info *report);
@@ -403,13 +406,14 @@ uint32_t hidstack_blank(struct hidstack *handle, uint32_t kind, uint8_t id, uint
 
 /* ---- A virtual device, a transfer at a time: for a controller that has packets, toggles and retries of its own ---- */
 
-/* Makes a virtual device of a configuration and a report descriptor of `length` bytes in a closed handle. It isn't configured yet,
- * nothing is pressed and nothing has moved. It takes memory, which hidstack_device_close gives back; no other call of a device does.
+/* Makes a virtual device of a configuration and a report descriptor of `length` bytes in a closed handle. It isn't configured
+ * yet, nothing is pressed and nothing has moved. It takes memory, which hidstack_device_close gives back; no other call of a
+ * device does.
  *   OK       the handle is open, and `opened` is all 0
  *   REFUSED  the handle is closed still; `opened` has cause and place. 1 to 17: the report descriptor has that cause of
- *            hidstack_cause_words. 18: an array can't send that no key is pressed. 19: a relative control can't send 0. 20: the
- *            interval is 0, or `boot` is over 2, or the report descriptor isn't hidstack_boot_descriptor's of `boot`. 21: out of memory,
- *            as 17 is
+ *            hidstack_cause_words. 18: an array can't send that no key is pressed. 19: a relative control can't send 0. 20:
+ *            the interval is 0, or `boot` is over 2, or the report descriptor isn't hidstack_boot_descriptor's of `boot`. 21:
+ *            out of memory, as 17 is
  *   BUSY     the handle was open; it stays as it was, and so does `opened` */
 uint32_t hidstack_device_open(const struct hidstack_config *config, const uint8_t *descriptor, size_t length, struct hidstack_device *device, struct hidstack_device_opened *opened);
 
@@ -421,16 +425,16 @@ void hidstack_device_close(struct hidstack_device *device);
  *   NONE     no more controls have the usage; nothing is written, as with CLOSED */
 uint32_t hidstack_device_find(struct hidstack_device *device, uint16_t page, uint16_t id, uint64_t number, uint64_t *item, uint64_t *index);
 
-/* Changes of a control: a switch or a key goes down, or up; an absolute control that is no switch has a value, or null; a relative
- * one moves, beside what it moved since its last report.
+/* Changes of a control: a switch or a key goes down, or up; an absolute control that is no switch has a value, or null; a
+ * relative one moves, beside what it moved since its last report.
  *   OK            it is done
  *   NONE          no control stands there: no Input item, or no element or key
  *   WRONG_KIND    a control of this kind can't change so
  *   RANGE         a set: `value` is out of the control's range
  *   NO_NULL       a null: the control has none
  *   NO_DIRECTION  a move: no report can say a motion of this sign
- *   FULL          a press: all elements of the array are taken, and it has no code for more; a move: what isn't reported yet would
- *                 no longer fit an int32_t
+ *   FULL          a press: all elements of the array are taken, and it has no code for more; a move: what isn't reported yet
+ *                 would no longer fit an int32_t
  * But for OK the device stays as it was. */
 uint32_t hidstack_device_press(struct hidstack_device *device, uint64_t item, uint64_t index);
 uint32_t hidstack_device_release(struct hidstack_device *device, uint64_t item, uint64_t index);
@@ -438,9 +442,9 @@ uint32_t hidstack_device_set(struct hidstack_device *device, uint64_t item, uint
 uint32_t hidstack_device_null(struct hidstack_device *device, uint64_t item, uint64_t index);
 uint32_t hidstack_device_move(struct hidstack_device *device, uint64_t item, uint64_t index, int32_t by);
 
-/* A control transfer of endpoint 0, whole: SETUP, data and status. Of a write the first wLength of the `length` bytes at `data` are
- * sent, and take effect once; of a read up to wLength bytes are written over the first of `answer`, which has `room`. `data` of a
- * read and `answer` of a write may be null, with 0.
+/* A control transfer of endpoint 0, whole: SETUP, data and status. Of a write the first wLength of the `length` bytes at
+ * `data` are sent, and take effect once; of a read up to wLength bytes are written over the first of `answer`, which has
+ * `room`. `data` of a read and `answer` of a write may be null, with 0.
  *   OK       `answered` is how many bytes were answered; of a write 0
  *   STALLED  the device refuses the request: answer it with STALL. `answer` stays, and but for the request before, which it
  *            forgets, the device does; `answered` is 0
@@ -449,14 +453,14 @@ uint32_t hidstack_device_move(struct hidstack_device *device, uint64_t item, uin
  * With NO_ROOM, SHORT and CLOSED nothing reaches the device, and `answer` stays; `answered` is 0 but for NO_ROOM. */
 uint32_t hidstack_device_control(struct hidstack_device *device, const struct hidstack_setup *setup, const uint8_t *data, size_t length, uint8_t *answer, size_t room, uint64_t *answered);
 
-/* An interrupt transfer from endpoint 1 of the device, whole: what is left of the report that is due is written over the first bytes
- * of `report`, which has `room`; where it doesn't fit, as many pieces of 64 bytes of it as do, and the next call goes on. A
- * report has up to 256 bytes.
+/* An interrupt transfer from endpoint 1 of the device, whole: what is left of the report that is due is written over the
+ * first bytes of `report`, which has `room`; where it doesn't fit, as many pieces of 64 bytes of it as do, and the next call
+ * goes on. A report has up to 256 bytes.
  *   OK       `length` is how many bytes came; those after them are unchanged
  *   NONE     nothing is due, or the device isn't configured: answer NAK, and ask again
  *   STALLED  the endpoint is halted: answer STALL, until the host clears the halt
- *   NO_ROOM  the next piece has more than `room` bytes. Nothing of the report is taken, which is fixed as it is now. `length` is 64,
- *            which is enough for any piece
+ *   NO_ROOM  the next piece has more than `room` bytes. Nothing of the report is taken, which is fixed as it is now. `length`
+ *            is 64, which is enough for any piece
  * With NONE, STALLED and CLOSED `length` is 0; but for OK `report` stays. */
 uint32_t hidstack_device_report(struct hidstack_device *device, uint8_t *report, size_t room, uint64_t *length);
 
@@ -486,31 +490,32 @@ uint32_t hidstack_device_configured(struct hidstack_device *device, uint32_t *co
 
 /* ---- The host of a real device, by whole transfers ----
  *
- * The program makes the transfers, by any controller or library. hidstack_host_todo has the control transfer that is to be made, and
- * hidstack_host_done takes what came of it, until nothing is to be done; then the interfaces that are live are polled, and
- * hidstack_host_report takes what came. At most one control transfer is made at a time; interrupt transfers go beside it, one at a
- * time for each interface, of `packet_size` bytes each. After a reset the outcomes of transfers that were begun before it aren't
- * passed on. An `interface` is the place of one in the configuration, from 0; its number is what requests name.
+ * The program makes the transfers, by any controller or library. hidstack_host_todo has the control transfer that is to be
+ * made, and hidstack_host_done takes what came of it, until nothing is to be done; then the interfaces that are live are
+ * polled, and hidstack_host_report takes what came. At most one control transfer is made at a time; interrupt transfers go
+ * beside it, one at a time for each interface, of `packet_size` bytes each. After a reset don't pass on outcomes of transfers
+ * begun before it. An `interface` is the place of one in the configuration, from 0; its number is what requests name.
  *
- * An `outcome` is a status: OK where the transfer is done, with the bytes that came to the host, STALLED where the device answered
- * STALL, any other where it failed. What hidstack_device_control and hidstack_device_report return is one, but for NONE, of which
- * nothing came. */
+ * An `outcome` is a status: OK where the transfer is done, with the bytes that came to the host, STALLED where the device
+ * answered STALL, any other where it failed. What hidstack_device_control and hidstack_device_report return is one, but for
+ * NONE, of which nothing came. */
 
 /* A host that knows nothing of its device, in a closed handle. It takes memory, which hidstack_host_close gives back.
  *   BUSY    the handle was open, and stays as it was
  *   MEMORY  out of memory; the handle is closed still */
 uint32_t hidstack_host_open(struct hidstack_host *host);
 
-/* The control transfer that is to be made: its `setup`, and what it sends over the first bytes of `data`, which has `room`. It stays
- * the same until hidstack_host_done or hidstack_host_reset. No data are longer than a report, 16,384 bytes.
+/* The control transfer that is to be made: its `setup`, and what it sends over the first bytes of `data`, which has `room`.
+ * It stays the same until hidstack_host_done or hidstack_host_reset. No data are longer than a report, 16,384 bytes.
  *   OK       `length` is how many bytes are sent, 0 of a read; those after them are unchanged
  *   NONE     no control transfer is to be made; `length` is 0, as with CLOSED
  *   NO_ROOM  `length` is the room that it needs
  * But for OK `setup` and `data` stay as they were. */
 uint32_t hidstack_host_todo(struct hidstack_host *host, struct hidstack_setup *setup, uint8_t *data, size_t room, uint64_t *length);
 
-/* What came of the control transfer that was to be made; `bytes` of a write may be null, with 0. It takes memory until interfaces are
- * live. The bytes of a report that was asked for are the caller's to read: by hidstack_host_element and hidstack_number.
+/* What came of the control transfer that was to be made; `bytes` of a write may be null, with 0. It takes memory where it reads
+ * the configuration and each report descriptor, which is read again after a change back to the report protocol. The bytes of
+ * a report that was asked for are the caller's to read: by hidstack_host_element and hidstack_number.
  *   OK       `moved` has what it led to, and the interface
  *   REFUSED  `moved` has the cause. H1: no transfer was to be made, and nothing changed. H8 or H9 of what was asked for or of a
  *            protocol: the device refused it, or the transfer failed, and the host goes on. Else the device can't be read:
@@ -519,49 +524,54 @@ uint32_t hidstack_host_todo(struct hidstack_host *host, struct hidstack_setup *s
  *   CLOSED   `moved` stays as it was */
 uint32_t hidstack_host_done(struct hidstack_host *host, uint32_t outcome, const uint8_t *bytes, size_t length, struct hidstack_moved *moved);
 
-/* What came of an interrupt transfer of a live interface: its bytes are joined to what came of a report before, and a report that
- * ends with them is read. Its events are written over the first entries of `events`, which has `room` places. A STALL halts the
- * interface, and hidstack_host_todo has the CLEAR_FEATURE then. A transfer that failed changes nothing. It takes no memory.
+/* What came of an interrupt transfer of a live interface: its bytes are joined to what came of a report before, and a report
+ * that ends with them is read. Its events are written over the first entries of `events`, which has `room` places. A STALL
+ * halts the interface, and hidstack_host_todo has the CLEAR_FEATURE then. A transfer that failed changes nothing. It takes no
+ * memory.
  *   OK       `result` has how many events there are, 0 where the report goes on; the places after them are unchanged
  *   NO_ROOM  `room` is less than that of hidstack_host_device, which `result` has; nothing changes, and nothing is read
- *   REFUSED  `result` has the cause. H3: no interface stands there. H4, H14: it isn't live. H12, H13: the report is thrown away, and
- *            what is held stays
+ *   REFUSED  `result` has the cause. H3: no interface stands there. H4, H14: it isn't live. H12, H13: the report is thrown
+ *            away, and what is held stays
  *   CLOSED   `result` is all 0 */
 uint32_t hidstack_host_report(struct hidstack_host *host, uint64_t interface, uint32_t outcome, const uint8_t *bytes, size_t length, struct hidstack_host_event *events, size_t room, struct hidstack_host_result *result);
 
-/* Asks something of an interface: hidstack_host_todo has its request from then on. Of SET_REPORT the `length` bytes at `data` are
- * sent, its ID first where it has one, as hidstack_host_blank and hidstack_put make them; they are copied, and no memory is taken.
+/* Asks something of an interface: hidstack_host_todo has its request from then on. Of SET_REPORT the `length` bytes at `data`
+ * are sent, its ID first where it has one, as hidstack_host_blank and hidstack_put make them; they are copied, and no memory
+ * is taken.
  *   OK       what it came to is what hidstack_host_done says
  *   NONE     `ask` has another request or another kind of report than the enums; `result` is all 0, as with CLOSED
- *   REFUSED  `result` has the cause. H3: no interface stands there. H4: its report descriptor isn't read. H5: another request is to
- *            be made first. H6: it has no such report. H7, H16: the data are longer than the report, or don't begin with its ID
+ *   REFUSED  `result` has the cause. H3: no interface stands there. H4: its report descriptor wasn't read, or is refused, or it
+ *            may be in the boot protocol. H5: another request is to be made first. H6: it has no such report. H7, H16: the data
+ *            are longer than the report, or don't begin with its ID
  * But for OK the host stays as it was. */
 uint32_t hidstack_host_ask(struct hidstack_host *host, uint64_t interface, const struct hidstack_ask *ask, const uint8_t *data, size_t length, struct hidstack_host_result *result);
 
-/* Asks an interface for the boot protocol (HIDSTACK_PROTOCOL_BOOT), or for the report protocol (any other number): hidstack_host_todo
- * has the request from then on. What is held of it is let go, with the events in the first entries of `events`, which has `room`
- * places. Its reports aren't read until it is in the report protocol and its report descriptor is read again. It takes no memory.
+/* Asks an interface for the boot protocol (HIDSTACK_PROTOCOL_BOOT), or for the report protocol (any other number):
+ * hidstack_host_todo has the request from then on. What is held of it is let go, with the events in the first entries of
+ * `events`, which has `room` places. Its reports aren't read until it is in the report protocol and its report descriptor is
+ * read again. It takes no memory.
  *   OK       `result` has how many events there are; the places after them are unchanged
  *   NO_ROOM  `room` is less than that of hidstack_host_device, which `result` has
- *   REFUSED  `result` has the cause. H3: no interface stands there. H4: its report descriptor isn't read. H5: another request is to
- *            be made first. H15: it has no boot protocol
+ *   REFUSED  `result` has the cause. H3: no interface stands there. H4: its report descriptor wasn't read, or is refused, or its
+ *            halt couldn't be cleared. H5: another request is to be made first. H15: it has no boot protocol
  *   CLOSED   `result` is all 0
  * But for OK the host and the table stay as they were. */
 uint32_t hidstack_host_protocol(struct hidstack_host *host, uint64_t interface, uint32_t protocol, struct hidstack_host_event *events, size_t room, struct hidstack_host_result *result);
 
-/* The device was unplugged, or its bus was reset: what is held is let go, with the events in the first entries of `events`, which has
- * `room` places, interface by interface, as hidstack_release gives them. The host knows nothing of its device then, as after
- * hidstack_host_open. It takes no memory.
+/* The device was unplugged, or its bus was reset: what is held is let go, with the events in the first entries of `events`,
+ * which has `room` places, interface by interface, as hidstack_release gives them. The host knows nothing of its device then,
+ * as after hidstack_host_open. It takes no memory.
  *   OK       `result` has how many events there are; the places after them are unchanged
  *   NO_ROOM  `room` is less than that of hidstack_host_device, which `result` has; nothing changes
  *   CLOSED   `result` is all 0 */
 uint32_t hidstack_host_reset(struct hidstack_host *host, struct hidstack_host_event *events, size_t room, struct hidstack_host_result *result);
 
-/* Closes a handle, and gives back its memory. A closed one stays as it is, and a null pointer is to none. What is held is let go by
- * hidstack_host_reset before. */
+/* Closes a handle, and gives back its memory. A closed one stays as it is, and a null pointer is to none. What is held is let
+ * go by hidstack_host_reset before. */
 void hidstack_host_close(struct hidstack_host *host);
 
-/* What a host knows. With NONE and CLOSED nothing is written, but for a `length`; no call here changes the host or takes memory. */
+/* What a host knows. With NONE and CLOSED nothing is written, but for a `length`; no call here changes the host or takes
+ * memory. */
 
 /* What is known of the device. */
 uint32_t hidstack_host_device(struct hidstack_host *host, struct hidstack_host_info *device);
@@ -569,13 +579,15 @@ uint32_t hidstack_host_device(struct hidstack_host *host, struct hidstack_host_i
 /* What is known of the interface at a place; NONE past the last. */
 uint32_t hidstack_host_interface(struct hidstack_host *host, uint64_t interface, struct hidstack_interface_info *info);
 
-/* A data element of a listed item of an interface, as hidstack_element gives it; NONE also where no report descriptor is read. */
+/* A data element of a listed item of an interface, as hidstack_element gives it; NONE of padding, past the last element, the
+ * last item and the last interface, and where no report descriptor is read. */
 uint32_t hidstack_host_element(struct hidstack_host *host, uint64_t interface, uint64_t item, uint64_t index, struct hidstack_element_info *element);
 
 /* Whether a switch or a key of an interface is held, as hidstack_held gives it; NONE where no report descriptor is read. */
 uint32_t hidstack_host_held(struct hidstack_host *host, uint64_t interface, uint64_t item, uint64_t index, uint32_t *held);
 
-/* The value of an absolute control of an interface, as hidstack_value gives it; NONE also where no report descriptor is read. */
+/* The value of an absolute control of an interface that is no switch, as hidstack_value gives it; NONE where it is null, of
+ * another control, where there is none, and where no report descriptor is read. */
 uint32_t hidstack_host_value(struct hidstack_host *host, uint64_t interface, uint64_t item, uint64_t index, int64_t *value);
 
 /* A report of zeros of an interface, as hidstack_blank writes it; NONE also where no report descriptor is read. */

@@ -10,7 +10,7 @@
 //!   hid_bench try   TURNS DESCRIPTOR SETUP..     makes each request by its tries, packet by packet
 //! ```
 //! Descriptors and reports are hex digits; a usage has four digits of its page and four of its ID. The program prints how many
-//! items were listed, events came or bytes were written, in all turns together.
+//! items were listed, events came, or bytes were written, taken or answered, in all turns together.
 //!
 //! The rule to know: the cost of a turn is the difference of two runs, divided by the difference of their turns, as `make
 //! bench` counts.

@@ -11,10 +11,11 @@ use crate::writing::Writing;
 use arrayvec::ArrayVec;
 use std::alloc::Global;
 
-/// Does the work of all turns: how many items were listed, events came or bytes were written.
+/// Does the work of all turns: how many items were listed, events came, or bytes were written, taken or answered.
 ///
 /// # Errors
-/// What the work gives: a fault of [`parsed`], [`Reading`], [`Writing`] or [`Stepping`]. It ends at the first one.
+/// What the work gives: a fault of [`parsed`], [`Reading`], [`Writing`], [`Stepping`], [`Driving`], [`Reporting`],
+/// [`Transferring`] or [`Trying`]. It ends at the first one.
 pub fn done(alloc: Global, asked: &CliArgs) -> Result<u64, BenchFault> {
     let descriptor = asked.descriptor.as_slice();
     match asked.work {

@@ -34,7 +34,7 @@ IsDueIn (Asked setup) interfaces = Unit {0}
 IsDueIn Ready interfaces = Unit {0}
 IsDueIn Refused interfaces = Unit {0}
 
--- a driver asks for what it doesn't have
+-- a driver asks for no descriptor that it has read: neither its configuration, nor the report descriptor of an interface
 abbrev pub IsDue : DriverValue → Type 0
 IsDue driver = IsDueIn driver.state driver.interfaces
 

@@ -10,13 +10,16 @@ const MOST: u64 = 1 << 16;
 /// How a dump is read: the base of its offsets, and how its bytes are written.
 #[derive(Clone, Copy)]
 pub struct Way {
+    /// The base of its offsets: 16, 10 or 8.
     pub base: u32,
+    /// How its bytes are written.
     pub cells: Cells,
 }
 
 /// What is read of a dump.
 #[derive(Drop)]
 pub struct DumpBytes {
+    /// The bytes of the lines so far.
     pub bytes: Vec<u8>,
     /// How many bytes the last line had.
     last: usize,

@@ -30,6 +30,7 @@ pub enum InputCause {
     Utf16,
     /// Text in which no descriptor is found.
     NoDescriptor,
+    /// Memory ran out.
     Memory,
 }
 
@@ -38,6 +39,7 @@ pub enum InputCause {
 pub struct InputFault {
     /// From 1 on; none where the whole text is meant.
     pub line: Option<u64>,
+    /// What is wrong there.
     pub cause: InputCause,
 }
 

@@ -1,14 +1,17 @@
 //! Descriptors in the files that people have: binary, hex, arrays of C, dumps with offsets, and what the tools of Linux print.
 //! ```text
 //!   bytes --> control bytes? --> the descriptor itself
-//!         --> text --> R: line | usbhid-dump | lsusb -v | dump, hex | array or string of C --> its bytes, or an InputFault
+//!         --> text --> dump | R: line | usbhid-dump | lsusb -v | hex | array or string of C --> its bytes, or an InputFault
 //!
 //!   00000000: 0501 0902 a101 0901 a100 0509 1901 2903  ..............).     xxd
 //!   00000000  05 01 09 02 a1 01 09 01  a1 00 05 09 19 01 29 03  |......).|   hexdump -C
 //!   0000020 025 000 045 001 225 003 165 001 201 002 225 001                   od -t o1
 //! ```
 //! The rule to know: a first column is an offset if it counts the bytes so far, and characters at the right are those of the
-//! bytes of their line. A text is read in each way in which it can be, and where two ways differ it is refused.
+//! bytes of their line. Dumps and hex are read in each way in which they can be, and where two ways differ the text is refused.
+//!
+//! The promise: bytes that aren't text are the descriptor, byte for byte (on [`descriptor_in`]), and a dump or hex has the bytes
+//! that all its readings give, or none (`bytes` and `differ` on `agreed`). What a reading gives is tested.
 #![tactic(auto)]
 
 mod cells;

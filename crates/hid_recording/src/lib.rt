@@ -1,6 +1,8 @@
-//! Recordings of devices, as hid-recorder and usbhid-dump write them, and the events that a host reads in their reports.
+//! Recordings of devices, as hid-recorder and usbhid-dump write them, captures of the bus (pcap and pcapng), and the events that a
+//! host reads in their reports.
 //! ```text
 //!   reader --> pieces --> lines --read_record--> Record --played--> text --> writer
+//!   reader --> pieces --> frames of usb_capture --hid_capture--> descriptor, report, end --played--> text --> writer
 //!
 //!   # a mouse                                  nothing, as of lines that begin with N:, P: or I:
 //!   D: 0                                       what follows is of the device 0
@@ -18,12 +20,16 @@
 //! whose descriptor is refused or can't be read has none up to its next one. A report that comes in chunks is reassembled as
 //! a host reassembles packets (`specs/Joining.antt`).
 //!
+//! A capture is played a frame at a time, by the same devices: a refused frame prints its number and the reason. An interface without
+//! a descriptor may be given one ([`GivenDescriptor`]). A device that is gone, or whose descriptor is read again, lets go of what it
+//! holds. Where no frame can be found any more, the run ends ([`CaptureRunFault`]).
+//!
 //! Several controls may have one usage, as the fingers of a touch screen do. With the option `places` the text of an event has
 //! its control after the usage, `down 0D:42 @7.0`; its JSON has the control and the collections around it in any case.
 //!
 //! The rule to know: each device has a view of its own, and an event is a change of the view that its earlier reports made.
 //!
-//! The promise: [`play`] writes exactly the text of the recording, by its clause.
+//! The promise: [`play`] writes exactly the text of the recording, and [`play_capture`] that of the capture's frames, by their clauses.
 #![tactic(auto)]
 
 mod act;

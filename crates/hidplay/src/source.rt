@@ -11,7 +11,7 @@ use usb_capture::is_capture;
 /// What a file is taken for.
 #[derive(Clone, Copy, Debug, PartialEq, Eq)]
 pub enum Kind {
-    /// What its first byte says.
+    /// What its first bytes say.
     Detected,
     Text,
     Binary,

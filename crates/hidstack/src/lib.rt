@@ -13,16 +13,24 @@
 //!   hidstack_device_control   it and a request --> the answer, or STALL
 //!   hidstack_device_report    it --> the report that is due, or NAK or STALL
 //!
+//!   hidstack_host_open      --> a handle of the host of a real device
+//!   hidstack_host_todo      it --> the control transfer that is to be made
+//!   hidstack_host_done      it and what came of that --> the next one, or an interface is live
+//!   hidstack_host_report    it and an interrupt transfer --> events with their interface, in the caller's table
+//!   hidstack_host_ask ..    it and what is asked of an interface --> the next control transfer
+//!   hidstack_host_element ..  it and a place --> what stands there, as a plain record
+//!
 //!   hidstack_table    a report descriptor --> all elements, in the caller's table, with no handle
 //!   hidstack_number   an element and a report --> the element's number
 //!   hidstack_put      an element, a report and a number --> the report with that number
 //!   hidstack_run      a script --> its text
 //! ```
 //! A handle is the caller's own variable. A closed one, which may be zeroed memory, may be opened; an open one may be fed, read
-//! and closed. The rule to know: a wrong call returns a status and changes nothing.
+//! and closed. The rule to know: a wrong call returns a status and changes nothing (docs/C.md has four exceptions).
 //!
 //! The promise: each call's contract has the promises of the crates below: acceptance and refusal of descriptors, the view
-//! and the events of [`hid_usages::View::take_report`], and the contents of the layout.
+//! and the events of [`hid_usages::View::take_report`], and the contents of the layout; of a virtual device the transfers of
+//! [`hid_gadget::Gadget`], and of a host the requests, states and events of [`hid_driver::Driver`].
 #![tactic(auto)]
 
 pub mod accessors;

@@ -3,7 +3,7 @@
 /// Done.
 pub const OK: u32 = 0;
 
-/// The descriptor is refused; its cause and place are reported.
+/// The descriptor, the device or the call is refused, or a script ended at a line; the cause is reported.
 pub const REFUSED: u32 = 1;
 
 /// The handle is open already.
@@ -21,7 +21,7 @@ pub const SHORT: u32 = 5;
 /// U9: the bytes are of no Input report that the device has, or of another report.
 pub const UNKNOWN: u32 = 6;
 
-/// Nothing stands at that place, or it has no value.
+/// Nothing stands at that place, or it has no value; no report is due, no transfer is to be made, or nothing is asked for.
 pub const NONE: u32 = 7;
 
 /// Memory ran out.

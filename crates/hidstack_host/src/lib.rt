@@ -12,7 +12,8 @@
 //! is taken by [`Host::done`] alone, and where it runs out nothing changes.
 //!
 //! The promise: each call does what the driver's does, by the definitions of `hid_driver`: the clauses on [`Host::done`],
-//! [`Host::report`], [`Host::ask`], [`Host::set_protocol`] and [`Host::reset`].
+//! [`Host::report`], [`Host::ask`], [`Host::set_protocol`] and [`Host::reset`]. A record asks for what [`ask_of`] reads in it, and
+//! [`interface_at`], [`host_info`] and their like show what the driver knows.
 #![tactic(auto)]
 
 mod asked;

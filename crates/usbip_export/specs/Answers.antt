@@ -96,7 +96,8 @@ abbrev pub unlink_answers_to : ℕ → ExportedDevice → List Happening → ℕ
 unlink_answers_to n d [] = 0
 unlink_answers_to n d (h ∷ hs) = answers_unlink n (reply_at d h) + unlink_answers_to n (device_after d h) hs
 
--- Each submit to a device is answered once: of each number as many as came, and waited before, are answered or wait still.
+-- Each submit to a device is answered once, or waits still: of each number as many as came, and waited before, are answered or wait
+-- still.
 abbrev pub AnswersSubmitsOnce : ExportedDevice → List Happening → Type 0
 AnswersSubmitsOnce d hs =
     (n : ℕ) → answers_to n d hs + waiting n (device_after_all d hs).pending ≡ submits_of n hs + waiting n d.pending

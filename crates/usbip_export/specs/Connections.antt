@@ -120,7 +120,7 @@ named_device (commands.Unlink u) = u.device
 
 -- ---- reports, and the end
 
--- a device is at a place, if one is there
+-- the devices with this one at a place changed, if there is one
 abbrev pub with_device : List ExportedDevice → ℕ → (ExportedDevice → ExportedDevice) → Option ExportedDevice → List ExportedDevice
 with_device ds place change None = ds
 with_device ds place change (Some d) = slice_set ds place (change d)
@@ -150,12 +150,12 @@ devices_after_end ds stage = changed_device ds device_after_end (place_of_stage 
 abbrev pub devices_after_report : List ExportedDevice → Stage → List ExportedDevice
 devices_after_report ds stage = changed_device ds device_after_report (place_of_stage stage)
 
--- what a device answers to the question for a report; nothing where there is none
+-- what a device sends when a report is asked of it; nothing where there is no device
 abbrev pub report_of : Option ExportedDevice → List ℕ
 report_of None = []
 report_of (Some d) = answer_of_report d
 
--- what the device at a place answers to the question for a report, if it is one
+-- what the device at a place sends when a report is asked of it, if there is one
 abbrev pub report_at : List ExportedDevice → Option ℕ → List ℕ
 report_at ds None = []
 report_at ds (Some place) = report_of (slice_get ds place)

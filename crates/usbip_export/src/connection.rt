@@ -127,7 +127,8 @@ impl Connection {
     }
 
     /// Takes as many bytes as it [wants](Self::wants), for devices that are the same in each call, and gives how many bytes of an
-    /// answer stand at the front of the room. 0: nothing is to be sent yet.
+    /// answer stand at the front of the room. 0: nothing is to be sent yet. Where the list of devices got shorter, and that of the
+    /// connection isn't in it any more, the connection is over at its next submit or unlink, and nothing is sent.
     ///
     /// # Errors
     /// Where the bytes are refused, the first [`ExportFault`] that stands. The connection is over then, and nothing is sent.

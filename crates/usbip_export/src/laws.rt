@@ -14,9 +14,9 @@ ghost use Rattle.usbip_export.specs.ExportedDevices.{device_after_unlink};
 ghost use Rattle.usbip_export.specs.Holders.{HaveHolders, IsFree, NoneIsShared};
 ghost use Rattle.usbip_export.specs.Payloads.{ReportHasPayload, SubmitHasPayload};
 
-/// Each submit to a device is answered once, whatever comes in whatever order, and whatever its gadget does meanwhile: by RET_SUBMIT
-/// with its number, at once or when a report is due, or by RET_UNLINK with -104 in its place. Each unlink is answered once, by
-/// RET_UNLINK with its number.
+/// Each submit to a device is answered once, or waits still, whatever comes in whatever order, and whatever its gadget does meanwhile:
+/// by RET_SUBMIT with its number, at once or when a report is due, or by RET_UNLINK with -104 in its place. Each unlink is answered
+/// once, by RET_UNLINK with its number. The end of a connection isn't among what comes: what waits then is forgotten.
 #[tactic(auto, using(crate::proofs::AnswerLemmas::submits_once, crate::proofs::AnswerLemmas::unlinks_once))]
 pub fn each_command_is_answered_once()
     ensures submits { (device : ExportedDevice) (happenings : List Happening) → AnswersSubmitsOnce device happenings }

@@ -18,10 +18,10 @@
 //! at its device, it is asked for a report ([`Connection::report`]).
 //!
 //! The promise: what comes of any bytes at any stage, and what is answered, byte by byte (`taken` on [`Connection::take`], clauses of
-//! [`Connection::report`] and [`Connection::end`]). Over whatever happens at a device each submit is answered once, and each unlink
-//! ([`laws::each_command_is_answered_once`]). A reply has the data that it says, and no more than was asked for
-//! ([`laws::replies_have_their_payloads`]). An unlink takes no report ([`laws::an_unlink_takes_no_report`]). No device has two
-//! connections ([`laws::no_device_is_shared`]).
+//! [`Connection::report`] and [`Connection::end`]). Over whatever happens at a device each submit is answered once,
+//! or waits still, and each unlink is answered once ([`laws::each_command_is_answered_once`]). A reply has the data that it says,
+//! and no more than was asked for ([`laws::replies_have_their_payloads`]). An unlink takes no report
+//! ([`laws::an_unlink_takes_no_report`]). No device has two connections ([`laws::no_device_is_shared`]).
 //! ```text
 //!   let mut devices = [ExportedDevice::new(alloc, &config, &KEYBOARD)?];
 //!   let mut connection = Connection::new();

@@ -41,7 +41,7 @@ abbrev pub IsRun : ℕ → Import → Import → Type 0
 IsRun zero before after = after ≡ before
 IsRun (suc count) before after = (next : Import) × IsCall before next × IsRun count next after
 
--- No number is in flight twice, and the driver asks for what it doesn't have: so none of its calls forgets what is held.
+-- No number is in flight twice, and the driver asks for no descriptor that it has read: so none of its calls forgets what is held.
 pub record IsInOrder (import : Import) : Type 0 where
   pub single : AreSingle import.flights
   pub due : IsDue import.driver

@@ -25,6 +25,7 @@ abbrev pub payload_by : Direction → ℕ → List ℕ → List ℕ
 payload_by In len bytes = []
 payload_by Out len bytes = take len bytes
 
+-- the data that follow the submit of a request, of these that the driver has for it
 abbrev pub payload_of : Setup → List ℕ → List ℕ
 payload_of setup bytes = payload_by (direction_asked setup) setup.length bytes
 
@@ -71,6 +72,7 @@ abbrev pub room_by : Direction → ℕ → ℕ
 room_by In len = len
 room_by Out len = 0
 
+-- in bytes, the most that may follow the reply to this submit
 abbrev pub room_of : Submit → ℕ
 room_of submit = room_by submit.direction submit.length
 

@@ -10,7 +10,7 @@ use usbip::UsbipFault;
 pub enum ImportFault {
     /// N1, N2 or N3: what came is no message of USB/IP that may stand there.
     Message(UsbipFault),
-    /// A1: the server refused the device; Debian's usbipd does so where it has no device of this bus ID.
+    /// A1: the server refused the device; usbip-host of Linux does so where it has none of this bus ID.
     Refused,
     /// A2: somebody else has the device.
     Busy,

@@ -6,8 +6,8 @@ ghost use Rattle.usbip_import.specs.Runs.{IsInOrder, IsRun};
 ghost use Rattle.usbip_import.specs.Sending.{import_at_start};
 ghost use Rattle.usbip_import.specs.Flights.{AreSingle, Happening, IsAnsweredOnce, IsInItsPlace, flights_after_all};
 
-/// Each submit that was sent is answered once, or is in flight still, whatever replies come in whatever order. No number is in
-/// flight twice, and a reply is to the submit of its number.
+/// Of the submits in flight, taken as a list: each that was sent is answered once, or is in flight still, whatever replies come in
+/// whatever order. A reply is to the submit of its number, and no number is in flight twice where none was.
 #[tactic(auto, using(crate::proofs::FlightLemmas::answered_once, crate::proofs::FlightLemmas::in_place))]
 pub fn each_submit_is_answered_once()
     ensures once { (flights : List InFlight) (happenings : List Happening) → IsAnsweredOnce flights happenings }
@@ -16,8 +16,8 @@ pub fn each_submit_is_answered_once()
     ensures in_place { (n : ℕ) (flights : List InFlight) → IsInItsPlace n flights }
 {}
 
-/// Whatever is sent, taken and asked, in whatever order, no number is in flight twice, and the driver asks for what it doesn't have.
-/// So none of its calls forgets what is held (`nothing_is_forgotten` of `hid_driver`), and [`Import::end`](crate::Import::end)
+/// Whatever is sent, taken and asked, in whatever order, no number is in flight twice, and the driver asks for no descriptor that it
+/// has read. So none of its calls forgets what is held (`nothing_is_forgotten` of `hid_driver`), and [`Import::end`](crate::Import::end)
 /// releases it.
 #[tactic(auto, using(crate::proofs::RunLemmas::runs_in_order))]
 pub fn runs_stay_in_order()
