@@ -110,7 +110,7 @@ install: $(HIDRUN) $(HIDPLAY) $(HIDMAP) library  ## installs programs, library a
 	install -Dm644 -t $(DOCUMENTS) README.md CHANGELOG.md LICENSE
 	install -Dm644 -t $(DOCUMENTS)/docs docs/*.md
 	install -Dm644 -t $(DOCUMENTS)/docs/pictures docs/pictures/*.svg
-	find examples -type f -exec sh -c 'for it; do install -Dm644 "$$it" "$(DOCUMENTS)/$$it" || exit 1; done' - {} +
+	find examples -name __pycache__ -prune -o -type f -exec sh -c 'for it; do install -Dm644 "$$it" "$(DOCUMENTS)/$$it" || exit 1; done' - {} +
 
 # Debian packages of all that `install` installs: bin/rulohevian_$(VERSION)-1_ARCHITECTURE.deb, with libhidstack$(MAJOR) and
 # libhidstack-dev beside it.

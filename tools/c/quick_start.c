@@ -1,11 +1,12 @@
 /* quick_start DEVICE: prints what the quick start of docs/C.md prints for reports of the device of this name. It is linked with
  * the code of that page. */
 #include "hidstack.h"
-#include <stdio.h>
 #include <stdlib.h>
 #include <string.h>
+#include <sys/socket.h>
+#include <unistd.h>
 
-int play(const uint8_t *descriptor, size_t length, FILE *reports);
+int play(const uint8_t *descriptor, size_t length, int hidraw);
 
 /* three buttons and two axes: HID 1.11, appendix E.10 */
 static const uint8_t mouse[] = {
@@ -15,7 +16,7 @@ static const uint8_t mouse[] = {
 /* 2,048 buttons: the longest report, and the most events */
 static const uint8_t buttons[] = {0x05, 0x09, 0x19, 0x01, 0x2A, 0x00, 0x08, 0x15, 0x00, 0x25,
                                   0x01, 0x75, 0x01, 0x96, 0x00, 0x08, 0x81, 0x02};
-/* the same with an ID: no device for the quick start */
+/* 8 buttons, in a report with ID 1 */
 static const uint8_t numbered[] = {0x85, 0x01, 0x05, 0x09, 0x19, 0x01, 0x29, 0x08, 0x15, 0x00,
                                    0x25, 0x01, 0x75, 0x01, 0x95, 0x08, 0x81, 0x02};
 /* a byte of padding, a byte of Output, and an End Collection alone */
@@ -48,31 +49,35 @@ static uint8_t *copy_of(const uint8_t *bytes, size_t length)
     return made;
 }
 
-static int played(const uint8_t *descriptor, size_t length, const uint8_t *reports, size_t bytes)
+/* Reports of these lengths, which a read gives one at a time, as hidraw does. */
+static int played(const uint8_t *descriptor, size_t length, const uint8_t *reports, const size_t *lengths, size_t count)
 {
-    FILE *file = tmpfile();
+    int ends[2], status;
     uint8_t *own = copy_of(descriptor, length);
-    int status;
-    if (!file || fwrite(reports, 1, bytes, file) != bytes)
+    if (socketpair(AF_UNIX, SOCK_SEQPACKET, 0, ends) != 0)
         exit(2);
-    rewind(file);
-    status = play(own, length, file);
+    for (; count > 0; reports += *lengths++, count--)
+        if (write(ends[0], reports, *lengths) != (ssize_t)*lengths)
+            exit(2);
+    close(ends[0]);
+    status = play(own, length, ends[1]);
     free(own);
-    fclose(file);
+    close(ends[1]);
     return status != 0;
 }
 
 int main(int argc, char **argv)
 {
-    static const uint8_t moved[] = {0x05, 0x7F, 0x81, 0x04, 0x00, 0x00, 0x00}; /* the last one is cut */
-    uint8_t reports[700];
+    static const uint8_t moved[] = {0x05, 0x7F, 0x81, 0x00, 0x00, 0x04, 0x00, 0x00}; /* the second one is too short */
+    static const size_t lengths[] = {3, 2, 3}, long_lengths[] = {256, 255, 256};
+    uint8_t reports[767];
     size_t i;
     if (argc == 2 && strcmp(argv[1], "mouse") == 0)
-        return played(mouse, sizeof mouse, moved, sizeof moved);
+        return played(mouse, sizeof mouse, moved, lengths, 3);
     for (i = 0; argc == 2 && i < sizeof devices / sizeof *devices; i++)
         if (strcmp(argv[1], devices[i].name) == 0) {
             memset(reports, devices[i].byte, sizeof reports);
-            return played(devices[i].descriptor, devices[i].length, reports, sizeof reports);
+            return played(devices[i].descriptor, devices[i].length, reports, long_lengths, 3);
         }
     return 2;
 }
