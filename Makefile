@@ -13,7 +13,9 @@ PREFIX ?= /usr/local
 LIBDIR ?= $(PREFIX)/lib
 DESTDIR ?=
 VERSION := 0.2.0
-MAJOR := $(firstword $(subst ., ,$(VERSION)))
+# (the C library has a version of its own, which stands in its header)
+LIBRARY_VERSION := $(shell sed -n 's/^\#define HIDSTACK_VERSION "\(.*\)"/\1/p' include/hidstack.h)
+MAJOR := $(firstword $(subst ., ,$(LIBRARY_VERSION)))
 
 .PHONY: run test try hidrun hidplay hidmap bench examples library library-test library-check library-cost scale play-cost install deb deb-test documents tour format memory refusals mutants descriptors compare-linux help clean
 
@@ -69,62 +71,63 @@ play-cost: $(HIDPLAY)  ## counts the instructions of a report in hidplay
 bench: $(BENCH)  ## counts the instructions of the stack's work
 	tools/measure/cost stack $(BENCH)
 
-# The C library: bin/lib/libhidstack.a and the shared libhidstack.so.$(VERSION), from the proved crate.
+# The C library: bin/lib/libhidstack.a and the shared libhidstack.so.$(LIBRARY_VERSION), from the proved crate.
 library: bin/lib/libhidstack.a  ## bin/lib/libhidstack.a and .so, the C library
 
-bin/lib/libhidstack.a: crates/hidstack/out/libhidstack.a tools/package/library
+bin/lib/libhidstack.a: crates/hidstack/out/libhidstack.a tools/package/library include/hidstack.h
 	$(NEEDS_RT)
-	tools/package/library $< bin/lib $(VERSION)
+	tools/package/library $< bin/lib $(LIBRARY_VERSION)
 
 # Compares the header with the exports, and runs the quick start, the examples and wrong calls.
 library-test: library  ## runs the examples of the C library
 	tools/check/library
 
 # Runs the tests of the C library under valgrind and the sanitizers, and with each allocation of an opening, a table, a run and a
-# text refused.
+# text refused; compares its manual pages with the header.
 library-check: library  ## runs them under valgrind and the sanitizers, and without memory
 	tools/check/library --memory
+	tools/check/manual
 
 # Counts the instructions of an opening and of a report, by callgrind.
 library-cost: library  ## counts the instructions of calls of the C library
 	tools/measure/cost library
 
 # Programs, the two tools for many recordings, library, header, pkg-config file, manual pages, completion, documents and
-# examples. LIBDIR is the folder of the libraries. Each call of the library has a page that leads to that of all calls.
+# examples. LIBDIR is the folder of the libraries. The pages of the library's calls are made from its header.
 SHARED := $(DESTDIR)$(PREFIX)/share
 DOCUMENTS := $(SHARED)/doc/rulohevian
-CALLS := $(shell sed -n 's/^\.Nm \(hidstack_[a-z_]*\).*/\1/p' packaging/hidstack.3)
 
 install: $(HIDRUN) $(HIDPLAY) $(HIDMAP) library  ## installs programs, library and documents: PREFIX=/usr/local DESTDIR=
 	install -Dm755 -t $(DESTDIR)$(PREFIX)/bin $(HIDRUN) $(HIDPLAY) $(HIDMAP) tools/user/play-into tools/user/join-results
 	install -Dm644 -t $(DESTDIR)$(LIBDIR) bin/lib/libhidstack.a
-	install -Dm755 -t $(DESTDIR)$(LIBDIR) bin/lib/libhidstack.so.$(VERSION)
+	install -Dm755 -t $(DESTDIR)$(LIBDIR) bin/lib/libhidstack.so.$(LIBRARY_VERSION)
 	cp -P bin/lib/libhidstack.so bin/lib/libhidstack.so.$(MAJOR) $(DESTDIR)$(LIBDIR)
 	install -Dm644 -t $(DESTDIR)$(PREFIX)/include include/hidstack.h
-	mkdir -p $(DESTDIR)$(LIBDIR)/pkgconfig
-	sed 's|@PREFIX@|$(PREFIX)|; s|@LIBDIR@|$(LIBDIR)|; s|@VERSION@|$(VERSION)|' packaging/hidstack.pc.in > $(DESTDIR)$(LIBDIR)/pkgconfig/hidstack.pc
+	install -d $(DESTDIR)$(LIBDIR)/pkgconfig $(SHARED)/man/man3
+	sed 's|@PREFIX@|$(PREFIX)|; s|@LIBDIR@|$(LIBDIR)|; s|@VERSION@|$(LIBRARY_VERSION)|' packaging/hidstack.pc.in > $(DESTDIR)$(LIBDIR)/pkgconfig/hidstack.pc
+	chmod 644 $(DESTDIR)$(LIBDIR)/pkgconfig/hidstack.pc
 	install -Dm644 -t $(SHARED)/man/man1 packaging/*.1
-	install -Dm644 -t $(SHARED)/man/man3 packaging/hidstack.3
-	for call in $(CALLS); do echo '.so man3/hidstack.3' > $(SHARED)/man/man3/$$call.3 || exit 1; done
+	tools/package/manual $(SHARED)/man/man3
+	chmod 644 $(SHARED)/man/man3/hidstack*.3
 	install -Dm644 -t $(SHARED)/bash-completion/completions packaging/completion/*
 	install -Dm644 -t $(DOCUMENTS) README.md CHANGELOG.md LICENSE
 	install -Dm644 -t $(DOCUMENTS)/docs docs/*.md
 	install -Dm644 -t $(DOCUMENTS)/docs/pictures docs/pictures/*.svg
 	find examples -name __pycache__ -prune -o -type f -exec sh -c 'for it; do install -Dm644 "$$it" "$(DOCUMENTS)/$$it" || exit 1; done' - {} +
 
-# Debian packages of all that `install` installs: bin/rulohevian_$(VERSION)-1_ARCHITECTURE.deb, with libhidstack$(MAJOR) and
-# libhidstack-dev beside it.
+# Debian packages of all that `install` installs: bin/rulohevian_$(VERSION)-1_ARCHITECTURE.deb, and libhidstack$(MAJOR) and
+# libhidstack-dev, of the library's version.
 deb: $(HIDRUN) $(HIDPLAY) $(HIDMAP) library  ## makes Debian packages of it
-	tools/package/debian $(VERSION) bin
+	tools/package/debian $(VERSION) $(LIBRARY_VERSION) bin
 
 # Installs the packages in a root of their own, and runs the programs and a C example there. It needs to be root.
 deb-test: deb  ## installs and tries the packages in a root of their own, as root
-	tools/package/check bin/rulohevian_$(VERSION)-1_*.deb bin/libhidstack*_$(VERSION)-1_*.deb
+	tools/package/check bin/rulohevian_$(VERSION)-1_*.deb bin/libhidstack*_$(LIBRARY_VERSION)-1_*.deb
 
 # The recordings that name a device, and the examples of pictures.
 PICTURED := $(shell grep -l '^N:' examples/recordings/*.hid) $(wildcard examples/pictures/*.hid)
 
-# Compares the expected texts with a second reader, and the manual pages and completion with the programs; runs examples, rows
+# Compares the expected texts with a second reader, and the manual pages and completion with programs and header; runs examples, rows
 # and command lines on the proved programs, also on failing streams.
 examples: $(HIDRUN) $(HIDPLAY) $(HIDMAP) $(BENCH)  ## runs all examples on the proved programs
 	tools/check/second-reader examples/*/*.script

@@ -30,16 +30,16 @@
  * they took. Of stack a call takes up to 10 kB, hidstack_device_open 23 kB and hidstack_run 37 kB, with what a thread takes
  * itself (measured, but for hosts: docs/C.md).
  *
- * It compiles as C99 and as C++17. Link with -lhidstack. docs/C.md and docs/SCRIPT.md are installed below PREFIX as
- * share/doc/rulohevian, with the Debian package as /usr/share/doc/rulohevian. */
+ * It compiles as C99 and as C++17. Link with -lhidstack. docs/C.md, docs/FORMATS.md and docs/SCRIPT.md are installed below PREFIX
+ * as share/doc/rulohevian, with the Debian package as /usr/share/doc/libhidstack-dev. */
 #ifndef HIDSTACK_H
 #define HIDSTACK_H
 
 /* The version of this header. A library with the same MAJOR has all that it declares, from this MINOR on. */
-#define HIDSTACK_VERSION_MAJOR 0
-#define HIDSTACK_VERSION_MINOR 2
+#define HIDSTACK_VERSION_MAJOR 1
+#define HIDSTACK_VERSION_MINOR 0
 #define HIDSTACK_VERSION_PATCH 0
-#define HIDSTACK_VERSION "0.2.0"
+#define HIDSTACK_VERSION "1.0.0"
 
 #include <stddef.h>
 #include <stdint.h>

@@ -24,7 +24,7 @@ class Refused(Exception):
 class Library:
     """The calls of the header and its numbers, without the `hidstack_` before their names; `types` has its structs."""
 
-    def __init__(self, library="libhidstack.so.0", header="/usr/include/hidstack.h"):
+    def __init__(self, library="libhidstack.so.1", header="/usr/include/hidstack.h"):
         with open(header, encoding="utf-8") as file:
             text = re.sub(r"/\*.*?\*/", "", file.read(), flags=re.S)
         self.types = dict(NUMBERS)
