@@ -1,73 +1,199 @@
-/* cost open|feed|table|device|report|control COUNT: makes COUNT calls, whose instructions are counted from outside. */
+/* cost WORK COUNT: makes COUNT turns of a piece of work, whose instructions are counted from outside; `cost` alone lists the works.
+ * A turn of `nothing` is what a turn takes by itself. */
 #include "hidstack.h"
+#include <stdio.h>
 #include <stdlib.h>
 #include <string.h>
 
-static const uint8_t mouse[] = {
-    0x05, 0x01, 0x09, 0x02, 0xA1, 0x01, 0x09, 0x01, 0xA1, 0x00, 0x05, 0x09, 0x19, 0x01, 0x29, 0x03, 0x15,
-    0x00, 0x25, 0x01, 0x95, 0x03, 0x75, 0x01, 0x81, 0x02, 0x95, 0x01, 0x75, 0x05, 0x81, 0x01, 0x05, 0x01,
-    0x09, 0x30, 0x09, 0x31, 0x15, 0x81, 0x25, 0x7F, 0x75, 0x08, 0x95, 0x02, 0x81, 0x06, 0xC0, 0xC0};
+static uint8_t mouse[50], keyboard[63];
+static const struct hidstack_config config = {1, 2, 10, HIDSTACK_BOOT_MOUSE, 0};
+static const struct hidstack_config keys = {1, 2, 10, HIDSTACK_BOOT_KEYBOARD, 0};
+static struct hidstack reader = HIDSTACK_INIT, key_reader = HIDSTACK_INIT;
+static struct hidstack_device pointer = HIDSTACK_DEVICE_INIT, typist = HIDSTACK_DEVICE_INIT;
+static struct hidstack_host host = HIDSTACK_HOST_INIT;
+static struct hidstack_opened opened;
+static struct hidstack_device_opened made;
+static struct hidstack_moved moved;
+static struct hidstack_host_result result;
+static struct hidstack_element_info table[5];
+static struct hidstack_tabled tabled;
+static struct hidstack_event events[20];
+static struct hidstack_host_event told[5];
+/* of the mouse button and motion, and motion, in turn, and rest; of the keyboard rest and a key */
+static const uint8_t reports[2][3] = {{1, 5, 0}, {0, 5, 0}}, rest[3] = {0, 0, 0}, strokes[2][8] = {{0}, {0, 0, 4}}, lights[1] = {2};
+static const struct hidstack_setup read_descriptor = {0x81, 6, 0x2200, 0, 63}, set_idle = {0x21, 10, 0, 0, 0}, set_lights = {0x21, 9, 0x0200, 0, 1},
+                                   read_device = {0x80, 6, 0x0100, 0, 18};
+static uint8_t answer[64];
+static uint64_t count;
+static uint32_t held;
 
-static const struct hidstack_config config = {1, 2, 10, 0, 0};
-static struct hidstack device = HIDSTACK_INIT;
-static struct hidstack_device own = HIDSTACK_DEVICE_INIT;
-
-static uint64_t read_report(long i)
+/* Brings the host up beside the mouse. */
+static void bring_up(void)
 {
-    const uint8_t report[] = {(uint8_t)(i & 7), (uint8_t)i, 1};
-    struct hidstack_event events[5];
-    uint64_t count;
-    hidstack_feed(&device, report, sizeof report, events, 5, &count);
-    return count;
+    struct hidstack_setup setup;
+    uint64_t length, answered;
+    hidstack_host_open(&host);
+    while (hidstack_host_todo(&host, &setup, answer, sizeof answer, &length) == HIDSTACK_OK) {
+        uint32_t outcome = hidstack_device_control(&pointer, &setup, NULL, 0, answer, sizeof answer, &answered);
+        hidstack_host_done(&host, outcome, answer, answered, &moved);
+    }
 }
 
-/* The pointer moves, and a report of that is sent. */
-static uint64_t send_report(void)
+static void nothing(long i)
 {
-    uint8_t report[3];
-    uint64_t length;
-    hidstack_device_move(&own, 2, 0, 5);
-    hidstack_device_report(&own, report, sizeof report, &length);
-    return length;
+    count += (uint64_t)i & 1;
 }
 
-static uint64_t control(struct hidstack_setup setup)
+static void open(long i)
 {
-    uint8_t answer[64];
-    uint64_t answered;
-    hidstack_device_control(&own, &setup, NULL, 0, answer, sizeof answer, &answered);
-    return answered;
+    (void)i;
+    hidstack_close(&reader);
+    hidstack_open(mouse, sizeof mouse, &reader, &opened);
 }
+
+static void feed(long i)
+{
+    hidstack_feed(&reader, reports[i & 1], 3, events, 5, &count);
+}
+
+static void key(long i)
+{
+    hidstack_feed(&key_reader, strokes[i & 1], 8, events, 20, &count);
+}
+
+static void idle(long i)
+{
+    (void)i;
+    hidstack_feed(&key_reader, strokes[0], 8, events, 20, &count);
+}
+
+static void is_held(long i)
+{
+    (void)i;
+    hidstack_held(&reader, 0, 0, &held);
+}
+
+static void elements(long i)
+{
+    (void)i;
+    hidstack_table(mouse, sizeof mouse, table, 5, &tabled);
+}
+
+static void device(long i)
+{
+    (void)i;
+    hidstack_device_close(&pointer);
+    hidstack_device_open(&config, mouse, sizeof mouse, &pointer, &made);
+}
+
+static void report(long i)
+{
+    (void)i;
+    hidstack_device_move(&pointer, 2, 0, 5);
+    hidstack_device_report(&pointer, answer, sizeof answer, &count);
+}
+
+static void none_due(long i)
+{
+    (void)i;
+    hidstack_device_report(&pointer, answer, sizeof answer, &count);
+}
+
+static void find(long i)
+{
+    uint64_t item, index;
+    (void)i;
+    hidstack_device_find(&pointer, 1, 0x30, 0, &item, &index);
+}
+
+static void descriptor(long i)
+{
+    (void)i;
+    hidstack_device_control(&typist, &read_descriptor, NULL, 0, answer, sizeof answer, &count);
+}
+
+static void idle_time(long i)
+{
+    (void)i;
+    hidstack_device_control(&typist, &set_idle, NULL, 0, NULL, 0, &count);
+}
+
+static void set_leds(long i)
+{
+    (void)i;
+    hidstack_device_control(&typist, &set_lights, lights, 1, NULL, 0, &count);
+}
+
+static void device_descriptor(long i)
+{
+    (void)i;
+    hidstack_device_control(&typist, &read_device, NULL, 0, answer, sizeof answer, &count);
+}
+
+static void up(long i)
+{
+    (void)i;
+    hidstack_host_close(&host);
+    bring_up();
+}
+
+static void host_report(long i)
+{
+    hidstack_host_report(&host, 0, HIDSTACK_OK, reports[i & 1], 3, told, 5, &result);
+}
+
+static void host_idle(long i)
+{
+    (void)i;
+    hidstack_host_report(&host, 0, HIDSTACK_OK, rest, 3, told, 5, &result);
+}
+
+static void todo(long i)
+{
+    struct hidstack_setup setup;
+    (void)i;
+    hidstack_host_todo(&host, &setup, answer, sizeof answer, &count);
+}
+
+/* An idle time is asked for, and the device takes it. */
+static void ask(long i)
+{
+    static const struct hidstack_ask time = {HIDSTACK_SET_IDLE, 0, 0, 4, 0};
+    (void)i;
+    hidstack_host_ask(&host, 0, &time, NULL, 0, &result);
+    hidstack_host_done(&host, HIDSTACK_OK, NULL, 0, &moved);
+}
+
+static const struct {
+    const char *name;
+    void (*turn)(long i);
+} works[] = {{"nothing", nothing}, {"open", open}, {"feed", feed}, {"key", key}, {"idle", idle}, {"held", is_held}, {"table", elements}, {"device", device}, {"report", report},
+    {"none", none_due}, {"find", find}, {"descriptor", descriptor}, {"time", idle_time}, {"lights", set_leds}, {"control", device_descriptor}, {"up", up},
+    {"host", host_report}, {"rest", host_idle}, {"todo", todo}, {"ask", ask}};
 
 int main(int argc, char **argv)
 {
-    struct hidstack_opened opened;
-    struct hidstack_device_opened made;
-    struct hidstack_element_info table[5];
-    struct hidstack_tabled tabled;
-    uint64_t told = 0;
+    const struct hidstack_setup configure = {0, 9, 1, 0, 0};
     long i, n = argc == 3 ? atol(argv[2]) : 0;
-    hidstack_open(mouse, sizeof mouse, &device, &opened);
-    hidstack_device_open(&config, mouse, sizeof mouse, &own, &made);
-    control((struct hidstack_setup){0, 9, 1, 0, 0});
-    for (i = 0; i < n; i++) {
-        if (strcmp(argv[1], "feed") == 0) {
-            told += read_report(i);
-        } else if (strcmp(argv[1], "open") == 0) {
-            hidstack_close(&device);
-            hidstack_open(mouse, sizeof mouse, &device, &opened);
-        } else if (strcmp(argv[1], "device") == 0) {
-            hidstack_device_close(&own);
-            hidstack_device_open(&config, mouse, sizeof mouse, &own, &made);
-        } else if (strcmp(argv[1], "report") == 0) {
-            told += send_report();
-        } else if (strcmp(argv[1], "control") == 0) {
-            told += control((struct hidstack_setup){0x80, 6, 0x0100, 0, 18}) == 18;
-        } else {
-            hidstack_table(mouse, sizeof mouse, table, 5, &tabled);
-        }
-    }
-    hidstack_close(&device);
-    hidstack_device_close(&own);
-    return told > 5 * (uint64_t)n;
+    size_t work;
+    hidstack_boot_descriptor(HIDSTACK_BOOT_MOUSE, mouse, sizeof mouse, &count);
+    hidstack_boot_descriptor(HIDSTACK_BOOT_KEYBOARD, keyboard, sizeof keyboard, &count);
+    hidstack_open(mouse, sizeof mouse, &reader, &opened);
+    hidstack_open(keyboard, sizeof keyboard, &key_reader, &opened);
+    hidstack_device_open(&config, mouse, sizeof mouse, &pointer, &made);
+    hidstack_device_open(&keys, keyboard, sizeof keyboard, &typist, &made);
+    hidstack_device_control(&typist, &configure, NULL, 0, NULL, 0, &count);
+    bring_up();
+    for (work = 0; work < sizeof works / sizeof *works; work++)
+        if (argc < 2)
+            puts(works[work].name);
+        else if (strcmp(argv[1], works[work].name) == 0)
+            for (i = 0; i < n; i++)
+                works[work].turn(i);
+    hidstack_close(&reader);
+    hidstack_close(&key_reader);
+    hidstack_device_close(&pointer);
+    hidstack_device_close(&typist);
+    hidstack_host_close(&host);
+    return 0;
 }
