@@ -107,8 +107,8 @@ abbrev pub is_long : PipeState → List ℕ → Bool
 is_long pipe bytes =
     has_packet_past pipe.packet_size (begun_with pipe.receiving bytes) (length (bytes_with pipe.receiving bytes))
 
--- A report ends with its first transfer: nothing came of it before, and the transfer is shorter than a packet, or as long
--- as the Input report of a layout without Report IDs.
+-- A report surely ends with its first transfer, whatever it begins with: nothing came of it before, and the transfer is
+-- shorter than a packet, or as long as the Input report of a layout without Report IDs.
 abbrev pub EndsAtOnce : PipeState → List ℕ → Type 0
 EndsAtOnce pipe bytes =
     (pipe.receiving.collected ≡ [])

@@ -38,7 +38,7 @@ use Rattle.hid_gadget.specs.ReceivedReports.{IsFresh}
 use Rattle.hid_gadget.specs.WholeTransfers.{after_transfer, bytes_given}
 use Rattle.hid_gadget.proofs.SoundLemmas.{sound_after_transfer}
 use Rattle.hid_loopback.specs.BringUp.{BringsUp, core_brought_up, device_of}
-use Rattle.hid_loopback.specs.ControlTransfers.{Answers, IsMade, Settles, Stays, Transfers, TransfersBy, is_whole, transfer_result}
+use Rattle.hid_loopback.specs.ControlTransfers.{Answers, IsMade, MakesTransfer, MakesTransfersBy, Settles, Stays, is_whole, transfer_result}
 
 -- ---- what a gadget says of itself
 
@@ -263,7 +263,7 @@ record CanBeRead (core : CoreState) : Type 0 where
   laid : core.layout ≡ layout_of items
 
 move1 : (core : CoreState) (result : Result (Option Moved) DriverFault) (later : DriverValue) (after : CoreState)
-    → Transfers driver_at_start core result later after → Leads result later after (known1 (device_of core)) (after1 core)
+    → MakesTransfer driver_at_start core result later after → Leads result later after (known1 (device_of core)) (after1 core)
 move1 core result later after transfers =
     let device : VirtualDevice = device_of core in
     leads to_device (device_bytes device.info) driver_at_start (known1 device) core (after1 core) result later after refl
@@ -273,7 +273,7 @@ move1 core result later after transfers =
     transfers
 
 move2 : (core : CoreState) (result : Result (Option Moved) DriverFault) (later : DriverValue) (after : CoreState)
-    → Transfers (known1 (device_of core)) (after1 core) result later after → Leads result later after (known2 (device_of core)) (after2 core)
+    → MakesTransfer (known1 (device_of core)) (after1 core) result later after → Leads result later after (known2 (device_of core)) (after2 core)
 move2 core result later after transfers =
     let device : VirtualDevice = device_of core in
     leads to_length (take 9 (configuration_bytes device.known device.interval)) (known1 device) (known2 device) (after1 core) (after2 core) result later after refl
@@ -283,7 +283,7 @@ move2 core result later after transfers =
     transfers
 
 move3 : (core : CoreState) (result : Result (Option Moved) DriverFault) (later : DriverValue) (after : CoreState) → IsSound core → 0 < length core.descriptor
-    → Transfers (known2 (device_of core)) (after2 core) result later after → Leads result later after (known3 (device_of core)) (after3 core)
+    → MakesTransfer (known2 (device_of core)) (after2 core) result later after → Leads result later after (known3 (device_of core)) (after3 core)
 move3 core result later after sound some transfers =
     let device : VirtualDevice = device_of core in
     let fits = known_fits core sound in
@@ -297,7 +297,7 @@ move3 core result later after sound some transfers =
     transfers
 
 move4 : (core : CoreState) (result : Result (Option Moved) DriverFault) (later : DriverValue) (after : CoreState)
-    → Transfers (known3 (device_of core)) (after3 core) result later after → Leads result later after (known4 (device_of core)) (after4 core)
+    → MakesTransfer (known3 (device_of core)) (after3 core) result later after → Leads result later after (known4 (device_of core)) (after4 core)
 move4 core result later after transfers =
     let device : VirtualDevice = device_of core in
     leads to_configure [] (known3 device) (known4 device) (after3 core) (after4 core) result later after refl
@@ -307,7 +307,7 @@ move4 core result later after transfers =
     transfers
 
 move5 : (core : CoreState) (result : Result (Option Moved) DriverFault) (later : DriverValue) (after : CoreState)
-    → Transfers (known4 (device_of core)) (after4 core) result later after → Leads result later after (known5 (device_of core)) (after5 core)
+    → MakesTransfer (known4 (device_of core)) (after4 core) result later after → Leads result later after (known5 (device_of core)) (after5 core)
 move5 core result later after transfers =
     let device : VirtualDevice = device_of core in
     leads to_idle [] (known4 device) (known5 device) (after4 core) (after5 core) result later after refl
@@ -316,7 +316,7 @@ move5 core result later after transfers =
     transfers
 
 move6 : (core : CoreState) (result : Result (Option Moved) DriverFault) (later : DriverValue) (after : CoreState) → CanBeRead core
-    → Transfers (known5 (device_of core)) (after5 core) result later after
+    → MakesTransfer (known5 (device_of core)) (after5 core) result later after
     → Leads result later after (ready_for (device_of core) core.layout) (core_brought_up core)
 move6 core result later after can transfers =
     let device : VirtualDevice = device_of core in
@@ -335,27 +335,27 @@ move6 core result later after can transfers =
 -- both ends stand so after so many transfers
 abbrev StandsAfter : ℕ → CoreState → DriverValue → CoreState → Type 0
 StandsAfter count core next goal =
-    (later : DriverValue) (after : CoreState) → TransfersBy count driver_at_start core later after → (later ≡ next) × (after ≡ goal)
+    (later : DriverValue) (after : CoreState) → MakesTransfersBy count driver_at_start core later after → (later ≡ next) × (after ≡ goal)
 
 -- both ends stand so after one transfer more
 onward : (count : ℕ) (core : CoreState) (here next : DriverValue) (at goal : CoreState) → StandsAfter count core here at
-    → ((result : Result (Option Moved) DriverFault) (later : DriverValue) (after : CoreState) → Transfers here at result later after → Leads result later after next goal)
+    → ((result : Result (Option Moved) DriverFault) (later : DriverValue) (after : CoreState) → MakesTransfer here at result later after → Leads result later after next goal)
     → StandsAfter (suc count) core next goal
 onward count core here next at goal stands leads_on later after made =
     let before = stands made.0 made.1 made.3 in
-    let last = subst (λ (d : DriverValue). Transfers d made.1 (Ok (Some made.2)) later after) before.0 made.4 in
-    let last_here = subst (λ (c : CoreState). Transfers here c (Ok (Some made.2)) later after) before.1 last in
+    let last = subst (λ (d : DriverValue). MakesTransfer d made.1 (Ok (Some made.2)) later after) before.0 made.4 in
+    let last_here = subst (λ (c : CoreState). MakesTransfer here c (Ok (Some made.2)) later after) before.1 last in
     (leads_on (Ok (Some made.2)) later after last_here).done made.2 refl
 
 -- where a transfer isn't done, memory ran out
 ran_out : (count : ℕ) (core : CoreState) (here next : DriverValue) (at goal : CoreState) → StandsAfter count core here at
-    → ((result : Result (Option Moved) DriverFault) (later : DriverValue) (after : CoreState) → Transfers here at result later after → Leads result later after next goal)
+    → ((result : Result (Option Moved) DriverFault) (later : DriverValue) (after : CoreState) → MakesTransfer here at result later after → Leads result later after next goal)
     → (d : DriverValue) (c : CoreState) (fault : DriverFault) (later : DriverValue) (after : CoreState)
-    → TransfersBy count driver_at_start core d c → Transfers d c (Err fault) later after → fault ≡ Memory
+    → MakesTransfersBy count driver_at_start core d c → MakesTransfer d c (Err fault) later after → fault ≡ Memory
 ran_out count core here next at goal stands leads_on d c fault later after made last =
     let before = stands d c made in
-    let at_here = subst (λ (k : DriverValue). Transfers k c (Err fault) later after) before.0 last in
-    let last_here = subst (λ (k : CoreState). Transfers here k (Err fault) later after) before.1 at_here in
+    let at_here = subst (λ (k : DriverValue). MakesTransfer k c (Err fault) later after) before.0 last in
+    let last_here = subst (λ (k : CoreState). MakesTransfer here k (Err fault) later after) before.1 at_here in
     (leads_on (Err fault) later after last_here).memory fault refl
 
 stands0 : (core : CoreState) → StandsAfter 0 core driver_at_start core
@@ -391,7 +391,7 @@ waits_on setup here later asks is none =
 
 -- so all six are made
 all_six : (count : ℕ) (core : CoreState) (later : DriverValue) (after : CoreState) → CanBeRead core → count ≤ 6
-    → TransfersBy count driver_at_start core later after → setup_awaited later.state later.interfaces ≡ None → count ≡ 6
+    → MakesTransfersBy count driver_at_start core later after → setup_awaited later.state later.interfaces ≡ None → count ≡ 6
 all_six zero core later after can few made none = absurd (waits_on to_device driver_at_start later refl (stands0 core later after made).0 none)
 all_six (suc zero) core later after can few made none = absurd (waits_on to_length (known1 (device_of core)) later refl (stands1 core later after made).0 none)
 all_six (suc (suc zero)) core later after can few made none = absurd (waits_on to_configuration (known2 (device_of core)) later refl (stands2 core later after made).0 none)
@@ -402,7 +402,7 @@ all_six (suc (suc (suc (suc (suc (suc zero)))))) core later after can few made n
 all_six (suc (suc (suc (suc (suc (suc (suc count))))))) core later after can few made none = absurd (omega (arith, few))
 
 memory_ran_out : (count : ℕ) (core : CoreState) (d : DriverValue) (c : CoreState) (fault : DriverFault) (later : DriverValue) (after : CoreState)
-    → CanBeRead core → suc count ≤ 6 → TransfersBy count driver_at_start core d c → Transfers d c (Err fault) later after → fault ≡ Memory
+    → CanBeRead core → suc count ≤ 6 → MakesTransfersBy count driver_at_start core d c → MakesTransfer d c (Err fault) later after → fault ≡ Memory
 memory_ran_out zero core d c fault later after can few made last =
     ran_out 0 core driver_at_start (known1 (device_of core)) core (after1 core) (stands0 core) (move1 core) d c fault later after made last
 memory_ran_out (suc zero) core d c fault later after can few made last =
@@ -420,7 +420,7 @@ memory_ran_out (suc (suc (suc (suc (suc zero))))) core d c fault later after can
 memory_ran_out (suc (suc (suc (suc (suc (suc count)))))) core d c fault later after can few made last = absurd (omega (arith, few))
 
 six_of : (count : ℕ) (core : CoreState) (later : DriverValue) (after : CoreState) → CanBeRead core → count ≤ 6
-    → TransfersBy count driver_at_start core later after → (count ≡ 6) ⊎ (setup_awaited later.state later.interfaces ≡ None) → count ≡ 6
+    → MakesTransfersBy count driver_at_start core later after → (count ≡ 6) ⊎ (setup_awaited later.state later.interfaces ≡ None) → count ≡ 6
 six_of count core later after can few made (inl all) = all
 six_of count core later after can few made (inr none) = all_six count core later after can few made none
 
@@ -428,7 +428,7 @@ up_by : (core : CoreState) (result : Result ℕ DriverFault) (later : DriverValu
     → Settles 6 driver_at_start core result later after → BringsUp core result later after
 up_by core (Ok count) later after can settles =
     let all : count ≡ 6 = six_of count core later after can settles.1 settles.0 settles.2 in
-    let stands = stands6 core can later after (subst (λ (n : ℕ). TransfersBy n driver_at_start core later after) all settles.0) in
+    let stands = stands6 core can later after (subst (λ (n : ℕ). MakesTransfersBy n driver_at_start core later after) all settles.0) in
     (all, stands.0, stands.1)
 up_by core (Err fault) later after can settles =
     memory_ran_out settles.0 core settles.1 settles.2 fault later after can settles.4 settles.3 settles.5

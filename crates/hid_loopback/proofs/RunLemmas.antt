@@ -328,9 +328,9 @@ runs_step core Frame info receiving driver later events beside quiet =
 runs_step core (Transfers setup written) info receiving driver later events beside quiet =
     record { interface = quiet.0 ∙ beside.interface; gives = quiet.1 }
 runs_step core (Asks room) info receiving driver later events beside runs =
-    hears_as (report_result core room) (bytes_taken core room) info receiving driver later runs.0 events beside.interface
-    (λ n done. done_alike core room n receiving beside.in_step done)
-    (no_stall core room beside.in_step.configured beside.going) runs.1
+    hears_as (report_result core room) (bytes_taken core room) info receiving runs.asked later runs.told events
+    (runs.keeps ∙ beside.interface) (λ n done. done_alike core room n receiving beside.in_step done)
+    (no_stall core room beside.in_step.configured beside.going) runs.hears
 
 -- ---- lists of steps
 
@@ -346,7 +346,7 @@ runs_alike : (core : CoreState) (info : InterfaceInfo) (receiving : ReceiverStat
     → RunsAlike core info receiving gadget_steps later events
 runs_alike core info receiving [] driver later events beside within runs = record {
   gives = runs.1;
-  beside = subst (λ (d : DriverValue). IsBeside core info receiving d) (sym runs.0) beside;
+  beside = record { interface = runs.0 ∙ beside.interface; in_step = beside.in_step; going = beside.going };
 }
 runs_alike core info receiving (step ∷ rest) driver later events beside within runs =
     let next = core_after_step core step in
@@ -373,9 +373,11 @@ pub delivers : (core : CoreState) (info : InterfaceInfo) (receiving : ReceiverSt
     → Delivers core info receiving gadget_steps later events
 delivers core info receiving gadget_steps driver later events beside within runs =
     let alike = runs_alike core info receiving gadget_steps driver later events beside within runs in
+    let received = gives_events core gadget_steps receiving beside.in_step within in
     record {
-      gives = alike.gives ∙ ap (map (event_of 0)) (gives_events core gadget_steps receiving beside.in_step within).events;
+      gives = alike.gives ∙ ap (map (event_of 0)) received.events;
       seen = receiver_after_steps core gadget_steps receiving;
+      stands = received.stands;
       beside = alike.beside;
     }
 

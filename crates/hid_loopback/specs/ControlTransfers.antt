@@ -67,30 +67,30 @@ abbrev pub Stays : DriverValue → CoreState → DriverValue → CoreState → T
 Stays driver core later after = (later ≡ driver) × (after ≡ core)
 
 -- the transfer of this request is made, or there is no memory for its answer; without a request nothing is made
-abbrev pub TransfersOf : Option Setup → DriverValue → CoreState → Result (Option Moved) DriverFault → DriverValue → CoreState → Type 0
-TransfersOf None driver core result later after = (result ≡ Ok None) × Stays driver core later after
-TransfersOf (Some setup) driver core result later after =
+abbrev pub MakesTransferOf : Option Setup → DriverValue → CoreState → Result (Option Moved) DriverFault → DriverValue → CoreState → Type 0
+MakesTransferOf None driver core result later after = (result ≡ Ok None) × Stays driver core later after
+MakesTransferOf (Some setup) driver core result later after =
     ((result ≡ Err Memory) × Stays driver core later after)
     ⊎ IsMade setup (data_awaited driver) driver core result later after
 
 -- One control transfer: that of the request that the driver waits for, if it waits for one.
-abbrev pub Transfers : DriverValue → CoreState → Result (Option Moved) DriverFault → DriverValue → CoreState → Type 0
-Transfers driver core result later after =
-    TransfersOf (setup_awaited driver.state driver.interfaces) driver core result later after
+abbrev pub MakesTransfer : DriverValue → CoreState → Result (Option Moved) DriverFault → DriverValue → CoreState → Type 0
+MakesTransfer driver core result later after =
+    MakesTransferOf (setup_awaited driver.state driver.interfaces) driver core result later after
 
 -- a number of control transfers, one after another, each of which is done
-abbrev pub TransfersBy : ℕ → DriverValue → CoreState → DriverValue → CoreState → Type 0
-TransfersBy zero driver core later after = Stays driver core later after
-TransfersBy (suc count) driver core later after =
+abbrev pub MakesTransfersBy : ℕ → DriverValue → CoreState → DriverValue → CoreState → Type 0
+MakesTransfersBy zero driver core later after = Stays driver core later after
+MakesTransfersBy (suc count) driver core later after =
     (next : DriverValue) × (between : CoreState) × (moved : Moved)
-    × TransfersBy count driver core next between × Transfers next between (Ok (Some moved)) later after
+    × MakesTransfersBy count driver core next between × MakesTransfer next between (Ok (Some moved)) later after
 
 -- Control transfers are made until the driver waits for none, or until a number of them is made; or until one isn't done,
 -- whose fault is returned.
 abbrev pub Settles : ℕ → DriverValue → CoreState → Result ℕ DriverFault → DriverValue → CoreState → Type 0
 Settles most driver core (Ok count) later after =
-    TransfersBy count driver core later after × (count ≤ most)
+    MakesTransfersBy count driver core later after × (count ≤ most)
     × ((count ≡ most) ⊎ (setup_awaited later.state later.interfaces ≡ None))
 Settles most driver core (Err fault) later after =
     (count : ℕ) × (next : DriverValue) × (between : CoreState)
-    × TransfersBy count driver core next between × (suc count ≤ most) × Transfers next between (Err fault) later after
+    × MakesTransfersBy count driver core next between × (suc count ≤ most) × MakesTransfer next between (Err fault) later after

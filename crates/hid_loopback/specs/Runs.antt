@@ -1,9 +1,9 @@
 -- A gadget and the driver of its reports, step by step (USB 2.0, 8.5.4; HID 1.11, 5.6 and 8).
-use Rattle.std.specs.Prelude.{◌≡◌, false, List, [], ◌∷◌, ◌++◌, map, Result}
+use Rattle.std.specs.Prelude.{◌≡◌, ℕ, false, List, [], ◌∷◌, ◌++◌, map, Result}
 use Rattle.hid_layout.specs.Controls.{items_of}
 use Rattle.hid_usages.specs.Receiving.{ReceiverState}
 use Rattle.hid_interfaces.specs.declared.interface.InterfaceInfo.{InterfaceInfo}
-use Rattle.hid_bus.specs.DeviceHistory.{events_of_history}
+use Rattle.hid_bus.specs.DeviceHistory.{events_of_history, state_after_all}
 use Rattle.hid_device.specs.Core.{CoreState}
 use Rattle.hid_driver.specs.declared.fault.DriverFault.{DriverFault}
 use Rattle.hid_driver.specs.declared.interface.Interface.{Interface}
@@ -11,6 +11,7 @@ use Rattle.hid_driver.specs.declared.interface.Reading.TheVariants.{Open}
 use Rattle.hid_driver.specs.declared.outcome.DriverEvent.{DriverEvent}
 use Rattle.hid_driver.specs.Driver.{DriverValue}
 use Rattle.hid_driver.specs.Pipe.{event_of, pipe_of_receiver}
+use Rattle.hid_gadget.specs.declared.outcomes.Poll.{Poll}
 use Rattle.hid_gadget.specs.ReceivedReports.{AreInStep, Asks, Changes, Frame, GadgetStep, Transfers, bus_events, core_after_step, core_after_steps, link_with}
 use Rattle.hid_gadget.specs.WholeReports.{bytes_taken, report_result}
 use Rattle.hid_loopback.specs.InterruptTransfers.{Hears}
@@ -20,19 +21,28 @@ use Rattle.hid_loopback.specs.InterruptTransfers.{Hears}
 abbrev pub IsQuiet : DriverValue → DriverValue → List DriverEvent → Type 0
 IsQuiet driver later events = (later.interfaces ≡ driver.interfaces) × (events ≡ [])
 
+-- a driver takes an interrupt transfer that ends so, with these bytes, and gives these events; its program may have asked it
+-- for something before
+pub record HearsAfterAsk (end : Poll) (bytes : List ℕ) (driver later : DriverValue) (events : List DriverEvent)
+    : Type 0 where
+  pub asked : DriverValue
+  pub keeps : asked.interfaces ≡ driver.interfaces
+  pub told : Result (Unit {0}) DriverFault
+  pub hears : Hears end bytes asked told later events
+
 -- a driver at a step of its gadget, and the events that it gives: it takes each interrupt transfer, with room for any
 -- number of bytes
 abbrev pub RunsStep : CoreState → GadgetStep → DriverValue → DriverValue → List DriverEvent → Type 0
 RunsStep core (Asks room) driver later events =
-    (told : Result (Unit {0}) DriverFault)
-    × Hears (report_result core room) (bytes_taken core room) driver told later events
+    HearsAfterAsk (report_result core room) (bytes_taken core room) driver later events
 RunsStep core (Changes change) driver later events = IsQuiet driver later events
 RunsStep core Frame driver later events = IsQuiet driver later events
 RunsStep core (Transfers setup written) driver later events = IsQuiet driver later events
 
--- A driver over a list of steps of its gadget, and the events that it gives, in order.
+-- A driver over a list of steps of its gadget, and the events that it gives, in order. Its program may ask it for something
+-- before each step, and after the last.
 abbrev pub Runs : CoreState → List GadgetStep → DriverValue → DriverValue → List DriverEvent → Type 0
-Runs core [] driver later events = (later ≡ driver) × (events ≡ [])
+Runs core [] driver later events = IsQuiet driver later events
 Runs core (step ∷ rest) driver later events =
     (next : DriverValue) × (now : List DriverEvent) × (more : List DriverEvent)
     × RunsStep core step driver next now × Runs (core_after_step core step) rest next later more × (events ≡ now ++ more)
@@ -49,11 +59,13 @@ pub record IsBeside (core : CoreState) (info : InterfaceInfo) (receiving : Recei
   pub in_step : AreInStep core receiving
   pub going : core.halted ≡ false
 
--- The events of a driver are those of the history of its gadget's rounds, each once, and both stand after them as before:
--- beside one another.
+-- The events of a driver are those of the history of its gadget's rounds, each once. Both stand after them as that history
+-- says, beside one another, so that more steps go on from there.
 pub record Delivers (core : CoreState) (info : InterfaceInfo) (receiving : ReceiverState) (gadget_steps : List GadgetStep)
     (later : DriverValue) (events : List DriverEvent) : Type 0 where
   pub gives : events
       ≡ map (event_of 0) (events_of_history (items_of core.layout) (link_with core receiving.view) (bus_events core gadget_steps))
   pub seen : ReceiverState
+  pub stands : link_with (core_after_steps core gadget_steps) seen.view
+      ≡ state_after_all (items_of core.layout) (link_with core receiving.view) (bus_events core gadget_steps)
   pub beside : IsBeside (core_after_steps core gadget_steps) info seen later

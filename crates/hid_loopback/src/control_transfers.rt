@@ -2,7 +2,7 @@
 ghost use Rattle.std.specs.Prelude.{◌≡◌, ◌<◌, ◌≤◌, ℕ, length, Some};
 ghost use Rattle.hid_driver.specs.Driver.{driver_at_start};
 ghost use Rattle.hid_loopback.specs.BringUp.{BringsUp};
-ghost use Rattle.hid_loopback.specs.ControlTransfers.{CarriesOut, HandsOn, Settles, Transfers, is_whole};
+ghost use Rattle.hid_loopback.specs.ControlTransfers.{CarriesOut, HandsOn, MakesTransfer, Settles, is_whole};
 
 use hid_driver::{Driver, DriverFault, Moved, Outcome, Todo};
 use hid_gadget::{Control, Gadget, Setup};
@@ -26,7 +26,7 @@ fn carry_out(gadget: &mut Gadget, setup: &Setup, sends: &[u8], answer: &mut [u8]
     }
 }
 
-/// A driver takes what came of a control transfer that ended so, with the first bytes of this room.
+/// Gives a driver the end of a control transfer: of one that is done, the first n bytes of the room.
 fn hand_on(driver: &mut Driver, end: Option<Control>, answer: &[u8]) -> Result<Moved, DriverFault>
     requires within { (n : ℕ) → end ≡ Some (Control.Done n) → n ≤ length answer.now }
     ensures { HandsOn end answer.now driver.old result driver.new }
@@ -38,8 +38,9 @@ fn hand_on(driver: &mut Driver, end: Option<Control>, answer: &[u8]) -> Result<M
     }
 }
 
-/// One control transfer: the one that the driver waits for, if it waits for one (USB 2.0, 8.5.3). There is room for the answer
-/// while it runs. `None` where it waits for none.
+/// One control transfer: the one that the driver waits for, if it waits for one (USB 2.0, 8.5.3). It takes wLength bytes of
+/// memory while it runs. `None` where the driver waits for none. What GET_REPORT gives is lost: a program that wants it makes
+/// that transfer itself, by [`Driver::todo`], [`Gadget::control`] and [`Driver::done`].
 ///
 /// # Errors
 /// [`DriverFault::Memory`] where there is no memory for the answer, and both ends stay; else those of [`Driver::done`].
@@ -48,7 +49,7 @@ pub fn transfer(
     driver: &mut Driver,
     gadget: &mut Gadget,
 ) -> Result<Option<Moved>, DriverFault>
-    ensures { Transfers driver.old gadget.old result driver.new gadget.new }
+    ensures { MakesTransfer driver.old gadget.old result driver.new gadget.new }
 {
     let Todo::Control { setup, data } = driver.todo() else {
         return Ok(None);
@@ -81,14 +82,16 @@ fn make_transfers(
 }
 
 /// Control transfers, until the driver waits for none: how many were made, at most [`MAX_TRANSFERS`]. They bring a new driver up
-/// beside a gadget that was just made, or reset (USB 2.0, 9.1.1; HID 1.11, 7.1); after that they are those that the driver
-/// asks for.
+/// beside any gadget (USB 2.0, 9.1.1; HID 1.11, 7.1), also one that is configured; after that they are those that the driver asks
+/// for.
 ///
 /// # Errors
-/// Those of [`transfer`]. Where memory ran out the call may be made again: the driver goes on.
+/// Those of [`transfer`]. Where memory ran out the call may be made again: the driver goes on, but `up` says nothing of such a
+/// call.
 pub fn settle(alloc: Global, driver: &mut Driver, gadget: &mut Gadget) -> Result<usize, DriverFault>
     ensures settles { Settles MAX_TRANSFERS driver.old gadget.old result driver.new gadget.new }
-    // A new driver is ready after six transfers, with the gadget's layout, or memory ran out.
+    // Beside any gadget that has a report descriptor a new driver is ready after six transfers, with the gadget's layout, or
+    // memory ran out.
     ensures up { driver.old ≡ driver_at_start → 0 < length gadget.old.descriptor
         → BringsUp gadget.old result driver.new gadget.new }
 {

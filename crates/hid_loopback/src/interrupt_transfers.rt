@@ -8,7 +8,7 @@ use hid_driver::{Driver, DriverEvent, DriverFault, Outcome};
 use hid_gadget::{Gadget, Poll};
 use hid_snapshots::MAX_PIECE;
 
-/// A driver takes an interrupt transfer that ended so, with the first bytes of this room.
+/// Gives a driver the end of an interrupt transfer: of one that is done, the first n bytes of the room.
 fn take(
     driver: &mut Driver,
     end: Poll,
@@ -29,9 +29,9 @@ fn take(
     }
 }
 
-/// One interrupt transfer, of a full packet: the next piece of a report that is due goes to the driver, which appends the events
-/// of a report that ends with it (USB 2.0, 5.7.3 and 8.5.4). NAK is no outcome: the driver gets none. There is reserved
-/// room for [`Driver::max_events`] more events; no memory is taken.
+/// One interrupt transfer, of a full packet: the next piece of a report that is due goes to the driver, as one of its first
+/// interface, and the driver appends the events of a report that ends with it (USB 2.0, 5.7.3 and 8.5.4). NAK is no outcome: the
+/// driver gets none. There is reserved room for [`Driver::max_events`] more events; no memory is taken.
 ///
 /// # Errors
 /// Those of [`Driver::report`]. The gadget has gone on all the same.

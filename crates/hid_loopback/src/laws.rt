@@ -1,23 +1,29 @@
 //! What follows where a driver and a gadget are joined.
-ghost use Rattle.std.specs.Prelude.{◌≡◌, List, map};
+ghost use Rattle.std.specs.Prelude.{◌≡◌, ◌⊎◌, ℕ, List, [], map, Option, Result};
 ghost use Rattle.hid_layout.specs.Controls.{items_of};
 ghost use Rattle.hid_usages.specs.Receiving.{ReceiverState};
 ghost use Rattle.hid_interfaces.specs.declared.interface.InterfaceInfo.{InterfaceInfo};
+ghost use Rattle.usb_control.specs.declared.setup.Setup.{Setup};
 ghost use Rattle.hid_bus.specs.ReportState.{no_idle};
 ghost use Rattle.hid_bus.specs.Rounds.{OwnStep, events_of_epoch};
 ghost use Rattle.hid_bus.specs.DeviceHistory.{AreWithinEpoch, steps_as_events};
 ghost use Rattle.hid_device.specs.Core.{CoreState, IsSound};
+ghost use Rattle.hid_driver.specs.declared.ask.Ask.{Ask};
+ghost use Rattle.hid_driver.specs.declared.fault.DriverFault.{DriverFault};
 ghost use Rattle.hid_driver.specs.declared.outcome.DriverEvent.{DriverEvent};
-ghost use Rattle.hid_driver.specs.Driver.{DriverValue};
+ghost use Rattle.hid_driver.specs.declared.state.DriverState.TheVariants.{Asked};
+ghost use Rattle.hid_driver.specs.declared.state.Moved.{Moved};
+ghost use Rattle.hid_driver.specs.Driver.{DriverValue, driver_after_ask};
 ghost use Rattle.hid_driver.specs.Pipe.{event_of};
 ghost use Rattle.hid_driver.specs.VirtualDevices.{ready_for};
-ghost use Rattle.hid_gadget.specs.ReceivedReports.{GadgetStep, IsFresh, bus_events, events_of_crossed};
+ghost use Rattle.hid_gadget.specs.ReceivedReports.{GadgetStep, IsFresh, Transfers, bus_events, core_after_step, events_of_crossed};
 ghost use Rattle.hid_loopback.specs.BringUp.{core_brought_up, device_of};
-ghost use Rattle.hid_loopback.specs.Runs.{Delivers, IsBeside, Runs};
+ghost use Rattle.hid_loopback.specs.ControlTransfers.{MakesTransfer};
+ghost use Rattle.hid_loopback.specs.Runs.{Delivers, IsBeside, IsQuiet, Runs};
 
 /// Once a driver is up beside a gadget, its events are the changes between the reports of the gadget's rounds that crossed, in
 /// order, none twice: for every list of changes, frames, interrupt transfers with any room, and control transfers that
-/// neither configure the gadget nor halt or clear its endpoint, as those that the driver asks for.
+/// neither configure the gadget nor halt or clear its endpoint, as those that the driver asks for ([`asks_are_quiet`]).
 pub fn events_cross_once()
     ensures headline { (core : CoreState) (steps : List GadgetStep) (later : DriverValue)
         (events : List DriverEvent) → IsSound core → AreWithinEpoch (bus_events (core_brought_up core) steps)
@@ -34,9 +40,21 @@ pub fn events_cross_once()
     // The gadget was just configured then, with no idle time, and its snapshot is as it was.
     ensures fresh { (core : CoreState) → IsSound core
         → IsFresh (core_brought_up core) core.reports.snapshot (no_idle core.reports.idle) }
-    // So it goes on from any open round, where both stand beside one another.
+    // So it goes on from any open round, where both stand beside one another, as they do after it.
     ensures given { (core : CoreState) (info : InterfaceInfo) (receiving : ReceiverState)
         (steps : List GadgetStep) (driver later : DriverValue) (events : List DriverEvent)
         → IsBeside core info receiving driver → AreWithinEpoch (bus_events core steps)
         → Runs core steps driver later events → Delivers core info receiving steps later events }
+{}
+
+/// What a program asks of a driver leaves the driver's interfaces, and gives no event: so `Runs` has it before each step, and
+/// after the last.
+pub fn asks_are_quiet()
+    ensures ask { (driver : DriverValue) (place : ℕ) (ask : Ask)
+        → IsQuiet driver (driver_after_ask driver place ask) [] }
+    // So it is where the transfer of what was asked is made. The gadget takes that transfer as a step, or stays.
+    ensures transfer { (driver later : DriverValue) (core after : CoreState) (setup : Setup)
+        (result : Result (Option Moved) DriverFault) → driver.state ≡ Asked setup
+        → MakesTransfer driver core result later after → IsQuiet driver later []
+        × ((after ≡ core) ⊎ (after ≡ core_after_step core (Transfers setup driver.asked))) }
 {}

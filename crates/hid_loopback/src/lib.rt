@@ -15,8 +15,8 @@
 //! The promise: beside a gadget whose report descriptor has at least a byte, a new driver is ready after six transfers, with the
 //! gadget's layout, or memory ran out (`up` on [`settle`]). From then on the events of the driver are the changes between the
 //! reports of the gadget's rounds that crossed, in order, none twice ([`laws::events_cross_once`]), while nothing ends a round
-//! but its last piece: no halt, no reset and no other configuration. A gadget takes an empty report descriptor too; a driver
-//! refuses its interface (B4).
+//! but its last piece: no halt or clear, no reset, no other configuration or protocol. Meanwhile the program may ask the driver
+//! for something ([`laws::asks_are_quiet`]). A gadget takes an empty report descriptor too; a driver refuses its interface (B4).
 //! ```text
 //!   settle(alloc, &mut driver, &mut mouse)?;                         // Ok(6)
 //!   mouse.change(Change::Press(ControlId { item: 0, index: 0 }));    // Ok(())
