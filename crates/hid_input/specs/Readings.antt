@@ -1,5 +1,5 @@
 -- What the ways in which a text can be read say together (our choice: docs/PICTURES.md).
-use Rattle.std.specs.Prelude.{ℕ, ◌≡◌, List, All, Contains}
+use Rattle.std.specs.Prelude.{ℕ, ◌≡◌, List, All}
 use Rattle.std.specs.Global.{Vec}
 
 -- each reading of a text gives these bytes

@@ -1,7 +1,7 @@
 //! The bytes of a line of a dump, as its cells are written.
 
 use crate::columns::{Columns, are_characters_of, enclosed, is_blank, parted};
-use crate::digits::{byte_of, number_of, pair_of};
+use crate::digits::{add_pairs, byte_of, number_of, pair_of};
 use std::alloc::{AllocError, Global};
 
 /// How the bytes of a dump are written.
@@ -46,17 +46,6 @@ fn read_pairs(alloc: Global, cells: &[u8]) -> Result<Option<Vec<u8>>, AllocError
     Ok(Some(bytes))
 }
 
-/// Adds the bytes of a word of hex digits, the first one first; false where it is none.
-fn add_word(bytes: &mut Vec<u8>, word: &[u8]) -> Result<bool, AllocError> {
-    for pair in word.chunks(2) {
-        let Some(byte) = pair_of(pair) else {
-            return Ok(false);
-        };
-        bytes.push(byte)?;
-    }
-    Ok(true)
-}
-
 /// Adds the bytes of a word of hex digits, the last one first; false where it is none.
 fn add_swapped(bytes: &mut Vec<u8>, word: &[u8]) -> Result<bool, AllocError> {
     if word.len() % 2 != 0 {
@@ -82,7 +71,7 @@ fn read_words(
         let is_read = if is_swapped {
             add_swapped(&mut bytes, word)?
         } else {
-            add_word(&mut bytes, word)?
+            add_pairs(&mut bytes, word)?
         };
         if !is_read {
             return Ok(None);

@@ -1,5 +1,7 @@
 //! Words of digits, and the numbers that they encode.
 
+use std::alloc::AllocError;
+
 /// The value of a digit, where it is one in this base.
 pub fn digit_of(byte: u8, base: u32) -> Option<u32> {
     if base > 36 || base < 2 {
@@ -37,4 +39,18 @@ pub fn pair_of(word: &[u8]) -> Option<u8> {
         [_, _] => byte_of(word, 16),
         _ => None,
     }
+}
+
+/// Adds the bytes of a word of hex digits, two for each, the first one first; false where it is none.
+///
+/// # Errors
+/// Out of memory.
+pub fn add_pairs(bytes: &mut Vec<u8>, word: &[u8]) -> Result<bool, AllocError> {
+    for pair in word.chunks(2) {
+        let Some(byte) = pair_of(pair) else {
+            return Ok(false);
+        };
+        bytes.push(byte)?;
+    }
+    Ok(true)
 }

@@ -2,6 +2,7 @@
 
 use crate::cells::{Cells, read_cells};
 use crate::columns::offset_of;
+use crate::parts::line_number;
 use std::alloc::{AllocError, Global};
 
 /// The most bytes of a dump: more than a descriptor may have.
@@ -109,9 +110,9 @@ pub enum DumpEnd {
 /// Out of memory.
 pub fn read_dump(alloc: Global, text: &[u8], way: Way) -> Result<DumpEnd, AllocError> {
     let mut dump = DumpBytes::new(alloc);
-    let mut number = 0u64;
-    for line in text.split(|byte| *byte == b'\n') {
-        number = number.saturating_add(1);
+    let mut number = 0;
+    for (before, line) in text.split(|byte| *byte == b'\n').enumerate() {
+        number = line_number(before);
         let line = line.trim_ascii_end();
         if !line.is_empty() && !dump.add_line(alloc, line.trim_ascii_start(), way)? {
             return Ok(DumpEnd::Line(number));

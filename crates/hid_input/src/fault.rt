@@ -16,6 +16,8 @@ pub enum InputCause {
     BadArray,
     /// An escape of a string of C is no byte, or a digit follows it.
     BadEscape,
+    /// A string beside others, of which nothing says whether they belong together; or a single character.
+    SeveralStrings,
     /// Words of more than two digits, of which nothing says in which order their bytes are.
     WordOrder,
     /// A first word that is longer than the others, and doesn't count the bytes.
@@ -65,6 +67,11 @@ impl InputFault {
 }
 
 impl From<AllocError> for InputFault {
+    ghost use Rattle.hid_input.specs.declared.fault.InputCause.TheVariants.{Memory};
+    ghost use Rattle.hid_input.specs.Faults.{of_text};
+
+    ghost from_gives = { λ _ fault. fault ≡ of_text Memory };
+
     fn from(_error: AllocError) -> InputFault {
         InputFault::of_text(InputCause::Memory)
     }
@@ -79,6 +86,9 @@ impl fmt::Display for InputCause {
             InputCause::BadHex => "a byte isn't two hex digits",
             InputCause::BadArray => "an element of the array is no byte",
             InputCause::BadEscape => "an escape of the string is no byte, or a digit follows it",
+            InputCause::SeveralStrings => {
+                "a string beside others, or a single character: which bytes are meant isn't known"
+            }
             InputCause::WordOrder => {
                 "words of two bytes or more: their order isn't known (try xxd, hexdump -C or od -t x1)"
             }

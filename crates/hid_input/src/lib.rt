@@ -17,14 +17,17 @@
 mod cells;
 mod code;
 mod columns;
+mod decimal;
 mod digits;
 mod dump;
 mod fault;
 mod file_name;
 mod items;
+mod parts;
 mod reading;
 mod recorded;
 mod spelled;
+mod strings;
 mod ways;
 
 pub use fault::{InputCause, InputFault};

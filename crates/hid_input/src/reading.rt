@@ -1,14 +1,18 @@
 //! The descriptor of a file, whatever form it has.
 
-ghost use Rattle.std.specs.Prelude.{◌≡◌, false, IfOk};
+ghost use Rattle.std.specs.Prelude.{◌≡◌, false, true, IfOk, IfErr, Err};
 ghost use Rattle.std.specs.List.{list_all};
-ghost use Rattle.hid_input.specs.Text.{is_space, is_text_byte, has_printed, is_text, without_mark};
+ghost use Rattle.hid_input.specs.Faults.{of_text};
+ghost use Rattle.hid_input.specs.Text.{is_space, is_text_byte, has_printed, is_text, is_utf16, without_mark};
 
-use crate::code::{has_array, has_string, read_array, read_string};
+use crate::code::{has_array, read_array};
+use crate::decimal::read_decimal;
 use crate::fault::{InputCause, InputFault};
 use crate::items::{has_items, read_items};
+use crate::parts::{SPACES, line_number, up_to};
 use crate::recorded::{has_recorded, read_dumped, read_recorded};
 use crate::spelled::{is_spelled, read_spelled};
+use crate::strings::{has_string, read_string};
 use crate::ways::{add_dumps, agreed};
 use std::alloc::{AllocError, Global};
 
@@ -58,13 +62,11 @@ fn without_mark(bytes: &[u8]) -> &[u8]
     }
 }
 
-/// The first word of a text.
-fn first_word(text: &[u8]) -> &[u8] {
-    let text = text.trim_ascii_start();
-    match text.split(|byte| byte.is_ascii_whitespace()).next() {
-        Some(word) => word,
-        None => text,
-    }
+/// Whether the bytes begin with the mark of UTF-16, lowest byte first, and a character below 256.
+fn is_utf16(bytes: &[u8]) -> bool
+    ensures { result ≡ is_utf16 bytes.now }
+{
+    bytes.len() >= 4 && bytes[0] == 0xFF && bytes[1] == 0xFE && bytes[3] == 0
 }
 
 /// Whether a word is an offset by its looks: a colon after it, or four zeros or more.
@@ -80,20 +82,23 @@ fn is_long(word: &[u8]) -> bool {
     word.len() >= 4 && word.iter().all(|byte| byte.is_ascii_hexdigit())
 }
 
-/// Why a line of a dump can't be read: it has nothing but words of several bytes, or something else.
-fn dump_cause(text: &[u8], reached: u64) -> InputCause {
-    let mut number = 0u64;
-    for line in text.split(|byte| *byte == b'\n') {
-        number = number.saturating_add(1);
-        if number == reached {
-            let mut words = line
-                .split(|byte| byte.is_ascii_whitespace())
-                .filter(|word| !word.is_empty());
-            let _offset = words.next();
-            return match words.next() {
-                Some(word) if is_long(word) && words.all(is_long) => InputCause::WordOrder,
-                _ => InputCause::Dump,
-            };
+/// Why a line of a dump can't be read: after its offset it has nothing but words of several bytes, or something else.
+fn line_cause(line: &[u8]) -> InputCause {
+    let mut words = line
+        .split(|byte| byte.is_ascii_whitespace())
+        .filter(|word| !word.is_empty());
+    let _offset = words.next();
+    match words.next() {
+        Some(word) if is_long(word) && words.all(is_long) => InputCause::WordOrder,
+        _ => InputCause::Dump,
+    }
+}
+
+/// Why the line of this number can't be read.
+fn dump_cause(text: &[u8], number: u64) -> InputCause {
+    for (before, line) in text.split(|byte| *byte == b'\n').enumerate() {
+        if line_number(before) == number {
+            return line_cause(line);
         }
     }
     InputCause::Dump
@@ -109,11 +114,15 @@ fn read_offset_dump(alloc: Global, text: &[u8]) -> Result<Vec<u8>, InputFault> {
     }
 }
 
-/// The bytes of hex, of which a first column may count the bytes: in each way in which the text can be read they are the same.
+/// The bytes of hex, which may be decimal, and of which a first column may count the bytes: in each way in which the text can be
+/// read they are the same.
 fn read_hex(alloc: Global, text: &[u8]) -> Result<Vec<u8>, InputFault> {
     let spelled = read_spelled(alloc, text)?;
     let mut readings = Vec::new(alloc);
     readings.push(spelled).map_err(AllocError::from)?;
+    if let Some(decimal) = read_decimal(alloc, text)? {
+        readings.push(decimal).map_err(AllocError::from)?;
+    }
     let _reached = add_dumps(alloc, text, &mut readings)?;
     match agreed(readings)? {
         Some(bytes) => Ok(bytes),
@@ -123,7 +132,7 @@ fn read_hex(alloc: Global, text: &[u8]) -> Result<Vec<u8>, InputFault> {
 
 /// The descriptor in text.
 fn descriptor_in_text(alloc: Global, text: &[u8]) -> Result<Vec<u8>, InputFault> {
-    if is_offset(first_word(text)) {
+    if is_offset(up_to(text.trim_ascii_start(), SPACES)) {
         return read_offset_dump(alloc, text);
     }
     if has_recorded(text) {
@@ -154,9 +163,12 @@ fn descriptor_in_text(alloc: Global, text: &[u8]) -> Result<Vec<u8>, InputFault>
 /// # Errors
 /// An [`InputFault`]: what is wrong with the form that is found, or that there is none.
 pub fn descriptor_in(alloc: Global, bytes: &[u8]) -> Result<Vec<u8>, InputFault>
-    ensures { is_text (without_mark bytes.now) ≡ false → IfOk result (λ read. read.items ≡ bytes.now) }
+    ensures binary { is_text (without_mark bytes.now) ≡ false → IfOk result (λ read. read.items ≡ bytes.now) }
+    ensures utf16 { is_utf16 bytes.now ≡ true → result ≡ Err (of_text InputCause.Utf16) }
+    ensures memory { is_utf16 bytes.now ≡ false → is_text (without_mark bytes.now) ≡ false
+        → IfErr result (λ fault. fault ≡ of_text InputCause.Memory) }
 {
-    if let [0xFF, 0xFE, _, 0x00, ..] = bytes {
+    if is_utf16(bytes) {
         return Err(InputFault::of_text(InputCause::Utf16));
     }
     let text = without_mark(bytes);

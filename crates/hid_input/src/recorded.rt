@@ -2,6 +2,7 @@
 
 use crate::digits::number_of;
 use crate::fault::{InputCause, InputFault};
+use crate::parts::{SPACES, line_number, up_to};
 use crate::spelled::{is_spelled, read_spelled};
 use std::alloc::{AllocError, Global};
 
@@ -19,12 +20,10 @@ pub fn has_recorded(text: &[u8]) -> bool {
 /// The bytes of `COUNT HEX`, if they are so many.
 fn read_counted(alloc: Global, counted: &[u8]) -> Result<Vec<u8>, InputFault> {
     let counted = counted.trim_ascii();
-    let end = match counted.iter().position(|byte| byte.is_ascii_whitespace()) {
-        Some(end) => end,
-        None => counted.len(),
-    };
-    let said = number_of(&counted[..end], 10).unwrap_or(0);
-    let bytes = read_spelled(alloc, &counted[end..])?;
+    let count = up_to(counted, SPACES);
+    let said = number_of(count, 10).unwrap_or(0);
+    let hex = counted.strip_prefix(count).unwrap_or(counted);
+    let bytes = read_spelled(alloc, hex)?;
     let found = bytes.len() as u64;
     if found != said {
         return Err(InputFault::of_text(InputCause::BadCount { said, found }));
@@ -37,13 +36,11 @@ fn read_counted(alloc: Global, counted: &[u8]) -> Result<Vec<u8>, InputFault> {
 /// # Errors
 /// [`InputCause::BadCount`], what [`read_spelled`] refuses, with the line; [`InputCause::NoDescriptor`] where there is none.
 pub fn read_recorded(alloc: Global, text: &[u8]) -> Result<Vec<u8>, InputFault> {
-    let mut number = 0u64;
-    for line in text.split(|byte| *byte == b'\n') {
-        number = number.saturating_add(1);
+    for (before, line) in text.split(|byte| *byte == b'\n').enumerate() {
         if let Some(counted) = after_letter(line) {
             return match read_counted(alloc, counted) {
                 Ok(bytes) => Ok(bytes),
-                Err(fault) => Err(InputFault::of_line(number, fault.cause)),
+                Err(fault) => Err(InputFault::of_line(line_number(before), fault.cause)),
             };
         }
     }
@@ -62,13 +59,13 @@ fn is_heading(line: &[u8]) -> bool {
 /// What [`read_spelled`] refuses; [`InputCause::Memory`].
 pub fn read_dumped(alloc: Global, text: &[u8]) -> Result<Option<Vec<u8>>, InputFault> {
     let mut digits: Vec<u8> = Vec::new(alloc);
-    let mut is_behind = false;
+    let mut is_after_heading = false;
     for line in text.split(|byte| *byte == b'\n') {
-        if is_behind && is_spelled(line) {
+        if is_after_heading && is_spelled(line) {
             digits.extend_from_slice(line)?;
             digits.push(b'\n').map_err(AllocError::from)?;
         } else if digits.is_empty() {
-            is_behind = is_heading(line);
+            is_after_heading = is_heading(line);
         } else {
             break;
         }

@@ -1,27 +1,15 @@
 //! Bytes in hex, in whatever way they are spelled: `05 01`, `0501`, `05:01`, `0x05, 0x01`, `\x05\x01`.
 
-use crate::digits::{byte_of, pair_of};
+use crate::digits::{add_pairs, byte_of, pair_of};
 use crate::fault::{InputCause, InputFault};
+use crate::parts::line_number;
 use std::alloc::{AllocError, Global};
 
 /// The most digits of a word of `od -t x8`. A run of more digits than this has its bytes in their order.
 const LONGEST_WORD: usize = 16;
 
-/// What the words of a text are like.
-#[derive(Clone, Copy)]
-struct Spelling {
-    /// Each word is one byte.
-    are_bytes: bool,
-    /// No line has two words, and each but the last is longer than a word of od.
-    are_lines: bool,
-    /// There is a comma.
-    has_comma: bool,
-    /// There is a hex digit over 9, or a prefix.
-    is_marked: bool,
-}
-
 /// What parts bytes.
-fn is_separator(byte: u8) -> bool {
+pub fn is_separator(byte: u8) -> bool {
     byte.is_ascii_whitespace() || matches!(byte, b',' | b';' | b':' | b'-' | b'\\')
 }
 
@@ -48,51 +36,56 @@ fn is_run(word: &[u8]) -> bool {
     word.len() % 2 == 0 && word.iter().all(|byte| byte.is_ascii_hexdigit())
 }
 
-/// Whether a word says that it is hex.
-fn is_marked(word: &[u8]) -> bool {
-    marked_digits(word).is_some() || word.iter().any(|byte| byte.is_ascii_alphabetic())
-}
-
-/// Looks at the words of a text.
+/// Sees that each word is hex: a byte, or a run of digits.
 ///
 /// # Errors
-/// [`InputCause::BadHex`] in the first line with a word that isn't hex.
-fn spelling_of(text: &[u8]) -> Result<Spelling, InputFault> {
-    let mut spelling = Spelling {
-        are_bytes: true,
-        are_lines: true,
-        has_comma: text.contains(&b','),
-        is_marked: false,
-    };
-    let mut number = 0u64;
-    let mut is_long = true;
-    let mut has_long = false;
-    for line in text.split(|byte| *byte == b'\n') {
-        number = number.saturating_add(1);
-        let mut has_word = false;
-        for word in line.split(|byte| is_separator(*byte)) {
-            if word.is_empty() {
-                continue;
-            }
-            if byte_in(word).is_none() {
-                if !is_run(word) {
-                    return Err(InputFault::of_line(number, InputCause::BadHex));
-                }
-                spelling.are_bytes = false;
-            }
-            if has_word || !is_long {
-                spelling.are_lines = false;
-            }
-            has_word = true;
-            has_long = has_long || word.len() > LONGEST_WORD;
-            is_long = word.len() > LONGEST_WORD;
-            if is_marked(word) {
-                spelling.is_marked = true;
-            }
+/// [`InputCause::BadHex`] of the first line with another word.
+fn check_words(text: &[u8]) -> Result<(), InputFault> {
+    for (before, line) in text.split(|byte| *byte == b'\n').enumerate() {
+        let are_hex = line
+            .split(|byte| is_separator(*byte))
+            .all(|word| byte_in(word).is_some() || is_run(word));
+        if !are_hex {
+            return Err(InputFault::of_line(line_number(before), InputCause::BadHex));
         }
     }
-    spelling.are_lines = spelling.are_lines && has_long;
-    Ok(spelling)
+    Ok(())
+}
+
+/// Whether each word is one byte.
+fn are_bytes(text: &[u8]) -> bool {
+    text.split(|byte| is_separator(*byte))
+        .all(|word| word.is_empty() || byte_in(word).is_some())
+}
+
+/// Whether a line has one word at most.
+fn is_one_word(line: &[u8]) -> bool {
+    line.split(|byte| is_separator(*byte))
+        .filter(|word| !word.is_empty())
+        .count()
+        <= 1
+}
+
+/// Whether there is a run of more digits than a word of od has, and each word but the last is one.
+fn are_long(text: &[u8]) -> bool {
+    let mut has_long = false;
+    let mut is_last = false;
+    for word in text.split(|byte| is_separator(*byte)) {
+        if word.is_empty() {
+            continue;
+        }
+        if is_last {
+            return false;
+        }
+        is_last = word.len() <= LONGEST_WORD;
+        has_long = has_long || !is_last;
+    }
+    has_long
+}
+
+/// Whether each line is a run of digits.
+fn are_runs(text: &[u8]) -> bool {
+    are_long(text) && text.split(|byte| *byte == b'\n').all(is_one_word)
 }
 
 /// Adds the bytes of a word: one byte, or a run of digits.
@@ -101,32 +94,34 @@ fn add_word(bytes: &mut Vec<u8>, word: &[u8]) -> Result<(), InputFault> {
         bytes.push(byte).map_err(AllocError::from)?;
         return Ok(());
     }
-    for pair in word.chunks(2) {
-        let Some(byte) = pair_of(pair) else {
-            return Err(InputFault::of_text(InputCause::BadHex));
-        };
-        bytes.push(byte).map_err(AllocError::from)?;
+    if add_pairs(bytes, word)? {
+        Ok(())
+    } else {
+        Err(InputFault::of_text(InputCause::BadHex))
     }
-    Ok(())
 }
 
-/// The first line that begins with a longer word, and why nothing says what it is: an offset that doesn't count, or a word of
+/// Why nothing says what the first word of a line is, where it is longer than a byte: an offset that doesn't count, or a word of
 /// several bytes.
+fn longer_word(line: &[u8]) -> Option<InputCause> {
+    let mut words = line
+        .split(|byte| is_separator(*byte))
+        .filter(|word| !word.is_empty());
+    let first = words.next()?;
+    if byte_in(first).is_some() {
+        return None;
+    }
+    match words.next() {
+        Some(second) if byte_in(second).is_some() => Some(InputCause::Offset),
+        _ => Some(InputCause::WordOrder),
+    }
+}
+
+/// The first line that begins with a longer word, and why nothing says what it is.
 fn unknown_word(text: &[u8]) -> InputFault {
-    let mut number = 0u64;
-    for line in text.split(|byte| *byte == b'\n') {
-        number = number.saturating_add(1);
-        let mut words = line
-            .split(|byte| is_separator(*byte))
-            .filter(|word| !word.is_empty());
-        if let Some(first) = words.next() {
-            if byte_in(first).is_none() {
-                let cause = match words.next() {
-                    Some(second) if byte_in(second).is_some() => InputCause::Offset,
-                    _ => InputCause::WordOrder,
-                };
-                return InputFault::of_line(number, cause);
-            }
+    for (before, line) in text.split(|byte| *byte == b'\n').enumerate() {
+        if let Some(cause) = longer_word(line) {
+            return InputFault::of_line(line_number(before), cause);
         }
     }
     InputFault::of_text(InputCause::WordOrder)
@@ -136,14 +131,11 @@ fn unknown_word(text: &[u8]) -> InputFault {
 ///
 /// # Errors
 /// [`InputCause::BadHex`] where a word isn't hex; [`InputCause::Offset`] and [`InputCause::WordOrder`] where longer words stand
-/// beside others; [`InputCause::TwoWays`] where numbers with commas may be decimal; [`InputCause::Memory`].
+/// beside others; [`InputCause::Memory`].
 pub fn read_spelled(alloc: Global, text: &[u8]) -> Result<Vec<u8>, InputFault> {
-    let spelling = spelling_of(text)?;
-    if !spelling.are_bytes && !spelling.are_lines {
+    check_words(text)?;
+    if !are_bytes(text) && !are_runs(text) {
         return Err(unknown_word(text));
-    }
-    if spelling.has_comma && !spelling.is_marked {
-        return Err(InputFault::of_text(InputCause::TwoWays));
     }
     let mut bytes = Vec::new(alloc);
     for word in text.split(|byte| is_separator(*byte)) {
