@@ -78,17 +78,17 @@ bin/lib/libhidstack.a: crates/hidstack/out/libhidstack.a tools/package/library i
 	$(NEEDS_RT)
 	tools/package/library $< bin/lib $(LIBRARY_VERSION)
 
-# Compares the header with the exports, and runs the quick start, the examples and wrong calls.
+# Compares the header with the exports, and runs the quick start, the examples, wrong calls, and random calls beside models.
 library-test: library  ## runs the examples of the C library
 	tools/check/library
 
-# Runs the tests of the C library under valgrind and the sanitizers, and with each allocation of an opening, a table, a run and a
-# text refused; compares its manual pages with the header.
+# Runs the tests of the C library under valgrind and the sanitizers, with each allocation of an opening, a table, a run and a text
+# refused, and a million random calls; compares its manual pages with the header.
 library-check: library  ## runs them under valgrind and the sanitizers, and without memory
 	tools/check/library --memory
 	tools/check/manual
 
-# Counts the instructions of an opening and of a report, by callgrind.
+# Counts the instructions of calls, by callgrind, beside the crate's own: by hid_bench if it is there, else those of docs/SPEED.md.
 library-cost: library  ## counts the instructions of calls of the C library
 	tools/measure/cost library
 
