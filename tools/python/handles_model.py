@@ -1,5 +1,5 @@
 """What a reader, a virtual device and a host of the C library do, by include/hidstack.h, docs/FORMATS.md and
-docs/DECISIONS.md alone.
+docs/DECISIONS.md, and where these are silent by the definitions of specs/.
 
 A call of a model takes the arguments of the C call and returns its status and what it writes, as bytes of C structs. Layouts,
 parts of reports and changes are those of script_model; second_reader says which descriptors are accepted.
