@@ -1,3 +1,4 @@
 pub mod Faults
+pub mod Hex
 pub mod Readings
 pub mod Text

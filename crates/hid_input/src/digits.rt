@@ -1,5 +1,8 @@
 //! Words of digits, and the numbers that they encode.
 
+ghost use Rattle.std.specs.Prelude.{◌≡◌};
+ghost use Rattle.hid_input.specs.Hex.{byte_of_pair};
+
 use std::alloc::AllocError;
 
 /// The value of a digit, where it is one in this base.
@@ -34,11 +37,15 @@ pub fn byte_of(word: &[u8], base: u32) -> Option<u8> {
 }
 
 /// The byte that two hex digits encode.
-pub fn pair_of(word: &[u8]) -> Option<u8> {
-    match word {
-        [_, _] => byte_of(word, 16),
-        _ => None,
-    }
+pub fn pair_of(word: &[u8]) -> Option<u8>
+    ensures { result ≡ byte_of_pair word.now }
+{
+    let [high, low] = word else {
+        return None;
+    };
+    let high = char::from(*high).to_digit(16)?;
+    let low = char::from(*low).to_digit(16)?;
+    Some((high * 16 + low) as u8)
 }
 
 /// Adds the bytes of a word of hex digits, two for each, the first one first; false where it is none.

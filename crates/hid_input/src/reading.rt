@@ -1,7 +1,9 @@
 //! The descriptor of a file, whatever form it has.
 
-ghost use Rattle.std.specs.Prelude.{◌≡◌, false, true, IfOk, IfErr, Err};
+ghost use Rattle.std.specs.Prelude.{◌≡◌, ℕ, ◌==◌, ◌-◌, ◌&&◌, nat_le, false, true, List, length, slice_index, take, Some, IfOk, IfErr, Err};
 ghost use Rattle.std.specs.List.{list_all};
+ghost use Rattle.std.specs.Char.{is_ascii_hexdigit};
+ghost use Rattle.hid_input.specs.Hex.{words_of, bytes_of, is_offset, IsHex};
 ghost use Rattle.hid_input.specs.Faults.{of_text};
 ghost use Rattle.hid_input.specs.Text.{is_space, is_text_byte, has_printed, is_text, is_utf16, without_mark};
 
@@ -9,11 +11,11 @@ use crate::code::{has_array, read_array};
 use crate::decimal::read_decimal;
 use crate::fault::{InputCause, InputFault};
 use crate::items::{has_items, read_items};
-use crate::parts::{SPACES, line_number, up_to};
+use crate::parts::{first_word, line_number};
 use crate::recorded::{has_recorded, read_dumped, read_recorded};
 use crate::spelled::{is_spelled, read_spelled};
 use crate::strings::{has_string, read_string};
-use crate::ways::{add_dumps, agreed};
+use crate::ways::{add_dumps, agreed, are_all};
 use std::alloc::{AllocError, Global};
 
 /// Whether a byte is a blank, a tab, or an end of a line or of a page.
@@ -70,16 +72,46 @@ fn is_utf16(bytes: &[u8]) -> bool
 }
 
 /// Whether a word is an offset by its looks: a colon after it, or four zeros or more.
-fn is_offset(word: &[u8]) -> bool {
-    match word {
-        [digits @ .., b':'] => digits.iter().all(|byte| byte.is_ascii_hexdigit()),
-        _ => word.len() >= 4 && word.iter().all(|byte| *byte == b'0'),
+fn is_offset(word: &[u8]) -> bool
+    ensures { result ≡ is_offset word.now }
+{
+    is_marked_offset(word) || is_zero(word)
+}
+
+/// Whether a word is hex digits and a colon.
+fn is_marked_offset(word: &[u8]) -> bool
+    ensures { result ≡ (nat_le 1 (length word.now) && ((slice_index word.now (length word.now - 1) == 58) && list_all is_ascii_hexdigit (take (length word.now - 1) word.now))) }
+{
+    match word.len() {
+        0 => false,
+        length => word[length - 1] == b':' && are_digits(&word[..length - 1]),
     }
+}
+
+/// Whether each byte is a hex digit.
+fn are_digits(word: &[u8]) -> bool
+    ensures { result ≡ list_all is_ascii_hexdigit word.now }
+{
+    word.iter().all(|byte| byte.is_ascii_hexdigit())
+}
+
+/// Whether each byte is a zero.
+fn are_zeros(word: &[u8]) -> bool
+    ensures { result ≡ list_all (λ byte. byte == 48) word.now }
+{
+    word.iter().all(|byte| *byte == b'0')
+}
+
+/// Whether a word is four zeros or more.
+fn is_zero(word: &[u8]) -> bool
+    ensures { result ≡ (nat_le 4 (length word.now) && list_all (λ byte. byte == 48) word.now) }
+{
+    word.len() >= 4 && are_zeros(word)
 }
 
 /// Whether a word is hex digits of several bytes.
 fn is_long(word: &[u8]) -> bool {
-    word.len() >= 4 && word.iter().all(|byte| byte.is_ascii_hexdigit())
+    word.len() >= 4 && are_digits(word)
 }
 
 /// Why a line of a dump can't be read: after its offset it has nothing but words of several bytes, or something else.
@@ -116,24 +148,30 @@ fn read_offset_dump(alloc: Global, text: &[u8]) -> Result<Vec<u8>, InputFault> {
 
 /// The bytes of hex, which may be decimal, and of which a first column may count the bytes: in each way in which the text can be
 /// read they are the same.
-fn read_hex(alloc: Global, text: &[u8]) -> Result<Vec<u8>, InputFault> {
+fn read_hex(alloc: Global, text: &[u8]) -> Result<Vec<u8>, InputFault>
+    ensures pairs { (bytes : List ℕ) → bytes_of (words_of text.now) ≡ Some bytes → IfOk result (λ read. read.items ≡ bytes) }
+{
     let spelled = read_spelled(alloc, text)?;
-    let mut readings = Vec::new(alloc);
-    readings.push(spelled).map_err(AllocError::from)?;
+    let mut others = Vec::new(alloc);
     if let Some(decimal) = read_decimal(alloc, text)? {
-        readings.push(decimal).map_err(AllocError::from)?;
+        others.push(decimal).map_err(AllocError::from)?;
     }
-    let _reached = add_dumps(alloc, text, &mut readings)?;
-    match agreed(readings)? {
-        Some(bytes) => Ok(bytes),
-        None => Err(InputFault::of_text(InputCause::NoDescriptor)),
+    let _reached = add_dumps(alloc, text, &mut others)?;
+    if !are_all(others.as_slice(), spelled.as_slice()) {
+        return Err(InputFault::of_text(InputCause::TwoWays));
     }
+    Ok(spelled)
 }
 
 /// The descriptor in text.
-fn descriptor_in_text(alloc: Global, text: &[u8]) -> Result<Vec<u8>, InputFault> {
-    if is_offset(up_to(text.trim_ascii_start(), SPACES)) {
+fn descriptor_in_text(alloc: Global, text: &[u8]) -> Result<Vec<u8>, InputFault>
+    ensures hex { (bytes : List ℕ) → IsHex text.now bytes → IfOk result (λ read. read.items ≡ bytes) }
+{
+    if is_offset(first_word(text)) {
         return read_offset_dump(alloc, text);
+    }
+    if is_spelled(text) {
+        return read_hex(alloc, text);
     }
     if has_recorded(text) {
         return read_recorded(alloc, text);
@@ -143,9 +181,6 @@ fn descriptor_in_text(alloc: Global, text: &[u8]) -> Result<Vec<u8>, InputFault>
     }
     if has_items(text) {
         return read_items(alloc, text);
-    }
-    if is_spelled(text) {
-        return read_hex(alloc, text);
     }
     if has_array(text) {
         return read_array(alloc, text);
@@ -164,6 +199,8 @@ fn descriptor_in_text(alloc: Global, text: &[u8]) -> Result<Vec<u8>, InputFault>
 /// An [`InputFault`]: what is wrong with the form that is found, or that there is none.
 pub fn descriptor_in(alloc: Global, bytes: &[u8]) -> Result<Vec<u8>, InputFault>
     ensures binary { is_text (without_mark bytes.now) ≡ false → IfOk result (λ read. read.items ≡ bytes.now) }
+    ensures hex { (hex : List ℕ) → is_text (without_mark bytes.now) ≡ true → IsHex (without_mark bytes.now) hex
+        → IfOk result (λ read. read.items ≡ hex) }
     ensures utf16 { is_utf16 bytes.now ≡ true → result ≡ Err (of_text InputCause.Utf16) }
     ensures memory { is_utf16 bytes.now ≡ false → is_text (without_mark bytes.now) ≡ false
         → IfErr result (λ fault. fault ≡ of_text InputCause.Memory) }

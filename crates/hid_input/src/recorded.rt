@@ -2,7 +2,7 @@
 
 use crate::digits::number_of;
 use crate::fault::{InputCause, InputFault};
-use crate::parts::{SPACES, line_number, up_to};
+use crate::parts::{first_word, line_number};
 use crate::spelled::{is_spelled, read_spelled};
 use std::alloc::{AllocError, Global};
 
@@ -20,7 +20,7 @@ pub fn has_recorded(text: &[u8]) -> bool {
 /// The bytes of `COUNT HEX`, if they are so many.
 fn read_counted(alloc: Global, counted: &[u8]) -> Result<Vec<u8>, InputFault> {
     let counted = counted.trim_ascii();
-    let count = up_to(counted, SPACES);
+    let count = first_word(counted);
     let said = number_of(count, 10).unwrap_or(0);
     let hex = counted.strip_prefix(count).unwrap_or(counted);
     let bytes = read_spelled(alloc, hex)?;

@@ -1,5 +1,11 @@
 //! Bytes in hex, in whatever way they are spelled: `05 01`, `0501`, `05:01`, `0x05, 0x01`, `\x05\x01`.
 
+ghost use Rattle.std.specs.Prelude.{◌≡◌, ℕ, ◌==◌, List, Some, IfOk, map};
+ghost use Rattle.std.specs.List.{list_any, list_all};
+ghost use Rattle.std.specs.Option.{option_map};
+ghost use Rattle.std.specs.Char.{is_ascii_hexdigit};
+ghost use Rattle.hid_input.specs.Hex.{is_separator, words_of, bytes_of, is_spelled_byte, is_spelled};
+
 use crate::digits::{add_pairs, byte_of, pair_of};
 use crate::fault::{InputCause, InputFault};
 use crate::parts::line_number;
@@ -9,7 +15,9 @@ use std::alloc::{AllocError, Global};
 const LONGEST_WORD: usize = 16;
 
 /// What parts bytes.
-pub fn is_separator(byte: u8) -> bool {
+pub fn is_separator(byte: u8) -> bool
+    ensures { result ≡ is_separator byte }
+{
     byte.is_ascii_whitespace() || matches!(byte, b',' | b';' | b':' | b'-' | b'\\')
 }
 
@@ -24,10 +32,12 @@ fn marked_digits(word: &[u8]) -> Option<&[u8]> {
 
 /// The byte of a word: two hex digits, or one or two that are marked as hex.
 fn byte_in(word: &[u8]) -> Option<u8> {
-    match marked_digits(word) {
-        Some(digits @ ([_] | [_, _])) => byte_of(digits, 16),
-        Some(_) => None,
-        None => pair_of(word),
+    if let Some(byte) = pair_of(word) {
+        return Some(byte);
+    }
+    match marked_digits(word)? {
+        digits @ ([_] | [_, _]) => byte_of(digits, 16),
+        _ => None,
     }
 }
 
@@ -127,31 +137,96 @@ fn unknown_word(text: &[u8]) -> InputFault {
     InputFault::of_text(InputCause::WordOrder)
 }
 
-/// The bytes of hex in any spelling: each word a byte, or each line a run of digits.
+/// The words of a text.
 ///
 /// # Errors
-/// [`InputCause::BadHex`] where a word isn't hex; [`InputCause::Offset`] and [`InputCause::WordOrder`] where longer words stand
-/// beside others; [`InputCause::Memory`].
-pub fn read_spelled(alloc: Global, text: &[u8]) -> Result<Vec<u8>, InputFault> {
-    check_words(text)?;
-    if !are_bytes(text) && !are_runs(text) {
-        return Err(unknown_word(text));
-    }
+/// Out of memory.
+fn words_of(alloc: Global, text: &[u8]) -> Result<Vec<&[u8]>, AllocError>
+    ensures { IfOk result (λ words. map (λ word. word.now) words.items ≡ words_of text.now) }
+{
+    text.split(|byte| is_separator(*byte))
+        .filter(|word| !word.is_empty())
+        .collect(alloc)
+}
+
+/// The bytes of pairs; none where another word stands.
+///
+/// # Errors
+/// Out of memory.
+#[tactic(auto, unfolding(crate::specs::Hex::bytes_of))]
+fn read_pairs(alloc: Global, words: &[&[u8]]) -> Result<Option<Vec<u8>>, AllocError>
+    ensures { IfOk result (λ read. option_map (λ bytes. bytes.items) read ≡ bytes_of (map (λ word. word.now) words.now)) }
+{
     let mut bytes = Vec::new(alloc);
-    for word in text.split(|byte| is_separator(*byte)) {
+    for word in words {
+        match pair_of(word) {
+            None => return Ok(None),
+            Some(byte) => bytes.push(byte)?,
+        }
+    }
+    Ok(Some(bytes))
+}
+
+/// The bytes of words in any spelling.
+fn read_words(alloc: Global, words: &[&[u8]]) -> Result<Vec<u8>, InputFault> {
+    let mut bytes = Vec::new(alloc);
+    for word in words {
         add_word(&mut bytes, word)?;
     }
     Ok(bytes)
 }
 
+/// The bytes of hex in any spelling: each word a byte, or each line a run of digits.
+///
+/// # Errors
+/// [`InputCause::BadHex`] where a word isn't hex; [`InputCause::Offset`] and [`InputCause::WordOrder`] where longer words stand
+/// beside others; [`InputCause::Memory`].
+pub fn read_spelled(alloc: Global, text: &[u8]) -> Result<Vec<u8>, InputFault>
+    ensures pairs { (bytes : List ℕ) → bytes_of (words_of text.now) ≡ Some bytes → IfOk result (λ read. read.items ≡ bytes) }
+{
+    check_words(text)?;
+    let words = words_of(alloc, text)?;
+    if let Some(bytes) = read_pairs(alloc, words.as_slice())? {
+        return Ok(bytes);
+    }
+    if !are_bytes(text) && !are_runs(text) {
+        return Err(unknown_word(text));
+    }
+    read_words(alloc, words.as_slice())
+}
+
+/// Whether a text has a hex digit.
+fn has_digit(text: &[u8]) -> bool
+    ensures { result ≡ list_any is_ascii_hexdigit text.now }
+{
+    text.iter().any(|byte| byte.is_ascii_hexdigit())
+}
+
+/// Whether a text has this byte.
+fn has_byte(text: &[u8], wanted: u8) -> bool
+    ensures { result ≡ list_any (λ byte. byte == wanted) text.now }
+{
+    text.iter().any(|byte| *byte == wanted)
+}
+
+/// Whether a byte may stand in hex.
+fn is_spelled_byte(byte: u8) -> bool
+    ensures { result ≡ is_spelled_byte byte }
+{
+    byte.is_ascii_hexdigit() || is_separator(byte) || matches!(byte, b'x' | b'X' | b'h' | b'H')
+}
+
+/// Whether each byte may stand in hex.
+fn are_spelled_bytes(text: &[u8]) -> bool
+    ensures { result ≡ list_all is_spelled_byte text.now }
+{
+    text.iter().all(|byte| is_spelled_byte(*byte))
+}
+
 /// Whether a text may be bytes in hex: it has nothing but hex digits, marks and separators. Where a dash stands, no blank
 /// does: `od -t f4` writes numbers such as 7e-45.
-pub fn is_spelled(text: &[u8]) -> bool {
-    text.iter().any(|byte| byte.is_ascii_hexdigit())
-        && !(text.contains(&b'-') && text.contains(&b' '))
-        && text.iter().all(|byte| {
-            byte.is_ascii_hexdigit()
-                || is_separator(*byte)
-                || matches!(*byte, b'x' | b'X' | b'h' | b'H')
-        })
+pub fn is_spelled(text: &[u8]) -> bool
+    ensures { result ≡ is_spelled text.now }
+{
+    has_digit(text) && !(has_byte(text, b'-') && has_byte(text, b' ')) && are_spelled_bytes(text)
 }

@@ -13,7 +13,7 @@ use std::alloc::{AllocError, Global};
 const BASES: [u32; 3] = [16, 10, 8];
 
 /// Whether all readings give these bytes.
-fn are_all(readings: &[Vec<u8>], bytes: &[u8]) -> bool
+pub fn are_all(readings: &[Vec<u8>], bytes: &[u8]) -> bool
     ensures { IsTrue result ↔ AreAll readings.now bytes.now }
 {
     readings.iter().all(|reading| reading.as_slice() == bytes)
