@@ -13,8 +13,8 @@
 //! ```text
 //!   HostDevice                                 bus
 //!   control_token, control_payload    ---- SETUP 2D 01 00, C3 80 06 .. --->   or OUT with data, or IN
-//!   control_take: (Running, false)    <--- ACK D2 -------------------------   or data, NAK, STALL, nothing
-//!   control_take: (Running, true)     ---- ACK D2 ------------------------>   after data
+//!   control_take: (Running, false)    <--- ACK ----------------------------   or data, NAK, STALL, nothing
+//!   control_take: (Running, true)     ---- ACK --------------------------->   after data
 //! ```
 //! `Device`, `Status` and `GetConfiguration` may begin in every state, `Protocol` in `Parsed`, the other requests of reports
 //! in `Parsed` and `Ready`, and `EndpointStatus` where `Halt` and `Clear` may; the state stays. One transfer runs at a time;

@@ -2,7 +2,7 @@
 //! ```text
 //!   control token          the token of the next try, or why there is none
 //!   control payload        the data packet that goes with it, or `none`
-//!   control take D2        what came after them, a packet or `none`: as of `try`, and `ack` where ACK is sent
+//!   control take 5A        what came after them, a packet or `none`: as of `try`, and `ack` where ACK is sent
 //!   carry 5 config         a request, from its begin to its end, over a bus that loses each fifth of all packets that either
 //!                          end sends; 0 loses none. What the last try reports, how many packets were sent, and where the host
 //!                          stands then
