@@ -24,8 +24,8 @@ use Rattle.hid_text.specs.declared.line.Line.{Line}
 use Rattle.hid_text.specs.declared.line.Line.TheVariants as line
 use Rattle.hid_text.specs.declared.short.ShortLine.{ShortLine}
 use Rattle.hid_text.specs.declared.short.ShortLine.TheVariants as short
-use Rattle.hid_script.specs.declared.change_kind.ChangeKind.{ChangeKind}
-use Rattle.hid_script.specs.declared.change_kind.ChangeKind.TheVariants as wanted
+use Rattle.hid_text.specs.declared.change_kind.ChangeKind.{ChangeKind}
+use Rattle.hid_text.specs.declared.change_kind.ChangeKind.TheVariants as wanted
 use Rattle.hid_text.specs.Line.{meaning_of}
 use Rattle.hid_text.specs.Output.{IsPrefix}
 use Rattle.hid_script.specs.Session.{Session, Outcome, success, failure, at_first, Repeats}
@@ -38,11 +38,11 @@ use Rattle.hid_script.proofs.PlaceLemmas.{first_begins, broken_run}
 -- ---- what is refused prints nothing
 
 -- a part that is refused has printed nothing
-abbrev PrintsNothing : (Session → Outcome → Type 0) → Type 0
+abbrev pub PrintsNothing : (Session → Outcome → Type 0) → Type 0
 PrintsNothing Part = (session : Session) (text : List ℕ) (cause : Cause) → Part session (record { text = text; end = Err cause }) → text ≡ []
 
 -- the outcome of a part that was refused after this text
-abbrev refused_with : List ℕ → Cause → Outcome
+abbrev pub refused_with : List ℕ → Cause → Outcome
 refused_with text cause = record { text = text; end = Err cause }
 
 not_accepted : (text other : List ℕ) (cause : Cause) (session : Session)
@@ -66,7 +66,7 @@ no_layout_text : (bytes : List ℕ) → PrintsNothing (LayoutPrints bytes)
 no_layout_text bytes session text cause (inl h) = not_accepted text _ cause _ h.1.1
 no_layout_text bytes session text cause (inr h) = no_text text cause _ h.1.1
 
-no_step_text : (step : Step) → PrintsNothing (StepPrints step)
+pub no_step_text : (step : Step) → PrintsNothing (StepPrints step)
 no_step_text step session text cause (inl h) = not_accepted text _ cause _ h.3
 no_step_text step session text cause (inr h) = no_text text cause _ h.2
 
@@ -124,7 +124,7 @@ repeats_begin Part nothing (suc n) session text cause (inl h) =
       inl (h.0, h.1, success h.2.text more.1, h.3, more.3, ap (λ t. success t more.1) whole),
     )
 
-meant_begins : (session : Session) (meaning : Result Line LineFault) (text : List ℕ) (cause : Cause)
+pub meant_begins : (session : Session) (meaning : Result Line LineFault) (text : List ℕ) (cause : Cause)
     → MeaningPrints session meaning (refused_with text cause) → BeginsMeant session meaning text
 meant_begins session (Ok said) text cause h =
     repeats_begin (LineOutcomeOnce said) (once_prints_nothing said) (times said) session text cause h

@@ -16,8 +16,8 @@ use Rattle.hid_bus.specs.declared.step.Step.TheVariants as step
 use Rattle.hid_stack.specs.Members.{Member}
 use Rattle.hid_stack.specs.Attaching.{member_at_start}
 use Rattle.hid_script.specs.declared.fault.Cause.{Cause}
-use Rattle.hid_script.specs.declared.change_kind.ChangeKind.{ChangeKind}
-use Rattle.hid_script.specs.declared.change_kind.ChangeKind.TheVariants as wanted
+use Rattle.hid_text.specs.declared.change_kind.ChangeKind.{ChangeKind}
+use Rattle.hid_text.specs.declared.change_kind.ChangeKind.TheVariants as wanted
 use Rattle.hid_text.specs.declared.fault.LineFault.{LineFault}
 use Rattle.hid_text.specs.declared.line.Line.{Line}
 use Rattle.hid_text.specs.declared.line.Line.TheVariants as line

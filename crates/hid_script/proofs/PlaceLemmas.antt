@@ -250,7 +250,7 @@ piece_stops place a b e c d f read written text piece now fault (Err x) from gre
 
 -- ---- a run that doesn't begin
 
-begins_meant : (session : Session) (meaning : Result Line LineFault) → BeginsMeant session meaning []
+pub begins_meant : (session : Session) (meaning : Result Line LineFault) → BeginsMeant session meaning []
 unfolding Repeats
 begins_meant session (Ok said) = (0, session, omega arith, refl)
 begins_meant session (Err cause) = refl

@@ -39,8 +39,8 @@ use Rattle.hid_text.specs.EventText.{event_text}
 use Rattle.hid_text.specs.LayoutText.{layout_text}
 use Rattle.hid_text.proofs.ShownLemmas.{shows_both, shows_layout, shows_nothing, shows_step, shows_values}
 use Rattle.hid_script.specs.declared.fault.Cause.{Cause}
-use Rattle.hid_script.specs.declared.change_kind.ChangeKind.{ChangeKind}
-use Rattle.hid_script.specs.declared.change_kind.ChangeKind.TheVariants as wanted
+use Rattle.hid_text.specs.declared.change_kind.ChangeKind.{ChangeKind}
+use Rattle.hid_text.specs.declared.change_kind.ChangeKind.TheVariants as wanted
 use Rattle.hid_script.specs.Laws.{LinesPrintLives, RunsPrintLives}
 use Rattle.hid_script.specs.Printing.{AllDo, AttachesOne, BeginsToDo, ChangesOne, ScriptActs, DoesShort, DoUpTo, PrintsHistories}
 use Rattle.hid_script.specs.Runs.{AllPrint, FirstBegins}
@@ -52,18 +52,18 @@ use Rattle.hid_script.specs.LineOutput.{BeginsMeant, LineBegins, LineOutcomeOnce
 -- ---- what a part does
 
 -- no device is attached with an open round, and each step is taken
-abbrev HaveNoRound : List Action → Type 0
+abbrev pub HaveNoRound : List Action → Type 0
 HaveNoRound [] = Unit {0}
 HaveNoRound (Attached m ∷ acts) = (m.link.current ≡ None) × HaveNoRound acts
 HaveNoRound (Taken x ∷ acts) = HaveNoRound acts
 HaveNoRound (Unconcluded dev fate ∷ acts) = ⊥
 
 -- a part of a script did this to a bus, and printed the lines of its events
-record Done (members : List Member) (text : List ℕ) (acts : List Action) (next : List Member) : Type 0 where
-  shows : ShowsEvents text (deliveries_of_actions members acts)
-  bus : next ≡ bus_after_actions members acts
-  few : length next < 10
-  no_round : HaveNoRound acts
+pub record Done (members : List Member) (text : List ℕ) (acts : List Action) (next : List Member) : Type 0 where
+  pub shows : ShowsEvents text (deliveries_of_actions members acts)
+  pub bus : next ≡ bus_after_actions members acts
+  pub few : length next < 10
+  pub no_round : HaveNoRound acts
 
 no_rounds : (first rest : List Action) → HaveNoRound first → HaveNoRound rest → HaveNoRound (first ++ rest)
 no_rounds [] rest h k = k
@@ -71,7 +71,7 @@ no_rounds (Attached m ∷ first) rest h k = (h.0, no_rounds first rest h.1 k)
 no_rounds (Taken x ∷ first) rest h k = no_rounds first rest h k
 no_rounds (Unconcluded dev fate ∷ first) rest h k = absurd h
 
-done_both : (members middle next : List Member) (a b : List ℕ) (first rest : List Action)
+pub done_both : (members middle next : List Member) (a b : List ℕ) (first rest : List Action)
     → Done members a first middle → Done middle b rest next → Done members (a ++ b) (first ++ rest) next
 done_both members middle next a b first rest h k =
     let later : ShowsEvents b (deliveries_of_actions (bus_after_actions members first) rest) =
@@ -86,7 +86,7 @@ done_both members middle next a b first rest h k =
     }
 
 -- a part that printed a text without events, and left the bus as it was
-done_nothing : (members next : List Member) (text : List ℕ) → length members < 10 → ShowsEvents text [] → next ≡ members → Done members text [] next
+pub done_nothing : (members next : List Member) (text : List ℕ) → length members < 10 → ShowsEvents text [] → next ≡ members → Done members text [] next
 done_nothing members next text few shows same = record { shows = shows; bus = same; few = subst (λ (ms : List Member). length ms < 10) (sym same) few; no_round = tt }
 
 -- ---- what it leaves
@@ -130,7 +130,7 @@ few_at members (Control dev fate) few = few_of_one members dev _ few
 few_at members (Halt dev) few = few_of_one members dev _ few
 few_at members (Reset dev) few = few_of_one members dev _ few
 
-step_done : (x : Step) (session next : Session) (text : List ℕ) → length session.members < 10
+pub step_done : (x : Step) (session next : Session) (text : List ℕ) → length session.members < 10
     → StepPrints x session (success text next) → Done session.members text (Taken x ∷ []) next.members
 step_done x session next text few (inr h) = absurd (not_refused text next h.0 h.2)
 step_done x session next text few (inl h) =
@@ -191,7 +191,7 @@ just_once Part session next text (inl h) =
 -- ---- lines
 
 -- what a line did, and printed
-abbrev LineDone : Line → Session → List ℕ → Session → Type 0
+abbrev pub LineDone : Line → Session → List ℕ → Session → Type 0
 LineDone said session text next =
     (acts : List Action) × ScriptActs said session.members acts × Done session.members text acts next.members
 
@@ -291,7 +291,7 @@ short_done (short.Halt dev) session next text few h = (
   step_done (Halt dev) session next text few (just_once (ShortLinePrints (short.Halt dev)) session next text h),
 )
 
-line_done : (said : Line) (session next : Session) (text : List ℕ) → length session.members < 10
+pub line_done : (said : Line) (session next : Session) (text : List ℕ) → length session.members < 10
     → Repeats (times said) (LineOutcomeOnce said) session (success text next) → LineDone said session text next
 unfolding LineOutcomeOnce times ScriptActs
 line_done line.Nothing session next text few h =
@@ -372,7 +372,7 @@ has_memory_since (Unconcluded dev fate ∷ before) since m device h = absurd h
 lines_are : (text : List ℕ) (delivered : List Delivered) (dev : ℕ) → ShowsEvents text delivered → event_lines dev text ≡ map (event_text dev) (from_device dev delivered)
 lines_are text delivered dev h = ap (event_lines dev) (sym (append-nil text)) ∙ h dev [] ∙ append-nil (map (event_text dev) (from_device dev delivered))
 
-lives_of : (Did : List Action → Type 0) (text : List ℕ) (last : List Member) (acts : List Action) → Did acts
+pub lives_of : (Did : List Action → Type 0) (text : List ℕ) (last : List Member) (acts : List Action) → Did acts
     → Done [] text acts last → PrintsHistories Did text last
 lives_of Did text last acts did it =
     record {

@@ -9,7 +9,7 @@ use Rattle.hid_bus.specs.declared.step.Step.TheVariants as step
 use Rattle.hid_script.specs.declared.fault.Cause.{Cause}
 use Rattle.hid_script.specs.declared.fault.Cause.TheVariants as causes
 use Rattle.hid_script.specs.declared.fault.StepFault.TheVariants as faults
-use Rattle.hid_script.specs.declared.change_kind.ChangeKind.TheVariants as wanted
+use Rattle.hid_text.specs.declared.change_kind.ChangeKind.TheVariants as wanted
 use Rattle.hid_text.specs.declared.fault.LineFault.{LineFault}
 use Rattle.hid_text.specs.declared.fault.LineFault.TheVariants as lines
 use Rattle.hid_text.specs.declared.line.Line.{Line}

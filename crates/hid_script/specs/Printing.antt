@@ -23,8 +23,8 @@ use Rattle.hid_text.specs.EventText.{event_text}
 use Rattle.hid_script.specs.declared.fault.Cause.TheVariants.{Write}
 use Rattle.hid_script.specs.declared.fault.ScriptFault.{ScriptFault}
 use Rattle.hid_script.specs.declared.summary.Summary.{Summary}
-use Rattle.hid_script.specs.declared.change_kind.ChangeKind.{ChangeKind}
-use Rattle.hid_script.specs.declared.change_kind.ChangeKind.TheVariants as wanted
+use Rattle.hid_text.specs.declared.change_kind.ChangeKind.{ChangeKind}
+use Rattle.hid_text.specs.declared.change_kind.ChangeKind.TheVariants as wanted
 use Rattle.hid_script.specs.Steps.{config_of, change_of}
 
 -- ---- what a script does to its bus

@@ -29,8 +29,8 @@ use Rattle.hid_host.specs.declared.host.Transfer.{Transfer}
 use Rattle.hid_host.specs.Host.{read_bytes_of}
 use Rattle.hid_script.specs.declared.fault.Cause.TheVariants as causes
 use Rattle.hid_script.specs.declared.fault.StepFault.TheVariants as faults
-use Rattle.hid_script.specs.declared.change_kind.ChangeKind.{ChangeKind}
-use Rattle.hid_script.specs.declared.change_kind.ChangeKind.TheVariants.{Press, Release, Null, Set, Move}
+use Rattle.hid_text.specs.declared.change_kind.ChangeKind.{ChangeKind}
+use Rattle.hid_text.specs.declared.change_kind.ChangeKind.TheVariants.{Press, Release, Null, Set, Move}
 use Rattle.hid_text.specs.LayoutText.{layout_text}
 use Rattle.hid_text.specs.ValuesText.{values_text}
 use Rattle.hid_text.specs.StepText.{step_text}

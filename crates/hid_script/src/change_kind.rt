@@ -1,20 +1,11 @@
-//! What a line wants of a control.
+//! The change that a line makes.
 
 ghost use Rattle.std.specs.Prelude.{◌≡◌};
 ghost use Rattle.hid_script.specs.Steps.{change_of};
 
 use hid_layout::ControlId;
 use hid_snapshots::Change;
-
-/// A change, without the control that changes.
-#[derive(Clone, Copy)]
-pub enum ChangeKind {
-    Press,
-    Release,
-    Null,
-    Set(i64),
-    Move(i32),
-}
+use hid_text::ChangeKind;
 
 /// The change of this control.
 pub fn change_of(wanted: ChangeKind, control: ControlId) -> Change

@@ -2,22 +2,23 @@
 
 ghost use Rattle.std.specs.Prelude.{◌≡◌};
 ghost use Rattle.hid_script.specs.Session.{at_first, Repeats};
-ghost use Rattle.hid_script.specs.Steps.{LayoutPrints, ValuesPrint, DevicePrints, StepPrints, ChangePrints, finished_read};
+ghost use Rattle.hid_script.specs.Steps.{LayoutPrints, ValuesPrint, DevicePrints, StepPrints, ChangePrints, change_of, finished_read};
 ghost use Rattle.hid_script.specs.LineOutput.{ShortLinePrints, LineOutcomeOnce, short_times, times, CarriesOut, Begins, LinePrints, LineBegins};
-ghost use Rattle.hid_script.specs.Place.{AppendsOutput, AppendsOnce};
+ghost use Rattle.hid_script.specs.Place.{AppendsOutput, AppendsOnce, ended};
 ghost use Rattle.hid_script.specs.Streams.{EndsText};
 ghost use Rattle.hid_bus.specs.declared.step.Step.TheVariants as Taking;
 
-use super::change_kind::{ChangeKind, change_of};
+use super::change_kind::change_of;
 use super::fault::Cause;
 use super::options::Options;
 use super::output::write_text;
 use super::streams::Sink;
 use hid_device::{Boot, Config};
-use hid_layout::{Layout, Usage};
-use hid_stack::{Delivered, Request, Rig, Start, Step};
+use hid_layout::{ControlId, Layout, Usage};
+use hid_stack::{Delivered, Request, Rig, Start, Step, Told};
 use hid_text::{
-    Line, ShortLine, print_layout, print_step, print_values, read_line, read_short, says_nothing,
+    ChangeKind, Line, ShortLine, print_layout, print_step, print_values, read_line, read_short,
+    says_nothing,
 };
 use hid_usages::input_report;
 use std::alloc::Global;
@@ -81,8 +82,10 @@ fn finished_read<'a>(rig: &'a Rig, step: &Step) -> &'a [u8]
 }
 
 impl Interpreter {
-    ghost use Rattle.std.specs.Prelude.{IfOk, IfErr};
-    ghost use Rattle.hid_script.specs.Interpreter.{session_of};
+    ghost use Rattle.std.specs.Prelude.{IfOk, IfErr, OnOk};
+    ghost use Rattle.hid_stack.specs.Rig.{deliveries_of_step};
+    ghost use Rattle.hid_stack.specs.StepResult.{StepReturns};
+    ghost use Rattle.hid_script.specs.Interpreter.{session_of, last_events};
 
     /// An interpreter that has carried out no line.
     ///
@@ -111,6 +114,20 @@ impl Interpreter {
         ensures { result ≡ (session_of self.now).events }
     {
         self.events
+    }
+
+    /// The devices with their hosts.
+    pub fn rig(&self) -> &Rig
+        ensures { result.now ≡ (session_of self.now).members }
+    {
+        &self.rig
+    }
+
+    /// The events of the last step that was taken, each with its control.
+    pub fn delivered(&self) -> &[Delivered]
+        ensures { result.now ≡ last_events self.now }
+    {
+        self.delivered.as_slice()
     }
 
     /// Carries out a line, without its end.
@@ -183,7 +200,10 @@ impl Interpreter {
     }
 
     /// Carries out a short line as often as it says.
-    fn repeat<W: Sink>(&mut self, line: &ShortLine, writer: &mut W) -> Result<(), Cause>
+    ///
+    /// # Errors
+    /// As [`Interpreter::line`].
+    pub fn repeat<W: Sink>(&mut self, line: &ShortLine, writer: &mut W) -> Result<(), Cause>
         ensures prints { AppendsOutput (W.contents writer.old) (W.contents writer.new)
             (Repeats (short_times line.now) (ShortLinePrints line.now) (session_of self.old))
             (Begins (short_times line.now) (ShortLinePrints line.now) (session_of self.old)) result
@@ -232,9 +252,12 @@ impl Interpreter {
         }
     }
 
-    /// Prints the layout that a descriptor gives, and keeps it.
+    /// Prints the layout that a descriptor of any length gives, and keeps it.
+    ///
+    /// # Errors
+    /// X4 where the descriptor is refused; X6 or X7.
     #[inline(never)]
-    fn lay_out<W: Sink>(&mut self, descriptor: &[u8], writer: &mut W) -> Result<(), Cause>
+    pub fn lay_out<W: Sink>(&mut self, descriptor: &[u8], writer: &mut W) -> Result<(), Cause>
         ensures prints { AppendsOnce (W.contents writer.old) (W.contents writer.new)
             (LayoutPrints descriptor.now (session_of self.old)) result (session_of self.new) }
         ensures outside { EndsText W.calls writer.old writer.new result }
@@ -250,8 +273,11 @@ impl Interpreter {
     }
 
     /// Prints the values of a report of the layout that is kept.
+    ///
+    /// # Errors
+    /// X9 where none is kept, X4 where the report is refused; X6 or X7.
     #[inline(never)]
-    fn print_values_of<W: Sink>(&mut self, bytes: &[u8], writer: &mut W) -> Result<(), Cause>
+    pub fn print_values_of<W: Sink>(&mut self, bytes: &[u8], writer: &mut W) -> Result<(), Cause>
         ensures prints { AppendsOnce (W.contents writer.old) (W.contents writer.new)
             (ValuesPrint bytes.now (session_of self.old)) result (session_of self.new) }
         ensures outside { EndsText W.calls writer.old writer.new result }
@@ -265,9 +291,12 @@ impl Interpreter {
         write_text(writer, self.text.as_bytes())
     }
 
-    /// Attaches a device, and prints its layout where layouts are asked for.
+    /// Attaches a device with a descriptor of any length, and prints its layout where layouts are asked for.
+    ///
+    /// # Errors
+    /// X4 where the rig refuses it; X6 or X7.
     #[inline(never)]
-    fn attach<W: Sink>(
+    pub fn attach<W: Sink>(
         &mut self,
         start: Start,
         boot: Boot,
@@ -309,6 +338,27 @@ impl Interpreter {
         ensures outside { EndsText W.calls writer.old writer.new result }
     {
         let control = self.rig.find(dev, usage)?;
+        let change = change_of(wanted, control);
+        self.step(&Step::Change { dev, change }, writer)
+    }
+
+    /// Changes a control by its place: where several have one usage, a line names the least of them alone.
+    ///
+    /// # Errors
+    /// X4 where the change is refused; X6 or X7.
+    #[inline(never)]
+    pub fn change_at<W: Sink>(
+        &mut self,
+        dev: u8,
+        control: ControlId,
+        wanted: ChangeKind,
+        writer: &mut W,
+    ) -> Result<(), Cause>
+        ensures prints { AppendsOnce (W.contents writer.old) (W.contents writer.new)
+            (StepPrints (Taking.Change dev (change_of wanted control)) (session_of self.old)) result
+            (session_of self.new) }
+        ensures outside { EndsText W.calls writer.old writer.new result }
+    {
         let change = change_of(wanted, control);
         self.step(&Step::Change { dev, change }, writer)
     }
@@ -385,6 +435,26 @@ impl Interpreter {
             (StepPrints step.now (session_of self.old)) result (session_of self.new) }
         ensures outside { EndsText W.calls writer.old writer.new result }
     {
+        match self.take_step(step, writer) {
+            Ok(_) => Ok(()),
+            Err(cause) => Err(cause),
+        }
+    }
+
+    /// Takes a step of the bus, prints its result, and gives it.
+    ///
+    /// # Errors
+    /// X4 where the step is refused; X6 or X7.
+    #[inline(always)] // each sort of step pays for no other
+    pub fn take_step<W: Sink>(&mut self, step: &Step, writer: &mut W) -> Result<Told, Cause>
+        ensures prints { AppendsOnce (W.contents writer.old) (W.contents writer.new)
+            (StepPrints step.now (session_of self.old)) (ended result) (session_of self.new) }
+        ensures told { IfOk result
+            (λ told. StepReturns (session_of self.old).members step.now told) }
+        ensures events { OnOk result
+            (last_events self.new ≡ deliveries_of_step (session_of self.old).members step.now) }
+        ensures outside { EndsText W.calls writer.old writer.new (ended result) }
+    {
         self.delivered.clear();
         let told = self.rig.step(step, &mut self.delivered)?;
         self.text.clear();
@@ -399,6 +469,9 @@ impl Interpreter {
             delivered,
         )?;
         self.events = self.events.saturating_add(delivered.len() as u64);
-        write_text(writer, self.text.as_bytes())
+        match write_text(writer, self.text.as_bytes()) {
+            Ok(()) => Ok(told),
+            Err(cause) => Err(cause),
+        }
     }
 }

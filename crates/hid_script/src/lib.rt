@@ -19,6 +19,8 @@
 //! its text is written (each time, for a line with a count). A refused line ends the run; the text of the lines before it
 //! is written. [`parse_line`] says what a line means by itself.
 //!
+//! What reads lines of its own, as the test bench does, carries each out by an [`Interpreter`], which [`run`] is made of.
+//!
 //! The promise: [`run`] writes exactly the text of the script, by its clause. The lines of a device's events are the
 //! text of all that happened to the device: law [`laws::histories_are_printed`].
 #![tactic(auto)]
@@ -39,8 +41,10 @@ mod summary;
 pub use fault::{Cause, ScriptFault, StepFault};
 pub use fault_text::fault_line;
 pub use hid_text::{Line, ShortLine};
+pub use interpreter::Interpreter;
 pub use line::parse_line;
 pub use options::Options;
+pub use output::write_text;
 pub use runs::{MAX_READS, run};
 pub use streams::{ReadResult, Sink, Source, WriteFailed};
 pub use summary::Summary;

@@ -8,17 +8,20 @@ use Rattle.std.proofs.Math.ListN.{drop_of_length-le}
 use Rattle.std.proofs.Math.Numerals.{one-add}
 use Rattle.std.proofs.Math.Nat.{add-zero}
 use Rattle.std.specs.Prelude.{filter, position}
-use Rattle.std.specs.Option.{unwrap_or}
+use Rattle.std.specs.Option.{unwrap_or, option_map}
 use Rattle.std.specs.List.{slice_split, onto_first, position_or_len, slice_index}
 use Rattle.hid_text.specs.declared.line.Keyword.{Keyword}
 use Rattle.hid_text.specs.declared.line.Keyword.TheVariants as keywords
-use Rattle.hid_text.specs.declared.line.Line.TheVariants.{Nothing, Step}
+use Rattle.hid_text.specs.declared.line.Line.TheVariants.{Nothing, Layout, Values, Device, Step}
 use Rattle.hid_text.specs.declared.short.ShortLine.{ShortLine}
+use Rattle.hid_text.specs.declared.short.ShortLine.TheVariants.{Press, Release, Null, Set, Move, Frame, Poll, Control, Reset, Halt}
 use Rattle.hid_text.specs.declared.fault.LineFault.TheVariants.{LineTooLong}
-use Rattle.hid_text.specs.Arguments.{or_syntax}
+use Rattle.hid_text.specs.Arguments.{or_syntax, with_bytes, both, start_of, boot_of, control_meaning, set_meaning, move_meaning, frame_meaning, poll_meaning, one_device_meaning}
+use Rattle.hid_text.specs.Numbers.{device_of}
+use Rattle.hid_text.specs.Requests.{begin_meaning, begin_with, request_meaning}
 use Rattle.hid_text.specs.Short.{short_meaning}
-use Rattle.hid_text.specs.Line.{meaning_of, line_meaning, words_meaning, keyword_meaning, keyword_of}
-use Rattle.hid_text.specs.Words.{Word, is_blank, is_no_blank, words_of}
+use Rattle.hid_text.specs.Line.{meaning_of, line_meaning, words_meaning, keyword_meaning, keyword_of, device_meaning, attachment, short_of}
+use Rattle.hid_text.specs.Words.{Word, is_blank, is_no_blank, words_of, after_word, hex_of}
 
 -- blanks before the first word are none of it
 behind_blanks : (text : List ℕ) → words_of text ≡ words_of (drop (position_or_len is_no_blank text) text)
@@ -101,6 +104,16 @@ found_word text part start end found is ends =
     let word = one_word text part start found rest in
     (rw (more, at) word.0, omega (arith, at, word.1, length-take-le end part (omega (arith, at, prefix_len-le-length (λ b. not (is_blank b)) part))))
 
+-- what stands after a word that is found so
+pub after_found : (text part : List ℕ) (start end : ℕ) → position is_no_blank text ≡ Some start → part ≡ take (length text - start) (drop start text)
+    → end ≡ unwrap_or (position is_blank part) (length part) → take (length part - end) (drop end part) ≡ after_word text
+after_found text part start end found is ends =
+    let n = position_or_len is_no_blank text in
+    let at = cond_some (nat_lt n (length text)) n start found in
+    let same : part ≡ drop n text = is ∙ take_all (length text - start) (drop start text) (omega (arith, length-drop start text)) ∙ ap (λ k. drop k text) (sym at.1) in
+    take_all (length part - end) (drop end part) (omega (arith, length-drop end part)) ∙ ap (λ k. drop k part) (part_end part end ends)
+    ∙ ap (λ w. drop (position_or_len is_blank w) w) same
+
 -- ---- lines that say nothing
 
 short_line : (line : List ℕ) → length line ≤ 1024 → meaning_of line ≡ line_meaning (words_of line)
@@ -147,6 +160,57 @@ short_keyword keywords.Values words short is = absurd (cc)
 short_keyword keywords.Device words short is = absurd (cc)
 short_keyword keywords.Begin words short is = absurd (cc)
 short_keyword keyword words short is = ap (or_syntax Step) is
+
+step_said : (o : Option ShortLine) → short_of (or_syntax Step o) ≡ o
+step_said None = refl
+step_said (Some short) = refl
+
+-- words after a keyword say the short line that they are, if they are one
+short_words : (keyword : Keyword) (words : List Word) → short_of (words_meaning keyword words) ≡ short_meaning keyword words
+unfolding words_meaning short_meaning device_meaning begin_meaning
+short_words keywords.Layout words = elim (hex_of words) as (λ o. short_of (with_bytes Layout o) ≡ None) [ None ↦ refl | Some bytes ↦ refl ]
+short_words keywords.Values words = elim (hex_of words) as (λ o. short_of (with_bytes Values o) ≡ None) [ None ↦ refl | Some bytes ↦ refl ]
+short_words keywords.Device [] = refl
+short_words keywords.Device (start ∷ []) = refl
+short_words keywords.Device (start ∷ kind ∷ hex) = elim (both (start_of start) (boot_of kind)) as (λ said. short_of (attachment said hex) ≡ None) [
+  | None ↦ refl
+  | Some said ↦ elim (hex_of hex) as (λ o. short_of (with_bytes (Device said.0 said.1) o) ≡ None) [ None ↦ refl | Some bytes ↦ refl ]
+]
+short_words keywords.Begin [] = refl
+short_words keywords.Begin (dev ∷ request) = elim (device_of dev) as (λ d. short_of (begin_with d (request_meaning request)) ≡ None) [
+  | None ↦ refl
+  | Some d ↦ elim (request_meaning request) as (λ r. short_of (begin_with (Some d) r) ≡ None) [ Ok r ↦ refl | Err e ↦ refl ]
+]
+short_words keywords.Press words = step_said (option_map (λ said. Press said.0 said.1) (control_meaning words))
+short_words keywords.Release words = step_said (option_map (λ said. Release said.0 said.1) (control_meaning words))
+short_words keywords.Null words = step_said (option_map (λ said. Null said.0 said.1) (control_meaning words))
+short_words keywords.Set words = step_said (option_map (λ said. Set said.0 said.1 said.2) (set_meaning words))
+short_words keywords.Move words = step_said (option_map (λ said. Move said.0 said.1 said.2) (move_meaning words))
+short_words keywords.Frame words = step_said (option_map Frame (frame_meaning words))
+short_words keywords.Poll words = step_said (option_map (λ said. Poll said.0 said.1 said.2) (poll_meaning words))
+short_words keywords.Control words = step_said (option_map (λ said. Control said.0 said.1 said.2) (poll_meaning words))
+short_words keywords.Reset words = step_said (option_map Reset (one_device_meaning words))
+short_words keywords.Halt words = step_said (option_map Halt (one_device_meaning words))
+
+pub no_short_words : (words : List Word) → words ≡ [] → None ≡ short_of (line_meaning words)
+unfolding line_meaning
+no_short_words words none = rw none refl
+
+pub no_short_comment : (words : List Word) (first : Word) (rest : List Word) → words ≡ first ∷ rest → slice_index first 0 ≡ 35 → None ≡ short_of (line_meaning words)
+unfolding line_meaning
+no_short_comment words first rest is mark =
+    sym (ap (λ w. short_of (line_meaning w)) is ∙ ap short_of (cond-true (nat_eq (slice_index first 0) 35) (Ok Nothing) _ (eq-eqb _ 35 mark)))
+
+pub no_short_keyword : (words : List Word) (first : Word) (rest : List Word) → words ≡ first ∷ rest → (slice_index first 0 ≡ 35 → ⊥) → keyword_of first ≡ None → None ≡ short_of (line_meaning words)
+unfolding line_meaning
+no_short_keyword words first rest is other none =
+    sym (ap (λ w. short_of (line_meaning w)) is ∙ ap short_of (cond-false (nat_eq (slice_index first 0) 35) (Ok Nothing) _ (ne_eqb (slice_index first 0) 35 other) ∙ ap (λ k. keyword_meaning k rest) none))
+
+-- a line with a keyword says the short line that its words are
+pub short_exact : (words : List Word) (first : Word) (rest : List Word) (keyword : Keyword) (short : Option ShortLine) → words ≡ first ∷ rest → (slice_index first 0 ≡ 35 → ⊥) → keyword_of first ≡ Some keyword
+    → short ≡ short_meaning keyword rest → short ≡ short_of (line_meaning words)
+short_exact words first rest keyword short is other key said =
+    said ∙ sym (short_words keyword rest) ∙ ap short_of (sym (keyword_first words first rest keyword is other key))
 
 -- a line with the keyword of a short line and its words is a step
 pub short_first : (words : List Word) (first : Word) (rest : List Word) (keyword : Keyword) (short : Option ShortLine) → words ≡ first ∷ rest → (slice_index first 0 ≡ 35 → ⊥) → keyword_of first ≡ Some keyword

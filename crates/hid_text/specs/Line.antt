@@ -11,6 +11,7 @@ use Rattle.hid_text.specs.declared.fault.LineFault.TheVariants.{Syntax, LineTooL
 use Rattle.hid_text.specs.Words.{Word, words_of, look_up, hex_of}
 use Rattle.hid_text.specs.Arguments.{or_syntax, with_bytes, both, start_of, boot_of}
 use Rattle.hid_text.specs.Requests.{begin_meaning}
+use Rattle.hid_text.specs.declared.short.ShortLine.{ShortLine}
 use Rattle.hid_text.specs.Short.{short_meaning}
 
 -- the first word of a line
@@ -55,3 +56,9 @@ line_meaning (first ∷ words) =
 -- which it is refused. One of more than 1,024 bytes is refused whatever it says. Example: values 0 is X3
 unfoldable pub meaning_of : List ℕ → Result Line LineFault
 meaning_of line = if nat_lt 1024 (length line) then Err LineTooLong else line_meaning (words_of line)
+
+-- the short line that a line says, if it says one
+abbrev pub short_of : Result Line LineFault → Option ShortLine
+short_of (Ok (Step short)) = Some short
+short_of (Ok _) = None
+short_of (Err fault) = None

@@ -1,6 +1,6 @@
 -- The words of a line, and the bytes that words of hex encode (our choice: the script language of docs/SCRIPT.md).
-use Rattle.std.specs.Prelude.{◌≡◌, ℕ, ◌≤◌, ◌+◌, ◌*◌, ◌/◌, ◌==◌, Bool, not, ◌||◌, List, [], ◌∷◌, length, filter, sum_by, if◌then◌else◌, Option, None, Some, Result, MatchResult, is_ok}
-use Rattle.std.specs.List.{slice_split, list_all, flat_map}
+use Rattle.std.specs.Prelude.{◌≡◌, ℕ, ◌≤◌, ◌+◌, ◌*◌, ◌/◌, ◌==◌, Bool, not, ◌||◌, List, [], ◌∷◌, length, drop, filter, sum_by, if◌then◌else◌, Option, None, Some, Result, MatchResult, is_ok}
+use Rattle.std.specs.List.{slice_split, list_all, flat_map, position_or_len}
 use Rattle.std.specs.Result.{result_unwrap_or}
 use Rattle.std.specs.Str.{bytes_eq}
 use Rattle.arrayvec.specs.ArrayVec.{ArrayVec}
@@ -23,6 +23,11 @@ is_no_blank b = not (is_blank b)
 -- the words of a line: what stands between spaces and tabs, if anything does
 abbrev pub words_of : List ℕ → List Word
 words_of line = filter (λ word. not (length word == 0)) (slice_split is_blank line)
+
+-- what stands after the first word of a text
+abbrev pub after_word : List ℕ → List ℕ
+after_word text =
+    let word = drop (position_or_len is_no_blank text) text in drop (position_or_len is_blank word) word
 
 -- words begin with a first one, before others, or there are none
 abbrev pub Parts : List Word → Option (Word × List Word) → Type 0

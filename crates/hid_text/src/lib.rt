@@ -30,6 +30,7 @@
 #![tactic(auto)]
 
 mod arguments;
+mod change_kind;
 mod event_text;
 mod fault;
 pub mod laws;
@@ -45,13 +46,15 @@ mod transfer_text;
 mod values_text;
 mod words;
 
+pub use arguments::{read_boot, read_start};
+pub use change_kind::ChangeKind;
 pub use event_text::{EventText, PlacedEventText};
 pub use fault::LineFault;
 pub use layout_text::{print_collections, print_layout};
 pub use line::{Line, read_line, says_nothing};
 pub use line_buffer::{LineBuffer, TooLong, split_line};
-pub use numbers::read_number;
+pub use numbers::{read_amount, read_count, read_device, read_number, read_signed, read_usage};
 pub use short::{ShortLine, read_short};
 pub use step_text::print_step;
 pub use values_text::print_values;
-pub use words::words_of_line;
+pub use words::{first_word, look_up, words_of_line};

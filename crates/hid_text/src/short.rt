@@ -2,7 +2,7 @@
 
 ghost use Rattle.std.specs.Prelude.{◌≡◌, Ok, IfSome};
 ghost use Rattle.hid_text.specs.declared.line.Line.TheVariants.{Step};
-ghost use Rattle.hid_text.specs.Line.{line_meaning, meaning_of};
+ghost use Rattle.hid_text.specs.Line.{line_meaning, meaning_of, short_of};
 ghost use Rattle.hid_text.specs.Short.{short_meaning};
 ghost use Rattle.hid_text.specs.Words.{words_of};
 
@@ -142,7 +142,8 @@ pub(super) fn read_short_words(keyword: Keyword, text: &[u8]) -> Option<ShortLin
 
 /// What all words of a line say, where it is short.
 fn read_words(text: &[u8]) -> Option<ShortLine>
-    ensures { IfSome result (λ short. line_meaning (words_of text.now) ≡ Ok (Step short)) }
+    ensures short { IfSome result (λ short. line_meaning (words_of text.now) ≡ Ok (Step short)) }
+    ensures exact { result ≡ short_of (line_meaning (words_of text.now)) }
 {
     let (first, rest) = first_word(text)?;
     if first[0] == b'#' {
@@ -155,7 +156,8 @@ fn read_words(text: &[u8]) -> Option<ShortLine>
 /// taken.
 #[tactic(auto, unfolding(crate::specs::Line::meaning_of))]
 pub fn read_short(line: &[u8]) -> Option<ShortLine>
-    ensures { IfSome result (λ short. meaning_of line.now ≡ Ok (Step short)) }
+    ensures short { IfSome result (λ short. meaning_of line.now ≡ Ok (Step short)) }
+    ensures exact { result ≡ short_of (meaning_of line.now) }
 {
     if MAX_LINE < line.len() {
         return None;

@@ -5,7 +5,7 @@ ghost use Rattle.std.specs.Option.{option_map};
 ghost use Rattle.std.specs.Result.{result_unwrap_or};
 ghost use Rattle.hex.specs.Hex.{decode_of, hex_digit_value};
 ghost use Rattle.arrayvec.specs.ArrayVec.{array_vec_len};
-ghost use Rattle.hid_text.specs.Words.{Parts, TwoParts, is_blank, is_no_blank, words_of, two_words, three_words, look_up as under, hex_of, pair_of, GivesHex, byte_count};
+ghost use Rattle.hid_text.specs.Words.{Parts, TwoParts, is_blank, is_no_blank, words_of, after_word, two_words, three_words, look_up as under, hex_of, pair_of, GivesHex, byte_count};
 
 use super::fault::LineFault;
 use super::line::HEX_LIMIT;
@@ -38,6 +38,7 @@ pub fn first_word(text: &[u8]) -> Option<(&[u8], &[u8])>
     ensures words { Parts (words_of text.now) (option_map (λ found. (found.0.now, words_of found.1.now)) result) }
     ensures room { IfSome result (λ found. length found.0.now + length found.1.now ≤ length text.now) }
     ensures some { IfSome result (λ found. 0 < length found.0.now) }
+    ensures after { IfSome result (λ found. found.1.now ≡ after_word text.now) }
 {
     let start = no_blank(text)?;
     let text = &text[start..];
