@@ -48,13 +48,13 @@ use Rattle.hid_script.specs.Session.{Session, Outcome, success, failure}
 use Rattle.hid_script.specs.Steps.{LayoutPrints, ValuesPrint, DevicePrints, StepPrints, ChangePrints, lays_out, values_outcome, read_report, refuses_step, config_of, attaches, saturating_sum, finished_read, step_outcome, change_of}
 use Rattle.hid_script.specs.LineOutput.{LineOutcomeOnce, times, BeginsMeant, LinePrints, LineBegins, MeaningPrints, CarriesOut, line_cause, cause_from, cause_of, stack_cause}
 use Rattle.hid_script.specs.Runs.{Ending, RefusedLine, OutOfMemory, PartlyWritten, NotRun, ending_of, EndsAs, Ends}
-use Rattle.hid_script.specs.Place.{AppendsOutput, AppendsOnce, OnceEndsAs, IsBegun, ended}
+use Rattle.hid_script.specs.Place.{AppendsOutput, AppendsOnce, OnceEndsAs, IsBegun, end_of}
 use Rattle.hid_script.proofs.PlaceLemmas.{begins_nothing}
 
 -- ---- a part that is reported once
 
 -- what ended a part is what ends it without what it gave
-pub ended_so : {A : Type 0} (r : Result A Cause) (why : Cause) → IsErrAnd r (λ e. e ≡ why) → IsErrAnd (ended r) (λ e. e ≡ why)
+pub ended_so : {A : Type 0} (r : Result A Cause) (why : Cause) → IsErrAnd r (λ e. e ≡ why) → IsErrAnd (end_of r) (λ e. e ≡ why)
 ended_so (Ok x) why is = absurd is
 ended_so (Err cause) why is = is
 

@@ -32,10 +32,10 @@ OnceEndsAs OutOfMemory Tells written cause = IsBegun Tells written
 OnceEndsAs PartlyWritten Tells written cause = (text : List ℕ) × IsBegun Tells text × IsPrefix written text
 OnceEndsAs NotRun Tells written cause = ⊥
 
--- how a part ended, without what it gave
-abbrev pub ended : {A : Type 0} → Result A Cause → Result (Unit {0}) Cause
-ended (Ok _) = Ok tt
-ended (Err cause) = Err cause
+-- the end of a part, without what it gave
+abbrev pub end_of : {A : Type 0} → Result A Cause → Result (Unit {0}) Cause
+end_of (Ok _) = Ok tt
+end_of (Err cause) = Err cause
 
 -- what was written of a part that is reported once
 abbrev pub WritesOnce : (Outcome → Type 0) → List ℕ → Result (Unit {0}) Cause → Session → Type 0

@@ -4,7 +4,7 @@ ghost use Rattle.std.specs.Prelude.{◌≡◌};
 ghost use Rattle.hid_script.specs.Session.{at_first, Repeats};
 ghost use Rattle.hid_script.specs.Steps.{LayoutPrints, ValuesPrint, DevicePrints, StepPrints, ChangePrints, change_of, finished_read};
 ghost use Rattle.hid_script.specs.LineOutput.{ShortLinePrints, LineOutcomeOnce, short_times, times, CarriesOut, Begins, LinePrints, LineBegins};
-ghost use Rattle.hid_script.specs.Place.{AppendsOutput, AppendsOnce, ended};
+ghost use Rattle.hid_script.specs.Place.{AppendsOutput, AppendsOnce, end_of};
 ghost use Rattle.hid_script.specs.Streams.{EndsText};
 ghost use Rattle.hid_bus.specs.declared.step.Step.TheVariants as Taking;
 
@@ -448,12 +448,12 @@ impl Interpreter {
     #[inline(always)] // each sort of step pays for no other
     pub fn take_step<W: Sink>(&mut self, step: &Step, writer: &mut W) -> Result<Told, Cause>
         ensures prints { AppendsOnce (W.contents writer.old) (W.contents writer.new)
-            (StepPrints step.now (session_of self.old)) (ended result) (session_of self.new) }
+            (StepPrints step.now (session_of self.old)) (end_of result) (session_of self.new) }
         ensures told { IfOk result
             (λ told. StepReturns (session_of self.old).members step.now told) }
         ensures events { OnOk result
             (last_events self.new ≡ deliveries_of_step (session_of self.old).members step.now) }
-        ensures outside { EndsText W.calls writer.old writer.new (ended result) }
+        ensures outside { EndsText W.calls writer.old writer.new (end_of result) }
     {
         self.delivered.clear();
         let told = self.rig.step(step, &mut self.delivered)?;
