@@ -1,0 +1,4 @@
+pub mod Status
+pub mod FaultText
+pub mod OutputText
+pub mod Scripts

@@ -1,0 +1,2 @@
+pub mod SetReports
+pub mod Turns

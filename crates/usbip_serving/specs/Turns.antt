@@ -1,0 +1,130 @@
+-- When an action comes at a device that is served, and what it does (our choice: docs/USBIP.md).
+use Rattle.std.specs.Prelude.{◌≡◌, ℕ, zero, suc, ◌+◌, ◌-◌, ◌^◌, ◌==◌, ◌&&◌, not, min, nat_le, Bool, false, if◌then◌else◌, List, length, slice_get, Option, Some, None, is_some, Result, Ok, MatchResult}
+use Rattle.hid_snapshots.specs.declared.change.Change.{Change as OneChange}
+use Rattle.hid_snapshots.specs.declared.fault.ChangeFault.{ChangeFault}
+use Rattle.hid_device.specs.Core.{changed_core, framed_core, reset_core}
+use Rattle.hid_gadget.specs.Gadgets.{halted_gadget}
+use Rattle.hid_gadget.specs.Rooms.{with_front}
+use Rattle.usbip_export.specs.declared.exported_device.ExportedDevice.{ExportedDevice}
+use Rattle.usbip_export.specs.Connections.{changed_at, devices_after_report, place_of_stage, report_answer}
+use Rattle.usbip_serving.specs.declared.action.Action.{Action}
+use Rattle.usbip_serving.specs.declared.action.Action.TheVariants.{Change, Halt, Reset, Frames}
+use Rattle.usbip_serving.specs.declared.action.Turn.{Turn}
+use Rattle.usbip_serving.specs.declared.action.Turn.TheVariants.{Sends, Acted, Waits}
+use Rattle.usbip_serving.specs.declared.serving.Serving.{Serving}
+use Rattle.usbip_serving.specs.declared.serving.TheConstants.{MAX_FRAMES}
+
+-- ---- when an action comes
+
+-- the device at the place that a host has, if it has one
+abbrev pub device_at : List ExportedDevice → Option ℕ → Option ExportedDevice
+device_at ds None = None
+device_at ds (Some place) = slice_get ds place
+
+-- The host of a device asks for a report: the device is configured, and a submit waits.
+abbrev pub asks : Option ExportedDevice → Bool
+asks None = false
+asks (Some d) = d.gadget.is_configured && is_some (slice_get d.pending 0)
+
+-- What a turn does: it sends a report, carries out an action, or waits.
+pub data Move : Type 0 where
+  Sending : Move
+  Acting : (action : Action) → Move
+  Waiting : Move
+
+-- an action is carried out, if there is one
+abbrev pub acting : Option Action → Move
+acting None = Waiting
+acting (Some action) = Acting action
+
+-- What a turn does. A report that is asked for and due goes first. The next action comes once the host asks for a report, none
+-- is due, and the time of the last frames is over; so the host has taken all that came before.
+abbrev pub move_of : Serving → List ExportedDevice → List Action → ℕ → Move
+move_of s ds actions now =
+    if not (length (report_answer ds s.connection.stage) == 0) then Sending
+    else if asks (device_at ds (place_of_stage s.connection.stage)) && nat_le s.due now
+    then acting (slice_get actions s.done) else Waiting
+
+-- ---- what an action does
+
+-- The devices with that at a place changed, where it is the one that the host has.
+abbrev pub changed_if : List ExportedDevice → Option ℕ → ℕ → (ExportedDevice → ExportedDevice) → List ExportedDevice
+changed_if ds None at change = ds
+changed_if ds (Some place) at change = if place == at then changed_at ds at change else ds
+
+-- a device after a change of one of its controls
+abbrev pub with_change : OneChange → ExportedDevice → ExportedDevice
+with_change change d = record d { gadget = changed_core d.gadget change }
+
+-- a device after a halt of the endpoint of its reports
+abbrev pub with_halt : ExportedDevice → ExportedDevice
+with_halt d = record d { gadget = halted_gadget d.gadget }
+
+-- a device after a reset
+abbrev pub with_reset : ExportedDevice → ExportedDevice
+with_reset d = record d { gadget = reset_core d.gadget }
+
+-- The devices after an action, where the host has that at this place: an action of another device is passed over.
+abbrev pub devices_after_action : List ExportedDevice → Option ℕ → Action → List ExportedDevice
+devices_after_action ds place (Change at change) = changed_if ds place at (with_change change)
+devices_after_action ds place (Halt at) = changed_if ds place at with_halt
+devices_after_action ds place (Reset at) = changed_if ds place at with_reset
+devices_after_action ds place (Frames count) = ds
+
+-- When the action after this one may come: after frames, once they are over.
+abbrev pub due_after : ℕ → ℕ → Action → ℕ
+due_after due now (Frames count) = min (now + count) (2 ^ 64 - 1)
+due_after due now _ = due
+
+-- an action that is done is done once
+abbrev pub after_action : Serving → ℕ → Action → Serving
+after_action s now action = record s { due = due_after s.due now action; done = s.done + 1 }
+
+-- the action is a change of a control: no other is refused
+abbrev pub IsChange : Action → Type 0
+IsChange (Change at change) = Unit {0}
+IsChange _ = ⊥
+
+-- ---- what a turn leaves
+
+-- what a turn leaves: what it returns, the devices, and the room
+pub record Leaves (result : Result Turn ChangeFault) (turn : Turn) (next before : Serving) (after left : List ExportedDevice)
+    (written room : List ℕ) : Type 0 where
+  pub told : result ≡ Ok turn
+  pub serving : next ≡ before
+  pub devices : after ≡ left
+  pub filled : written ≡ room
+
+-- What an action leaves. It is done; or it is a change that is refused, and comes again.
+pub record LeavesAction (s : Serving) (ds : List ExportedDevice) (now : ℕ) (room : List ℕ) (action : Action)
+    (result : Result Turn ChangeFault) (next : Serving) (after : List ExportedDevice) (written : List ℕ) : Type 0 where
+  pub ended : MatchResult result (λ told. (told ≡ Acted) × (next ≡ after_action s now action))
+      (λ fault. IsChange action × (next ≡ s))
+  pub devices : after ≡ devices_after_action ds (place_of_stage s.connection.stage) action
+  pub filled : written ≡ room
+
+-- What a turn leaves that sends, acts or waits.
+abbrev pub Turns : Serving → List ExportedDevice → ℕ → List ℕ → Move → Result Turn ChangeFault → Serving
+    → List ExportedDevice → List ℕ → Type 0
+Turns s ds now room Sending result next after written =
+    Leaves result (Sends (length (report_answer ds s.connection.stage))) next s after
+    (devices_after_report ds s.connection.stage) written (with_front (report_answer ds s.connection.stage) room)
+Turns s ds now room (Acting action) result next after written =
+    LeavesAction s (devices_after_report ds s.connection.stage) now room action result next after written
+Turns s ds now room Waiting result next after written =
+    Leaves result Waits next s after (devices_after_report ds s.connection.stage) written room
+
+-- ---- frames
+
+-- a device after a frame of 1 ms
+abbrev pub with_frame : ExportedDevice → ExportedDevice
+with_frame d = record d { gadget = framed_core d.gadget }
+
+-- a device after this many frames
+abbrev pub after_frames : ℕ → ExportedDevice → ExportedDevice
+after_frames zero d = d
+after_frames (suc n) d = with_frame (after_frames n d)
+
+-- How many frames are over by the clock since this much of it passed. More than 1,020 change nothing: no idle time is longer.
+abbrev pub frames_over : ℕ → ℕ → ℕ
+frames_over passed now = min (now - passed) MAX_FRAMES
