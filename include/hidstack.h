@@ -442,6 +442,10 @@ uint32_t hidstack_device_set(struct hidstack_device *device, uint64_t item, uint
 uint32_t hidstack_device_null(struct hidstack_device *device, uint64_t item, uint64_t index);
 uint32_t hidstack_device_move(struct hidstack_device *device, uint64_t item, uint64_t index, int32_t by);
 
+/* Lets go of every switch and key that is pressed, as hidstack_device_release lets go of one: a KVM switch does so before it goes to
+ * another machine. Values stay, and so does motion that isn't reported yet. */
+uint32_t hidstack_device_release_all(struct hidstack_device *device);
+
 /* A control transfer of endpoint 0, whole: SETUP, data and status. Of a write the first wLength of the `length` bytes at
  * `data` are sent, and take effect once; of a read up to wLength bytes are written over the first of `answer`, which has
  * `room`. `data` of a read and `answer` of a write may be null, with 0.
@@ -582,6 +586,11 @@ uint32_t hidstack_host_interface(struct hidstack_host *host, uint64_t interface,
 /* A data element of a listed item of an interface, as hidstack_element gives it; NONE of padding, past the last element, the
  * last item and the last interface, and where no report descriptor is read. */
 uint32_t hidstack_host_element(struct hidstack_host *host, uint64_t interface, uint64_t item, uint64_t index, struct hidstack_element_info *element);
+
+/* A data element of an interface by the kind of its report (enum hidstack_report_kind) and its usage: of those that have them, item by
+ * item and in an item by index, the one of this number, from 0. Elements of arrays have the usage 00:00. NONE where no more have
+ * them, past the last interface, and where no report descriptor is read. */
+uint32_t hidstack_host_find(struct hidstack_host *host, uint64_t interface, uint32_t kind, uint16_t page, uint16_t id, uint64_t number, struct hidstack_element_info *element);
 
 /* Whether a switch or a key of an interface is held, as hidstack_held gives it; NONE where no report descriptor is read. */
 uint32_t hidstack_host_held(struct hidstack_host *host, uint64_t interface, uint64_t item, uint64_t index, uint32_t *held);

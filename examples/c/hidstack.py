@@ -116,6 +116,10 @@ class Device(Handle):
         status = self.c.device_find(self.handle, page, usage, 0, item, index)
         return call(self.handle, item, index, *value) if status == self.c.OK else status
 
+    def release_all(self):
+        """Lets go of all that is pressed."""
+        self.c.device_release_all(self.handle)
+
     def control(self, setup, data):
         """A control transfer: its outcome and what it answers."""
         room, answered = ctypes.create_string_buffer(65535), ctypes.c_uint64()
@@ -182,13 +186,10 @@ class Host(Handle):
                 return found
             found.append(info)
 
-    def elements(self, interface):
-        """The data elements of an interface."""
-        for item in range(self.interfaces()[interface].items):
-            index, element = 0, self.c.new("_element_info")
-            while self.c.host_element(self.handle, interface, item, index, element) == self.c.OK:
-                yield element
-                index, element = index + 1, self.c.new("_element_info")
+    def find(self, interface, kind, page, usage, number=0):
+        """A data element of an interface by the kind of its report and its usage, and which of those that have them; None past the last."""
+        element = self.c.new("_element_info")
+        return element if self.c.host_find(self.handle, interface, kind, page, usage, number, element) == self.c.OK else None
 
     def blank(self, interface, kind, report_id):
         """A report of zeros, for c.put; None where there is no such report."""

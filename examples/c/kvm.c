@@ -45,12 +45,7 @@ static void close_kvm(struct kvm *kvm)
 /* Lets go of all keys of the machine in use, and goes to the other. */
 static void change(struct kvm *kvm)
 {
-    struct hidstack_device *machine = &kvm->machines[kvm->active];
-    uint64_t item, index;
-    uint16_t key;
-    for (key = 0; key < 256; key++)
-        if (hidstack_device_find(machine, KEYS, key, 0, &item, &index) == HIDSTACK_OK)
-            hidstack_device_release(machine, item, index);
+    hidstack_device_release_all(&kvm->machines[kvm->active]);
     kvm->active = !kvm->active;
 }
 
@@ -75,24 +70,24 @@ static void pass(struct kvm *kvm, uint64_t count)
 
 /* Asks an interface of the keyboard for the LEDs of the machine in use, where they aren't what it was sent last. Its report may have
  * them at other places than a boot keyboard's, whose first bit is LED 1: each is found by its usage. Whether it has LEDs. */
-static int pass_leds(struct kvm *kvm, uint64_t interface, uint64_t items)
+static int pass_leds(struct kvm *kvm, uint64_t interface)
 {
     struct hidstack_ask ask = {HIDSTACK_SET_REPORT, HIDSTACK_OUTPUT, 0, 0, 0};
     struct hidstack_host_result result;
     struct hidstack_element_info led;
     uint8_t on, report[sizeof kvm->leds];
-    uint64_t item, index, length = 0;
+    uint64_t length = 0;
+    uint16_t id;
     if (hidstack_device_output(&kvm->machines[kvm->active], HIDSTACK_OUTPUT, 0, &on, 1, &length) != HIDSTACK_OK)
         return 0;
-    for (item = length = 0; item < items; item++)
-        for (index = 0; hidstack_host_element(&kvm->keyboard, interface, item, index, &led) == HIDSTACK_OK; index++) {
-            if (led.kind != HIDSTACK_OUTPUT || led.page != LEDS || led.id < 1 || led.id > 5)
-                continue;
-            ask.id = led.report;
-            if (length == 0 && hidstack_host_blank(&kvm->keyboard, interface, ask.kind, ask.id, report, sizeof report, &length) != HIDSTACK_OK)
-                return 0;
-            hidstack_put(&led, report, length, on >> (led.id - 1) & 1);
-        }
+    for (id = 1, length = 0; id <= 5; id++) {
+        if (hidstack_host_find(&kvm->keyboard, interface, HIDSTACK_OUTPUT, LEDS, id, 0, &led) != HIDSTACK_OK)
+            continue;
+        ask.id = led.report;
+        if (length == 0 && hidstack_host_blank(&kvm->keyboard, interface, ask.kind, ask.id, report, sizeof report, &length) != HIDSTACK_OK)
+            return 0;
+        hidstack_put(&led, report, length, on >> (id - 1) & 1);
+    }
     if (length > 0 && memcmp(report, kvm->leds, length) != 0 &&
         hidstack_host_ask(&kvm->keyboard, interface, &ask, report, length, &result) == HIDSTACK_OK)
         memcpy(kvm->leds, report, length);
@@ -143,7 +138,7 @@ static int turn(struct kvm *kvm, struct hidstack_device *keyboard)
     }
     pass(kvm, poll_report(&kvm->keyboard, keyboard, kvm->events, kvm->room));
     for (place = 0; hidstack_host_interface(&kvm->keyboard, place, &interface) == HIDSTACK_OK; place++)
-        if (pass_leds(kvm, place, interface.items))
+        if (pass_leds(kvm, place))
             break;
     return 1;
 }

@@ -95,17 +95,16 @@ struct Host : Handle<hidstack_host, hidstack_host_close> {
         return {events.begin(), events.begin() + static_cast<std::ptrdiff_t>(result.count)};
     }
 
-    // The Output elements of a page of the first interface that has some, and its place.
-    std::pair<std::uint64_t, std::vector<hidstack_element_info>> outputs(std::uint16_t page)
+    // The Output elements of these usages of the first interface that has one, and its place.
+    std::pair<std::uint64_t, std::vector<hidstack_element_info>> outputs(std::uint16_t page, std::uint16_t first, std::uint16_t last)
     {
         hidstack_interface_info info;
         hidstack_element_info element;
         for (std::uint64_t interface = 0; hidstack_host_interface(&it, interface, &info) == HIDSTACK_OK; interface++) {
             std::vector<hidstack_element_info> found;
-            for (std::uint64_t item = 0; item < info.items; item++)
-                for (std::uint64_t index = 0; hidstack_host_element(&it, interface, item, index, &element) == HIDSTACK_OK; index++)
-                    if (element.kind == HIDSTACK_OUTPUT && element.page == page)
-                        found.push_back(element);
+            for (std::uint16_t id = first; id <= last; id++)
+                if (hidstack_host_find(&it, interface, HIDSTACK_OUTPUT, page, id, 0, &element) == HIDSTACK_OK)
+                    found.push_back(element);
             if (!found.empty())
                 return {interface, found};
         }
@@ -142,8 +141,7 @@ class Kvm {
     // Lets go of all keys of the machine in use, and goes to the other.
     void change()
     {
-        for (std::uint16_t key = 0; key < 256; key++)
-            machines[active].change(hidstack_device_release, KEYS, key);
+        hidstack_device_release_all(&machines[active].it);
         active = 1 - active;
     }
 
@@ -164,7 +162,7 @@ class Kvm {
     // Asks the keyboard for the LEDs of the machine in use, where they aren't what it was sent last.
     void pass_leds()
     {
-        const auto [interface, elements] = keyboard.outputs(LEDS);
+        const auto [interface, elements] = keyboard.outputs(LEDS, 1, 5);
         const std::uint8_t lit = machines[active].output(0); // its first bit is LED 1
         Bytes report(64);
         std::uint64_t length;
@@ -172,8 +170,7 @@ class Kvm {
             return;
         report.resize(length);
         for (const hidstack_element_info &led : elements)
-            if (led.id >= 1 && led.id <= 5)
-                hidstack_put(&led, report.data(), report.size(), lit >> (led.id - 1) & 1);
+            hidstack_put(&led, report.data(), report.size(), lit >> (led.id - 1) & 1);
         if (report != leds && keyboard.send(interface, elements[0].report, report))
             leds = report;
     }

@@ -31,8 +31,7 @@ class Kvm:
 
     def change(self):
         """Lets go of all keys of the machine in use, and goes to the other."""
-        for key in range(256):
-            self.machines[self.active].change(self.c.device_release, KEYS, key)
+        self.machines[self.active].release_all()
         self.active = 1 - self.active
 
     def take(self, events):
@@ -49,7 +48,7 @@ class Kvm:
         """Asks the keyboard for the LEDs of the machine in use, where they aren't what it was sent last."""
         lit = self.machines[self.active].output(self.c.OUTPUT, 0)[0]  # its first bit is LED 1 ..
         for interface, _ in enumerate(self.keyboard.interfaces()):
-            leds = [it for it in self.keyboard.elements(interface) if it.kind == self.c.OUTPUT and it.page == LEDS and 1 <= it.id <= 5]
+            leds = [led for led in (self.keyboard.find(interface, self.c.OUTPUT, LEDS, usage) for usage in range(1, 6)) if led]
             if leds:
                 report = bytearray(self.keyboard.blank(interface, self.c.OUTPUT, leds[0].report))
                 room = (self.c.types["uint8_t"] * len(report)).from_buffer(report)

@@ -106,6 +106,12 @@ static void find(long i)
     hidstack_device_find(&pointer, 1, 0x30, 0, &item, &index);
 }
 
+static void released(long i)
+{
+    (void)i;
+    hidstack_device_release_all(&typist);
+}
+
 static void descriptor(long i)
 {
     (void)i;
@@ -148,6 +154,13 @@ static void host_idle(long i)
     hidstack_host_report(&host, 0, HIDSTACK_OK, rest, 3, told, 5, &result);
 }
 
+static void element(long i)
+{
+    struct hidstack_element_info y;
+    (void)i;
+    hidstack_host_find(&host, 0, HIDSTACK_INPUT, 1, 0x31, 0, &y);
+}
+
 static void todo(long i)
 {
     struct hidstack_setup setup;
@@ -168,8 +181,8 @@ static const struct {
     const char *name;
     void (*turn)(long i);
 } works[] = {{"nothing", nothing}, {"open", open}, {"feed", feed}, {"key", key}, {"idle", idle}, {"held", is_held}, {"table", elements}, {"device", device}, {"report", report},
-    {"none", none_due}, {"find", find}, {"descriptor", descriptor}, {"time", idle_time}, {"lights", set_leds}, {"control", device_descriptor}, {"up", up},
-    {"host", host_report}, {"rest", host_idle}, {"todo", todo}, {"ask", ask}};
+    {"none", none_due}, {"find", find}, {"released", released}, {"descriptor", descriptor}, {"time", idle_time}, {"lights", set_leds}, {"control", device_descriptor}, {"up", up},
+    {"host", host_report}, {"rest", host_idle}, {"element", element}, {"todo", todo}, {"ask", ask}};
 
 int main(int argc, char **argv)
 {

@@ -108,6 +108,7 @@ static void closed(void)
     want("set", hidstack_device_set(&device, 0, 0, 1), HIDSTACK_CLOSED);
     want("null", hidstack_device_null(&device, 0, 0), HIDSTACK_CLOSED);
     want("move", hidstack_device_move(&device, 0, 0, 1), HIDSTACK_CLOSED);
+    want("release_all", hidstack_device_release_all(&device), HIDSTACK_CLOSED);
     want("frame", hidstack_device_frame(&device), HIDSTACK_CLOSED);
     want("halt", hidstack_device_halt(&device), HIDSTACK_CLOSED);
     want("reset", hidstack_device_reset(&device), HIDSTACK_CLOSED);
@@ -158,7 +159,7 @@ static void enumeration(struct hidstack_device *device)
 /* Keys of a boot keyboard, its reports, and its LEDs. */
 static void keyboard(void)
 {
-    static const uint8_t a_down[8] = {0, 0, 4};
+    static const uint8_t a_down[8] = {0, 0, 4}, nothing_down[8] = {0};
     uint8_t descriptor[63], *report = bytes_of(8, 0xEE), leds[2] = {2, 9}, byte = 7;
     struct hidstack_device device = HIDSTACK_DEVICE_INIT;
     const struct hidstack_setup set_leds = {0x21, 9, 0x0200, 0, 1}, set_two = {0x21, 9, 0x0200, 0, 2}, clear = {0x02, 1, 0, 0x81, 0},
@@ -186,6 +187,14 @@ static void keyboard(void)
     for (i = 4; i < 11; i++)
         want("seven keys", hidstack_device_press(&device, item, i), HIDSTACK_OK);
     want("roll over", hidstack_device_report(&device, report, 8, &length) == HIDSTACK_OK && report[2] == 1 && report[7] == 1, 1);
+    want("both Shifts", hidstack_device_press(&device, 0, 1) == HIDSTACK_OK && hidstack_device_press(&device, 0, 5) == HIDSTACK_OK, 1);
+    want("are down", hidstack_device_report(&device, report, 8, &length) == HIDSTACK_OK && report[0] == 0x22 && report[2] == 1, 1);
+    want("all are let go of", hidstack_device_release_all(&device), HIDSTACK_OK);
+    want("in one report", hidstack_device_report(&device, report, 8, &length) == HIDSTACK_OK && length == 8 && memcmp(report, nothing_down, 8) == 0, 1);
+    want("once for all", hidstack_device_release_all(&device) == HIDSTACK_OK && hidstack_device_report(&device, report, 8, &length) == HIDSTACK_NONE, 1);
+    for (i = 4; i < 11; i++)
+        want("seven keys again", hidstack_device_press(&device, item, i), HIDSTACK_OK);
+    want("roll over again", hidstack_device_report(&device, report, 8, &length) == HIDSTACK_OK && report[0] == 0 && report[2] == 1, 1);
     want("LEDs at first", hidstack_device_output(&device, HIDSTACK_OUTPUT, 0, &byte, 1, &length) == HIDSTACK_OK && byte == 0, 1);
     want("LEDs without data", hidstack_device_control(&device, &set_leds, NULL, 0, NULL, 0, &length), HIDSTACK_SHORT);
     want("no LED yet", hidstack_device_output(&device, HIDSTACK_OUTPUT, 0, &byte, 1, &length) == HIDSTACK_OK && byte == 0, 1);
@@ -301,6 +310,25 @@ static void fingers(void)
     for (i = 0; i < 4; i++)
         want("a Tip Switch", hidstack_device_find(&device, 0x0D, 0x42, i, &item, &index) == HIDSTACK_OK && item == items[i] && index == indices[i], 1);
     want("and no more", hidstack_device_find(&device, 0x0D, 0x42, 4, &item, &index) == HIDSTACK_NONE && item == 3 && index == 2, 1);
+    hidstack_device_close(&device);
+}
+
+/* What is pressed is let go of; a value and a motion stay. */
+static void released(void)
+{
+    static const uint8_t mixed[] = {0x05, 0x09, 0x15, 0x00, 0x25, 0x01, 0x75, 0x01, 0x95, 0x02, 0x19, 0x01, 0x29, 0x02, 0x81, 0x02, 0x95, 0x06, 0x81, 0x03,
+        0x05, 0x01, 0x09, 0x30, 0x25, 0x7F, 0x75, 0x08, 0x95, 0x01, 0x81, 0x02, 0x09, 0x38, 0x15, 0x81, 0x81, 0x06};
+    struct hidstack_device device = HIDSTACK_DEVICE_INIT;
+    uint8_t report[3];
+    uint64_t length;
+    open_device(&device, 0, mixed, sizeof mixed);
+    want("configured", hidstack_device_control(&device, &configure, NULL, 0, NULL, 0, &length), HIDSTACK_OK);
+    want("two buttons", hidstack_device_press(&device, 0, 0) == HIDSTACK_OK && hidstack_device_press(&device, 0, 1) == HIDSTACK_OK, 1);
+    want("X is 77", hidstack_device_set(&device, 2, 0, 77), HIDSTACK_OK);
+    want("03 4D 00", hidstack_device_report(&device, report, 3, &length) == HIDSTACK_OK && report[0] == 3 && report[1] == 77 && report[2] == 0, 1);
+    want("a wheel turns", hidstack_device_move(&device, 3, 0, -2), HIDSTACK_OK);
+    want("buttons go up", hidstack_device_release_all(&device), HIDSTACK_OK);
+    want("00 4D FE", hidstack_device_report(&device, report, 3, &length) == HIDSTACK_OK && report[0] == 0 && report[1] == 77 && report[2] == 0xFE, 1);
     hidstack_device_close(&device);
 }
 
@@ -428,6 +456,7 @@ int main(int words, char **word)
     changes();
     pieces();
     fingers();
+    released();
     wild_calls(count);
     wild_descriptors(count / 10);
     return wrong;

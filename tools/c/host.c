@@ -126,6 +126,15 @@ static void known(struct hidstack_host *host)
     want("button 2", hidstack_host_element(host, 1, 0, 1, &element) == HIDSTACK_OK && element.page == 9 && element.id == 2 && element.bit == 1, 1);
     want("no button 3", hidstack_host_element(host, 1, 0, 2, &element), HIDSTACK_NONE);
     want("no element of a third", hidstack_host_element(host, 2, 0, 0, &element), HIDSTACK_NONE);
+    want("button 2 by its usage", hidstack_host_find(host, 1, HIDSTACK_INPUT, 9, 2, 0, &element) == HIDSTACK_OK && element.item == 0 && element.index == 1, 1);
+    want("of Input reports alone", hidstack_host_find(host, 1, HIDSTACK_OUTPUT, 9, 2, 0, &element), HIDSTACK_NONE);
+    want("one alone", hidstack_host_find(host, 1, HIDSTACK_INPUT, 9, 2, 1, &element), HIDSTACK_NONE);
+    want("no last one", hidstack_host_find(host, 1, HIDSTACK_INPUT, 9, 2, UINT64_MAX, &element), HIDSTACK_NONE);
+    want("none of kind 256", hidstack_host_find(host, 1, 256, 9, 2, 0, &element), HIDSTACK_NONE);
+    want("none of a third", hidstack_host_find(host, 2, HIDSTACK_INPUT, 9, 2, 0, &element), HIDSTACK_NONE);
+    want("no key by its usage", hidstack_host_find(host, 0, HIDSTACK_INPUT, 7, 4, 0, &element), HIDSTACK_NONE);
+    want("the second element of the array", hidstack_host_find(host, 0, HIDSTACK_INPUT, 0, 0, 1, &element) == HIDSTACK_OK && element.is_array == 1 && element.index == 1, 1);
+    want("nothing was written by the others", hidstack_host_find(host, UINT64_MAX, UINT32_MAX, 65535, 65535, 0, &element) == HIDSTACK_NONE && element.index == 1, 1);
     want("button 1 is up", hidstack_host_held(host, 1, 0, 0, &held) == HIDSTACK_OK && held == 0, 1);
     want("held of no interface", hidstack_host_held(host, 9, 0, 0, &held), HIDSTACK_NONE);
     want("a button has no value", hidstack_host_value(host, 1, 0, 0, &value) == HIDSTACK_NONE && value == 9, 1);
@@ -171,11 +180,7 @@ static void asked(struct hidstack_host *host)
     struct hidstack_element_info led;
     uint8_t leds[1], sent[2] = {0xEE, 0xEE};
     uint64_t length = 9;
-    uint32_t item;
-    for (item = 0; hidstack_host_element(host, 0, item, 1, &led) != HIDSTACK_OK || led.kind != HIDSTACK_OUTPUT; item++)
-        if (item == 99)
-            exit(3);
-    want("Caps Lock", led.page == 8 && led.id == 2, 1);
+    want("Caps Lock", hidstack_host_find(host, 0, HIDSTACK_OUTPUT, 8, 2, 0, &led) == HIDSTACK_OK && led.page == 8 && led.id == 2 && led.bit == 1 && led.index == 1, 1);
     want("blank LEDs", hidstack_host_blank(host, 0, HIDSTACK_OUTPUT, 0, leds, 1, &length), HIDSTACK_OK);
     want("Caps Lock on", hidstack_put(&led, leds, 1, 1) == HIDSTACK_OK && leds[0] == 2, 1);
     want("SET_REPORT", hidstack_host_ask(host, 0, &ask, leds, 1, &result) == HIDSTACK_OK && result.count + result.cause + result.detail == 0, 1);
@@ -321,6 +326,7 @@ static void closed(void)
     want("device", hidstack_host_device(&host, &info) == HIDSTACK_CLOSED && info.room == 5, 1);
     want("interface", hidstack_host_interface(&host, 0, &interface) == HIDSTACK_CLOSED && interface.at == 5, 1);
     want("element", hidstack_host_element(&host, 0, 0, 0, &element) == HIDSTACK_CLOSED && element.min == 5, 1);
+    want("find", hidstack_host_find(&host, 0, 1, 8, 2, 0, &element) == HIDSTACK_CLOSED && element.min == 5, 1);
     want("held", hidstack_host_held(&host, 0, 0, 0, &held) == HIDSTACK_CLOSED && held == 9, 1);
     want("value", hidstack_host_value(&host, 0, 0, 0, &value) == HIDSTACK_CLOSED && value == 9, 1);
     want("blank", hidstack_host_blank(&host, 0, 0, 0, data, 2, &length) == HIDSTACK_CLOSED && length == 0 && data[1] == 5, 1);

@@ -61,7 +61,7 @@ static int transfers(struct hidstack_device *device)
     uint32_t configured;
     calls = 0;
     if (hidstack_device_control(device, &configure, NULL, 0, NULL, 0, &length) || hidstack_device_find(device, 1, 0x30, 0, &item, &index) ||
-        hidstack_device_move(device, item, index, 5) || hidstack_device_press(device, 0, 0) || hidstack_device_release(device, 0, 0) ||
+        hidstack_device_move(device, item, index, 5) || hidstack_device_press(device, 0, 0) || hidstack_device_release_all(device) ||
         hidstack_device_report(device, answer, 64, &length) || length != 3 || hidstack_device_frame(device) || hidstack_device_halt(device) ||
         hidstack_device_set(device, 0, 0, 1) != HIDSTACK_WRONG_KIND || hidstack_device_null(device, 0, 0) != HIDSTACK_WRONG_KIND ||
         hidstack_device_control(device, &read, NULL, 0, answer, 64, &length) || length != sizeof mouse || hidstack_device_reset(device) ||

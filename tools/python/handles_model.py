@@ -5,6 +5,7 @@ A call of a model takes the arguments of the C call and returns its status and w
 parts of reports and changes are those of script_model; second_reader says which descriptors are accepted.
 """
 import functools
+import itertools
 import struct
 
 import script_model as script
@@ -88,6 +89,13 @@ def element(layout, item, index):
     usage = one.usage_of(index) if one.variable else 0
     return struct.pack("<qqQQQIIIHHHBBBBH", one.least, one.greatest, item, index, len(one.path), bit, one.size, one.usage_count(), usage >> 16,
                        usage & 0xFFFF, shown.flags & 0x1FF, KINDS.index(one.kind), one.id, one.least < 0, not one.variable, 0)
+
+
+def found_element(layout, kind, usage, number):
+    """The element of this number of those in reports of a kind that have a usage, or None."""
+    found = (record for place, item in enumerate(layout.items) if KINDS.index(item.kind) == kind for index in range(item.count)
+             if (record := element(layout, place, index)) and struct.unpack_from("<HH", record, 52) == (usage >> 16, usage & 0xFFFF))
+    return next(itertools.islice(found, min(number, 2 ** 20), None), None)
 
 
 def report_infos(layout):
@@ -224,6 +232,9 @@ class Device:
         except script.Refused as refused:
             return CHANGES[str(refused)]
         return OK
+
+    def release_all(self):
+        self.snapshot = {**self.snapshot, "held": frozenset()}
 
     # -- endpoint 1
 

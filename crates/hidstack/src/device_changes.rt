@@ -3,11 +3,12 @@
 ghost use Rattle.std.specs.Prelude.{◌≡◌, Err};
 ghost use Rattle.hid_snapshots.specs.declared.change.Change.TheVariants.{Move, Null, Press, Release, Set};
 ghost use Rattle.hid_layout.specs.declared.control.ControlId.{ControlId};
-ghost use Rattle.hidstack.specs.Devices.{ChangesDevice, fault_status};
+ghost use Rattle.hidstack_device.specs.Releasing.{released_core};
+ghost use Rattle.hidstack.specs.Devices.{ChangesDevice, GoesOn, fault_status};
 
 use crate::device_handle::DeviceHandle;
 use crate::status::{CLOSED, FULL, NO_DIRECTION, NO_NULL, NONE, OK, RANGE, WRONG_KIND};
-use hidstack_device::{Change, ChangeFault, ControlId};
+use hidstack_device::{Change, ChangeFault, ControlId, release_all};
 use std::alloc::Global;
 
 /// The status for a change that is refused.
@@ -119,4 +120,17 @@ pub extern "C" fn hidstack_device_move(
         result device.new.kept }
 {
     change_device(alloc, device, Change::Move(control_at(item, index), by))
+}
+
+/// Releases all that is pressed.
+#[unsafe(no_mangle)]
+pub extern "C" fn hidstack_device_release_all(alloc: Global, device: &mut DeviceHandle) -> u32
+    ensures { GoesOn released_core device.old.kept result device.new.kept }
+{
+    let Some(mut gadget) = device.take(alloc) else {
+        return CLOSED;
+    };
+    release_all(&mut gadget);
+    *device = DeviceHandle::of(gadget);
+    OK
 }

@@ -1,6 +1,7 @@
 //! What a host knows of its device: interfaces, the elements of their reports, and what is held.
 
 ghost use Rattle.std.specs.Prelude.{◌≡◌, Some, option_map};
+ghost use Rattle.hidstack_host.specs.Finding.{element_found};
 ghost use Rattle.hidstack_host.specs.Info.{host_info, interface_at};
 ghost use Rattle.hidstack_host.specs.Reading.{element_shown, held_shown, value_shown};
 ghost use Rattle.hidstack_session.specs.Elements.{one_of};
@@ -9,9 +10,10 @@ ghost use Rattle.hidstack.specs.HostReading.{BlanksHost, HostBlankIsReturned, Sh
 use crate::host_handle::HostHandle;
 use crate::status::{CLOSED, NONE, OK};
 use crate::writing::write_blank;
+use hidstack_device::Usage;
 use hidstack_host::{
-    Driver, HidHostInfo, HidInterface, element_at, held_at, host_info, interface_at, layout_at,
-    value_at,
+    Driver, HidHostInfo, HidInterface, element_at, find_element, held_at, host_info, interface_at,
+    layout_at, value_at,
 };
 use hidstack_session::{ControlId, HidElement};
 use std::alloc::Global;
@@ -86,6 +88,42 @@ pub extern "C" fn hidstack_host_element(
     match shown {
         Some(found) => {
             *element = found;
+            OK
+        }
+        None => NONE,
+    }
+}
+
+/// The data element of an interface that stands in a report of this kind, has this usage, and comes after this many that do.
+#[unsafe(no_mangle)]
+pub extern "C" fn hidstack_host_find(
+    alloc: Global,
+    handle: &mut HostHandle,
+    interface: u64,
+    kind: u32,
+    page: u16,
+    id: u16,
+    nth: u64,
+    element: &mut HidElement,
+) -> u32
+    ensures kept { handle.new.kept ≡ handle.old.kept }
+    ensures shown { ShowsHost (λ h. element_found h interface kind (record { page = page; id = id }) nth)
+        handle.old.kept element.old result element.new }
+{
+    let Some(host) = handle.take(alloc) else {
+        return CLOSED;
+    };
+    let found = find_element(
+        host.driver(),
+        interface as usize,
+        kind,
+        Usage { page, id },
+        nth,
+    );
+    *handle = HostHandle::of(host);
+    match found {
+        Some(shown) => {
+            *element = shown;
             OK
         }
         None => NONE,

@@ -3,3 +3,4 @@ pub mod Making
 pub mod Finding
 pub mod Outputs
 pub mod Transfers
+pub mod Releasing

@@ -17,7 +17,7 @@ fn has_usage(layout: &Layout, control: ControlId, usage: Usage) -> bool
 }
 
 /// At how many places of a listed item a control can stand.
-fn place_count(layout: &Layout, item: usize) -> usize
+pub(crate) fn place_count(layout: &Layout, item: usize) -> usize
     requires { item < length layout.now.items }
     ensures { result ≡ places_of (items_of layout.now) item }
 {

@@ -1,5 +1,5 @@
 -- The room for events that the interfaces of a driver need after each call.
-use Rattle.std.proofs.Common.{◌≡◌, ℕ, ◌+◌, ◌≤◌, refl, sym, subst, inl, inr, Bool, true, false, List, [], get_or, Option, Some, None, Result, Ok, Err, arith}
+use Rattle.std.proofs.Common.{◌≡◌, ℕ, ◌+◌, ◌≤◌, refl, sym, subst, inl, inr, Bool, true, false, List, [], get_or, Option, Some, None, IfSome, Result, Ok, Err, arith}
 use Rattle.std.specs.Prelude.{slice_get, slice_set}
 use Rattle.std.proofs.lemmas.Option.{get_or_from_slice_get, slice_get_within}
 use Rattle.hid_layout.specs.Controls.{items_of, max_events}
@@ -23,7 +23,11 @@ use Rattle.hid_driver.specs.Moves.{ClearMovesOf, Goes, Moves, MovesAt, ProtocolM
 use Rattle.hid_driver.specs.Pipe.{PipeState}
 use Rattle.hid_driver.specs.Requests.{next_state}
 use Rattle.hid_driver.proofs.InterfaceLemmas.{flow_room, heard_room, listed_unread, set_total, unread_total}
-use Rattle.hidstack_host.specs.Hosts.{HasRoomIn, HasRoomOf}
+use Rattle.hidstack_host.specs.Hosts.{HasRoomFor, HasRoomIn, descriptor_of}
+
+-- a number of events is enough for a report by the report descriptor that came, if one came
+abbrev HasRoomOf : ℕ → Outcome → Type 0
+HasRoomOf most outcome = IfSome (descriptor_of outcome) (HasRoomFor most)
 
 -- the interfaces of a driver give at most so many events more than those of the one before
 abbrev Grows : ℕ → DriverValue → DriverValue → Type 0

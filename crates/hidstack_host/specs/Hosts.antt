@@ -1,5 +1,5 @@
 -- What the calls of a host make of its driver, with room for events that it makes itself (our choice; the driver: hid_driver).
-use Rattle.std.specs.Prelude.{◌≡◌, ℕ, ◌<◌, ◌≤◌, ◌⊎◌, List, ◌++◌, length, map, drop, Option, Some, None, Result}
+use Rattle.std.specs.Prelude.{◌≡◌, ℕ, ◌<◌, ◌≤◌, ◌⊎◌, List, ◌++◌, length, map, drop, Option, Some, None, IfSome, IsSome, Result}
 use Rattle.hid_report_descriptor.specs.Items.{EncodedItem}
 use Rattle.hid_report_descriptor.specs.Real.{Accepts}
 use Rattle.hid_layout.specs.Layout.{layout_of}
@@ -22,20 +22,28 @@ use Rattle.hidstack_host.specs.Events.{host_event}
 abbrev pub HasRoomFor : ℕ → List ℕ → Type 0
 HasRoomFor most bytes = (items : List EncodedItem) → Accepts bytes items → max_events (items_of (layout_of items)) ≤ most
 
--- A number of events is enough for a report by the report descriptor that came, if one came.
-abbrev pub HasRoomOf : ℕ → Outcome → Type 0
-HasRoomOf most (Done bytes) = HasRoomFor most bytes.now
-HasRoomOf most Stalled = Unit {0}
-HasRoomOf most Failed = Unit {0}
+-- the report descriptor that came as the outcome of a request for one
+abbrev pub descriptor_of : Outcome → Option (List ℕ)
+descriptor_of (Done bytes) = Some bytes.now
+descriptor_of Stalled = None
+descriptor_of Failed = None
 
--- A number of events more is enough after the outcome of a request: where that was for a report descriptor, for a report by it.
+-- the report descriptor that came as the outcome of a request, if one was asked for and came
+abbrev pub descriptor_came : DriverState → Outcome → Option (List ℕ)
+descriptor_came (states.Report place) outcome = descriptor_of outcome
+descriptor_came state outcome = None
+
+-- A number of events more is enough after the outcome of a request: where a report descriptor came, for a report by it.
 abbrev pub HasRoomIn : DriverState → ℕ → Outcome → Type 0
-HasRoomIn (states.Report place) most outcome = HasRoomOf most outcome
-HasRoomIn state most outcome = Unit {0}
+HasRoomIn state most outcome = IfSome (descriptor_came state outcome) (HasRoomFor most)
 
--- The driver goes on by the table of its states, or memory ran out and it stays.
+-- A report descriptor came, and memory for the events of its reports ran out: the driver stays.
+abbrev pub LacksRoom : DriverValue → Outcome → Result Moved DriverFault → DriverValue → Type 0
+LacksRoom before outcome result after = IsSome (descriptor_came before.state outcome) × Stays before result after
+
+-- The driver goes on by the table of its states, or there is no room for the events of an interface, and it stays.
 abbrev pub HostMoves : DriverValue → Outcome → Result Moved DriverFault → DriverValue → Type 0
-HostMoves before outcome result after = Moves before outcome result after ⊎ Stays before result after
+HostMoves before outcome result after = Moves before outcome result after ⊎ LacksRoom before outcome result after
 
 -- A call's events stand first in the table, with its result, and the driver is the next one. Where the table has fewer places than
 -- the interfaces of the driver give events at most, nothing changes.

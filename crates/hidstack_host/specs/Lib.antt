@@ -5,3 +5,4 @@ pub mod Info
 pub mod Asking
 pub mod Reading
 pub mod Hosts
+pub mod Finding

@@ -1,8 +1,9 @@
 //! A driver with room of its own for events.
-ghost use Rattle.std.specs.Prelude.{◌≡◌, ◌≤◌, ◌+◌, Ok, IfOk, OnOk, ℕ, vec_capacity};
+ghost use Rattle.std.specs.Prelude.{◌≡◌, ◌≤◌, ◌+◌, Ok, IfOk, IsSome, OnErr, OnOk, ℕ, vec_capacity};
+ghost use Rattle.std.specs.Option.{option_copied};
 ghost use Rattle.hid_driver.specs.Driver.{ask_answer, ask_outcome, driver_after_ask, driver_after_protocol, driver_after_report, driver_at_start, protocol_events, protocol_outcome, report_events, report_outcome};
 ghost use Rattle.hid_driver.specs.Interfaces.{all_back_events, total_room};
-ghost use Rattle.hidstack_host.specs.Hosts.{Delivers, HasRoomFor, HasRoomIn, HostMoves};
+ghost use Rattle.hidstack_host.specs.Hosts.{Delivers, HasRoomFor, HasRoomIn, HostMoves, descriptor_came};
 
 use crate::event::{HidHostEvent, put_host_events};
 use hid_driver::{Ask, Driver, DriverEvent, DriverFault, DriverState, Moved, Outcome};
@@ -62,33 +63,53 @@ fn descriptor_room(alloc: Global, descriptor: &[u8]) -> Result<usize, AllocError
     }
 }
 
-/// Room for the events of what a driver reads from the outcome of a control transfer on.
-fn room_asked(alloc: Global, state: DriverState, outcome: Outcome<'_>) -> Result<usize, AllocError>
-    ensures { IfOk result (λ most. HasRoomIn state most outcome.entry) }
+/// The report descriptor that came as the outcome of a control transfer, if one was asked for and came.
+fn descriptor_came<'a>(state: DriverState, outcome: Outcome<'a>) -> Option<&'a [u8]>
+    ensures { option_copied result ≡ descriptor_came state outcome.entry }
 {
     match (state, outcome) {
-        (DriverState::Report { .. }, Outcome::Done(bytes)) => descriptor_room(alloc, bytes),
-        _ => Ok(0),
+        (DriverState::Report { .. }, Outcome::Done(bytes)) => Some(bytes),
+        _ => None,
     }
 }
 
-/// Makes room for the events of what a driver reads from the outcome of a control transfer on, beside those of its interfaces.
+/// Makes room for the events of an interface with this report descriptor, beside those of the other interfaces.
 fn make_room(
     alloc: Global,
     driver: &Driver,
-    outcome: Outcome<'_>,
+    descriptor: &[u8],
     events: &mut Vec<DriverEvent>,
 ) -> Result<(), AllocError>
-    ensures ok { OnOk result ((most : ℕ) × HasRoomIn driver.now.state most outcome.entry
+    ensures ok { OnOk result ((most : ℕ) × HasRoomFor most descriptor.now
         × (total_room driver.now.interfaces + most ≤ vec_capacity events.new)) }
     ensures grows { vec_capacity events.old ≤ vec_capacity events.new }
 {
-    let more = room_asked(alloc, driver.state(), outcome)?;
+    let more = descriptor_room(alloc, descriptor)?;
     let Some(most) = driver.max_events().checked_add(more) else {
         return Err(AllocError);
     };
     events.clear();
     events.reserve(most)
+}
+
+/// Makes room for the events of what a driver reads from the outcome of a control transfer on. Memory is taken for a report
+/// descriptor alone.
+fn make_room_after(
+    alloc: Global,
+    driver: &Driver,
+    outcome: Outcome<'_>,
+    events: &mut Vec<DriverEvent>,
+) -> Result<(), AllocError>
+    requires room { total_room driver.now.interfaces ≤ vec_capacity events.old }
+    ensures ok { OnOk result ((most : ℕ) × HasRoomIn driver.now.state most outcome.entry
+        × (total_room driver.now.interfaces + most ≤ vec_capacity events.new)) }
+    ensures err { OnErr result (IsSome (descriptor_came driver.now.state outcome.entry)) }
+    ensures grows { vec_capacity events.old ≤ vec_capacity events.new }
+{
+    match descriptor_came(driver.state(), outcome) {
+        Some(descriptor) => make_room(alloc, driver, descriptor, events),
+        None => Ok(()),
+    }
 }
 
 impl Host {
@@ -110,15 +131,15 @@ impl Host {
         &self.driver
     }
 
-    /// What came of the control transfer that was to be made: [`Driver::done`]. Room for the events of an interface is made before
-    /// it is live.
+    /// What came of the control transfer that was to be made: [`Driver::done`]. Where a report descriptor came, room for the events
+    /// of its interface is made first.
     ///
     /// # Errors
-    /// Those of [`Driver::done`].
+    /// Those of [`Driver::done`]; and [`DriverFault::Memory`] where there is no such room: the host stays.
     pub fn done(&mut self, outcome: Outcome<'_>) -> Result<Moved, DriverFault>
         ensures { HostMoves self.old outcome.entry result self.new }
     {
-        match make_room(self.alloc, &self.driver, outcome, &mut self.events) {
+        match make_room_after(self.alloc, &self.driver, outcome, &mut self.events) {
             Ok(()) => self.driver.done(outcome),
             Err(_) => Err(DriverFault::Memory),
         }

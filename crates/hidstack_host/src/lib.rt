@@ -6,6 +6,7 @@
 //!
 //!   interface_at, host_info     a place --> what is known of the interface there, and of the device, as numbers
 //!   element_at, held_at ..      a place, an item and an index --> what stands there
+//!   find_element                a place, a kind of report and a usage --> the element that has it
 //!   fault_number, cause_code    H1 to H16, and the causes of an interface, as numbers
 //! ```
 //! The rules to know: an interface is named by its place in the list of the driver, from 0; requests name it by its number. Memory
@@ -13,12 +14,13 @@
 //!
 //! The promise: each call does what the driver's does, by the definitions of `hid_driver`: the clauses on [`Host::done`],
 //! [`Host::report`], [`Host::ask`], [`Host::set_protocol`] and [`Host::reset`]. A record asks for what [`ask_of`] reads in it, and
-//! [`interface_at`], [`host_info`] and their like show what the driver knows.
+//! [`interface_at`], [`host_info`], [`find_element`] and their like show what the driver knows.
 #![tactic(auto)]
 
 mod asked;
 mod cause;
 mod event;
+mod find;
 mod host;
 mod info;
 mod moved;
@@ -27,6 +29,7 @@ mod reading;
 pub use asked::{GET_REPORT, HidAsk, SET_IDLE, SET_REPORT, ask_of};
 pub use cause::{Code, cause_code, detail_number, fault_number};
 pub use event::{HidHostEvent, host_event, put_host_events};
+pub use find::find_element;
 pub use hid_driver::{
     Ask, Driver, DriverEvent, DriverFault, InterfaceCause, InterfaceState, Moved, Outcome, Setup,
     Todo,
