@@ -1,0 +1,2 @@
+pub mod LookingLemmas
+pub mod MatchingLemmas

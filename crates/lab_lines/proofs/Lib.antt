@@ -1,0 +1,5 @@
+pub mod ControlLemmas
+pub mod HexLemmas
+pub mod NameLemmas
+pub mod TypingLemmas
+mod Vectors

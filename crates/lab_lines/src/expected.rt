@@ -1,0 +1,58 @@
+//! What is expected where a line can't be read.
+
+use std::fmt;
+
+/// What is expected in the place of a word.
+#[derive(Clone, Copy, Debug, PartialEq, Eq)]
+pub enum Expected {
+    /// The first word of a line.
+    Keyword,
+    Device,
+    Control,
+    Number,
+    Count,
+    Fate,
+    Start,
+    Kind,
+    Hex,
+    Request,
+    Percent,
+    Seed,
+    /// A text between quotes.
+    Text,
+    /// A character that a key types.
+    Character,
+    /// A line that was printed, or `none`.
+    Line,
+    /// The name of a file.
+    File,
+    /// The words of this request.
+    Arguments,
+    /// The end of the line.
+    End,
+}
+
+impl fmt::Display for Expected {
+    fn fmt<W: fmt::Write>(&self, f: &mut fmt::Formatter<W>) -> fmt::Result {
+        f.write_str(match self {
+            Expected::Keyword => "a line's first word, as press or poll",
+            Expected::Device => "a device, 1 to 7",
+            Expected::Control => "a control: 07:04, 0D:42#2, a place 7.0 or a name as Keyboard_A",
+            Expected::Number => "a decimal number",
+            Expected::Count => "a count, 1 to 10000",
+            Expected::Fate => "a fate: clean, token, reply or ack",
+            Expected::Start => "ready or cold",
+            Expected::Kind => "plain, keyboard or mouse",
+            Expected::Hex => "bytes in hex, or @FILE",
+            Expected::Request => "a request, as config or set-report",
+            Expected::Percent => "a percentage, 0 to 100",
+            Expected::Seed => "a seed, up to 18 digits",
+            Expected::Text => "a text between quotes",
+            Expected::Character => "a character that a key of a US keyboard types",
+            Expected::Line => "a line that is printed, or none",
+            Expected::File => "the name of a file",
+            Expected::Arguments => "what this request takes",
+            Expected::End => "the end of the line",
+        })
+    }
+}
