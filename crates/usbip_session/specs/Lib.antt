@@ -1,0 +1,6 @@
+pub mod Words
+pub mod Timers
+pub mod Session
+pub mod Ends
+pub mod Notices
+pub mod Requests
