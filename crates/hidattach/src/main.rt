@@ -1,0 +1,109 @@
+//! Reads a device of a USB/IP server, whose connection is standard input and output, and prints the events that a host reads in
+//! its reports.
+//! ```text
+//!   hidattach [OPTIONS] --output FILE BUSID
+//!
+//!   standard input  ---> Session of usbip_session --> events, as hidplay prints them --> FILE
+//!   standard output <---    ^
+//!   --leds FILE: each line, also those that come later
+//!                           what is reported, and what ended the session --> standard error
+//! ```
+//! Where standard input doesn't block, an answer that takes too long ends the session. At the end what is held is released.
+//! The exit status is 0 if the server closed the connection between two messages; 1 if the server, the device or an answer is
+//! refused, or the end comes too early or too late; 2 for a wrong command line; 3 if a file or the connection can't be read or
+//! written, or memory runs out.
+#![tactic(auto)]
+
+mod args;
+mod codes;
+mod event_lines;
+mod output_lines;
+mod status;
+mod turns;
+
+use args::{CliArgs, parse_args};
+use clap::error::ErrorKind;
+use status::{FINE, OUTSIDE, WRONG_USAGE, exit_of};
+use std::process::ExitCode;
+use std::{env, fs};
+use turns::{Files, attach};
+use usbip_session::End;
+
+fn main(rt: HostRuntime) -> ExitCode {
+    let alloc = rt.alloc();
+    let Ok(args) = env::args(&rt) else {
+        return ExitCode::from(OUTSIDE);
+    };
+    let words: Result<Vec<String>, _> = args.collect(alloc);
+    let Ok(words) = words else {
+        return ExitCode::from(OUTSIDE);
+    };
+    match parse_args(alloc, words.as_slice()) {
+        Ok(asked) => ExitCode::from(run(&rt, &asked)),
+        Err(error) => ExitCode::from(print_bad_words(&rt, &error)),
+    }
+}
+
+/// Help and version go to standard output, and what is wrong with the words to standard error.
+fn print_bad_words(rt: &HostRuntime, error: &clap::Error) -> u8 {
+    match error.kind() {
+        ErrorKind::DisplayHelp | ErrorKind::DisplayVersion => {
+            if print!(rt; "{error}").is_ok() {
+                FINE
+            } else {
+                OUTSIDE
+            }
+        }
+        ErrorKind::OutOfMemory => OUTSIDE,
+        _ => {
+            let _ = eprint!(rt; "{error}");
+            WRONG_USAGE
+        }
+    }
+}
+
+/// The bus ID of a word, if it has one to 31 bytes.
+fn bus_id_of(word: &str) -> Option<[u8; 32]> {
+    let bytes = word.as_bytes();
+    if bytes.is_empty() || bytes.len() > 31 {
+        return None;
+    }
+    let mut bus_id = [0; 32];
+    for (place, byte) in bus_id.iter_mut().zip(bytes) {
+        *place = *byte;
+    }
+    Some(bus_id)
+}
+
+/// Opens the files, and reads the device until the session ends.
+fn run(rt: &HostRuntime, asked: &CliArgs<'_>) -> u8 {
+    let Some(bus_id) = bus_id_of(asked.bus_id) else {
+        let _ = eprintln!(rt; "error: a bus ID has 1 to 31 bytes");
+        return WRONG_USAGE;
+    };
+    let end = match open_files(rt, asked) {
+        Ok(mut files) => attach(rt, asked, &bus_id, &mut files),
+        Err(end) => end,
+    };
+    let bus_id = asked.bus_id;
+    let _ = eprintln!(rt; "{bus_id}: {end}");
+    exit_of(end)
+}
+
+/// The file of Output reports, if one is named, and the file that events are written to.
+fn open_files(rt: &HostRuntime, asked: &CliArgs<'_>) -> Result<Files, End> {
+    let mut requests = None;
+    if let Some(name) = asked.leds {
+        let Ok(file) = fs::open(rt, name) else {
+            return Err(End::Requests);
+        };
+        requests = Some(file);
+    }
+    match fs::create(rt, asked.output) {
+        Ok(output) => Ok(Files { output, requests }),
+        Err(_) => {
+            drop(requests);
+            Err(End::Output)
+        }
+    }
+}

@@ -1,0 +1,354 @@
+//! The turns of a run: what is to be sent is sent, what came is taken, and where there is neither it waits a little.
+
+use super::args::CliArgs;
+use super::event_lines::{Printing, print_driver_events};
+use super::output_lines::{LineFault, Lines, OutputLine, read_line};
+use std::alloc::Global;
+use std::fs::File;
+use std::io::{ErrorKind, Read, Stdin, Stdout, Write};
+use std::thread;
+use std::time::{Duration, Instant};
+use usbip::Status;
+use usbip_session::{End, ImportFault, Session, Timer, Told, driver_words, is_late};
+
+const MEMORY: End = End::Import(ImportFault::Memory);
+
+/// In bytes, how much a read is asked for at most.
+const PIECE: usize = 4096;
+
+/// How many messages a turn sends at most: as many submits as can be in flight, and one more.
+const MAX_SENT: u32 = 17;
+
+/// In milliseconds, how long the next submit waits after a transfer that failed, as with Linux.
+const AFTER_ERROR: u64 = 20;
+
+/// The files of a run.
+#[derive(Drop)]
+pub struct Files {
+    /// Events are written here.
+    pub output: File,
+    /// Output reports are read from here.
+    pub requests: Option<File>,
+}
+
+/// A run: its session, and its times since the start.
+#[derive(Drop)]
+struct Run<'a> {
+    asked: &'a CliArgs<'a>,
+    alloc: Global,
+    session: Session,
+    text: String,
+    lines: Lines,
+    /// The number of the line of Output reports that was read last.
+    line: u64,
+    start: Instant,
+    answer: Timer,
+    incoming: Timer,
+    outgoing: Timer,
+    /// Whether the server takes nothing any more.
+    is_shut: bool,
+    /// Whether a transfer failed in this turn.
+    has_failed: bool,
+    /// How many turns went by since bytes went over.
+    idle: u32,
+}
+
+/// How long a turn without bytes waits: the longer nothing came, the longer.
+fn pause(idle: u32) -> Duration {
+    if idle < 20 {
+        Duration::from_micros(1)
+    } else if idle < 200 {
+        Duration::from_millis(1)
+    } else {
+        Duration::from_millis(10)
+    }
+}
+
+/// A time in milliseconds.
+fn milliseconds(time: Duration) -> u64 {
+    time.as_secs()
+        .saturating_mul(1000)
+        .saturating_add(u64::from(time.subsec_millis()))
+}
+
+/// Reads the device until the session ends, releases what is held, and returns what ended it.
+pub fn attach(rt: &HostRuntime, asked: &CliArgs<'_>, bus_id: &[u8; 32], files: &mut Files) -> End {
+    let Ok(start) = Instant::now(rt) else {
+        return End::Connection;
+    };
+    let mut run = Run {
+        asked,
+        alloc: rt.alloc(),
+        session: Session::new(rt.alloc(), bus_id),
+        text: String::new(rt.alloc()),
+        lines: Lines::new(rt.alloc()),
+        line: 0,
+        start,
+        answer: Timer::default(),
+        incoming: Timer::default(),
+        outgoing: Timer::default(),
+        is_shut: false,
+        has_failed: false,
+        idle: 0,
+    };
+    let end = run.go_on(rt, files);
+    let end = run.finish(rt, files, end);
+    drop(run);
+    end
+}
+
+impl Run<'_> {
+    /// The time since the start; the longest where there is no clock any more, so that a limit is over.
+    fn time(&self, rt: &HostRuntime) -> Duration {
+        match self.start.elapsed(rt) {
+            Ok(time) => time,
+            Err(_) => Duration::MAX,
+        }
+    }
+
+    /// Turn after turn, until the session ends.
+    fn go_on(&mut self, rt: &HostRuntime, files: &mut Files) -> End {
+        let mut input = rt.stdin();
+        let mut output = rt.stdout();
+        for _ in 0..u64::MAX {
+            if let Err(end) = self.turn(rt, &mut input, &mut output, files) {
+                return end;
+            }
+        }
+        End::Late
+    }
+
+    /// Releases what is held.
+    fn finish(&mut self, rt: &HostRuntime, files: &mut Files, end: End) -> End {
+        if self.session.release().is_err() {
+            return MEMORY;
+        }
+        match self.print(rt, files) {
+            Ok(()) => end,
+            Err(other) => other,
+        }
+    }
+
+    /// Writes the events of the last message.
+    fn print(&mut self, rt: &HostRuntime, files: &mut Files) -> Result<(), End> {
+        if self.session.events().is_empty() {
+            return Ok(());
+        }
+        let time = self.time(rt);
+        let seconds = time.as_secs();
+        let micros = time.subsec_micros();
+        let Ok(time) = format!(in self.alloc; "{seconds:06}.{micros:06}") else {
+            return Err(MEMORY);
+        };
+        let printing = Printing {
+            alloc: self.alloc,
+            time: time.as_str(),
+            options: self.asked.options,
+        };
+        self.text.clear();
+        let laid = self.session.layouts();
+        if print_driver_events(&mut self.text, &printing, laid, self.session.events()).is_err() {
+            return Err(MEMORY);
+        }
+        match files.output.write_all(self.text.as_bytes()) {
+            Ok(()) => Ok(()),
+            Err(_) => Err(End::Output),
+        }
+    }
+
+    /// One turn.
+    fn turn(
+        &mut self,
+        rt: &HostRuntime,
+        input: &mut Stdin,
+        output: &mut Stdout,
+        files: &mut Files,
+    ) -> Result<(), End> {
+        self.request(rt, files)?;
+        let has_sent = self.send(output)?;
+        let has_come = self.receive(rt, input, files)?;
+        self.see(rt)?;
+        self.wait(rt, has_sent || has_come);
+        Ok(())
+    }
+
+    /// Sends what is to be sent, as far as the connection takes it. Whether some bytes went over.
+    fn send<W: Write>(&mut self, output: &mut W) -> Result<bool, End> {
+        let mut has_sent = false;
+        for _ in 0..MAX_SENT {
+            if self.session.unsent().is_empty() && !self.fill()? {
+                break;
+            }
+            let count = self.write(output)?;
+            if count == 0 {
+                break;
+            }
+            has_sent = true;
+        }
+        Ok(has_sent)
+    }
+
+    /// Adds the next message to what is to be sent. Whether there was one.
+    fn fill(&mut self) -> Result<bool, End> {
+        match self.session.fill() {
+            Ok(filled) => Ok(filled),
+            Err(fault) => Err(End::Import(fault)),
+        }
+    }
+
+    /// Writes some of what is to be sent: how many bytes went over. Where the server takes nothing any more, what it sent before
+    /// is still read.
+    fn write<W: Write>(&mut self, output: &mut W) -> Result<usize, End> {
+        if self.is_shut {
+            return Ok(0);
+        }
+        match output.write(self.session.unsent()) {
+            Ok(count) => {
+                let count = count.min(self.session.unsent().len());
+                self.session.sent(count);
+                Ok(count)
+            }
+            Err(error) => match error.kind() {
+                ErrorKind::WouldBlock | ErrorKind::Interrupted => Ok(0),
+                ErrorKind::BrokenPipe | ErrorKind::ConnectionReset => {
+                    self.is_shut = true;
+                    Ok(0)
+                }
+                _ => Err(End::Connection),
+            },
+        }
+    }
+
+    /// Reads some of the next message. Whether some bytes came.
+    fn receive<R: Read>(
+        &mut self,
+        rt: &HostRuntime,
+        input: &mut R,
+        files: &mut Files,
+    ) -> Result<bool, End> {
+        let mut piece = [0u8; PIECE];
+        let room = self.session.lacks().min(PIECE);
+        if room == 0 {
+            return Ok(false);
+        }
+        match input.read(&mut piece[..room]) {
+            Ok(0) => Err(self.session.end_of_stream()),
+            Ok(count) => {
+                self.take(rt, &piece[..count], files)?;
+                Ok(true)
+            }
+            Err(error) => match error.kind() {
+                ErrorKind::WouldBlock | ErrorKind::Interrupted => Ok(false),
+                ErrorKind::ConnectionReset => Err(self.session.end_of_stream()),
+                _ => Err(End::Connection),
+            },
+        }
+    }
+
+    /// Takes bytes that came, writes the events, and reports what they led to.
+    fn take(&mut self, rt: &HostRuntime, bytes: &[u8], files: &mut Files) -> Result<(), End> {
+        if bytes.len() > self.session.lacks() {
+            return Err(End::Connection);
+        }
+        let told = match self.session.take(bytes) {
+            Ok(told) => told,
+            Err(fault) => return Err(End::Import(fault)),
+        };
+        self.print(rt, files)?;
+        if let Told::Report { status, .. } = told {
+            self.has_failed = status != Status::Success;
+        }
+        self.judge(rt, told)
+    }
+
+    /// Reports what a message led to, unless it is what ends the session.
+    fn judge(&mut self, rt: &HostRuntime, told: Told) -> Result<(), End> {
+        let end = self.session.end_after(told);
+        if let Some(notice) = self.session.notice_of(told) {
+            if !matches!(end, Some(End::Device(_) | End::Import(_))) {
+                let _ = eprintln!(rt; "{notice}");
+            }
+        }
+        match end {
+            Some(end) => Err(end),
+            None => Ok(()),
+        }
+    }
+
+    /// Asks what the next line of the file of Output reports says, if the driver waits for nothing.
+    fn request(&mut self, rt: &HostRuntime, files: &mut Files) -> Result<(), End> {
+        let Some(file) = &mut files.requests else {
+            return Ok(());
+        };
+        if !self.session.is_ready() {
+            return Ok(());
+        }
+        let mut piece = [0u8; 512];
+        let count = match file.read(&mut piece) {
+            Ok(count) => count,
+            Err(_) => return Err(End::Requests),
+        };
+        match self.lines.add(&piece[..count]) {
+            Ok(()) => {}
+            Err(LineFault::Unread) => return Err(End::Requests),
+            Err(LineFault::Memory) => return Err(MEMORY),
+        }
+        match self.lines.next_line(self.alloc) {
+            Ok(Some(line)) => self.request_line(rt, &line),
+            Ok(None) => Ok(()),
+            Err(_) => Err(MEMORY),
+        }
+    }
+
+    /// Asks what a line says.
+    fn request_line(&mut self, rt: &HostRuntime, line: &[u8]) -> Result<(), End> {
+        self.line = self.line.saturating_add(1);
+        let number = self.line;
+        match read_line(self.alloc, line) {
+            Ok(OutputLine::Nothing) => Ok(()),
+            Ok(OutputLine::Bytes { interface, bytes }) => {
+                if let Err(fault) = self.session.request(interface, &bytes) {
+                    let words = driver_words(fault);
+                    let _ = eprintln!(rt; "output line {number}: {fault}: {words}");
+                }
+                Ok(())
+            }
+            Err(LineFault::Unread) => {
+                let _ = eprintln!(rt;
+                    "output line {number}: neither bytes in hex nor an interface and bytes"
+                );
+                Ok(())
+            }
+            Err(LineFault::Memory) => Err(MEMORY),
+        }
+    }
+
+    /// Sees whether something is awaited for too long.
+    fn see(&mut self, rt: &HostRuntime) -> Result<(), End> {
+        let now = milliseconds(self.time(rt));
+        let limit = u64::from(self.asked.seconds).saturating_mul(1000);
+        self.answer.see(self.session.awaits_answer(), now);
+        self.incoming.see(!self.session.is_between(), now);
+        self.outgoing.see(!self.session.unsent().is_empty(), now);
+        for timer in [self.answer, self.incoming, self.outgoing] {
+            if is_late(&timer, now, limit) {
+                return Err(End::Late);
+            }
+        }
+        Ok(())
+    }
+
+    /// Waits, unless bytes went over; and where a transfer failed, so that it isn't asked for at once.
+    fn wait(&mut self, rt: &HostRuntime, has_moved: bool) {
+        if self.has_failed {
+            self.has_failed = false;
+            thread::sleep(rt, Duration::from_millis(AFTER_ERROR));
+        }
+        if has_moved {
+            self.idle = 0;
+        } else {
+            thread::sleep(rt, pause(self.idle));
+            self.idle = self.idle.saturating_add(1);
+        }
+    }
+}
