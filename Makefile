@@ -178,13 +178,15 @@ descriptors: $(HIDRUN) $(HIDPLAY)  ## compares hidrun and hidplay with the secon
 	tools/check/second-reader --recordings $(COUNT) $(HIDPLAY)
 
 # Compares hidplay, on the recordings of the examples and on some made from a seed, with Debian's Linux kernel in QEMU and
-# with tshark, and on what QEMU's own keyboard, mouse and tablet send: docs/COMPARISON.md. Not part of the gate. It needs
-# qemu-system-x86, tshark, gcc and Debian's apt, fetches kernel and busybox into bin/linux, and says what it leaves out.
-compare-linux: $(HIDPLAY)  ## compares hidplay with Linux, tshark and QEMU: SEED=1
+# with tshark, and on what QEMU's own keyboard, mouse and tablet send; tries hidserve and hidattach with that kernel:
+# docs/COMPARISON.md. Not part of the gate. It needs qemu-system-x86, tshark, socat, gcc and Debian's apt, fetches kernel,
+# busybox and usbip into bin/linux, and says what it leaves out.
+compare-linux: $(HIDPLAY) $(HIDSERVE) $(HIDATTACH)  ## compares hidplay with Linux, tshark and QEMU, USB/IP with Linux: SEED=1
 	tools/compare/tshark $(HIDPLAY) --seed $(SEED) --self-test
 	tools/compare/linux $(HIDPLAY) --seed $(SEED) --self-test
 	tools/compare/qemu $(HIDPLAY)
 	tools/compare/captures $(HIDPLAY)
+	tools/compare/usbip bin/hidserve bin/hidattach $(HIDPLAY) --self-test
 
 # Runs each example script on the proved program, and each test of calls that take memory, with each of its allocations
 # refused in turn: half a minute. It needs a C compiler, and the test programs that `rt ci` or `rt test` made from the current

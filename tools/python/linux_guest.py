@@ -1,7 +1,7 @@
 """Debian's Linux in QEMU, and recordings played into it.
 
-fetch() downloads Debian's kernel and busybox by `apt-get download` into a folder and unpacks them there: nothing is
-installed. play() boots that kernel with tools/c/uhidplay.c as its only program, and gives what it prints. A missing program is
+fetch() downloads Debian's kernel, busybox and other packages by `apt-get download` into a folder and unpacks them there: nothing
+is installed. play() boots that kernel with tools/c/uhidplay.c as its only program, and gives what it prints. A missing program is
 reported as Missing, with the package to install.
 """
 import pathlib
@@ -60,16 +60,17 @@ def kernel():
     return (images[-1], modules[-1]) if images and modules else None
 
 
-def fetch():
-    """Downloads and unpacks what isn't there yet."""
+def fetch(*more):
+    """Downloads and unpacks what isn't there yet: kernel, busybox and more packages."""
     need("qemu-system-x86_64", "qemu-system-x86")
     need("gcc", "gcc libc6-dev")
-    if kernel() and (FOLDER / "root/bin/busybox").exists():
+    packages = [name for name in ("busybox-static", *more) if not (FOLDER / "root/usr/share/doc" / name).exists()]
+    if kernel() and not packages:
         return
     need("apt-get", "apt, on Debian")
     need("dpkg", "dpkg, on Debian")
     FOLDER.mkdir(parents=True, exist_ok=True)
-    for package in (kernel_package(), "busybox-static"):
+    for package in packages if kernel() else [kernel_package(), *packages]:
         print("fetching %s into %s" % (package, FOLDER.relative_to(ROOT)), flush=True)
         ran(["apt-get", "download", package], cwd=FOLDER)
         for archive in FOLDER.glob(package + "_*.deb"):
@@ -85,13 +86,28 @@ def version():
     return said[0] if said else modules.name
 
 
-def pack(folder, into, modules, does, files=()):
-    """An initial file system of init, busybox, modules, the player and the recordings."""
+def copy_program(program, folder):
+    """Copies a program into bin, and the libraries that it loads to their places."""
+    shutil.copy(program, folder / "bin")
+    for line in ran(["ldd", program]).splitlines():
+        if "not found" in line:
+            raise Missing("%s needs %s, which isn't here" % (program, line.split()[0]))
+        path = next((word for word in line.split() if word.startswith("/")), None)
+        if path:
+            place = folder / path[1:]
+            place.parent.mkdir(parents=True, exist_ok=True)
+            shutil.copy(path, place)
+
+
+def pack(folder, into, modules, does, files=(), player="uhidplay", programs=()):
+    """An initial file system of init, busybox, modules, a program of tools/c, the recordings and other programs."""
     root, place = FOLDER / "root", kernel()[1]
     for name in ("bin", "dev", "proc", "sys", "modules", "played"):
         (folder / name).mkdir(parents=True)
     shutil.copy(root / "bin/busybox", folder / "bin")
-    ran(["gcc", "-O2", "-static", "-o", folder / "bin/uhidplay", ROOT / "tools/c/uhidplay.c"])
+    ran(["gcc", "-O2", "-static", "-o", folder / "bin" / player, ROOT / "tools/c" / (player + ".c")])
+    for program in programs:
+        copy_program(program, folder)
     for name in modules:
         shutil.copy(place / "kernel/drivers" / (name + ".ko"), folder / "modules")
     for file in files:
