@@ -57,7 +57,7 @@ line_count words columns = lines_below words columns (length words)
 -- how many columns a cell has: so many for each bit in characters, with its side, and fourteen narrow ones in a drawing
 abbrev pub columns_of : Medium → ByteSlice → ℕ
 columns_of Svg piece = 14 * (piece.high - piece.low) - 2
-columns_of (Characters columns) piece = min (columns * (piece.high - piece.low)) (2 ^ 64 - 1) - 1
+columns_of (Characters columns) piece = columns * (piece.high - piece.low) - 1
 
 -- how many lines two texts take, one below the other
 abbrev pub both_counts : List ℕ → List ℕ → ℕ → ℕ

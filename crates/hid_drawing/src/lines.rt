@@ -102,9 +102,7 @@ pub fn columns_of(medium: Medium, piece: &ByteSlice) -> usize
     let bits = u64::from(piece.high.saturating_sub(piece.low));
     match medium {
         Medium::Svg => (14 * bits).saturating_sub(2) as usize,
-        Medium::Characters(columns) => {
-            u64::from(columns).saturating_mul(bits).saturating_sub(1) as usize
-        }
+        Medium::Characters(columns) => { (u64::from(columns) * bits).saturating_sub(1) as usize }
     }
 }
 

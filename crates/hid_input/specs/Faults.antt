@@ -1,6 +1,8 @@
 -- Why a file has no descriptor, of the whole text or of a line of it (our choice: docs/PICTURES.md).
-use Rattle.std.specs.Prelude.{ℕ, None, Some}
+use Rattle.std.specs.Prelude.{◌≡◌, ◌⊎◌, ℕ, List, ◌++◌, None, Some, codes}
+use Rattle.std.specs.Fmt.{decimal}
 use Rattle.hid_input.specs.declared.fault.InputCause.{InputCause}
+use Rattle.hid_input.specs.declared.fault.InputCause.TheVariants.{BadHex, BadCount, BadArray, BadEscape, SeveralStrings, WordOrder, Offset, Dump, BadItem, TwoWays, Utf16, NoDescriptor, Memory}
 use Rattle.hid_input.specs.declared.fault.InputFault.{InputFault}
 
 -- what is wrong with the whole text
@@ -10,3 +12,24 @@ of_text cause = record { line = None; cause = cause }
 -- what is wrong with a line
 abbrev pub of_line : ℕ → InputCause → InputFault
 of_line line cause = record { line = Some line; cause = cause }
+
+-- why hex is refused: memory ran out, or it can be read in another way too, which gives other bytes
+abbrev pub IsOfHex : InputFault → Type 0
+IsOfHex fault = (fault ≡ of_text Memory) ⊎ (fault ≡ of_text TwoWays)
+
+-- why no descriptor is read, in words
+abbrev pub cause_text : InputCause → List ℕ
+cause_text BadHex = codes "a byte isn't two hex digits"
+cause_text (BadCount said found) =
+    codes "the count says " ++ (decimal said ++ (codes ", there are " ++ (decimal found ++ codes " bytes")))
+cause_text BadArray = codes "an element of the array is no byte"
+cause_text BadEscape = codes "an escape of the string is no byte, or a digit follows it"
+cause_text SeveralStrings = codes "a string beside others, or a single character: which bytes are meant isn't known"
+cause_text WordOrder = codes "words of two bytes or more: their order isn't known (try xxd, hexdump -C or od -t x1)"
+cause_text Offset = codes "an offset? The first word doesn't count the bytes before it"
+cause_text Dump = codes "a dump with offsets, of which this line can't be read"
+cause_text BadItem = codes "no item as lsusb prints them"
+cause_text TwoWays = codes "it can be read in two ways, which give different bytes"
+cause_text Utf16 = codes "text of UTF-16: write it as UTF-8"
+cause_text NoDescriptor = codes "text without a descriptor: an R: line, hex, an array of C, or what xxd, hexdump -C, od, Wireshark, lsusb -v or usbhid-dump print is expected"
+cause_text Memory = codes "out of memory"

@@ -78,6 +78,11 @@ impl From<AllocError> for InputFault {
 }
 
 impl fmt::Display for InputCause {
+    ghost use Rattle.std.specs.Prelude.{Some};
+    ghost use Rattle.hid_input.specs.Faults.{cause_text};
+
+    ghost output = { λ cause. Some (cause_text cause) };
+
     fn fmt<W: fmt::Write>(&self, f: &mut fmt::Formatter<W>) -> fmt::Result {
         let words = match *self {
             InputCause::BadCount { said, found } => {

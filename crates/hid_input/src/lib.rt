@@ -32,4 +32,5 @@ mod ways;
 
 pub use fault::{InputCause, InputFault};
 pub use file_name::FileName;
-pub use reading::descriptor_in;
+pub use reading::{descriptor_in, is_recording};
+pub use recorded::begins_recording;

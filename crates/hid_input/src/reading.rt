@@ -4,7 +4,7 @@ ghost use Rattle.std.specs.Prelude.{◌≡◌, ℕ, ◌==◌, ◌-◌, ◌&&◌,
 ghost use Rattle.std.specs.List.{list_all};
 ghost use Rattle.std.specs.Char.{is_ascii_hexdigit};
 ghost use Rattle.hid_input.specs.Hex.{words_of, bytes_of, is_offset, IsHex};
-ghost use Rattle.hid_input.specs.Faults.{of_text};
+ghost use Rattle.hid_input.specs.Faults.{of_text, IsOfHex};
 ghost use Rattle.hid_input.specs.Text.{is_space, is_text_byte, has_printed, is_text, is_utf16, without_mark};
 
 use crate::code::{has_array, read_array};
@@ -12,7 +12,7 @@ use crate::decimal::read_decimal;
 use crate::fault::{InputCause, InputFault};
 use crate::items::{has_items, read_items};
 use crate::parts::{first_word, line_number};
-use crate::recorded::{has_recorded, read_dumped, read_recorded};
+use crate::recorded::{has_record, has_recorded, read_dumped, read_recorded};
 use crate::spelled::{is_spelled, read_spelled};
 use crate::strings::{has_string, read_string};
 use crate::ways::{add_dumps, agreed, are_all};
@@ -150,6 +150,7 @@ fn read_offset_dump(alloc: Global, text: &[u8]) -> Result<Vec<u8>, InputFault> {
 /// read they are the same.
 fn read_hex(alloc: Global, text: &[u8]) -> Result<Vec<u8>, InputFault>
     ensures pairs { (bytes : List ℕ) → bytes_of (words_of text.now) ≡ Some bytes → IfOk result (λ read. read.items ≡ bytes) }
+    ensures faults { (bytes : List ℕ) → bytes_of (words_of text.now) ≡ Some bytes → IfErr result IsOfHex }
 {
     let spelled = read_spelled(alloc, text)?;
     let mut others = Vec::new(alloc);
@@ -166,6 +167,7 @@ fn read_hex(alloc: Global, text: &[u8]) -> Result<Vec<u8>, InputFault>
 /// The descriptor in text.
 fn descriptor_in_text(alloc: Global, text: &[u8]) -> Result<Vec<u8>, InputFault>
     ensures hex { (bytes : List ℕ) → IsHex text.now bytes → IfOk result (λ read. read.items ≡ bytes) }
+    ensures faults { (bytes : List ℕ) → IsHex text.now bytes → IfErr result IsOfHex }
 {
     if is_offset(first_word(text)) {
         return read_offset_dump(alloc, text);
@@ -201,6 +203,9 @@ pub fn descriptor_in(alloc: Global, bytes: &[u8]) -> Result<Vec<u8>, InputFault>
     ensures binary { is_text (without_mark bytes.now) ≡ false → IfOk result (λ read. read.items ≡ bytes.now) }
     ensures hex { (hex : List ℕ) → is_text (without_mark bytes.now) ≡ true → IsHex (without_mark bytes.now) hex
         → IfOk result (λ read. read.items ≡ hex) }
+    // Such hex is refused for memory alone, or since it can be read in another way too.
+    ensures complete { (hex : List ℕ) → is_utf16 bytes.now ≡ false → is_text (without_mark bytes.now) ≡ true
+        → IsHex (without_mark bytes.now) hex → IfErr result IsOfHex }
     ensures utf16 { is_utf16 bytes.now ≡ true → result ≡ Err (of_text InputCause.Utf16) }
     ensures memory { is_utf16 bytes.now ≡ false → is_text (without_mark bytes.now) ≡ false
         → IfErr result (λ fault. fault ≡ of_text InputCause.Memory) }
@@ -213,4 +218,10 @@ pub fn descriptor_in(alloc: Global, bytes: &[u8]) -> Result<Vec<u8>, InputFault>
         return descriptor_in_text(alloc, text);
     }
     Ok(Vec::from_slice(alloc, bytes)?)
+}
+
+/// Whether bytes are the text of a recording: some line is one that hid-recorder or usbhid-dump writes.
+pub fn is_recording(bytes: &[u8]) -> bool {
+    let text = without_mark(bytes);
+    is_text(text) && has_record(text)
 }

@@ -1,6 +1,7 @@
 //! Bytes in hex, in whatever way they are spelled: `05 01`, `0501`, `05:01`, `0x05, 0x01`, `\x05\x01`.
 
-ghost use Rattle.std.specs.Prelude.{◌≡◌, ℕ, ◌==◌, List, Some, IfOk, map};
+ghost use Rattle.std.specs.Prelude.{◌≡◌, ℕ, ◌==◌, List, Some, IfOk, IfErr, map};
+ghost use Rattle.hid_input.specs.Faults.{of_text};
 ghost use Rattle.std.specs.List.{list_any, list_all};
 ghost use Rattle.std.specs.Option.{option_map};
 ghost use Rattle.std.specs.Char.{is_ascii_hexdigit};
@@ -183,16 +184,23 @@ fn read_words(alloc: Global, words: &[&[u8]]) -> Result<Vec<u8>, InputFault> {
 /// beside others; [`InputCause::Memory`].
 pub fn read_spelled(alloc: Global, text: &[u8]) -> Result<Vec<u8>, InputFault>
     ensures pairs { (bytes : List ℕ) → bytes_of (words_of text.now) ≡ Some bytes → IfOk result (λ read. read.items ≡ bytes) }
+    ensures faults { (bytes : List ℕ) → bytes_of (words_of text.now) ≡ Some bytes
+        → IfErr result (λ fault. fault ≡ of_text InputCause.Memory) }
 {
-    check_words(text)?;
     let words = words_of(alloc, text)?;
-    if let Some(bytes) = read_pairs(alloc, words.as_slice())? {
-        return Ok(bytes);
+    match read_pairs(alloc, words.as_slice())? {
+        Some(bytes) => Ok(bytes),
+        None => read_others(alloc, text, words.as_slice()),
     }
+}
+
+/// The bytes of words that aren't all pairs.
+fn read_others(alloc: Global, text: &[u8], words: &[&[u8]]) -> Result<Vec<u8>, InputFault> {
+    check_words(text)?;
     if !are_bytes(text) && !are_runs(text) {
         return Err(unknown_word(text));
     }
-    read_words(alloc, words.as_slice())
+    read_words(alloc, words)
 }
 
 /// Whether a text has a hex digit.

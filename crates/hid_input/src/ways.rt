@@ -41,11 +41,9 @@ pub fn agreed(mut readings: Vec<Vec<u8>>) -> Result<Option<Vec<u8>>, InputFault>
 ///
 /// # Errors
 /// Out of memory.
-pub fn add_dumps(
-    alloc: Global,
-    text: &[u8],
-    readings: &mut Vec<Vec<u8>>,
-) -> Result<u64, InputFault> {
+pub fn add_dumps(alloc: Global, text: &[u8], readings: &mut Vec<Vec<u8>>) -> Result<u64, InputFault>
+    ensures { IfErr result (λ fault. fault ≡ of_text InputCause.Memory) }
+{
     let mut reached = 0;
     for base in BASES {
         for cells in WAYS {

@@ -1,7 +1,7 @@
 -- The names of each page (HID Usage Tables; of pages 80 to F0 their own standards).
 use Rattle.std.specs.Prelude.{ℕ, ◌==◌, nat_lt, Bool, true, false, ◌&&◌, List, [], ◌∷◌, map, if◌then◌else◌, Option, None, Some}
 use Rattle.std.specs.Borrow.{Bor}
-use Rattle.hid_names.specs.declared.table.TheConstants.{DESKTOP, SIMULATION, VR, SPORT, GAME, KEYBOARD, LEDS, TELEPHONY, CONSUMER, DIGITIZERS, PHYSICAL_INTERFACE, AUXILIARY_DISPLAY, MONITOR, VESA_CONTROLS, POWER, BATTERY_SYSTEM, CASH_DEVICE}
+use Rattle.hid_names.specs.declared.table.TheConstants.{DESKTOP, SIMULATION, VR, SPORT, GAME, KEYBOARD, LEDS, TELEPHONY, CONSUMER, APPLICATION_CONTROLS, DIGITIZERS, PHYSICAL_INTERFACE, AUXILIARY_DISPLAY, SENSORS, SENSOR_FIELDS, MORE_SENSOR_FIELDS, SENSOR_VALUES, MONITOR, VESA_CONTROLS, POWER, BATTERY_SYSTEM, CASH_DEVICE}
 
 -- IDs and names
 abbrev pub table_rows : List (ℕ × Bor (List ℕ)) → List (ℕ × List ℕ)
@@ -44,9 +44,13 @@ leds = map (λ row. (row.0, row.1.now)) LEDS
 unfoldable pub telephony : List (ℕ × List ℕ)
 telephony = map (λ row. (row.0, row.1.now)) TELEPHONY
 
--- page 0C
+-- page 0C below 200
 unfoldable pub consumer : List (ℕ × List ℕ)
 consumer = map (λ row. (row.0, row.1.now)) CONSUMER
+
+-- page 0C from 200 on
+unfoldable pub application_controls : List (ℕ × List ℕ)
+application_controls = map (λ row. (row.0, row.1.now)) APPLICATION_CONTROLS
 
 -- page 0D
 unfoldable pub digitizers : List (ℕ × List ℕ)
@@ -59,6 +63,22 @@ physical_interface = map (λ row. (row.0, row.1.now)) PHYSICAL_INTERFACE
 -- page 14
 unfoldable pub auxiliary_display : List (ℕ × List ℕ)
 auxiliary_display = map (λ row. (row.0, row.1.now)) AUXILIARY_DISPLAY
+
+-- page 20 below 200
+unfoldable pub sensors : List (ℕ × List ℕ)
+sensors = map (λ row. (row.0, row.1.now)) SENSORS
+
+-- page 20 from 200 to 4FF
+unfoldable pub sensor_fields : List (ℕ × List ℕ)
+sensor_fields = map (λ row. (row.0, row.1.now)) SENSOR_FIELDS
+
+-- page 20 from 500 to 7FF
+unfoldable pub more_sensor_fields : List (ℕ × List ℕ)
+more_sensor_fields = map (λ row. (row.0, row.1.now)) MORE_SENSOR_FIELDS
+
+-- page 20 from 800 on
+unfoldable pub sensor_values : List (ℕ × List ℕ)
+sensor_values = map (λ row. (row.0, row.1.now)) SENSOR_VALUES
 
 -- page 80
 unfoldable pub monitor : List (ℕ × List ℕ)
@@ -80,6 +100,17 @@ battery_system = map (λ row. (row.0, row.1.now)) BATTERY_SYSTEM
 unfoldable pub cash_device : List (ℕ × List ℕ)
 cash_device = map (λ row. (row.0, row.1.now)) CASH_DEVICE
 
+-- what page 0C has under an ID
+abbrev pub in_consumer : ℕ → Option (List ℕ)
+in_consumer id = if nat_lt id 0x200 then name_under consumer id else name_under application_controls id
+
+-- what page 20 has under an ID
+abbrev pub in_sensors : ℕ → Option (List ℕ)
+in_sensors id =
+    if nat_lt id 0x200 then name_under sensors id
+    else if nat_lt id 0x500 then name_under sensor_fields id
+    else if nat_lt id 0x800 then name_under more_sensor_fields id else name_under sensor_values id
+
 -- what the table of a page has under an ID
 unfoldable pub in_page : ℕ → ℕ → Option (List ℕ)
 in_page page id =
@@ -91,10 +122,11 @@ in_page page id =
     else if page == 0x07 then name_under keyboard id
     else if page == 0x08 then name_under leds id
     else if page == 0x0B then name_under telephony id
-    else if page == 0x0C then name_under consumer id
+    else if page == 0x0C then in_consumer id
     else if page == 0x0D then name_under digitizers id
     else if page == 0x0F then name_under physical_interface id
     else if page == 0x14 then name_under auxiliary_display id
+    else if page == 0x20 then in_sensors id
     else if page == 0x80 then name_under monitor id
     else if page == 0x82 then name_under vesa_controls id
     else if page == 0x84 then name_under power id
@@ -120,9 +152,14 @@ all_rise =
     && are_rising (map (λ row. row.0) LEDS)
     && are_rising (map (λ row. row.0) TELEPHONY)
     && are_rising (map (λ row. row.0) CONSUMER)
+    && are_rising (map (λ row. row.0) APPLICATION_CONTROLS)
     && are_rising (map (λ row. row.0) DIGITIZERS)
     && are_rising (map (λ row. row.0) PHYSICAL_INTERFACE)
     && are_rising (map (λ row. row.0) AUXILIARY_DISPLAY)
+    && are_rising (map (λ row. row.0) SENSORS)
+    && are_rising (map (λ row. row.0) SENSOR_FIELDS)
+    && are_rising (map (λ row. row.0) MORE_SENSOR_FIELDS)
+    && are_rising (map (λ row. row.0) SENSOR_VALUES)
     && are_rising (map (λ row. row.0) MONITOR)
     && are_rising (map (λ row. row.0) VESA_CONTROLS)
     && are_rising (map (λ row. row.0) POWER)

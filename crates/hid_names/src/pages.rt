@@ -2,15 +2,16 @@
 
 ghost use Rattle.std.specs.Prelude.{◌≡◌};
 ghost use Rattle.std.specs.Option.{option_map};
-ghost use Rattle.hid_names.specs.Pages.{name_under, table_rows, in_page, desktop, simulation, vr, sport, game, keyboard, leds, telephony, consumer, digitizers, physical_interface, auxiliary_display, monitor, vesa_controls, power, battery_system, cash_device};
+ghost use Rattle.hid_names.specs.Pages.{name_under, table_rows, in_page, desktop, simulation, vr, sport, game, keyboard, leds, telephony, consumer, application_controls, in_consumer, digitizers, physical_interface, auxiliary_display, sensors, sensor_fields, more_sensor_fields, sensor_values, in_sensors, monitor, vesa_controls, power, battery_system, cash_device};
 
 use crate::table::{
-    AUXILIARY_DISPLAY, BATTERY_SYSTEM, CASH_DEVICE, CONSUMER, DESKTOP, DIGITIZERS, GAME, KEYBOARD,
-    LEDS, MONITOR, PHYSICAL_INTERFACE, POWER, SIMULATION, SPORT, TELEPHONY, VESA_CONTROLS, VR,
+    APPLICATION_CONTROLS, AUXILIARY_DISPLAY, BATTERY_SYSTEM, CASH_DEVICE, CONSUMER, DESKTOP,
+    DIGITIZERS, GAME, KEYBOARD, LEDS, MONITOR, MORE_SENSOR_FIELDS, PHYSICAL_INTERFACE, POWER,
+    SENSOR_FIELDS, SENSOR_VALUES, SENSORS, SIMULATION, SPORT, TELEPHONY, VESA_CONTROLS, VR,
 };
 
 /// What rows have under an ID.
-fn look_up(rows: &[(u16, &'static str)], id: u16) -> Option<&'static str>
+pub(crate) fn look_up(rows: &[(u16, &'static str)], id: u16) -> Option<&'static str>
     ensures { option_map (λ name. name.now) result ≡ name_under (table_rows rows.now) id }
 {
     for row in rows {
@@ -88,12 +89,31 @@ fn in_telephony(id: u16) -> Option<&'static str>
     look_up(&TELEPHONY, id)
 }
 
-/// The name of the usage with this ID on page 0C (in hex).
+/// The name of the usage with this ID, below 200, on page 0C (in hex).
 #[tactic(auto, unfolding(crate::specs::Pages::consumer))]
-fn in_consumer(id: u16) -> Option<&'static str>
+fn in_consumer_controls(id: u16) -> Option<&'static str>
     ensures { option_map (λ name. name.now) result ≡ name_under consumer id }
 {
     look_up(&CONSUMER, id)
+}
+
+/// The name of the usage with this ID, from 200 on, on page 0C (in hex).
+#[tactic(auto, unfolding(crate::specs::Pages::application_controls))]
+fn in_application_controls(id: u16) -> Option<&'static str>
+    ensures { option_map (λ name. name.now) result ≡ name_under application_controls id }
+{
+    look_up(&APPLICATION_CONTROLS, id)
+}
+
+/// The name of the usage with this ID on page 0C (in hex).
+fn in_consumer(id: u16) -> Option<&'static str>
+    ensures { option_map (λ name. name.now) result ≡ in_consumer id }
+{
+    if id < 0x200 {
+        in_consumer_controls(id)
+    } else {
+        in_application_controls(id)
+    }
 }
 
 /// The name of the usage with this ID on page 0D (in hex).
@@ -118,6 +138,50 @@ fn in_auxiliary_display(id: u16) -> Option<&'static str>
     ensures { option_map (λ name. name.now) result ≡ name_under auxiliary_display id }
 {
     look_up(&AUXILIARY_DISPLAY, id)
+}
+
+/// The name of the usage with this ID, below 200, on page 20 (in hex).
+#[tactic(auto, unfolding(crate::specs::Pages::sensors))]
+fn in_sensor_kinds(id: u16) -> Option<&'static str>
+    ensures { option_map (λ name. name.now) result ≡ name_under sensors id }
+{
+    look_up(&SENSORS, id)
+}
+
+/// The name of the usage with this ID, from 200 to 4FF, on page 20 (in hex).
+#[tactic(auto, unfolding(crate::specs::Pages::sensor_fields))]
+fn in_sensor_fields(id: u16) -> Option<&'static str>
+    ensures { option_map (λ name. name.now) result ≡ name_under sensor_fields id }
+{
+    look_up(&SENSOR_FIELDS, id)
+}
+
+/// The name of the usage with this ID, from 500 to 7FF, on page 20 (in hex).
+#[tactic(auto, unfolding(crate::specs::Pages::more_sensor_fields))]
+fn in_more_sensor_fields(id: u16) -> Option<&'static str>
+    ensures { option_map (λ name. name.now) result ≡ name_under more_sensor_fields id }
+{
+    look_up(&MORE_SENSOR_FIELDS, id)
+}
+
+/// The name of the usage with this ID, from 800 on, on page 20 (in hex).
+#[tactic(auto, unfolding(crate::specs::Pages::sensor_values))]
+fn in_sensor_values(id: u16) -> Option<&'static str>
+    ensures { option_map (λ name. name.now) result ≡ name_under sensor_values id }
+{
+    look_up(&SENSOR_VALUES, id)
+}
+
+/// The name of the usage with this ID on page 20 (in hex).
+fn in_sensors(id: u16) -> Option<&'static str>
+    ensures { option_map (λ name. name.now) result ≡ in_sensors id }
+{
+    match id {
+        0x000..=0x1FF => in_sensor_kinds(id),
+        0x200..=0x4FF => in_sensor_fields(id),
+        0x500..=0x7FF => in_more_sensor_fields(id),
+        _ => in_sensor_values(id),
+    }
 }
 
 /// The name of the usage with this ID on page 80 (in hex).
@@ -178,6 +242,7 @@ pub fn in_page(page: u16, id: u16) -> Option<&'static str>
         0x0D => in_digitizers(id),
         0x0F => in_physical_interface(id),
         0x14 => in_auxiliary_display(id),
+        0x20 => in_sensors(id),
         0x80 => in_monitor(id),
         0x82 => in_vesa_controls(id),
         0x84 => in_power(id),

@@ -5,6 +5,7 @@ use Rattle.std.specs.Prelude.{codes}
 use Rattle.std.specs.Fmt.{digits}
 use Rattle.std.specs.List.{flat_map}
 use Rattle.hid_page.specs.ItemTable.{item_name, name_of_item, number_text}
+use Rattle.hid_page.specs.Units.{unit_words, system_words, first_factors, last_factors, factor_text}
 use Rattle.hid_page.specs.declared.field_table.TheConstants.{FIELDS_HEAD, NEXT}
 use Rattle.hid_page.specs.declared.item_table.TheConstants.{ITEMS_HEAD}
 
@@ -70,3 +71,17 @@ items_head = refl
 -- a cell ends, and the next one begins
 next : NEXT.now ≡ codes "</td>" ++ codes "<td>"
 next = refl
+
+-- the units of the table of 6.2.2.7: distance, mass, velocity, energy, angular acceleration and voltage
+units : map unit_words (0x11 ∷ 0x101 ∷ 0xF011 ∷ 0xE121 ∷ 0xE012 ∷ 0x00F0D121 ∷ [])
+    ≡ codes ", Centimeter (SI Linear)" ∷ codes ", Gram (SI Linear)" ∷ codes ", Centimeter Seconds^-1 (SI Linear)"
+    ∷ codes ", Centimeter^2 Gram Seconds^-2 (SI Linear)" ∷ codes ", Radians Seconds^-2 (SI Rotation)"
+    ∷ codes ", Centimeter^2 Gram Seconds^-3 Ampere^-1 (SI Linear)" ∷ []
+unfolding digits system_words first_factors last_factors factor_text
+units = refl
+
+-- English units, no unit, and units of a reserved and of a vendor's system
+other_units : map unit_words (0x10013 ∷ 0x14 ∷ 0 ∷ 0x15 ∷ 0x1F ∷ [])
+    ≡ codes ", Inch Fahrenheit (English Linear)" ∷ codes ", Degrees (English Rotation)" ∷ codes ", None" ∷ [] ∷ [] ∷ []
+unfolding digits system_words first_factors last_factors factor_text
+other_units = refl

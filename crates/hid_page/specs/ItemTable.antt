@@ -1,16 +1,19 @@
 -- The items of a descriptor as a table (HID 1.11, 6.2.2; the words are those of the standard).
-use Rattle.std.specs.Prelude.{ℕ, ◌+◌, ◌/◌, ◌%◌, ◌^◌, nat_le, drop, ℤ, pos, ◌-ℤ◌, Bool, ◌==◌, ◌&&◌, ◌||◌, List, [], ◌∷◌, ◌++◌, length, slice_get, unwrap_or, map, if◌then◌else◌, Option, None, Some, codes}
+use Rattle.std.specs.Prelude.{ℕ, ◌+◌, ◌/◌, ◌%◌, ◌^◌, nat_le, drop, Bool, ◌==◌, ◌||◌, List, [], ◌∷◌, ◌++◌, length, slice_get, unwrap_or, map, if◌then◌else◌, Option, None, Some, codes}
 use Rattle.std.specs.Borrow.{Bor}
 use Rattle.std.specs.Fmt.{decimal, signed_decimal}
 use Rattle.hid_report_descriptor.specs.Items.{EncodedItem, is_main, is_field, INPUT, USAGE_PAGE, COLLECTION}
 use Rattle.hid_report_descriptor.specs.declared.usage.Usage.{Usage}
-use Rattle.hid_items.specs.ItemEncoding.{data_of, prefix_of, unsigned_of, signed_of}
+use Rattle.hid_items.specs.ItemEncoding.{prefix_of}
 use Rattle.hid_items.specs.declared.encoding.Item.{Item}
 use Rattle.hid_notation.specs.Text.{hex_text, bytes_text, concat_below}
 use Rattle.hid_page.specs.declared.item_table.TheConstants.{ITEM_NAMES, ITEMS_HEAD, TABLE_END}
+use Rattle.hid_page.specs.declared.units.TheConstants.{UNIT}
 use Rattle.hid_drawing.specs.Escape.{escaped_words}
 use Rattle.hid_drawing.specs.Brackets.{round_at}
-use Rattle.hid_drawing.specs.Items.{item_encoding_at}
+use Rattle.hid_page.specs.ItemNumbers.{LONG, item_number, signed_number, exponent_of, item_number_at}
+use Rattle.hid_page.specs.Units.{unit_words}
+use Rattle.hid_names.specs.PageNames.{page_name}
 use Rattle.hid_drawing.specs.Label.{usage_label}
 use Rattle.hid_drawing.specs.Origins.{global_place}
 use Rattle.hid_drawing.specs.Words.{flags_text, collection_name}
@@ -42,28 +45,6 @@ abbrev pub next_main : ℕ → List Item → Option ℕ
 next_main place [] = None
 next_main place (item ∷ items) = if is_main item.bytes.now then Some place else next_main (place + 1) items
 
--- the prefix of long items, and of a reserved short one
-abbrev pub LONG : ℕ
-LONG = 0xFC
-
--- the number of a short item; 0 of a long one
-abbrev pub item_number : EncodedItem → ℕ
-item_number item = if prefix_of item == LONG then 0 else unsigned_of (data_of item)
-
--- the number of a short item in two's complement; 0 of a long one
-abbrev pub signed_number : EncodedItem → ℤ
-signed_number item = if prefix_of item == LONG then pos 0 else signed_of (data_of item)
-
--- A unit's exponent: codes of four bits from 8 on are -8 to -1 (HID 1.11, 6.2.2.7), other numbers are as they are.
--- Example: 55 0E is -2
-abbrev pub exponent_of : ℕ → ℤ → ℤ
-exponent_of code number = if nat_le 8 code && nat_le code 15 then pos code -ℤ pos 16 else number
-
--- the number of the item at an optional place; 0 where there is none
-abbrev pub item_number_at : List Item → Option ℕ → ℕ
-item_number_at items None = 0
-item_number_at items (Some k) = item_number (item_encoding_at items k)
-
 -- where the page of a usage is looked up: at the next main item of the table, or at the usage where none follows
 abbrev pub page_place : List Item → ℕ → ℕ
 page_place items k = unwrap_or (next_main k (drop k items)) k
@@ -90,12 +71,22 @@ UNIT_EXPONENT = 0x54
 abbrev pub is_usage : ℕ → Bool
 is_usage prefix = prefix == 0x08 || (prefix == 0x18 || prefix == 0x28)
 
--- the number of an item: a page in hex, and others in decimal
+-- a name after a page's number, where it has one
+abbrev pub after_page : Option (List ℕ) → List ℕ
+after_page None = []
+after_page (Some name) = codes ": " ++ name
+
+-- a page by its number and its name. Example: 01: Generic Desktop
+abbrev pub page_words : ℕ → List ℕ
+page_words page = hex_text page ++ after_page (page_name page)
+
+-- the number of an item: of a page in hex, with its name, and others in decimal, a unit with its words
 abbrev pub number_text : ℕ → EncodedItem → List ℕ
 number_text prefix item =
     if is_item_signed prefix then signed_decimal (signed_number item)
     else if prefix == UNIT_EXPONENT then signed_decimal (exponent_of (item_number item) (signed_number item))
-    else if prefix == USAGE_PAGE then hex_text (item_number item % 2 ^ 16)
+    else if prefix == USAGE_PAGE then page_words (item_number item % 2 ^ 16)
+    else if prefix == UNIT then decimal (item_number item) ++ unit_words (item_number item)
     else decimal (item_number item)
 
 -- what the data of an item say: flags, a kind of collections, a usage or a number

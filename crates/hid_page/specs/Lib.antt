@@ -1,3 +1,5 @@
+pub mod ItemNumbers
+pub mod Units
 pub mod ItemTable
 pub mod Page
 pub mod Drawing

@@ -1,6 +1,6 @@
 -- The page of a descriptor: the picture of each report, its fields as a table, and the items with their places (our
 -- choice: docs/PICTURES.md).
-use Rattle.std.specs.Prelude.{ℕ, ◌+◌, Bool, ◌==◌, nat_le, List, [], ◌∷◌, ◌++◌, length, slice_get, take, if◌then◌else◌, Option, None, Some, codes, pos, int_lt}
+use Rattle.std.specs.Prelude.{ℕ, ◌+◌, Bool, not, ◌==◌, ◌&&◌, nat_le, List, [], ◌∷◌, ◌++◌, length, slice_get, take, if◌then◌else◌, Option, None, Some, codes, pos, int_lt}
 use Rattle.std.specs.List.{flat_map}
 use Rattle.std.specs.Fmt.{decimal, signed_decimal}
 use Rattle.hid_report_descriptor.specs.Usages.{Entry}
@@ -22,7 +22,10 @@ use Rattle.hid_drawing.specs.Brackets.{brackets_of, main_at}
 use Rattle.hid_drawing.specs.Items.{item_place}
 use Rattle.hid_page.specs.ItemTable.{item_table}
 use Rattle.hid_page.specs.Windows.{windows}
-use Rattle.hid_drawing.specs.Origins.{is_origin, listed_places}
+use Rattle.hid_page.specs.ItemNumbers.{item_number_at, signed_number_at, exponent_at}
+use Rattle.hid_page.specs.declared.units.TheConstants.{UNIT}
+use Rattle.hid_page.specs.Units.{unit_words}
+use Rattle.hid_drawing.specs.Origins.{is_origin, listed_places, global_place}
 use Rattle.hid_drawing.specs.Pieces.{pieces_of}
 use Rattle.hid_drawing.specs.Svg.{picture_at}
 use Rattle.hid_drawing.specs.Terminal.{terminal_at}
@@ -77,11 +80,39 @@ limits_text item =
     signed_decimal item.min ++ codes " to " ++ signed_decimal item.max
     ++ (if int_lt item.min (pos 0) then codes ", signed" else codes ", unsigned")
 
--- the range of a field that isn't padding
-abbrev pub range_cell : Shape → MainItem → List ℕ
-range_cell Padding item = []
-range_cell Variable item = limits_text item
-range_cell Array item = limits_text item
+-- the exponent of a unit, where it isn't 0
+abbrev pub times_text : List Item → Option ℕ → List ℕ
+times_text items place =
+    if item_number_at items place == 0 then [] else codes " &times; 10^" ++ signed_decimal (exponent_at items place)
+
+-- the unit in force at a main item with its exponent; none where it is None
+unfoldable pub unit_at : List Item → ℕ → List ℕ
+unit_at items m =
+    let unit = item_number_at items (global_place items m UNIT) in
+    if unit == 0 then [] else unit_words unit ++ times_text items (global_place items m 0x54)
+
+-- a physical range with its unit, by the places of its ends
+unfoldable pub physical_range : List Item → ℕ → Option ℕ → Option ℕ → List ℕ
+physical_range items m low high =
+    codes "<br>physical " ++ signed_decimal (signed_number_at items low) ++ codes " to "
+    ++ signed_decimal (signed_number_at items high) ++ unit_at items m
+
+-- a physical range is set: its ends aren't both 0, which stands for the logical one (HID 1.11, 6.2.2.7)
+abbrev pub is_physical : List Item → Option ℕ → Option ℕ → Bool
+is_physical items low high = not ((item_number_at items low == 0) && (item_number_at items high == 0))
+
+-- the physical range in force at a main item, where one is set
+unfoldable pub physical_text : List Item → ℕ → List ℕ
+physical_text items m =
+    let low = global_place items m 0x34 in
+    let high = global_place items m 0x44 in
+    if is_physical items low high then physical_range items m low high else []
+
+-- the ranges of a field that isn't padding: of its numbers, and the physical one
+abbrev pub range_cell : List Item → ℕ → Shape → MainItem → List ℕ
+range_cell items m Padding item = []
+range_cell items m Variable item = limits_text item ++ physical_text items m
+range_cell items m Array item = limits_text item ++ physical_text items m
 
 -- the collections round a field
 unfoldable pub path_cell : List Collection → List ℕ
@@ -104,10 +135,10 @@ unfoldable pub place_cells : Contents → ℕ → MainItem → List ℕ
 place_cells layout i item =
     number_cell i ++ bit_text (first_bit layout + item.offset) ++ NEXT.now ++ size_cell item ++ NEXT.now
 
--- what a field means: its usages, its range and its flags
-unfoldable pub meaning_cells : Bool → MainItem → List Entry → List ℕ
-meaning_cells input item entries =
-    meaning_cell item item.shape entries ++ NEXT.now ++ range_cell item.shape item ++ NEXT.now
+-- what a field means: its usages, its ranges and its flags
+unfoldable pub meaning_cells : List Item → ℕ → Bool → MainItem → List Entry → List ℕ
+meaning_cells items m input item entries =
+    meaning_cell item item.shape entries ++ NEXT.now ++ range_cell items m item.shape item ++ NEXT.now
     ++ flags_text input item.flags.0 ++ NEXT.now
 
 -- where a field comes from: the collections round it, and its items
@@ -117,7 +148,7 @@ origin_cells items m path = path_cell path ++ NEXT.now ++ links_cell items m ++ 
 -- the row of a field
 unfoldable pub field_row : Contents → List Item → List ℕ → ℕ → MainItem → List Entry → List Collection → List ℕ
 field_row layout items mains i item entries path =
-    place_cells layout i item ++ meaning_cells (is_input_item layout item) item entries
+    place_cells layout i item ++ meaning_cells items (main_at mains i) (is_input_item layout item) item entries
     ++ origin_cells items (main_at mains i) path
 
 -- the row of a listed item that stands in the report; no text for another item or none

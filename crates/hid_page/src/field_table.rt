@@ -1,13 +1,15 @@
 //! The fields of a report as a table, and the rules by which a field marks the items that made it.
 
-ghost use Rattle.std.specs.Prelude.{◌≡◌, ◌++◌, ◌<◌, length, OnOk, string_bytes};
+ghost use Rattle.std.specs.Prelude.{◌≡◌, ◌++◌, ◌<◌, All, length, OnOk, string_bytes};
 ghost use Rattle.hid_drawing.specs.Origins.{origins_in_force};
+ghost use Rattle.hid_drawing.specs.Items.{IsWholeItem};
 ghost use Rattle.hid_drawing.specs.Pieces.{SliceLiesIn};
 ghost use Rattle.hid_drawing.specs.Escape.{escaped_words};
 ghost use Rattle.hid_drawing.specs.Words.{entry_text, collection_words};
-ghost use Rattle.hid_page.specs.Page.{mark_head, mark_at, marks_of, mark_rule, mark_rules, number_cell, size_cell, usages_cell, meaning_cell, limits_text, range_cell, path_cell, item_link, link_at, links_cell, place_cells, meaning_cells, origin_cells, field_row, field_row_of, field_rows, field_table};
+ghost use Rattle.hid_page.specs.Page.{mark_head, mark_at, marks_of, mark_rule, mark_rules, number_cell, size_cell, usages_cell, meaning_cell, limits_text, physical_text, range_cell, path_cell, item_link, link_at, links_cell, place_cells, meaning_cells, origin_cells, field_row, field_row_of, field_rows, field_table};
 
 use crate::item_table::TABLE_END;
+use crate::physical::print_physical;
 use hid_drawing::{
     InForce, first_bit_of, is_input_item, is_origin, item_at, main_at, origins_in_force, place_of,
     print_bit, print_collection, print_count, print_entry, print_flags, print_padding_name,
@@ -185,14 +187,35 @@ fn print_limits(text: &mut String, item: &MainItem) -> Result<(), AllocError>
     }
 }
 
-/// Adds the range of a field that isn't padding.
-fn print_range_cell(text: &mut String, item: &MainItem) -> Result<(), AllocError>
+/// Adds the range of a field's numbers, and the physical one.
+fn print_ranges(
+    text: &mut String,
+    items: &[Item],
+    m: usize,
+    item: &MainItem,
+) -> Result<(), AllocError>
+    requires { All IsWholeItem items.now }
     ensures { OnOk result (string_bytes text.new
-        ≡ string_bytes text.old ++ range_cell item.now.shape item.now) }
+        ≡ string_bytes text.old ++ limits_text item.now ++ physical_text items.now m) }
+{
+    print_limits(text, item)?;
+    print_physical(text, items, m)
+}
+
+/// Adds the ranges of a field that isn't padding.
+fn print_range_cell(
+    text: &mut String,
+    items: &[Item],
+    m: usize,
+    item: &MainItem,
+) -> Result<(), AllocError>
+    requires { All IsWholeItem items.now }
+    ensures { OnOk result (string_bytes text.new
+        ≡ string_bytes text.old ++ range_cell items.now m item.now.shape item.now) }
 {
     match item.shape {
         Shape::Padding => Ok(()),
-        Shape::Variable | Shape::Array => print_limits(text, item),
+        Shape::Variable | Shape::Array => print_ranges(text, items, m, item),
     }
 }
 
@@ -284,16 +307,19 @@ fn print_place_cells(
 fn print_meaning_cells(
     alloc: Global,
     text: &mut String,
+    items: &[Item],
+    m: usize,
     input: bool,
     item: &MainItem,
     entries: &[(Usage, Usage)],
 ) -> Result<(), AllocError>
+    requires { All IsWholeItem items.now }
     ensures { OnOk result (string_bytes text.new
-        ≡ string_bytes text.old ++ meaning_cells input item.now entries.now) }
+        ≡ string_bytes text.old ++ meaning_cells items.now m input item.now entries.now) }
 {
     print_meaning_cell(alloc, text, item, entries)?;
     text.push_str(NEXT)?;
-    print_range_cell(text, item)?;
+    print_range_cell(text, items, m, item)?;
     text.push_str(NEXT)?;
     print_flags(text, input, item.flags)?;
     text.push_str(NEXT)
@@ -336,14 +362,16 @@ fn print_field_row(
     i: usize,
     row: Row<'_>,
 ) -> Result<(), AllocError>
-    requires { SliceLiesIn layout.now row.item.now }
+    requires lies { SliceLiesIn layout.now row.item.now }
+    requires whole { All IsWholeItem items.now }
     ensures { OnOk result (string_bytes text.new ≡ string_bytes text.old
         ++ field_row layout.now items.now mains.now i row.entry.item.now row.entry.entries.now row.entry.path.now) }
 {
     print_place_cells(text, layout, i, row.item)?;
     let input = is_input_item(layout, row.item);
-    print_meaning_cells(alloc, text, input, row.item, row.entries)?;
-    print_origin_cells(alloc, text, items, main_at(mains, i), row.path)
+    let m = main_at(mains, i);
+    print_meaning_cells(alloc, text, items, m, input, row.item, row.entries)?;
+    print_origin_cells(alloc, text, items, m, row.path)
 }
 
 /// Adds the row of the listed item i, where it stands in the report.
@@ -356,7 +384,8 @@ fn print_field_row_at(
     r: usize,
     i: usize,
 ) -> Result<(), AllocError>
-    requires { i < length layout.now.items }
+    requires item { i < length layout.now.items }
+    requires whole { All IsWholeItem items.now }
     ensures { OnOk result (string_bytes text.new
         ≡ string_bytes text.old ++ field_row_of layout.now items.now mains.now r i) }
 {
@@ -384,6 +413,7 @@ fn print_field_rows(
     mains: &[usize],
     r: usize,
 ) -> Result<(), AllocError>
+    requires { All IsWholeItem items.now }
     ensures { OnOk result (string_bytes text.new
         ≡ string_bytes text.old ++ field_rows layout.now items.now mains.now r) }
 {
@@ -406,6 +436,7 @@ pub fn print_field_table(
     mains: &[usize],
     r: usize,
 ) -> Result<(), AllocError>
+    requires { All IsWholeItem items.now }
     ensures { OnOk result (string_bytes text.new
         ≡ string_bytes text.old ++ field_table layout.now items.now mains.now r) }
 {

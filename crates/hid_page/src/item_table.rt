@@ -5,14 +5,17 @@ ghost use Rattle.hid_notation.specs.Text.{concat_below};
 ghost use Rattle.hid_drawing.specs.Escape.{escaped_words};
 ghost use Rattle.hid_drawing.specs.Items.{IsWholeItem};
 ghost use Rattle.hid_drawing.specs.Label.{usage_label};
-ghost use Rattle.hid_page.specs.ItemTable.{name_in_table, names_of, item_name, first_of, name_of_item, next_main, page_place, item_number, signed_number, exponent_of, item_number_at, page_at, usage_on, is_item_signed, is_usage, number_text, data_text, item_row_head, item_words, item_row, item_rows, item_table};
+ghost use Rattle.hid_page.specs.ItemTable.{name_in_table, names_of, item_name, first_of, name_of_item, next_main, page_place, page_at, usage_on, is_item_signed, is_usage, page_words, number_text, data_text, item_row_head, item_words, item_row, item_rows, item_table};
 
+use crate::item_numbers::{LONG, exponent_of, number_at, number_of, signed_number, whole_at};
+use crate::units::{UNIT, print_unit};
 use hid_drawing::{
     UsageLabel, collection_name, global_place, is_field, is_main, prefix_of, print_flags,
     push_escaped, round_at,
 };
 use hid_items::Item;
 use hid_layout::{MainFlags, Usage};
+use hid_names::page_name;
 use hid_notation::{HexText, print_bytes};
 use hid_report_descriptor::prefix;
 use std::alloc::{AllocError, Global};
@@ -34,9 +37,6 @@ pub const ITEMS_HEAD: &str =
 
 /// What a table ends with.
 pub const TABLE_END: &str = "</tbody></table></div>\n";
-
-/// The prefix of long items, and of a reserved short one.
-const LONG: u8 = 0xFC;
 
 /// What rows of names have under a prefix.
 fn name_in_table(rows: &[(u8, &'static str)], prefix: u8) -> &'static str
@@ -105,66 +105,6 @@ fn page_place(items: &[Item], k: usize) -> usize
     }
 }
 
-/// An item that is encoded whole.
-fn whole_at<'a, 'b>(items: &'a [Item<'b>], k: usize) -> &'a Item<'b>
-    requires there { k < length items.now }
-    requires whole { All IsWholeItem items.now }
-    ensures at { slice_get items.now k ≡ Some result.now }
-    ensures whole { IsWholeItem result.now }
-{
-    &items[k]
-}
-
-/// The number of a short item; 0 of a long one.
-fn number_of(item: &Item) -> u64
-    requires { IsWholeItem item.now }
-    ensures value { result ≡ item_number item.now.bytes.now }
-    ensures small { result < 2 ^ 32 }
-{
-    if prefix_of(item.bytes) == LONG {
-        return 0;
-    }
-    item.unsigned()
-}
-
-/// The number of a short item in two's complement; 0 of a long one.
-fn signed_number(item: &Item) -> i64
-    requires { IsWholeItem item.now }
-    ensures { result ≡ signed_number item.now.bytes.now }
-{
-    if prefix_of(item.bytes) == LONG {
-        return 0;
-    }
-    item.signed()
-}
-
-/// An exponent: codes of four bits from 8 on are -8 to -1 (HID 1.11, 6.2.2.7).
-fn exponent_of(code: u64, number: i64) -> i64
-    ensures { result ≡ exponent_of code number }
-{
-    if 8 <= code && code <= 15 {
-        code as i64 - 16
-    } else {
-        number
-    }
-}
-
-/// The number of the item at an optional place; 0 where there is none.
-fn number_at(items: &[Item], place: Option<usize>) -> u64
-    requires { All IsWholeItem items.now }
-    ensures { result ≡ item_number_at items.now place }
-{
-    match place {
-        None => 0,
-        Some(k) => {
-            if k >= items.len() {
-                return 0;
-            }
-            number_of(whole_at(items, k))
-        }
-    }
-}
-
 /// The page in force there.
 fn page_at(items: &[Item], k: usize) -> u16
     requires there { k < length items.now }
@@ -215,6 +155,17 @@ fn is_usage(prefix: u8) -> bool
     )
 }
 
+/// Adds a page by its number and its name: `01: Generic Desktop`.
+fn print_page(text: &mut String, page: u16) -> Result<(), AllocError>
+    ensures { OnOk result (string_bytes text.new ≡ string_bytes text.old ++ page_words page) }
+{
+    let number = HexText(page);
+    match page_name(page) {
+        Some(name) => write!(text, "{number}: {name}"),
+        None => write!(text, "{number}"),
+    }
+}
+
 /// Adds the number of an item.
 fn print_number(text: &mut String, prefix: u8, item: &Item) -> Result<(), AllocError>
     requires { IsWholeItem item.now }
@@ -230,10 +181,13 @@ fn print_number(text: &mut String, prefix: u8, item: &Item) -> Result<(), AllocE
         return write!(text, "{exponent}");
     }
     if prefix == prefix::USAGE_PAGE {
-        let page = HexText((number_of(item) % 0x1_0000) as u16);
-        return write!(text, "{page}");
+        return print_page(text, (number_of(item) % 0x1_0000) as u16);
     }
     let number = number_of(item);
+    if prefix == UNIT {
+        write!(text, "{number}")?;
+        return print_unit(text, number);
+    }
     write!(text, "{number}")
 }
 

@@ -16,8 +16,11 @@
 mod brackets;
 mod drawing;
 mod field_table;
+mod item_numbers;
 mod item_table;
 mod page;
+mod physical;
+mod units;
 mod windows;
 
 pub use drawing::{Form, draw, draw_refused};

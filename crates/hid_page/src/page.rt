@@ -146,7 +146,8 @@ fn print_section(
     mains: &[usize],
     r: usize,
 ) -> Result<(), AllocError>
-    requires { r < length layout.now.reports }
+    requires report { r < length layout.now.reports }
+    requires whole { All IsWholeItem items.now }
     ensures { OnOk result (string_bytes text.new
         ≡ string_bytes text.old ++ section layout.now items.now mains.now r) }
 {
@@ -164,6 +165,7 @@ fn print_sections(
     items: &[Item],
     mains: &[usize],
 ) -> Result<(), AllocError>
+    requires { All IsWholeItem items.now }
     ensures { OnOk result (string_bytes text.new
         ≡ string_bytes text.old ++ sections layout.now items.now mains.now) }
 {

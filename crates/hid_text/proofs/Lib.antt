@@ -12,3 +12,4 @@ pub mod LineLemmas
 pub mod PieceLemmas
 pub mod ShownLemmas
 mod Vectors
+mod NamedLemmas

@@ -6,7 +6,7 @@ use Rattle.std.proofs.lemmas.List.Sums.{sum_by-cons}
 use Rattle.std.specs.Prelude.{is_ok, filter}
 use Rattle.std.specs.List.{list_all, flat_map, slice_split, onto_first}
 use Rattle.std.specs.Option.{option_map}
-use Rattle.std.specs.Result.{result_unwrap_or}
+use Rattle.std.specs.Result.{result_unwrap_or, result_ok}
 use Rattle.hex.specs.Hex.{decode_of, decode_pairs, pair_value, value_at, digit_or_error, hex_digit_value, ◌>>=◌}
 use Rattle.hex.specs.declared.error.FromHexError.{FromHexError}
 use Rattle.hex.specs.declared.error.FromHexError.TheVariants.{OddLength}
@@ -83,6 +83,19 @@ pair_word high low word =
     ∙ ap (cond odd None) (pair_spelled 0 high low (decode_pairs 2 word) ∙ ap (onto (pair_of high low)) (same_pairs 2 0 word))
     ∙ onto_either odd (pair_of high low) (encoded (decode_pairs 0 word))
     ∙ ap (onto (pair_of high low)) (sym (spelled_either odd (decode_pairs 0 word)))
+
+is_encoded : (r : Result (List ℕ) FromHexError) → result_ok r ≡ encoded r
+is_encoded (Ok bytes) = refl
+is_encoded (Err cause) = refl
+
+onto_nothing : (byte : Option ℕ) → onto byte (Some []) ≡ option_map (λ b. b ∷ []) byte
+onto_nothing None = refl
+onto_nothing (Some byte) = refl
+
+-- what a pair of digits alone encodes
+pub pair_alone : (high low : ℕ) → result_ok (decode_of (high ∷ low ∷ [])) ≡ option_map (λ b. b ∷ []) (pair_of high low)
+unfolding decode_pairs
+pair_alone high low = is_encoded (decode_of (high ∷ low ∷ [])) ∙ pair_word high low [] ∙ onto_nothing (pair_of high low)
 
 -- ---- the words of a text
 

@@ -13,3 +13,4 @@ pub mod PollText
 pub mod TransferText
 pub mod StepText
 pub mod EventLines
+pub mod NamedText

@@ -69,7 +69,7 @@ fn print_bounds(text: &mut String, item: &MainItem) -> Result<(), AllocError>
 }
 
 /// Adds the range of an item.
-fn print_range(text: &mut String, item: &MainItem) -> Result<(), AllocError>
+pub(crate) fn print_range(text: &mut String, item: &MainItem) -> Result<(), AllocError>
     ensures { OnOk result (string_bytes text.new ≡ string_bytes text.old ++ range_words item.now) }
 {
     if item.flags.has_null_state() {
@@ -186,7 +186,7 @@ fn print_shape(text: &mut String, item: &MainItem) -> Result<(), AllocError>
 
 /// Adds what the line of an item begins with.
 #[tactic(auto, unfolding(crate::specs::LayoutText::item_head))]
-fn print_head(
+pub(crate) fn print_head(
     text: &mut String,
     i: usize,
     report: &Report,
@@ -242,7 +242,11 @@ fn print_report(text: &mut String, report: &Report, size: usize) -> Result<(), A
 }
 
 /// Adds the line of the report r.
-fn print_report_at(text: &mut String, layout: &Layout, r: usize) -> Result<(), AllocError>
+pub(crate) fn print_report_at(
+    text: &mut String,
+    layout: &Layout,
+    r: usize,
+) -> Result<(), AllocError>
     requires { r < length layout.now.reports }
     ensures { OnOk result (string_bytes text.new
         ≡ string_bytes text.old ++ report_text_at layout.now r (slice_get layout.now.reports r)) }

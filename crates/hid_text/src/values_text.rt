@@ -26,7 +26,12 @@ fn usage_named(entries: &[(Usage, Usage)], item: &MainItem, number: i64) -> Opti
 }
 
 /// The usage that is printed for an element with this number.
-fn usage_shown(item: &MainItem, entries: &[(Usage, Usage)], j: usize, number: i64) -> Option<Usage>
+pub(crate) fn usage_shown(
+    item: &MainItem,
+    entries: &[(Usage, Usage)],
+    j: usize,
+    number: i64,
+) -> Option<Usage>
     requires { length entries.now ≤ 64 }
     ensures { result ≡ usage_shown item.now.shape item.now (usage_list entries.now) j number }
 {
@@ -38,7 +43,7 @@ fn usage_shown(item: &MainItem, entries: &[(Usage, Usage)], j: usize, number: i6
 }
 
 /// Adds what the line of a value begins with: `value 2.0`.
-fn print_place(text: &mut String, i: usize, j: usize) -> Result<(), AllocError>
+pub(crate) fn print_place(text: &mut String, i: usize, j: usize) -> Result<(), AllocError>
     ensures { OnOk result (string_bytes text.new
         ≡ string_bytes text.old ++ codes "value " ++ decimal i ++ 46 ∷ decimal j) }
 {
@@ -49,7 +54,11 @@ fn print_place(text: &mut String, i: usize, j: usize) -> Result<(), AllocError>
 }
 
 /// Adds a number, and the usage that it belongs to: ` -127 01:30`.
-fn print_number_of(text: &mut String, number: i64, usage: Option<Usage>) -> Result<(), AllocError>
+pub(crate) fn print_number_of(
+    text: &mut String,
+    number: i64,
+    usage: Option<Usage>,
+) -> Result<(), AllocError>
     ensures { OnOk result (string_bytes text.new ≡ string_bytes text.old
         ++ 32 ∷ signed_decimal number ++ 32 ∷ usage_or_dash usage) }
 {

@@ -120,8 +120,8 @@ fn hex_digit(byte: u8) -> Option<u8>
     }
 }
 
-/// The byte that two hex digits encode.
-fn hex_pair(high: u8, low: u8) -> Option<u8>
+/// The byte that two hex digits of either case encode.
+pub fn hex_pair(high: u8, low: u8) -> Option<u8>
     ensures { result ≡ pair_of high low }
 {
     let high = hex_digit(high)?;
