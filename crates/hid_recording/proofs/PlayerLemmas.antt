@@ -119,12 +119,12 @@ pub report_taken : (options : Options) (time : List ℕ) (device : ℕ) (bytes :
     → after.layout ≡ member.layout → after.states ≡ read_view member.layout report bytes member.states
     → after.collected ≡ member.collected → after.in_doubt ≡ member.in_doubt → none ≡ []
     → told ≡ none ++ read_events member.layout report bytes member.states → events ≡ length told
-    → asked ≡ old ++ values_asked options.values time device member.layout (report_named member.layout bytes) bytes
+    → asked ≡ old ++ values_asked options time device member.layout (report_named member.layout bytes) bytes
     → more ≡ asked ++ event_lines time device options after.layout told
     → TakesOne options time device bytes member old events after more
 unfolding report_text
 report_taken options time device bytes member after old asked more none told events report named same read kept doubt nothing gives count values lines =
-    let asked_of = λ (n : Result ℕ ReportFault). values_asked options.values time device member.layout n bytes in
+    let asked_of = λ (n : Result ℕ ReportFault). values_asked options time device member.layout n bytes in
     let shown = λ (l : List Event). event_lines time device options member.layout l in
     let all : told ≡ read_events member.layout report bytes member.states
     = gives ∙ ap (λ l. l ++ read_events member.layout report bytes member.states) nothing in

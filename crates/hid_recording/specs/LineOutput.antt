@@ -12,6 +12,7 @@ use Rattle.hid_snapshots.specs.declared.fault.ReportFault.{ReportFault}
 use Rattle.hid_usages.specs.Reading.{report_named}
 use Rattle.hid_text.specs.LayoutText.{layout_text}
 use Rattle.hid_text.specs.ValuesText.{values_text}
+use Rattle.hid_text.specs.NamedText.{named_layout, named_values}
 use Rattle.hid_recording.specs.declared.dump.Address.{Address}
 use Rattle.hid_recording.specs.declared.dump.Content.{Content}
 use Rattle.hid_recording.specs.declared.dump.Content.TheVariants as contents
@@ -52,10 +53,14 @@ abbrev pub devices_without : List (Option PlayedDevice) → Option ℕ → List 
 devices_without devices None = devices
 devices_without devices (Some device) = set devices device None
 
+-- a layout, with --names that of each usage
+abbrev pub layout_shown : Bool → Contents → List ℕ
+layout_shown names layout = if names then named_layout layout else layout_text layout
+
 -- the text of a descriptor that is accepted: with --layout the number of the device, and its layout
 abbrev pub described_text : Options → ℕ → Contents → List ℕ
 described_text options device layout =
-    if options.layout then codes "device " ++ decimal device ++ 10 ∷ layout_text layout else []
+    if options.layout then codes "device " ++ decimal device ++ 10 ∷ layout_shown options.names layout else []
 
 -- a device whose descriptor is accepted
 abbrev pub outcome_of_device : Session → PlayedDevice → Outcome
@@ -81,21 +86,26 @@ DescriptorGives bytes session o =
 
 -- ---- reports
 
+-- a line for each value of a report, with --names that of its usage
+abbrev pub values_shown : Bool → Contents → ℕ → List ℕ → List ℕ
+values_shown names layout report bytes =
+    if names then named_values layout report bytes else values_text layout report bytes
+
 -- a line for a report, and one for each of its values
-abbrev pub values_output : List ℕ → ℕ → Contents → Result ℕ ReportFault → List ℕ → List ℕ
-values_output time device layout (Ok report) bytes =
-    time ++ 32 ∷ decimal device ++ codes " report" ++ 10 ∷ values_text layout report bytes
-values_output time device layout (Err fault) bytes = []
+abbrev pub values_output : Options → List ℕ → ℕ → Contents → Result ℕ ReportFault → List ℕ → List ℕ
+values_output options time device layout (Ok report) bytes =
+    time ++ 32 ∷ decimal device ++ codes " report" ++ 10 ∷ values_shown options.names layout report bytes
+values_output options time device layout (Err fault) bytes = []
 
 -- the values of a report, if they are asked for
-abbrev pub values_asked : Bool → List ℕ → ℕ → Contents → Result ℕ ReportFault → List ℕ → List ℕ
-values_asked asked time device layout named bytes =
-    if asked then values_output time device layout named bytes else []
+abbrev pub values_asked : Options → List ℕ → ℕ → Contents → Result ℕ ReportFault → List ℕ → List ℕ
+values_asked options time device layout named bytes =
+    if options.values then values_output options time device layout named bytes else []
 
 -- the text of a report: with --values its values, and then its events
 unfoldable pub report_text : Options → List ℕ → ℕ → PlayedDevice → ℕ → List ℕ → List ℕ
 report_text options time device member report bytes =
-    values_asked options.values time device member.layout (Ok report) bytes
+    values_asked options time device member.layout (Ok report) bytes
     ++ event_lines time device options member.layout (member_events member report bytes)
 
 -- a report that is read: its text, and the session after it

@@ -2,7 +2,7 @@
 use Rattle.std.specs.Prelude.{⊤, ◌≡◌, ℕ, ◌==◌, Bool, ◌&&◌, ◌||◌, nat_le, List, [], ◌∷◌, length, if◌then◌else◌, Option, None, Some, Result, Ok, Err, MatchResult}
 use Rattle.std.specs.List.{slice_split}
 use Rattle.std.specs.Option.{option_map}
-use Rattle.hid_text.specs.Words.{Word, words_of}
+use Rattle.hid_text.specs.Words.{Word, words_of, hex_of}
 use Rattle.hid_recording.specs.declared.dump.Address.{Address}
 use Rattle.hid_recording.specs.declared.dump.Content.{Content}
 use Rattle.hid_recording.specs.declared.dump.Content.TheVariants as contents
@@ -12,11 +12,11 @@ use Rattle.hid_recording.specs.declared.fault.Refusal.{Refusal}
 use Rattle.hid_recording.specs.declared.fault.Refusal.TheVariants.{Syntax, BadHex, BadCount, BadDevice, BadTime}
 use Rattle.hid_recording.specs.declared.record.Record.{Record}
 use Rattle.hid_recording.specs.declared.record.Record.TheVariants as records
-use Rattle.hid_recording.specs.Words.{bytes_of, is_count, device_of_word, time_of, is_colon, address_of, content_of}
+use Rattle.hid_recording.specs.Words.{is_count, device_of_word, time_of, is_colon, address_of, content_of}
 
 -- what a line says: nothing, or nothing but the end of a dump; which device the next lines are of; its report
 -- descriptor, or why the bytes of one can't be read, with the interface that it is of, if it is a dump; a report and
--- when it came; that a dump begins; or bytes of one, if each word is a byte
+-- when it came; that a dump begins; or bytes of one, if each word is hex
 pub data LineMeaning : Type 0 where
   Nothing : LineMeaning
   Blank : LineMeaning
@@ -45,7 +45,7 @@ bytes_if_counted count (Some bytes) = if is_count count (length bytes) then Ok b
 
 -- the bytes that words encode, if they are as many as a word counts
 abbrev pub counted_bytes : Word → List Word → Result (List ℕ) Refusal
-counted_bytes count hex = bytes_if_counted count (bytes_of hex)
+counted_bytes count hex = bytes_if_counted count (hex_of hex)
 
 -- what is said of the bytes that were read, or why there are none
 abbrev pub map_bytes : (List ℕ → LineMeaning) → Result (List ℕ) Refusal → Result LineMeaning Refusal
@@ -98,7 +98,7 @@ letter_record letter (colon ∷ rest) = if colon == 58 then words_record letter 
 
 -- what the words after a space say: HEX, of a dump
 abbrev pub dump_record : List Word → Result LineMeaning Refusal
-dump_record hex = Ok (Bytes (bytes_of hex))
+dump_record hex = Ok (Bytes (hex_of hex))
 
 -- a time; BadTime where there is none
 abbrev pub time_or_refusal : Option (List ℕ) → Result (List ℕ) Refusal

@@ -1,9 +1,8 @@
 -- What the words of a recording's lines say (our choice: docs/RECORDINGS.md).
-use Rattle.std.specs.Prelude.{⊤, ◌≡◌, ℕ, ◌==◌, ◌-◌, ◌+◌, ◌*◌, ◌^◌, Bool, false, ◌&&◌, ◌||◌, nat_le, nat_lt, List, [], ◌∷◌, map, min, is_some, if◌then◌else◌, Option, None, Some, codes}
+use Rattle.std.specs.Prelude.{⊤, ◌≡◌, ℕ, ◌==◌, ◌-◌, ◌^◌, Bool, false, ◌&&◌, ◌||◌, nat_le, List, ◌++◌, min, if◌then◌else◌, Option, None, Some, Result, Ok, Err, codes}
 use Rattle.std.specs.List.{list_all}
 use Rattle.std.specs.Option.{option_map}
 use Rattle.std.specs.Str.{bytes_eq}
-use Rattle.std.specs.Char.{digit_value}
 use Rattle.hid_text.specs.Words.{Word}
 use Rattle.hid_text.specs.Numbers.{number_of}
 use Rattle.hid_recording.specs.declared.dump.Address.{Address}
@@ -13,28 +12,15 @@ use Rattle.hid_recording.specs.declared.fault.Cause.{Cause}
 use Rattle.hid_recording.specs.declared.fault.Cause.TheVariants.{Refused, Memory}
 use Rattle.hid_recording.specs.declared.fault.Refusal.TheVariants.{BadHex}
 
--- the byte that two hex digits of either case encode
-abbrev pub byte_of_word : Word → Option ℕ
-byte_of_word (high ∷ low ∷ []) =
-    if nat_lt (digit_value high) 16 && nat_lt (digit_value low) 16
-    then Some (digit_value high * 16 + digit_value low) else None
-byte_of_word _ = None
-
--- the byte of a word that has one
-abbrev pub byte_in : Option ℕ → ℕ
-byte_in None = 0
-byte_in (Some byte) = byte
-
--- the bytes that words encode, one each
-unfoldable pub bytes_of : List Word → Option (List ℕ)
-bytes_of words =
-    if list_all (λ word. is_some (byte_of_word word)) words
-    then Some (map (λ word. byte_in (byte_of_word word)) words) else None
-
--- why no bytes were read: out of memory, or a word that is no byte
+-- why no bytes were read: out of memory, or a word that isn't pairs of hex digits
 abbrev pub IsNoBytes : Cause → Option (List ℕ) → Type 0
 IsNoBytes Memory encoded = ⊤
 IsNoBytes cause encoded = (cause ≡ Refused BadHex) × (encoded ≡ None)
+
+-- bytes grew by those that a word encodes; or why they didn't
+abbrev pub AddsBytes : List ℕ → List ℕ → Option (List ℕ) → Result (Unit {0}) Cause → Type 0
+AddsBytes old new encoded (Ok _) = (more : List ℕ) × (encoded ≡ Some more) × (new ≡ old ++ more)
+AddsBytes old new encoded (Err cause) = IsNoBytes cause encoded
 
 -- the number that decimal digits encode, 2 to the 64 less 1 at most
 abbrev pub decimal_of : Word → Option ℕ

@@ -1,13 +1,14 @@
 //! A device of a recording: the receiver of its reports, and what a chunk of a dump makes of one.
 
-ghost use Rattle.std.specs.Prelude.{◌≡◌, ◌++◌, ◌&&◌, true, false, Some, Ok, Err, IfOk, IfErr, IfSome, OnOk, is_ok, List, [], length, string_bytes};
+ghost use Rattle.std.specs.Prelude.{◌≡◌, ◌≤◌, ◌++◌, ◌&&◌, true, false, Some, Ok, Err, IfOk, IfErr, IfSome, OnOk, is_ok, List, [], length, string_bytes};
 ghost use Rattle.std.specs.Option.{IfNone};
 ghost use Rattle.hid_report_descriptor.specs.Items.{EncodedItem};
 ghost use Rattle.hid_report_descriptor.specs.Real.{Accepts, Explains};
 ghost use Rattle.hid_layout.specs.Layout.{Contents, layout_of};
+ghost use Rattle.hid_layout.specs.Reports.{report_bytes};
 ghost use Rattle.hid_recording.specs.Session.{fresh_device};
 ghost use Rattle.hid_report_descriptor.specs.declared.fault.Cause.TheVariants.{Memory};
-ghost use Rattle.hid_recording.specs.LineOutput.{values_output, values_asked};
+ghost use Rattle.hid_recording.specs.LineOutput.{values_shown, values_output, values_asked};
 ghost use Rattle.hid_recording.specs.Playing.{PlaysMember};
 ghost use Rattle.hid_recording.specs.Taking.{member_events_back};
 ghost use Rattle.hid_recording.specs.EventLines.{event_lines};
@@ -19,7 +20,7 @@ use super::event_line::{Source, print_events};
 use super::fault::{Cause, Refusal};
 use hid_fields::WordCodec;
 use hid_layout::{Layout, LayoutFault, Limits, Report, ReportKind};
-use hid_text::print_values;
+use hid_text::{print_named_values, print_values};
 use hid_usages::{Event, MAX_PIECE, Receiver, first_view, input_report};
 use std::alloc::{AllocError, Global};
 use std::marker::Model;
@@ -247,7 +248,7 @@ fn print_asked(
     bytes: &[u8],
 ) -> Result<(), AllocError>
     ensures printed { OnOk result (string_bytes text.new ≡ string_bytes text.old
-        ++ values_asked source.now.options.values source.now.time.now source.now.device layout.now
+        ++ values_asked source.now.options source.now.time.now source.now.device layout.now
         (report_named layout.now bytes.now) bytes.now) }
     ensures memory { IfErr result (λ _. (source.now.options.values
         && is_ok (report_named layout.now bytes.now)) ≡ true) }
@@ -267,7 +268,7 @@ fn print_report(
     bytes: &[u8],
 ) -> Result<(), AllocError>
     ensures printed { OnOk result (string_bytes text.new ≡ string_bytes text.old
-        ++ values_output source.now.time.now source.now.device layout.now
+        ++ values_output source.now.options source.now.time.now source.now.device layout.now
         (report_named layout.now bytes.now) bytes.now) }
     ensures memory { IfErr result (λ _. is_ok (report_named layout.now bytes.now) ≡ true) }
 {
@@ -276,7 +277,26 @@ fn print_report(
         Ok(report) => {
             let Source { time, device, .. } = *source;
             writeln!(text, "{time} {device} report")?;
-            print_values(text, layout, report, bytes)
+            print_shown_values(text, source.options.names, layout, report, bytes)
         }
+    }
+}
+
+/// Adds a line for each value of a report, with the name of its usage or without.
+fn print_shown_values(
+    text: &mut String,
+    names: bool,
+    layout: &Layout,
+    report: usize,
+    bytes: &[u8],
+) -> Result<(), AllocError>
+    requires { report_bytes layout.now report ≤ length bytes.now }
+    ensures { OnOk result (string_bytes text.new
+        ≡ string_bytes text.old ++ values_shown names layout.now report bytes.now) }
+{
+    if names {
+        print_named_values(text, layout, report, bytes)
+    } else {
+        print_values(text, layout, report, bytes)
     }
 }

@@ -1,50 +1,75 @@
-//! What a word says by itself: a byte, a count, a device, a time, whose dump it is.
+//! What a word says by itself: bytes, a count, a device, a time, whose dump it is.
 
-ghost use Rattle.std.specs.Prelude.{◌≡◌, ◌+◌, ◌*◌, ◌<◌, Some, IfOk, MatchResult, map};
+ghost use Rattle.std.specs.Prelude.{◌≡◌, ◌<◌, Some, IfOk, MatchResult, map};
 ghost use Rattle.std.specs.List.{slice_split};
 ghost use Rattle.std.specs.Option.{option_map};
+ghost use Rattle.std.specs.Result.{result_ok};
+ghost use Rattle.hex.specs.Hex.{decode_of};
+ghost use Rattle.hid_text.specs.Words.{hex_of};
 ghost use Rattle.hid_recording.specs.declared.line_fields.TheConstants.{MAX_DEVICES};
-ghost use Rattle.hid_recording.specs.Words.{byte_of_word, bytes_of, IsNoBytes, is_count, in_devices, device_of_word, is_time, time_of, is_colon, address_of, content_of};
+ghost use Rattle.hid_recording.specs.Words.{AddsBytes, IsNoBytes, is_count, in_devices, device_of_word, is_time, time_of, is_colon, address_of, content_of};
 
 use super::dump::{Address, Content};
 use super::fault::{Cause, Refusal};
-use hid_text::read_number;
+use hex::FromHexError;
+use hid_text::{hex_pair, read_number};
 use std::alloc::{AllocError, Global};
 
 /// How many devices a recording has room for (our choice).
 pub const MAX_DEVICES: usize = 16;
 
-/// The byte that two hex digits of either case encode.
-fn read_byte(word: &[u8]) -> Option<u8>
-    ensures value { result ≡ byte_of_word word.now }
+/// Adds the bytes that a word of more or fewer than two digits encodes.
+fn add_decoded(alloc: Global, bytes: &mut Vec<u8>, word: &[u8]) -> Result<(), Cause>
+    ensures { AddsBytes bytes.old.items bytes.new.items (result_ok (decode_of word.now)) result }
 {
-    let [high, low] = word else {
-        return None;
-    };
-    let high = char::from(*high).to_digit(16)?;
-    let low = char::from(*low).to_digit(16)?;
-    Some((high * 16 + low) as u8)
+    match hex::decode(alloc, word) {
+        Ok(more) => {
+            if bytes.extend_from_slice(more.as_slice()).is_err() {
+                return Err(Cause::Memory);
+            }
+            Ok(())
+        }
+        Err(FromHexError::OutOfMemory) => Err(Cause::Memory),
+        Err(
+            FromHexError::InvalidHexCharacter { .. }
+            | FromHexError::OddLength
+            | FromHexError::InvalidStringLength,
+        ) => Err(Cause::Refused(Refusal::BadHex)),
+    }
 }
 
-/// The bytes that words encode, one each.
+/// Adds the bytes that a word encodes: two hex digits for each.
+fn add_word(alloc: Global, bytes: &mut Vec<u8>, word: &[u8]) -> Result<(), Cause>
+    ensures { AddsBytes bytes.old.items bytes.new.items (result_ok (decode_of word.now)) result }
+{
+    let [high, low] = word else {
+        return add_decoded(alloc, bytes, word);
+    };
+    match hex_pair(*high, *low) {
+        None => Err(Cause::Refused(Refusal::BadHex)),
+        Some(byte) => {
+            if bytes.push(byte).is_err() {
+                return Err(Cause::Memory);
+            }
+            Ok(())
+        }
+    }
+}
+
+/// The bytes that words of hex encode, joined: two digits for each.
 ///
 /// # Errors
-/// R3 if a word isn't two hex digits, R10 if memory runs out for the bytes of the words before it.
-#[tactic(auto, unfolding(crate::specs::Words::bytes_of))]
+/// R3 if a word isn't pairs of hex digits, R10 if memory runs out for the bytes of the words before it.
 pub fn read_bytes(alloc: Global, words: &[&[u8]]) -> Result<Vec<u8>, Cause>
     ensures { MatchResult result
-        (λ bytes. bytes_of (map (λ word. word.now) words.now) ≡ Some bytes.items)
-        (λ cause. IsNoBytes cause (bytes_of (map (λ word. word.now) words.now))) }
+        (λ bytes. hex_of (map (λ word. word.now) words.now) ≡ Some bytes.items)
+        (λ cause. IsNoBytes cause (hex_of (map (λ word. word.now) words.now))) }
 {
     let mut bytes = Vec::new(alloc);
     for word in words {
-        match read_byte(word) {
-            None => return Err(Cause::Refused(Refusal::BadHex)),
-            Some(byte) => {
-                if bytes.push(byte).is_err() {
-                    return Err(Cause::Memory);
-                }
-            }
+        match add_word(alloc, &mut bytes, word) {
+            Ok(()) => {}
+            Err(cause) => return Err(cause),
         }
     }
     Ok(bytes)

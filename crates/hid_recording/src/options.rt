@@ -18,7 +18,7 @@ pub struct Options {
     pub layout: bool,
     /// The values of each report.
     pub values: bool,
-    /// The name of each event's usage, where it has one.
+    /// The name of the usage of each event and of each value, and of those in a layout, where it has one.
     pub names: bool,
     /// Which control each event is of, after its usage: the place of its item, and its place there. JSON has both in any case.
     pub places: bool,

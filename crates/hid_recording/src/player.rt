@@ -5,7 +5,7 @@ ghost use Rattle.std.specs.Option.{option_map};
 ghost use Rattle.hid_report_descriptor.specs.Real.{Explains};
 ghost use Rattle.hid_recording.specs.Session.{at_first};
 ghost use Rattle.hid_recording.specs.Records.{record_of};
-ghost use Rattle.hid_recording.specs.LineOutput.{described_text, LineGives, LineBegins, MeaningGives, DescriptorGives, DumpEndGives, with_device, outcome_of_device, outcome_of_refusal, DescriptorIsRefused, with_dropped_dump, outcome_of_unread_descriptor, outcome_of_dump_head, outcome_of_dump_bytes, outcome_of_stray_bytes, with_line_counted, chunk_outcome, stream_outcome, report_outcome};
+ghost use Rattle.hid_recording.specs.LineOutput.{layout_shown, described_text, LineGives, LineBegins, MeaningGives, DescriptorGives, DumpEndGives, with_device, outcome_of_device, outcome_of_refusal, DescriptorIsRefused, with_dropped_dump, outcome_of_unread_descriptor, outcome_of_dump_head, outcome_of_dump_bytes, outcome_of_stray_bytes, with_line_counted, chunk_outcome, stream_outcome, report_outcome};
 ghost use Rattle.hid_recording.specs.Words.{time_of};
 ghost use Rattle.hid_recording.specs.Player.{summary_of};
 ghost use Rattle.hid_recording.specs.Refusals.{refusal_line};
@@ -28,7 +28,7 @@ use super::output::write_text;
 use super::record::{Record, read_record};
 use super::summary::Summary;
 use hid_layout::{Layout, LayoutFault, Limits, long_report};
-use hid_text::print_layout;
+use hid_text::{print_layout, print_named_layout};
 use std::alloc::{AllocError, Global};
 use std::io::Write;
 use std::mem;
@@ -67,7 +67,19 @@ fn print_described(
         return Ok(());
     }
     writeln!(text, "device {device}")?;
-    print_layout(text, layout)
+    print_shown_layout(text, options.names, layout)
+}
+
+/// Adds a layout, with the name of each usage or without.
+fn print_shown_layout(text: &mut String, names: bool, layout: &Layout) -> Result<(), AllocError>
+    ensures { OnOk result (string_bytes text.new
+        ≡ string_bytes text.old ++ layout_shown names layout.now) }
+{
+    if names {
+        print_named_layout(text, layout)
+    } else {
+        print_layout(text, layout)
+    }
 }
 
 /// Adds the line of a refusal.

@@ -1,14 +1,19 @@
-use Rattle.std.proofs.Common.{◌<◌, ℕ, List, [], length, arith, map, sym, ap, refl, Bor}
-use Rattle.std.specs.Prelude.{is_some}
-use Rattle.std.proofs.lemmas.List.{length-map, get_or-map}
-use Rattle.hid_recording.proofs.WordLemmas.{no_bytes}
+use Rattle.std.proofs.Common.{[], arith, ℕ, List, Bor}
+use Rattle.hid_recording.proofs.WordLemmas.{hex_more, hex_none, hex_whole, no_bytes}
 use Rattle.hid_recording.proofs.line_fields.read_bytes.Goals as goal
 
-pub returns-in-None : goal.returns-in-None
-returns-in-None c =
-    let below : c.loop-word.word-index < length c.args.words.now = omega arith in
-    let word = λ (w : Bor (List ℕ)). w.now in (
-      refl,
-      no_bytes (map word c.args.words.now) c.loop-word.word-index (omega (arith, length-map c.args.words.now word))
-          (rw (get_or-map word c.args.words.now c.loop-word.word-index (record { ref_ptr = (0, 0); now = [] }) [] below) (sym (ap is_some c.in-None.ensures.value))),
-    )
+pub returns-in-Err : goal.returns-in-Err
+returns-in-Err c =
+    let blank : Bor (List ℕ) = record { ref_ptr = (0, 0); now = [] } in
+    no_bytes c.in-Err.cause _ _
+    (λ none. hex_none _ c.args.words.now c.loop-word.word-index blank c.loop-word.bytes.items (omega arith) c.loop-word.invariant none)
+    c.in-Err.ensures
+
+pub loop-word-preserved : goal.loop-word-preserved
+loop-word-preserved c =
+    let blank : Bor (List ℕ) = record { ref_ptr = (0, 0); now = [] } in
+    hex_more _ c.args.words.now c.loop-word.word-index blank c.loop-word.bytes.items c.in-Ok.ensures.0 c.add_word.new.bytes.items (omega arith)
+    c.loop-word.invariant c.in-Ok.ensures.1 c.in-Ok.ensures.2
+
+pub returns : goal.returns
+returns c = hex_whole _ c.args.words.now c.loop-word.word-index c.loop-word.bytes.items (omega arith) c.loop-word.invariant
