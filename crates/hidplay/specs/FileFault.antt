@@ -5,12 +5,13 @@ use Rattle.hid_recording.specs.declared.capture_fault.CaptureCause.{CaptureCause
 use Rattle.hid_recording.specs.declared.capture_fault.CaptureCause.TheVariants.{Run, Format}
 use Rattle.hid_recording.specs.declared.capture_fault.CaptureRunFault.{CaptureRunFault}
 use Rattle.hid_recording.specs.Refusals.{cause_text}
+use Rattle.hid_input.specs.Faults as input
 use Rattle.usb_capture.specs.FaultText as capture
 use Rattle.hidplay.specs.declared.fault.FileFault.{FileFault}
 use Rattle.hidplay.specs.declared.fault.Place.{Place}
 use Rattle.hidplay.specs.declared.fault.Place.TheVariants.{Line, Frame, Byte}
 use Rattle.hidplay.specs.declared.fault.Why.{Why}
-use Rattle.hidplay.specs.declared.fault.Why.TheVariants.{Recording, Capture}
+use Rattle.hidplay.specs.declared.fault.Why.TheVariants.{Recording, Capture, Descriptor}
 
 -- what a place counts
 abbrev pub place_word : Place → List ℕ
@@ -24,10 +25,11 @@ place_number (Line n) = n
 place_number (Frame n) = n
 place_number (Byte n) = n
 
--- why a file ended, as its code and words
+-- why a file ended, as its code and words; of a descriptor that can't be read, in words
 abbrev pub why_text : Why → List ℕ
 why_text (Recording cause) = cause_text cause
 why_text (Capture cause) = capture.cause_text cause
+why_text (Descriptor cause) = input.cause_text cause
 
 -- what ended a recording, at its line
 abbrev pub at_line : RecordingFault → FileFault

@@ -38,7 +38,7 @@ fn files<'a>(alloc: Global) -> Arg<'a> {
         .action(ArgAction::Append)
         .num_args(0..)
         .help(
-            "Text of hid-recorder or usbhid-dump, a capture (pcap, pcapng), or a binary report descriptor; - and no FILE are standard input",
+            "Text of hid-recorder or usbhid-dump, a capture (pcap, pcapng), or a report descriptor; - and no FILE are standard input",
         )
 }
 
@@ -68,7 +68,7 @@ fn descriptor<'a>(alloc: Global) -> Arg<'a> {
     Arg::new(alloc, "descriptor")
         .long("descriptor")
         .value_name("FILE")
-        .help("The binary report descriptor of a capture's devices that have none in it")
+        .help("The report descriptor of a capture's devices that have none in it")
 }
 
 /// The option `--endpoint BUS.DEV.EP`.
@@ -127,7 +127,7 @@ fn printing<'a>(alloc: Global) -> Result<Command<'a>, AllocError> {
     );
     add(
         command,
-        Ok(flag(alloc, "names", "Print the name of each event's usage")),
+        Ok(flag(alloc, "names", "Print the names of usages")),
     )
 }
 

@@ -3,6 +3,7 @@
 ghost use Rattle.std.specs.Prelude.{◌≡◌, Some};
 ghost use Rattle.hidplay.specs.FileFault.{place_word, place_number, why_text};
 
+use hid_input::{InputCause, InputFault};
 use hid_recording::{CaptureCause, CaptureRunFault, Cause, RecordingFault, Summary};
 use std::fmt;
 use usb_capture::Cause as FormatCause;
@@ -25,6 +26,8 @@ pub enum Why {
     Recording(Cause),
     /// The capture can't be read from there on.
     Capture(FormatCause),
+    /// The file has a report descriptor that can't be read.
+    Descriptor(InputCause),
 }
 
 /// Where and why a file ended early, and what was played of it.
@@ -40,6 +43,18 @@ pub fn before_all(cause: Cause) -> FileFault {
     FileFault {
         place: Place::Line(1),
         why: Why::Recording(cause),
+        played: Summary::none(),
+    }
+}
+
+/// Why a descriptor can't be read, at its line or the first one.
+pub fn unread_descriptor(fault: InputFault) -> FileFault {
+    if fault.cause == InputCause::Memory {
+        return before_all(Cause::Memory);
+    }
+    FileFault {
+        place: Place::Line(fault.line.unwrap_or(1)),
+        why: Why::Descriptor(fault.cause),
         played: Summary::none(),
     }
 }
@@ -105,6 +120,7 @@ impl fmt::Display for Why {
         match self {
             Why::Recording(cause) => write!(f, "{cause}"),
             Why::Capture(cause) => write!(f, "{cause}"),
+            Why::Descriptor(cause) => write!(f, "{cause}"),
         }
     }
 }

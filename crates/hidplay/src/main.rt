@@ -2,7 +2,7 @@
 //! ```text
 //!   hidplay [OPTIONS] [FILE]...
 //!
-//!   each FILE, or standard input --> text, or a binary descriptor --> hid_recording::play --> a buffer --> standard output
+//!   each FILE, or standard input --> text, or a report descriptor --> hid_recording::play --> a buffer --> standard output
 //!                                --> a capture --> hid_recording::play_capture ^  |
 //!                                                                                 |
 //!                                           progress, what ended a run, a summary --> standard error
@@ -68,12 +68,12 @@ fn play_with_descriptor(rt: &HostRuntime, asked: &CliArgs<'_>) -> u8 {
         Err(fault) => {
             let why = fault.why;
             let _ = eprintln!(rt; "{name}: {why}");
-            OUTSIDE
+            exit_of(&Err(fault))
         }
     }
 }
 
-/// The bytes of a binary report descriptor.
+/// The report descriptor in a file.
 fn open_descriptor(rt: &HostRuntime, name: &str) -> Result<Vec<u8>, FileFault> {
     match fs::open(rt, name) {
         Ok(mut file) => read_descriptor(rt.alloc(), &mut file),

@@ -1,6 +1,7 @@
-//! What a file is: the text of a recording, a capture, or a binary report descriptor.
+//! What a file is: the text of a recording, a capture, or a report descriptor in any of its forms.
 
-use super::fault::{FileFault, before_all};
+use super::fault::{FileFault, before_all, unread_descriptor};
+use hid_input::{InputCause, begins_recording, descriptor_in, is_recording};
 use hid_recording::{
     Cause, GivenDescriptor, Options, Summary, Watch, descriptor_line, play, play_capture,
 };
@@ -11,7 +12,7 @@ use usb_capture::is_capture;
 /// What a file is taken for.
 #[derive(Clone, Copy, Debug, PartialEq, Eq)]
 pub enum Kind {
-    /// What its first bytes say.
+    /// What it begins with says.
     Detected,
     Text,
     Binary,
@@ -20,17 +21,14 @@ pub enum Kind {
 /// More bytes than a descriptor has: it is refused for its length, whatever comes after them.
 const TOO_MANY: usize = 4097;
 
+/// As much of a file as has its descriptor: one of 4,096 bytes takes some 400,000 in what lsusb prints.
+const LONGEST: usize = 1 << 20;
+
 /// The byte order mark of UTF-8.
 const MARK: [u8; 3] = [0xEF, 0xBB, 0xBF];
 
 /// How often a reader is asked at most.
 const MAX_READS: u32 = 1_000_000;
-
-/// A text begins with no control character but a tab and the ends of lines, and a descriptor with the prefix of an item,
-/// which is one mostly: 05 or 06, of a usage page.
-pub fn begins_binary(first: u8) -> bool {
-    first < 0x20 && !matches!(first, b'\t' | b'\n' | b'\r')
-}
 
 /// The first byte, if there is one. A read that is interrupted is tried again.
 fn first_byte<R: Read>(reader: &mut BufReader<R>) -> Result<Option<u8>, FileFault> {
@@ -44,11 +42,11 @@ fn first_byte<R: Read>(reader: &mut BufReader<R>) -> Result<Option<u8>, FileFaul
     Err(before_all(Cause::TooManyReads))
 }
 
-/// The bytes of a descriptor, up to the read that brings one too many.
+/// The first bytes of a file, up to the read that brings so many or more.
 ///
 /// # Errors
 /// [`Cause::Memory`], [`Cause::Read`] and [`Cause::TooManyReads`], before anything is played.
-pub fn read_descriptor<R: Read>(alloc: Global, reader: &mut R) -> Result<Vec<u8>, FileFault> {
+fn read_front<R: Read>(alloc: Global, reader: &mut R, most: usize) -> Result<Vec<u8>, FileFault> {
     let mut bytes = Vec::new(alloc);
     let mut piece = [0u8; 512];
     for _ in 0..MAX_READS {
@@ -58,7 +56,7 @@ pub fn read_descriptor<R: Read>(alloc: Global, reader: &mut R) -> Result<Vec<u8>
                 if bytes.extend_from_slice(&piece[..count]).is_err() {
                     return Err(before_all(Cause::Memory));
                 }
-                if bytes.len() >= TOO_MANY {
+                if bytes.len() >= most {
                     return Ok(bytes);
                 }
             }
@@ -69,7 +67,19 @@ pub fn read_descriptor<R: Read>(alloc: Global, reader: &mut R) -> Result<Vec<u8>
     Err(before_all(Cause::TooManyReads))
 }
 
-/// Plays a binary descriptor as the line that has its bytes.
+/// The report descriptor in a file, whatever form it has.
+///
+/// # Errors
+/// Those of reading, and why the file has no descriptor.
+pub fn read_descriptor<R: Read>(alloc: Global, reader: &mut R) -> Result<Vec<u8>, FileFault> {
+    let bytes = read_front(alloc, reader, LONGEST)?;
+    match descriptor_in(alloc, bytes.as_slice()) {
+        Ok(descriptor) => Ok(descriptor),
+        Err(fault) => Err(unread_descriptor(fault)),
+    }
+}
+
+/// Plays a binary descriptor.
 fn play_binary<R: Read, W: Write, H: Watch>(
     alloc: Global,
     reader: &mut R,
@@ -77,8 +87,20 @@ fn play_binary<R: Read, W: Write, H: Watch>(
     options: Options,
     watch: &mut H,
 ) -> Result<Summary, FileFault> {
-    let bytes = read_descriptor(alloc, reader)?;
-    let Ok(line) = descriptor_line(alloc, bytes.as_slice()) else {
+    let bytes = read_front(alloc, reader, TOO_MANY)?;
+    play_descriptor(alloc, bytes.as_slice(), out, options, watch)
+}
+
+/// Plays a descriptor as the line that has its bytes.
+fn play_descriptor<W: Write, H: Watch>(
+    alloc: Global,
+    descriptor: &[u8],
+    out: &mut W,
+    options: Options,
+    watch: &mut H,
+) -> Result<Summary, FileFault> {
+    let front = &descriptor[..descriptor.len().min(TOO_MANY)];
+    let Ok(line) = descriptor_line(alloc, front) else {
         return Err(before_all(Cause::Memory));
     };
     let mut recording = line.as_bytes();
@@ -117,7 +139,8 @@ pub struct Manner<'a> {
 ///
 /// # Errors
 /// At line 1, before anything is played: [`Cause::Memory`] where there is none to read with, [`Cause::Read`] and
-/// [`Cause::TooManyReads`] where the first bytes, or those of a binary descriptor, can't be read. Later what [`play`] and
+/// [`Cause::TooManyReads`] where the first bytes, or those of a descriptor, can't be read; at its line, why a descriptor can't be
+/// read. Later what [`play`] and
 /// [`play_capture`] give.
 pub fn play_source<R: Read + Drop, W: Write, H: Watch>(
     alloc: Global,
@@ -132,7 +155,31 @@ pub fn play_source<R: Read + Drop, W: Write, H: Watch>(
     }
 }
 
-/// Plays a file that is a capture, a binary descriptor or a text, by what its first bytes say.
+/// Plays a file that doesn't begin as a recording: its descriptor, if it has one and no line of a recording; else as a
+/// recording.
+fn play_other<R: Read, W: Write, H: Watch>(
+    alloc: Global,
+    reader: &mut BufReader<R>,
+    out: &mut W,
+    options: Options,
+    watch: &mut H,
+) -> Result<Summary, FileFault> {
+    let front = read_front(alloc, reader, LONGEST)?;
+    if !is_recording(front.as_slice()) {
+        match descriptor_in(alloc, front.as_slice()) {
+            Ok(bytes) => return play_descriptor(alloc, bytes.as_slice(), out, options, watch),
+            Err(fault) => {
+                if fault.cause != InputCause::NoDescriptor {
+                    return Err(unread_descriptor(fault));
+                }
+            }
+        }
+    }
+    let mut recording = front.as_slice().chain(reader);
+    Ok(play(alloc, &mut recording, out, options, watch)?)
+}
+
+/// Plays a file that is a capture, a recording or a descriptor, by what it begins with.
 fn play_detected<R: Read, W: Write, H: Watch>(
     alloc: Global,
     reader: &mut BufReader<R>,
@@ -143,10 +190,12 @@ fn play_detected<R: Read, W: Write, H: Watch>(
     if begins_capture(reader)? {
         return Ok(play_capture(alloc, reader, out, manner.options, manner.given, watch)?);
     }
-    if matches!(first_byte(reader)?, Some(first) if begins_binary(first)) {
-        play_binary(alloc, reader, out, manner.options, watch)
+    skip_mark(reader)?;
+    let _first = first_byte(reader)?;
+    if begins_recording(reader.buffer()) {
+        Ok(play(alloc, reader, out, manner.options, watch)?)
     } else {
-        play_text(alloc, reader, out, manner.options, watch)
+        play_other(alloc, reader, out, manner.options, watch)
     }
 }
 
