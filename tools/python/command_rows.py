@@ -19,7 +19,7 @@ class Command:
     def __init__(self, row):
         self.place, self.name = row.place, row.name
         self.program, *self.words = shlex.split(row.file.filled(row.given)) or [""]
-        self.files, self.pieces = files_of(row.file), []
+        self.files, self.pipes, self.pieces = files_of(row.file), {}, []
         self.stdin, self.stdout = "open", "open"
         self.printed, self.said, self.named, self.items, self.status = list(row.told), [], None, None, 0
         self.parts, self.others = [], []
@@ -34,7 +34,7 @@ class Command:
 
     def is_plain(self):
         """Whether it takes nothing but words, bytes on standard input and files, and its whole text is known."""
-        return self.stdin == self.stdout == "open" and self.items is None and not self.parts
+        return self.stdin == self.stdout == "open" and self.items is None and not self.parts and not self.pipes
 
     def take(self, step):
         """Takes a step; whether there is such a one."""
@@ -58,10 +58,14 @@ class Command:
         return True
 
     def put(self, key, data):
-        """Puts bytes in a file or on standard input; whether they go there."""
+        """Puts bytes in a file, a pipe, a word or on standard input; whether they go there."""
         times = re.fullmatch(r"stdin (\d+) times", key)
         if key.startswith("file "):
             self.files[key.removeprefix("file ")] = data
+        elif key.startswith("pipe "):
+            self.pipes.setdefault(key.removeprefix("pipe "), []).append(data)
+        elif key == "word":
+            self.words.append(data)
         elif key == "stdin" or times:
             self.pieces += [data] * (int(times[1]) if times else 1)
         else:

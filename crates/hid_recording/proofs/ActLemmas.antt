@@ -1,5 +1,5 @@
 -- What acts of a capture tell, one after the other.
-use Rattle.std.proofs.Common.{◌≡◌, ℕ, zero, suc, ◌+◌, ◌-◌, ◌<◌, List, [], ◌∷◌, ◌++◌, arith, refl, sym, ap, ◌∙◌, subst, inl, inr, append-nil, append_assoc, Option, None, Some, Result, Ok, Err, OnOk, IfErr, IsErrAnd}
+use Rattle.std.proofs.Common.{◌≡◌, ℕ, zero, suc, ◌+◌, ◌-◌, ◌<◌, List, [], ◌∷◌, ◌++◌, arith, refl, sym, ap, ◌∙◌, subst, inl, inr, append-nil, append_assoc, Option, Some, Result, Ok, Err, OnOk, IfErr, IsErrAnd}
 use Rattle.std.specs.Io.KnownBytes.{Appends}
 use Rattle.std.specs.Prelude.{slice_get}
 use Rattle.std.proofs.KnownBytes.{Appends-nil, Appends-trans}
@@ -13,48 +13,32 @@ use Rattle.hid_capture.specs.declared.tracker.Content.TheVariants as contents
 use Rattle.hid_recording.specs.declared.fault.Cause.{Cause}
 use Rattle.hid_recording.specs.declared.fault.Cause.TheVariants as causes
 use Rattle.hid_recording.specs.Session.{Session, Outcome, success, failure}
-use Rattle.hid_recording.specs.LineOutput.{DescriptorGives}
-use Rattle.hid_recording.specs.Gathering.{EndsIn, Gathers}
-use Rattle.hid_recording.specs.Acts.{Act, without_member, current_member, slot_text_back, after_text, DescriptionGives, ActGives, ActsGive, FirstActGives, FirstActEnds, ActsEnd, WritesActs, AppendsActs}
+use Rattle.hid_recording.specs.LineOutput.{DescriptorGives, DescriptionGives, text_back, without_named}
+use Rattle.hid_recording.specs.Gathering.{EndsIn}
+use Rattle.hid_recording.specs.Acts.{Act, ActGives, ActsGive, FirstActGives, FirstActEnds, ActsEnd, AppendsActs}
 use Rattle.hid_recording.specs.FrameActs.{Given, Said, acts_of_content, content_of_data, described_number, acts_of_given_by, acts_of_given, disconnection_in, first_disconnections, disconnections, said_of_content, said_of_urb, AppendsSaid}
 
 -- ---- descriptors
 
--- a descriptor after what its device let go of
-abbrev pub released : Session → Session
-released session = without_member session (current_member session)
-
-abbrev pub text_back : List ℕ → Session → List ℕ
-text_back time session = slot_text_back time session.current session.options (current_member session)
-
 -- one that is accepted, or refused and told
-pub described : (time bytes : List ℕ) (session now next : Session) (back text all : List ℕ) → now ≡ released session
-    → back ≡ text_back time session → all ≡ back ++ text
-    → DescriptorGives bytes now (success text next) → DescriptionGives time bytes session (success all next)
-described time bytes session now next back text all at is whole told =
+pub described : (bytes : List ℕ) (session now next : Session) (back text all : List ℕ) → now ≡ without_named session (Some session.current)
+    → back ≡ text_back session session.current → all ≡ back ++ text
+    → DescriptorGives bytes now (success text next) → DescriptionGives bytes session (success all next)
+described bytes session now next back text all at is whole told =
     let here = subst (λ (s : Session). DescriptorGives bytes s (success text next)) at told in
     (success text next, here, ap (λ t. success t next) (whole ∙ ap (λ b. b ++ text) is))
 
 -- one that ends the run
-pub description_ends : (time bytes : List ℕ) (session now : Session) (cause : Cause) → now ≡ released session
-    → EndsIn (DescriptorGives bytes now) cause → EndsIn (DescriptionGives time bytes session) cause
-description_ends time bytes session now causes.Memory at h = tt
-description_ends time bytes session now (causes.Refused why) at h =
+pub description_ends : (bytes : List ℕ) (session now : Session) (cause : Cause) → now ≡ without_named session (Some session.current)
+    → EndsIn (DescriptorGives bytes now) cause → EndsIn (DescriptionGives bytes session) cause
+description_ends bytes session now causes.Memory at h = tt
+description_ends bytes session now (causes.Refused why) at h =
     (failure (causes.Refused why), subst (λ (s : Session). DescriptorGives bytes s (failure (causes.Refused why))) at h, refl)
-description_ends time bytes session now causes.LineTooLong at h = absurd h
-description_ends time bytes session now causes.Read at h = absurd h
-description_ends time bytes session now causes.Write at h = absurd h
-description_ends time bytes session now causes.TooManyReads at h = absurd h
-description_ends time bytes session now causes.Unended at h = absurd h
-
--- one that was told, with the text before it
-pub described_told : (time bytes : List ℕ) (session now next : Session) (back text all : List ℕ) (r : Result (Unit {0}) Cause)
-    → now ≡ released session → back ≡ text_back time session → DescriptorGives bytes now (success text next)
-    → OnOk r (all ≡ back ++ text) → IfErr r (λ cause. cause ≡ causes.Memory) → Gathers (DescriptionGives time bytes session) r all next
-described_told time bytes session now next back text all (Ok u) at is told whole memory =
-    described time bytes session now next back text all at is whole told
-described_told time bytes session now next back text all (Err cause) at is told whole memory =
-    subst (λ c. EndsIn (DescriptionGives time bytes session) c) (sym memory) tt
+description_ends bytes session now causes.LineTooLong at h = absurd h
+description_ends bytes session now causes.Read at h = absurd h
+description_ends bytes session now causes.Write at h = absurd h
+description_ends bytes session now causes.TooManyReads at h = absurd h
+description_ends bytes session now causes.Unended at h = absurd h
 
 -- ---- acts, one after the other
 

@@ -7,7 +7,6 @@ use Rattle.std.proofs.KnownBytes.{Appends-nil, Appends-trans, Appends-kept, Cons
 use Rattle.usb_capture.specs.Blocks as blocks
 use Rattle.usb_capture.specs.Capture.{refusal_of, place_by, end_by, end_in, Takes, CaptureState}
 use Rattle.usb_capture.specs.FrameRecord.{FrameRecord}
-use Rattle.usb_capture.specs.Gathering.{IsPartial}
 use Rattle.usb_capture.specs.Place.{Place, step, fault_at}
 use Rattle.usb_capture.specs.Reading.{Known}
 use Rattle.usb_capture.specs.declared.capture.Part.{Part}
@@ -24,15 +23,14 @@ use Rattle.hid_recording.specs.declared.capture_fault.CaptureCause.TheVariants.{
 use Rattle.hid_recording.specs.declared.capture_fault.CaptureRunFault.{CaptureRunFault}
 use Rattle.hid_recording.specs.declared.fault.Cause.{Cause}
 use Rattle.hid_recording.specs.declared.fault.Cause.TheVariants as causes
-use Rattle.hid_recording.specs.declared.options.Options.{Options}
 use Rattle.hid_recording.specs.declared.summary.Summary.{Summary}
-use Rattle.hid_recording.specs.Acts.{Act, FirstActEnds, ActsGive, ActsEnd}
+use Rattle.hid_recording.specs.Acts.{Act, FirstActEnds, ActsEnd}
 use Rattle.hid_recording.specs.FrameActs.{Given, said_of_frame, FramesGive, WritesSaid}
 use Rattle.hid_recording.specs.LineOutput.{with_line_counted}
 use Rattle.hid_recording.specs.Moments.{time_text, frame_time}
 use Rattle.hid_recording.specs.Player.{summary_of}
 use Rattle.hid_recording.specs.Session.{Session, saturating_sum}
-use Rattle.hid_recording.specs.CaptureRuns.{CapturePlace, capture_at_first, PlaysOn, IsOutside, IsUnreadable, FrameEnds, CaptureEnds, end_fault, CaptureFinishes, CaptureStops, CaptureRunsTo, AppendsCaptureFrom, AppendsCapture, frame_of, capture_summary, cause_of_format, IsBetween, StepTells, PieceTells, EndsSo}
+use Rattle.hid_recording.specs.CaptureRuns.{CapturePlace, PlaysOn, IsOutside, CaptureEnds, end_fault, CaptureStops, CaptureRunsTo, AppendsCaptureFrom, frame_of, capture_summary, cause_of_format, IsBetween, PieceTells, EndsSo}
 
 -- ---- frames, one after the other
 

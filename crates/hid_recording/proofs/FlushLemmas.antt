@@ -10,6 +10,7 @@ use Rattle.hid_text.specs.Output.{IsPrefix}
 use Rattle.hid_recording.specs.declared.fault.Cause.{Cause}
 use Rattle.hid_recording.specs.declared.fault.Cause.TheVariants as causes
 use Rattle.hid_recording.specs.declared.fault.Refusal.{Refusal as Why}
+use Rattle.hid_recording.specs.declared.counted.Counted.TheVariants.{Lines}
 use Rattle.hid_recording.specs.declared.options.Options.{Options}
 use Rattle.hid_recording.specs.declared.fault.RecordingFault.{RecordingFault}
 use Rattle.hid_recording.specs.declared.summary.Summary.{Summary}
@@ -20,8 +21,9 @@ use Rattle.hid_recording.specs.Dumps.{number_of_address}
 use Rattle.hid_recording.specs.Joining.{bytes_with, ends_with, with_collected}
 use Rattle.hid_recording.specs.declared.dump.Address.{Address}
 use Rattle.hid_recording.specs.declared.dump.Content.{Content}
+use Rattle.hid_recording.specs.declared.fault.Refusal.TheVariants as refusals
 use Rattle.hid_recording.specs.declared.dump.Content.TheVariants as contents
-use Rattle.hid_recording.specs.LineOutput.{outcome_after_refusal, outcome_of_refusal, outcome_of_named_report, outcome_of_report_of, member_in_slot, outcome_of_dump_after, outcome_of_dump_of, outcome_of_dump_bytes, after_dump, with_device, chunk_in, chunk_of, stream_outcome, DumpEndGives, RecordGives, MeaningGives, GivesByLength, with_line_counted, LineGives, LineBegins}
+use Rattle.hid_recording.specs.LineOutput.{outcome_after_refusal, outcome_of_refusal, outcome_of_named_report, outcome_of_report_of, member_in_slot, outcome_of_dump_after, outcome_of_dump_of, outcome_of_dump_bytes, after_dump, with_device, chunk_in, chunk_of, stream_outcome, DumpEndGives, RecordGives, MeaningGives, GivesByLength, with_line_counted, LineGives, LineBegins, DescriptorGives, DescriptionGives, after_text_by, outcome_of_dropped_dump, with_dropped_dump, named_text_back, dumped_device, outcome_of_unread_descriptor, without_descriptor, described_by, text_back, without_named, devices_after, events_without}
 use Rattle.hid_recording.specs.Runs.{Ending, RefusedLine, OutOfMemory, PartlyWritten, NotRun, Never, ending_of, EndsAs, FirstGives, FirstBegins, PlayedTo, RunsTo, Stops, line_of, summary_until, AppendsRecording}
 use Rattle.hid_recording.specs.Player.{summary_of}
 use Rattle.hid_recording.specs.Place.{Place, Advances, RunsFrom, lines_at, AppendsFrom}
@@ -51,6 +53,41 @@ no_refusal_text : (session : Session) (why : Why) (text : List ℕ) (cause : Cau
     → ended_with text cause ≡ outcome_of_refusal session why → text ≡ []
 no_refusal_text session why text cause e = refusal_text session.options.strict session why text cause e
 
+-- an outcome after a text ends the run as it does alone
+behind_text : (before rest text : List ℕ) (end : Result Session Cause) (cause : Cause) → ended_with text cause ≡ after_text_by before rest end
+    → (text ≡ rest) × (ended_with rest cause ≡ (let o : Outcome = record { text = rest; end = end } in o))
+behind_text before rest text (Ok next) cause e =
+    let ends : (let r : Result Session Cause = Err cause in r) ≡ Ok next = ap (λ (o : Outcome). o.end) e in absurd (cc)
+behind_text before rest text (Err why) cause e =
+    (ap (λ (o : Outcome). o.text) e, ap (λ (o : Outcome). (let p : Outcome = record { text = rest; end = o.end } in p)) e)
+
+no_dropped_text : (session : Session) (why : Why) (text : List ℕ) (cause : Cause)
+    → ended_with text cause ≡ outcome_of_dropped_dump session why → text ≡ []
+no_dropped_text session why text cause e =
+    let o = outcome_of_refusal (with_dropped_dump session) why in
+    let b = behind_text (named_text_back session (dumped_device session)) o.text text o.end cause e in
+    b.0 ∙ no_refusal_text (with_dropped_dump session) why o.text cause b.1
+
+no_unread_text : (session : Session) (interface : Option Address) (why : Why) (text : List ℕ) (cause : Cause)
+    → ended_with text cause ≡ outcome_of_unread_descriptor session interface why → text ≡ []
+no_unread_text session interface why text cause e =
+    let now = without_descriptor session interface in
+    let o = outcome_of_dropped_dump now why in
+    let b = behind_text (named_text_back session (described_by session interface)) o.text text o.end cause e in
+    b.0 ∙ no_dropped_text now why o.text cause b.1
+
+no_described_text : (session : Session) (bytes text : List ℕ) (cause : Cause)
+    → DescriptorGives bytes session (ended_with text cause) → text ≡ []
+no_described_text session bytes text cause (inl h) = not_accepted text _ cause _ h.2
+no_described_text session bytes text cause (inr h) = no_refusal_text _ _ text cause h.2.2
+
+no_description_text : (session : Session) (bytes text : List ℕ) (cause : Cause)
+    → DescriptionGives bytes session (ended_with text cause) → text ≡ []
+no_description_text session bytes text cause (o, h, e) =
+    let b = behind_text (text_back session session.current) o.text text o.end cause e in
+    b.0 ∙ no_described_text (without_named session (Some session.current)) bytes o.text cause
+    (subst (λ (p : Outcome). DescriptorGives bytes (without_named session (Some session.current)) p) (sym b.1) h)
+
 no_report_text : (session : Session) (time bytes text : List ℕ) (cause : Cause) (member : PlayedDevice)
     (r : Result ℕ ReportFault) → ended_with text cause ≡ outcome_of_named_report session time bytes member r
     → text ≡ []
@@ -65,29 +102,34 @@ no_slot_text session time bytes text cause (Some member) e = no_report_text sess
 no_begun_text : (content : Option Content) (session next : Session) (text : List ℕ) (cause : Cause)
     → ended_with text cause ≡ outcome_of_dump_after content session next → text ≡ []
 no_begun_text None session next text cause e = not_accepted text _ cause _ e
-no_begun_text (Some content) session next text cause e = no_refusal_text _ _ text cause e
+no_begun_text (Some content) session next text cause e =
+    let now : Session = record next { devices = devices_after session; events = events_without session (dumped_device session) } in
+    let o = outcome_of_refusal now refusals.Unended in
+    let b = behind_text (named_text_back session (dumped_device session)) o.text text o.end cause e in
+    b.0 ∙ no_refusal_text now refusals.Unended o.text cause b.1
 
 no_begin_text : (session : Session) (address : Address) (content : Content) (time : List ℕ) (device : Option ℕ)
     (text : List ℕ) (cause : Cause) → ended_with text cause ≡ outcome_of_dump_of session address content time device
     → text ≡ []
-no_begin_text session address content time None text cause e = no_refusal_text _ _ text cause e
+no_begin_text session address content time None text cause e = no_dropped_text session refusals.TooManyDevices text cause e
 no_begin_text session address content time (Some device) text cause e = no_begun_text session.gathered.content session _ text cause e
 
 room_text : (long : Bool) (session next : Session) (why : Why) (text : List ℕ) (cause : Cause)
-    → ended_with text cause ≡ cond long (outcome_of_refusal session why) (success [] next) → text ≡ []
-room_text true session next why text cause e = no_refusal_text session why text cause e
+    → ended_with text cause ≡ cond long (outcome_of_dropped_dump session why) (success [] next) → text ≡ []
+room_text true session next why text cause e = no_dropped_text session why text cause e
 room_text false session next why text cause e = not_accepted text _ cause _ e
 
-passed_text : (passed : Bool) (session next : Session) (why : Why) (text : List ℕ) (cause : Cause)
-    → ended_with text cause ≡ cond passed (success [] session) (outcome_of_refusal next why) → text ≡ []
-passed_text true session next why text cause e = not_accepted text _ cause _ e
-passed_text false session next why text cause e = no_refusal_text next why text cause e
+passed_text : (passed : Bool) (session : Session) (why : Why) (text : List ℕ) (cause : Cause)
+    → ended_with text cause ≡ cond passed (success [] session) (outcome_of_dropped_dump session why) → text ≡ []
+passed_text true session why text cause e = not_accepted text _ cause _ e
+passed_text false session why text cause e = no_dropped_text session why text cause e
 
 no_gathered_text : (session : Session) (bytes : Option (List ℕ)) (content : Option Content) (text : List ℕ)
     (cause : Cause) → ended_with text cause ≡ outcome_of_dump_bytes session bytes content → text ≡ []
-no_gathered_text session bytes None text cause e = passed_text session.gathered.is_dropped _ _ _ text cause e
-no_gathered_text session None (Some content) text cause e = no_refusal_text _ _ text cause e
-no_gathered_text session (Some bytes) (Some content) text cause e = room_text (nat_lt 16384 (length session.gathered.bytes + length bytes)) _ _ _ text cause e
+no_gathered_text session bytes None text cause e = passed_text session.gathered.is_dropped session refusals.Syntax text cause e
+no_gathered_text session None (Some content) text cause e = no_dropped_text session refusals.BadHex text cause e
+no_gathered_text session (Some bytes) (Some content) text cause e =
+    room_text (nat_lt 16384 (length session.gathered.bytes + length bytes)) session _ refusals.DumpTooLong text cause e
 
 no_chunk_text : (session : Session) (time chunk text : List ℕ) (cause : Cause) (member : PlayedDevice)
     (doubt ends : Bool) → ended_with text cause ≡ chunk_in session time chunk member doubt ends → text ≡ []
@@ -113,8 +155,8 @@ no_told_text session (Some time) bytes text cause e =
 no_end_text : (session : Session) (content : Option Content) (text : List ℕ) (cause : Cause)
     → DumpEndGives session content (ended_with text cause) → text ≡ []
 no_end_text session None text cause e = not_accepted text _ cause _ e
-no_end_text session (Some contents.Descriptor) text cause (inl h) = not_accepted text _ cause _ h.2
-no_end_text session (Some contents.Descriptor) text cause (inr h) = no_refusal_text _ _ text cause h.2.2
+no_end_text session (Some contents.Descriptor) text cause h =
+    no_description_text (after_dump session) session.gathered.bytes text cause h
 no_end_text session (Some contents.Stream) text cause e =
     no_told_text (after_dump session) (time_of session.gathered.time) session.gathered.bytes text cause e
 
@@ -126,16 +168,15 @@ no_said_text session (Begins address content time) text cause e =
     no_begin_text session address content time (number_of_address session.addresses address) text cause e
 no_said_text session (Bytes bytes) text cause e = no_gathered_text session bytes session.gathered.content text cause e
 no_said_text session (Device device) text cause e = not_accepted text _ cause _ e
-no_said_text session (Descriptor bytes) text cause (inl h) = not_accepted text _ cause _ h.2
-no_said_text session (Descriptor bytes) text cause (inr h) = no_refusal_text _ _ text cause h.2.2
-no_said_text session (Unread interface why) text cause e = no_refusal_text _ why text cause e
+no_said_text session (Descriptor bytes) text cause h = no_description_text session bytes text cause h
+no_said_text session (Unread interface why) text cause e = no_unread_text session interface why text cause e
 no_said_text session (Report time bytes) text cause e =
     no_slot_text session time bytes text cause (member_in_slot (slice_get session.devices session.current)) e
 
 no_meant_text : (session : Session) (meant : Result LineMeaning Why) (text : List ℕ) (cause : Cause)
     → MeaningGives session meant (ended_with text cause) → text ≡ []
 no_meant_text session (Ok said) text cause h = no_said_text session said text cause h
-no_meant_text session (Err why) text cause e = no_refusal_text _ why text cause e
+no_meant_text session (Err why) text cause e = no_dropped_text session why text cause e
 
 unless_text : (long : Bool) (session : Session) (line text : List ℕ) (cause : Cause)
     → GivesByLength long session line (ended_with text cause) → text ≡ []
@@ -232,7 +273,7 @@ pub never_flushed : (options : Options) (a c d e : Option (List ℕ)) (result : 
     → fault.played ≡ summary_until result
     → AppendsRecording options a c d result → Keeps d e → AppendsRecording options a c e (Err fault)
 never_flushed options None c d e result fault at is same h k = tt
-never_flushed options (Some recording) c d e result fault at is same h k = (h.0, kept_written c d e h.0 h.1 k, inl (cut_at_end (at_first options) (lines recording) h.0 result fault at is same h.2))
+never_flushed options (Some recording) c d e result fault at is same h k = (h.0, kept_written c d e h.0 h.1 k, inl (cut_at_end (at_first options Lines) (lines recording) h.0 result fault at is same h.2))
 
 -- one before a read did
 cut_here : (place : Place) (more : List ℕ) (fault : RecordingFault) → fault.cause ≡ causes.Write → fault.line ≡ place.lines + 1 → PlayedTo place.session fault → RunsFrom place more [] (Err fault)

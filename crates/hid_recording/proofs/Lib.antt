@@ -6,4 +6,5 @@ pub mod PlayerLemmas
 pub mod JsonLemmas
 pub mod ActLemmas
 pub mod CaptureLemmas
+pub mod LiveLemmas
 mod Vectors

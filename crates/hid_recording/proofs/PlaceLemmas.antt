@@ -10,6 +10,7 @@ use Rattle.hid_recording.specs.declared.fault.Cause.{Cause}
 use Rattle.hid_recording.specs.declared.fault.Cause.TheVariants as causes
 use Rattle.hid_recording.specs.declared.fault.RecordingFault.{RecordingFault}
 use Rattle.hid_recording.specs.declared.summary.Summary.{Summary}
+use Rattle.hid_recording.specs.declared.counted.Counted.TheVariants.{Lines}
 use Rattle.hid_recording.specs.declared.options.Options.{Options}
 use Rattle.hid_recording.specs.Session.{Session, success, failure, at_first}
 use Rattle.hid_recording.specs.LineOutput.{LineGives, LineBegins, GivesByLength}
@@ -231,7 +232,7 @@ no_last_line place result none ends =
 
 -- nothing has come
 abbrev pub start : Options → Place
-start options = record { session = at_first options; begun = []; lines = 0 }
+start options = record { session = at_first options Lines; begun = []; lines = 0 }
 
 -- all that there was has come
 pub whole_run : (place : Place) (a b c d e f : Option (List ℕ)) (read written text none : List ℕ) (now : Place) (result : Result Summary RecordingFault)
@@ -278,7 +279,7 @@ pub first_begins : (session : Session) (recording : List (List ℕ)) → FirstBe
 first_begins session [] = refl
 first_begins session (line ∷ more) = begins_nothing session line
 
-no_line_run : (options : Options) (recording : List ℕ) (fault : RecordingFault) → fault.line ≡ 1 → fault.cause ≡ causes.Memory → PlayedTo (at_first options) fault → RunsTo (at_first options) (lines recording) 0 [] (Err fault)
+no_line_run : (options : Options) (recording : List ℕ) (fault : RecordingFault) → fault.line ≡ 1 → fault.cause ≡ causes.Memory → PlayedTo (at_first options Lines) fault → RunsTo (at_first options Lines) (lines recording) 0 [] (Err fault)
 unfolding ending_of
 no_line_run options recording fault at is played = inl (record {
   first = [];
@@ -286,18 +287,18 @@ no_line_run options recording fault at is played = inl (record {
   split = refl;
   line = omega (arith, at);
   text = [];
-  now = at_first options;
+  now = at_first options Lines;
   all = (refl, refl);
   played = played;
   part = [];
   ends = subst
-      (λ c. Ends (FirstGives (at_first options) (lines recording))
-      (FirstBegins (at_first options) (lines recording)) [] c) (sym is)
-      (first_begins (at_first options) (lines recording));
+      (λ c. Ends (FirstGives (at_first options Lines) (lines recording))
+      (FirstBegins (at_first options Lines) (lines recording)) [] c) (sym is)
+      (first_begins (at_first options Lines) (lines recording));
   whole = refl;
 })
 
 -- memory for the devices ran out before the first read
-pub never_begun : (options : Options) (a c : Option (List ℕ)) (fault : RecordingFault) → fault.line ≡ 1 → fault.cause ≡ causes.Memory → PlayedTo (at_first options) fault → AppendsRecording options a c c (Err fault)
+pub never_begun : (options : Options) (a c : Option (List ℕ)) (fault : RecordingFault) → fault.line ≡ 1 → fault.cause ≡ causes.Memory → PlayedTo (at_first options Lines) fault → AppendsRecording options a c c (Err fault)
 never_begun options None c fault at is played = tt
 never_begun options (Some recording) c fault at is played = ([], Appends-nil c, no_line_run options recording fault at is played)

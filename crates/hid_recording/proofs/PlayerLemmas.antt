@@ -1,6 +1,6 @@
 -- What a player gathers of a line, and what it writes.
 use Rattle.std.proofs.Common.{◌≡◌, ℕ, ◌<◌, ◌≤◌, zero, suc, Bool, true, false, List, [], ◌∷◌, ◌++◌, length, refl, sym, ap, ◌∙◌, subst, inr, append_assoc, Option, None, Some, Result, Ok, Err, OnOk, IfErr, IsErrAnd}
-use Rattle.std.specs.Prelude.{slice_get, set}
+use Rattle.std.specs.Prelude.{slice_get, set, if◌then◌else◌}
 use Rattle.std.specs.Io.KnownBytes.{Appends}
 use Rattle.std.proofs.KnownBytes.{Appends-nil}
 use Rattle.std.proofs.lemmas.Bool.{lt-ltb, le-ltb}
@@ -24,6 +24,7 @@ use Rattle.hid_recording.specs.declared.fault.Cause.TheVariants as causes
 use Rattle.hid_recording.specs.declared.options.Options.{Options}
 use Rattle.hid_recording.specs.declared.fault.Refusal.{Refusal as Why}
 use Rattle.hid_recording.specs.declared.fault.Refusal.TheVariants as refusals
+use Rattle.hid_recording.specs.declared.dump.Address.{Address}
 use Rattle.hid_recording.specs.declared.dump.Content.{Content}
 use Rattle.hid_recording.specs.declared.dump.Content.TheVariants as contents
 use Rattle.hid_recording.specs.Session.{Session, PlayedDevice, Outcome, success, failure, saturating_sum}
@@ -32,7 +33,7 @@ use Rattle.hid_recording.specs.EventLines.{event_lines}
 use Rattle.hid_recording.specs.declared.device.Joined.{Joined}
 use Rattle.hid_recording.specs.declared.device.Joined.TheVariants.{Unknown, Doubtful, Begun, Whole}
 use Rattle.hid_recording.specs.Joining.{IsRefusedAs, Joins, past_chunk, bytes_with, ends_with, with_collected}
-use Rattle.hid_recording.specs.LineOutput.{outcome_of_refusal, with_device, DescriptorGives, DescriptorIsRefused, RecordGives, values_asked, report_text, outcome_of_named_report, outcome_of_report_of, member_in_slot, report_outcome, chunk_in, chunk_of, chunk_outcome, after_dump, DumpEndGives, MeaningGives, GivesByLength, LineGives, LineBegins}
+use Rattle.hid_recording.specs.LineOutput.{outcome_of_refusal, with_device, DescriptorGives, DescriptionGives, after_text, outcome_after_refusal, outcome_of_dropped_dump, with_dropped_dump, dropped_dump_text, with_refusal, named_text_back, dumped_device, without_descriptor, described_by, outcome_of_unread_descriptor, DescriptorIsRefused, RecordGives, values_asked, report_text, outcome_of_named_report, outcome_of_report_of, member_in_slot, report_outcome, chunk_in, chunk_of, chunk_outcome, after_dump, DumpEndGives, MeaningGives, GivesByLength, LineGives, LineBegins}
 use Rattle.hid_recording.specs.Gathering.{EndsIn, Gathers, IsCauseOfLine}
 use Rattle.hid_recording.specs.Playing.{TakesOne, SlotTakesNone, PlaysAt}
 use Rattle.hid_recording.specs.Runs.{ending_of, Ends}
@@ -80,13 +81,73 @@ refused_for session bytes fault long r text next names h =
 
 -- a dump of a descriptor, told in the session that its end leaves
 pub dump_described : (session : Session) (content : Option Content) (bytes : List ℕ) (now : Session)
-    (r : Result (Unit {0}) Cause) (text : List ℕ) (next : Session) → Gathers (DescriptorGives bytes now) r text next
+    (r : Result (Unit {0}) Cause) (text : List ℕ) (next : Session) → Gathers (DescriptionGives bytes now) r text next
     → content ≡ Some contents.Descriptor → bytes ≡ session.gathered.bytes → now ≡ after_dump session
     → Gathers (DumpEndGives session content) r text next
 dump_described session content bytes now r text next h is same after =
     subst (λ c. Gathers (DumpEndGives session c) r text next) (sym is)
-    (subst (λ (s : Session). Gathers (DescriptorGives session.gathered.bytes s) r text next) after
-    (subst (λ b. Gathers (DescriptorGives b now) r text next) same h))
+    (subst (λ (s : Session). Gathers (DescriptionGives session.gathered.bytes s) r text next) after
+    (subst (λ b. Gathers (DescriptionGives b now) r text next) same h))
+
+-- ---- refusals
+
+tell_refusal : (strict : Bool) (session : Session) (why : Why) → strict ≡ false
+    → (if strict then failure (causes.Refused why) else outcome_after_refusal session why) ≡ outcome_after_refusal session why
+tell_refusal true session why e = absurd (cc)
+tell_refusal false session why e = refl
+
+end_refusal : (strict : Bool) (session : Session) (why : Why) → strict ≡ true
+    → (if strict then failure (causes.Refused why) else outcome_after_refusal session why) ≡ failure (causes.Refused why)
+end_refusal true session why e = refl
+end_refusal false session why e = absurd (cc)
+
+-- a refusal of a run that isn't strict is told
+pub refusal_told : (session : Session) (why : Why) → session.options.strict ≡ false
+    → outcome_of_refusal session why ≡ outcome_after_refusal session why
+refusal_told session why e = tell_refusal session.options.strict session why e
+
+-- one of a strict run ends it
+pub refusal_ends : (session : Session) (why : Why) → session.options.strict ≡ true
+    → outcome_of_refusal session why ≡ failure (causes.Refused why)
+refusal_ends session why e = end_refusal session.options.strict session why e
+
+-- a dump that was dropped for a refusal, after a text
+pub dropped_told : (session now next : Session) (why : Why) (before text all : List ℕ) → session.options.strict ≡ false
+    → text ≡ before ++ dropped_dump_text session why → next ≡ with_refusal (with_dropped_dump session) → before ≡ []
+    → success text next ≡ outcome_of_dropped_dump session why
+dropped_told session now next why before text all e is after none =
+    ap (λ (s : Session). success text s) after
+    ∙ ap (λ t. success t (with_refusal (with_dropped_dump session))) (is ∙ ap (λ b. b ++ dropped_dump_text session why) none)
+    ∙ sym (ap (after_text (named_text_back session (dumped_device session))) (refusal_told (with_dropped_dump session) why e))
+
+-- of a strict run nothing is told of it
+pub dropped_ends : (session : Session) (why : Why) → session.options.strict ≡ true
+    → failure (causes.Refused why) ≡ outcome_of_dropped_dump session why
+dropped_ends session why e =
+    sym (ap (after_text (named_text_back session (dumped_device session))) (refusal_ends (with_dropped_dump session) why e))
+
+-- a descriptor that can't be read, of a run that isn't strict
+pub unread_told : (session next : Session) (interface : Option Address) (why : Why) (none back text : List ℕ) → session.options.strict ≡ false
+    → none ≡ [] → back ≡ none ++ named_text_back session (described_by session interface)
+    → text ≡ back ++ dropped_dump_text (without_descriptor session interface) why
+    → next ≡ with_refusal (with_dropped_dump (without_descriptor session interface))
+    → success text next ≡ outcome_of_unread_descriptor session interface why
+unread_told session next interface why none back text e empty first is after =
+    let now = without_descriptor session interface in
+    let here = named_text_back session (described_by session interface) in
+    let told = dropped_told now now next why [] (dropped_dump_text now why) [] e refl after refl in
+    ap (λ (s : Session). success text s) after
+    ∙ ap (λ t. success t (with_refusal (with_dropped_dump now)))
+    (is ∙ ap (λ b. b ++ dropped_dump_text now why) (first ∙ ap (λ n. n ++ here) empty))
+    ∙ ap (after_text here)
+    (ap (λ (s : Session). success (dropped_dump_text now why) s) (sym after) ∙ told)
+
+-- of a strict run nothing is told of it
+pub unread_ends : (session : Session) (interface : Option Address) (why : Why) → session.options.strict ≡ true
+    → failure (causes.Refused why) ≡ outcome_of_unread_descriptor session interface why
+unread_ends session interface why e =
+    ap (after_text (named_text_back session (described_by session interface)))
+    (dropped_ends (without_descriptor session interface) why e)
 
 -- a line that is a record
 pub said_meant : (session : Session) (meant : Result LineMeaning Why) (said : LineMeaning)

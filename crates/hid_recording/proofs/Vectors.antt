@@ -10,7 +10,6 @@ use Rattle.hid_layout.specs.declared.main_item.MainItem.{MainItem}
 use Rattle.hid_layout.specs.Layout.{Contents}
 use Rattle.hid_snapshots.specs.declared.event.Event.TheVariants.{Up}
 use Rattle.hid_notation.specs.Text.{hex_text}
-use Rattle.hid_recording.specs.declared.options.Counted.TheVariants.{Lines}
 use Rattle.hid_recording.specs.declared.options.Options.{Options}
 use Rattle.hid_recording.specs.EventJson.{event_tokens}
 use Rattle.hid_recording.specs.EventLines.{event_line}
@@ -39,7 +38,7 @@ screen = record {
 }
 
 with_places : Options
-with_places = record { layout = false; values = false; names = false; places = true; strict = false; json = false; counted = Lines }
+with_places = record { layout = false; values = false; names = false; places = true; strict = false; json = false }
 
 -- the second finger leaves the screen, as text
 a_release : event_line (codes "1.5") 3 with_places screen (Up (record { item = 1; index = 0 }) tip)

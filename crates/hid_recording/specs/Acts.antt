@@ -1,18 +1,14 @@
--- What a capture says to a player, and what is printed of it (our choice: docs/RECORDINGS.md).
-use Rattle.std.specs.Prelude.{◌≡◌, ◌⊎◌, ℕ, List, [], ◌∷◌, ◌++◌, length, Option, None, Some, Result, Ok, Err, slice_get, set}
+-- What a capture or a live device says to a player, and what is printed of it (our choice: docs/RECORDINGS.md).
+use Rattle.std.specs.Prelude.{◌≡◌, ◌⊎◌, ℕ, List, [], ◌∷◌, ◌++◌, Option, Result, Ok, Err}
 use Rattle.std.specs.Io.KnownBytes.{Appends}
 use Rattle.hid_text.specs.Output.{IsPrefix}
-use Rattle.hid_snapshots.specs.declared.event.Event.{Event}
 use Rattle.hid_recording.specs.declared.act.Act as declared
 use Rattle.hid_recording.specs.declared.act.Act.TheVariants as variants
 use Rattle.hid_recording.specs.declared.fault.Cause.{Cause}
 use Rattle.hid_recording.specs.declared.fault.Cause.TheVariants as causes
 use Rattle.hid_recording.specs.declared.fault.Refusal as refusals
-use Rattle.hid_recording.specs.declared.options.Options.{Options}
-use Rattle.hid_recording.specs.Session.{Session, PlayedDevice, Outcome, success, failure, saturating_sum}
-use Rattle.hid_recording.specs.Taking.{member_events_back}
-use Rattle.hid_recording.specs.EventLines.{event_lines}
-use Rattle.hid_recording.specs.LineOutput.{DescriptorGives, report_outcome, outcome_of_refusal, member_in_slot}
+use Rattle.hid_recording.specs.Session.{Session, Outcome, success, failure}
+use Rattle.hid_recording.specs.LineOutput.{DescriptionGives, report_outcome, outcome_of_refusal, outcome_of_release}
 
 -- What a frame says: a report descriptor of a numbered device, a report of one, why the frame is refused, or that a device is
 -- gone.
@@ -29,63 +25,18 @@ act_of (variants.Report device bytes) = Report device.number bytes.now
 act_of (variants.RefusedFrame refusal) = RefusedFrame refusal
 act_of (variants.Disconnection device) = Disconnection device.number
 
--- ---- a device that is gone
-
--- the events that lead the device in a slot back to its initial view; none where there is no device
-abbrev pub slot_events_back : Option PlayedDevice → List Event
-slot_events_back None = []
-slot_events_back (Some member) = member_events_back member
-
--- the lines of those events
-abbrev pub slot_text_back : List ℕ → ℕ → Options → Option PlayedDevice → List ℕ
-slot_text_back time device options None = []
-slot_text_back time device options (Some member) =
-    event_lines time device options member.layout (member_events_back member)
-
--- the session whose current device, which was this, is gone
-abbrev pub without_member : Session → Option PlayedDevice → Session
-without_member session slot = record session {
-  devices = set session.devices session.current None;
-  events = saturating_sum session.events (length (slot_events_back slot));
-}
-
--- the current device lets go of what it holds, by the events that lead back to its initial view, and has no descriptor then
-abbrev pub outcome_of_release : List ℕ → Session → Option PlayedDevice → Outcome
-outcome_of_release time session slot =
-    success (slot_text_back time session.current session.options slot) (without_member session slot)
-
--- what stands in the slot of the current device
-abbrev pub current_member : Session → Option PlayedDevice
-current_member session = member_in_slot (slice_get session.devices session.current)
-
--- an outcome of this text and end after another text, by its end
-abbrev pub after_text_by : List ℕ → List ℕ → Result Session Cause → Outcome
-after_text_by text rest (Ok next) = success (text ++ rest) next
-after_text_by text rest (Err cause) = record { text = rest; end = Err cause }
-
--- an outcome after a text; of one that ends the run nothing is printed
-abbrev pub after_text : List ℕ → Outcome → Outcome
-after_text text o = after_text_by text o.text o.end
-
--- a descriptor of a device that may have had another one: it lets go of what it held before
-abbrev pub DescriptionGives : List ℕ → List ℕ → Session → Outcome → Type 0
-DescriptionGives time bytes session o =
-    (described : Outcome) × DescriptorGives bytes (without_member session (current_member session)) described
-    × (o ≡ after_text (slot_text_back time session.current session.options (current_member session)) described)
-
 -- ---- acts
 
--- what comes next is of this device
-abbrev pub turned_to : Session → ℕ → Session
-turned_to session device = record session { current = device }
+-- what comes next is of this device, at this time
+abbrev pub turned_to : Session → ℕ → List ℕ → Session
+turned_to session device time = record session { current = device; time = time }
 
 -- the outcome of an act at a time
 abbrev pub ActGives : List ℕ → Session → Act → Outcome → Type 0
-ActGives time session (Descriptor device bytes) o = DescriptionGives time bytes (turned_to session device) o
-ActGives time session (Report device bytes) o = o ≡ report_outcome time bytes (turned_to session device)
+ActGives time session (Descriptor device bytes) o = DescriptionGives bytes (turned_to session device time) o
+ActGives time session (Report device bytes) o = o ≡ report_outcome time bytes (turned_to session device time)
 ActGives time session (RefusedFrame refusal) o = o ≡ outcome_of_refusal session refusal
-ActGives time session (Disconnection device) o =
-    o ≡ outcome_of_release time (turned_to session device) (current_member (turned_to session device))
+ActGives time session (Disconnection device) o = o ≡ outcome_of_release (turned_to session device time) device
 
 -- acts at a time, one after the other, and their texts, joined, are this text
 abbrev pub ActsGive : List ℕ → Session → List Act → List ℕ → Session → Type 0

@@ -1,7 +1,6 @@
 -- A capture that is being played, seen as its place: for proofs (our choice).
 use Rattle.usb_capture.specs.Capture.{place_of}
 use Rattle.hid_capture.specs.Tracking.{tracking_of}
-use Rattle.hid_recording.specs.declared.capture_player.CapturePlayer.{CapturePlayer}
 use Rattle.hid_recording.specs.declared.capture_run.CaptureRun.{CaptureRun}
 use Rattle.hid_recording.specs.CaptureRuns.{CapturePlace}
 use Rattle.hid_recording.specs.Player.{session_of}

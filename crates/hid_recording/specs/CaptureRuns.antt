@@ -1,5 +1,5 @@
 -- What a run of a capture wrote and answered (our choice: docs/RECORDINGS.md).
-use Rattle.std.specs.Prelude.{⊤, ◌≡◌, ◌⊎◌, ℕ, List, [], ◌∷◌, ◌++◌, take, Option, None, Some, Result, Ok, Err, IfSome}
+use Rattle.std.specs.Prelude.{⊤, ◌≡◌, ◌⊎◌, ℕ, List, [], ◌∷◌, ◌++◌, take, Option, Result, Ok, Err, IfSome}
 use Rattle.std.specs.Io.KnownBytes.{Appends}
 use Rattle.usb_capture.specs.Blocks as blocks
 use Rattle.usb_capture.specs.Capture.{end_in}
@@ -14,7 +14,7 @@ use Rattle.hid_recording.specs.declared.capture_fault.CaptureCause.TheVariants.{
 use Rattle.hid_recording.specs.declared.capture_fault.CaptureRunFault.{CaptureRunFault}
 use Rattle.hid_recording.specs.declared.fault.Cause.{Cause}
 use Rattle.hid_recording.specs.declared.fault.Cause.TheVariants as causes
-use Rattle.hid_recording.specs.declared.options.Counted.TheVariants.{Frames}
+use Rattle.hid_recording.specs.declared.counted.Counted.TheVariants.{Frames}
 use Rattle.hid_recording.specs.declared.options.Options.{Options}
 use Rattle.hid_recording.specs.declared.summary.Summary.{Summary}
 use Rattle.hid_recording.specs.Acts.{ActsEnd}
@@ -31,14 +31,10 @@ pub record CapturePlace : Type 0 where
   pub tracking : Tracking
   pub session : Session
 
--- the options of a capture: refusals have the numbers of frames
-abbrev pub with_frames : Options → Options
-with_frames options = record options { counted = Frames }
-
 -- nothing of a capture came yet
 abbrev pub capture_at_first : Options → CapturePlace
 capture_at_first options =
-    record { place = begin; tracking = nothing_known; session = at_first (with_frames options) }
+    record { place = begin; tracking = nothing_known; session = at_first options Frames }
 
 -- Bytes came and a text was written: they have these frames, and the text is that of the frames.
 pub record PlaysOn (given : Option Given) (old : CapturePlace) (bytes written : List ℕ) (new : CapturePlace) : Type 0 where

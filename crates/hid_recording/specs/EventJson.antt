@@ -12,8 +12,8 @@ use Rattle.hid_snapshots.specs.declared.event.Event.{Event}
 use Rattle.hid_snapshots.specs.declared.event.Event.TheVariants.{Down, Up, Value, Null, Motion, Dropped}
 use Rattle.hid_names.specs.Names.{Name, name_of, name_text}
 use Rattle.hid_text.specs.LayoutText.{collections_text}
-use Rattle.hid_recording.specs.declared.options.Counted.{Counted}
-use Rattle.hid_recording.specs.declared.options.Counted.TheVariants.{Lines, Frames, Reports}
+use Rattle.hid_recording.specs.declared.counted.Counted.{Counted}
+use Rattle.hid_recording.specs.declared.counted.Counted.TheVariants.{Lines, Frames, Reports}
 
 -- the usage of an event's control
 abbrev pub usage_in : Event → Usage

@@ -21,3 +21,5 @@ pub mod Acts
 pub mod FrameActs
 pub mod CaptureRuns
 pub mod CaptureRun
+pub mod LiveReports
+pub mod LiveRuns

@@ -1,16 +1,15 @@
 -- Which calls take memory: of these alone the cause may be that it ran out (our choice: docs/RECORDINGS.md, R10).
-use Rattle.std.specs.Prelude.{◌≡◌, ℕ, ◌==◌, ◌+◌, nat_lt, Bool, true, false, not, ◌&&◌, ◌||◌, List, [], ◌∷◌, length, if◌then◌else◌, Option, None, Some, Result, Ok, Err, is_ok, slice_get}
+use Rattle.std.specs.Prelude.{◌≡◌, ℕ, ◌==◌, ◌+◌, nat_lt, Bool, true, false, not, ◌&&◌, ◌||◌, List, [], ◌∷◌, length, if◌then◌else◌, Option, None, Some, Result, Ok, Err, is_ok, is_some, slice_get}
 use Rattle.hid_report_descriptor.specs.declared.fault.Cause.{Cause as LayoutCause}
 use Rattle.hid_report_descriptor.specs.declared.fault.Cause.TheVariants.{ReportTooLong}
 use Rattle.hid_usages.specs.Reading.{report_named}
-use Rattle.hid_recording.specs.declared.dump.Address.{Address}
 use Rattle.hid_recording.specs.declared.dump.Content.{Content}
 use Rattle.hid_recording.specs.declared.dump.Content.TheVariants as contents
 use Rattle.hid_recording.specs.declared.fault.Cause.{Cause}
 use Rattle.hid_recording.specs.declared.fault.Cause.TheVariants.{Memory}
 use Rattle.hid_recording.specs.declared.fault.Refusal.{Refusal}
 use Rattle.hid_recording.specs.Dumps.{number_of_address}
-use Rattle.hid_recording.specs.LineOutput.{member_in_slot, after_dump}
+use Rattle.hid_recording.specs.LineOutput.{member_in_slot, member_of, after_dump}
 use Rattle.hid_recording.specs.Records.{LineMeaning, Nothing, Blank, Device, Descriptor, Unread, Report, Begins, Bytes, is_digit, record_of}
 use Rattle.hid_recording.specs.Session.{Session, PlayedDevice}
 use Rattle.hid_recording.specs.Words.{time_of}
@@ -38,17 +37,15 @@ layout_refusal_allocates session cause = refusal_allocates session || is_long_re
 abbrev pub descriptor_allocates : Session → List ℕ → Bool
 descriptor_allocates session bytes = if nat_lt 4096 (length bytes) then refusal_allocates session else true
 
--- whether the number of an interface is the next one; false where it has no number
-abbrev pub is_next : Option ℕ → ℕ → Bool
-is_next None count = false
-is_next (Some number) count = number == count
+-- whether a device that may be named has a descriptor: there is memory for what it lets go of
+abbrev pub holds_named : Session → Option ℕ → Bool
+holds_named session None = false
+holds_named session (Some device) = is_some (member_of session device)
 
--- a descriptor that can't be read takes memory for an interface with the next number, and for its refusal
-abbrev pub unread_descriptor_allocates : Session → Option Address → Bool
-unread_descriptor_allocates session None = refusal_allocates session
-unread_descriptor_allocates session (Some address) =
-    is_next (number_of_address session.addresses address) (length session.addresses)
-    || refusal_allocates session
+-- a descriptor takes memory for what its device lets go of, and for itself
+abbrev pub description_allocates : Session → List ℕ → Bool
+description_allocates session bytes =
+    holds_named session (Some session.current) || descriptor_allocates session bytes
 
 -- ---- reports
 
@@ -99,7 +96,8 @@ stream_allocates session (Some time) = chunk_allocates session
 -- the end of a dump takes memory if one is open, for what it is
 abbrev pub dump_end_allocates : Session → Option Content → Bool
 dump_end_allocates session None = false
-dump_end_allocates session (Some contents.Descriptor) = descriptor_allocates session session.gathered.bytes
+dump_end_allocates session (Some contents.Descriptor) =
+    description_allocates (after_dump session) session.gathered.bytes
 dump_end_allocates session (Some contents.Stream) =
     stream_allocates (after_dump session) (time_of session.gathered.time)
 
@@ -120,8 +118,8 @@ abbrev pub record_allocates : Session → Result LineMeaning Refusal → Bool
 record_allocates session (Ok Nothing) = false
 record_allocates session (Ok Blank) = dump_end_allocates session session.gathered.content
 record_allocates session (Ok (Device device)) = false
-record_allocates session (Ok (Descriptor bytes)) = descriptor_allocates session bytes
-record_allocates session (Ok (Unread interface refusal)) = unread_descriptor_allocates session interface
+record_allocates session (Ok (Descriptor bytes)) = description_allocates session bytes
+record_allocates session (Ok (Unread interface refusal)) = refusal_allocates session
 record_allocates session (Ok (Report time bytes)) = report_allocates session bytes
 record_allocates session (Ok (Begins address content time)) =
     dump_head_allocates session (number_of_address session.addresses address)

@@ -1,5 +1,5 @@
 -- The player, seen as the session that it is in: for proofs (our choice).
-use Rattle.std.specs.Prelude.{ℕ}
+use Rattle.std.specs.Prelude.{ℕ, string_bytes}
 use Rattle.hid_recording.specs.declared.player.Player.{Player}
 use Rattle.hid_recording.specs.declared.dump.Dump.{Dump}
 use Rattle.hid_recording.specs.Dumps.{DumpState}
@@ -21,10 +21,12 @@ gathering_of dump =
 abbrev pub session_of : Player → Session
 session_of p = record {
   options = p.options;
+  counted = p.counted;
   current = p.devices.current;
   devices = p.devices.slots.items;
   addresses = p.addresses.known.items;
   gathered = gathering_of p.dump;
+  time = string_bytes p.time;
   lines = p.lines;
   descriptors = p.descriptors;
   reports = p.reports;

@@ -7,6 +7,7 @@ use Rattle.hid_notation.specs.Causes.{layout_refusal_text}
 use Rattle.hid_usages.specs.Faults.{report_code}
 use Rattle.hid_recording.specs.EventJson.{counted_word, refusal_tokens, json_text}
 use Rattle.hid_recording.specs.declared.fault.Refusal.{Refusal}
+use Rattle.hid_recording.specs.declared.counted.Counted.{Counted}
 use Rattle.hid_recording.specs.declared.options.Options.{Options}
 use Rattle.hid_recording.specs.declared.fault.Refusal.TheVariants.{Syntax, BadHex, BadCount, BadDevice, BadTime, NoLayout, Unended, DumpTooLong, TooManyDevices, PartMissing, Layout, Report}
 use Rattle.hid_recording.specs.declared.fault.Cause.{Cause}
@@ -44,7 +45,7 @@ cause_text causes.Unended = codes "R12: no empty line ends the last dump"
 
 -- The line of a refusal: line N: CODE: WORDS, of a capture frame N: CODE: WORDS, or with --json an object. Example: line 1: R4: the
 -- count isn't that of the bytes
-abbrev pub refusal_line : Options → ℕ → Refusal → List ℕ
-refusal_line options place refusal =
-    if options.json then json_text (refusal_tokens options.counted place (refusal_text refusal))
-    else counted_word options.counted ++ 32 ∷ decimal place ++ codes ": " ++ refusal_text refusal ++ 10 ∷ []
+abbrev pub refusal_line : Options → Counted → ℕ → Refusal → List ℕ
+refusal_line options counted place refusal =
+    if options.json then json_text (refusal_tokens counted place (refusal_text refusal))
+    else counted_word counted ++ 32 ∷ decimal place ++ codes ": " ++ refusal_text refusal ++ 10 ∷ []

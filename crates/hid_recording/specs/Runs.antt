@@ -5,6 +5,7 @@ use Rattle.std.specs.Io.KnownBytes.{Appends}
 use Rattle.hid_text.specs.Output.{IsPrefix}
 use Rattle.hid_recording.specs.declared.fault.Cause.{Cause}
 use Rattle.hid_recording.specs.declared.fault.Cause.TheVariants.{Refused, LineTooLong, Read, Write, Memory, TooManyReads, Unended}
+use Rattle.hid_recording.specs.declared.counted.Counted.TheVariants.{Lines}
 use Rattle.hid_recording.specs.declared.options.Options.{Options}
 use Rattle.hid_recording.specs.declared.fault.RecordingFault.{RecordingFault}
 use Rattle.hid_recording.specs.declared.summary.Summary.{Summary}
@@ -124,4 +125,4 @@ abbrev pub AppendsRecording : Options → Option (List ℕ) → Option (List ℕ
     → Result Summary RecordingFault → Type 0
 AppendsRecording options reader old new result =
     IfSome reader (λ recording. (written : List ℕ)
-    × Appends old new written × RunsTo (at_first options) (lines recording) 0 written result)
+    × Appends old new written × RunsTo (at_first options Lines) (lines recording) 0 written result)

@@ -7,6 +7,7 @@ use Rattle.hid_snapshots.specs.declared.control_state.ControlState.{ControlState
 use Rattle.hid_usages.specs.ControlStates.{blank}
 use Rattle.hid_recording.specs.declared.dump.Address.{Address}
 use Rattle.hid_recording.specs.Dumps.{DumpState, no_dump}
+use Rattle.hid_recording.specs.declared.counted.Counted.{Counted}
 use Rattle.hid_recording.specs.declared.options.Options.{Options}
 use Rattle.hid_recording.specs.declared.fault.Cause.{Cause}
 
@@ -23,15 +24,17 @@ abbrev pub fresh_device : Contents → PlayedDevice
 fresh_device layout =
     record { layout = layout; states = blank (items_of layout); collected = []; in_doubt = false }
 
--- The options, the device of the next lines, the descriptors that were accepted last with what their reports made, the
--- interfaces of which dumps came, what came of a dump that isn't ended, and counts: of lines, of descriptors, of
--- reports, of events, and of lines that were refused.
+-- The options, what is counted, the device of the next lines, the descriptors that were accepted last with what their reports made, the
+-- interfaces of which dumps came, what came of a dump that isn't ended, the time of the report that was read last, and counts: of
+-- lines, of descriptors, of reports, of events, and of lines that were refused.
 pub record Session : Type 0 where
   pub options : Options
+  pub counted : Counted
   pub current : ℕ
   pub devices : List (Option PlayedDevice)
   pub addresses : List Address
   pub gathered : DumpState
+  pub time : List ℕ
   pub lines : ℕ
   pub descriptors : ℕ
   pub reports : ℕ
@@ -44,20 +47,30 @@ no_devices =
     None ∷ None ∷ None ∷ None ∷ None ∷ None ∷ None ∷ None
     ∷ None ∷ None ∷ None ∷ None ∷ None ∷ None ∷ None ∷ None ∷ []
 
--- no line came yet
-abbrev pub at_first : Options → Session
-at_first options = record {
+-- nothing came yet of what is counted
+abbrev pub at_first : Options → Counted → Session
+at_first options counted = record {
   options = options;
+  counted = counted;
   current = 0;
   devices = no_devices;
   addresses = [];
   gathered = no_dump;
+  time = [];
   lines = 0;
   descriptors = 0;
   reports = 0;
   events = 0;
   refused = 0;
 }
+
+-- what devices let go of from here on has this time
+abbrev pub at_time : Session → List ℕ → Session
+at_time session time = record session { time = time }
+
+-- a session with other options of what is printed
+abbrev pub with_options : Session → Options → Session
+with_options session options = record session { options = options }
 
 -- a count stops at the greatest number of 64 bits
 abbrev pub saturating_sum : ℕ → ℕ → ℕ

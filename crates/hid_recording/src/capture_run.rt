@@ -12,9 +12,10 @@ ghost use Rattle.hid_recording.specs.Session.{saturating_sum};
 
 use super::capture_fault::{CaptureCause, CaptureRunFault};
 use super::capture_player::CapturePlayer;
+use super::counted::Counted;
 use super::fault::Cause;
 use super::given::GivenDescriptor;
-use super::options::{Counted, Options};
+use super::options::Options;
 use super::player::Player;
 use super::runs::Watch;
 use super::summary::Summary;
@@ -199,11 +200,7 @@ fn play_frames<R: Read, W: Write, H: Watch>(
     ensures { AppendsCapture options (given_of given.entry) (R.remaining reader.old) (W.contents writer.old)
         (W.contents writer.new) result }
 {
-    let options = Options {
-        counted: Counted::Frames,
-        ..options
-    };
-    match Player::new(alloc, options) {
+    match Player::new(alloc, options, Counted::Frames) {
         Ok(player) => {
             let mut run = CaptureRun::new(alloc, player, given);
             play_pieces(&mut run, reader, writer, watch)

@@ -1,11 +1,10 @@
 //! The devices of a recording.
 
-ghost use Rattle.std.specs.Prelude.{◌≡◌, ◌<◌, ◌++◌, None, Option, length, map, set, slice_get, string_bytes, true, IfOk, IfErr, OnOk};
-ghost use Rattle.hid_recording.specs.Acts.{slot_events_back, slot_text_back};
+ghost use Rattle.std.specs.Prelude.{◌≡◌, ◌<◌, ◌++◌, None, Option, is_some, length, map, set, slice_get, string_bytes, true, IfOk, IfErr, OnOk};
 ghost use Rattle.std.specs.Option.{option_map};
 ghost use Rattle.hid_recording.specs.Session.{PlayedDevice, no_devices};
 ghost use Rattle.hid_recording.specs.Joining.{slot_after_doubt, Joins};
-ghost use Rattle.hid_recording.specs.LineOutput.{member_in_slot, devices_without};
+ghost use Rattle.hid_recording.specs.LineOutput.{member_in_slot, slot_events_back, slot_text_back};
 ghost use Rattle.hid_recording.specs.Playing.{PlaysAt, PlaysReport};
 ghost use Rattle.hid_recording.specs.MemoryUse.{RunsOutIf, is_joined, names_report};
 ghost use Rattle.hid_recording.specs.declared.line_fields.TheConstants.{MAX_DEVICES};
@@ -68,14 +67,12 @@ impl Devices {
         put_in(&mut self.slots[i], recorded);
     }
 
-    /// There is no device of this number from now on, if a number is given.
-    pub fn forget(&mut self, device: Option<DeviceNumber>)
-        ensures { (self.new.current ≡ self.old.current) × (self.new.slots.items
-            ≡ devices_without self.old.slots.items (option_map (λ some. some.number) device)) }
+    /// The device that lines are for.
+    pub fn current_device(&self) -> DeviceNumber
+        ensures { result.number ≡ self.now.current }
     {
-        if let Some(device) = device {
-            let i = usize::from(device.number);
-            put_in(&mut self.slots[i], None);
+        DeviceNumber {
+            number: self.current,
         }
     }
 
@@ -111,26 +108,29 @@ impl Devices {
     /// [`AllocError`] if memory runs out for the text of the events.
     pub fn release(
         &mut self,
+        device: DeviceNumber,
         alloc: Global,
         text: &mut String,
         time: &str,
         options: Options,
     ) -> Result<u64, AllocError>
         ensures events { IfOk result (λ events. events ≡ length (slot_events_back
-            (member_in_slot (slice_get self.old.slots.items self.old.current)))) }
+            (member_in_slot (slice_get self.old.slots.items device.number)))) }
         ensures text { OnOk result (string_bytes text.new ≡ string_bytes text.old
-            ++ slot_text_back time.now self.old.current options
-            (member_in_slot (slice_get self.old.slots.items self.old.current))) }
-        ensures slots { self.new.slots.items ≡ set self.old.slots.items self.old.current None }
+            ++ slot_text_back time.now device.number options
+            (member_in_slot (slice_get self.old.slots.items device.number))) }
+        ensures memory { IfErr result (λ _.
+            is_some (member_in_slot (slice_get self.old.slots.items device.number)) ≡ true) }
+        ensures slots { self.new.slots.items ≡ set self.old.slots.items device.number None }
         ensures current { self.new.current ≡ self.old.current }
     {
         let source = Source {
             alloc,
             time,
-            device: self.current,
+            device: device.number,
             options,
         };
-        let i = usize::from(self.current);
+        let i = usize::from(device.number);
         release_slot(&mut self.slots[i], text, &source)
     }
 
@@ -174,6 +174,7 @@ fn release_slot(
     ensures events { IfOk result (λ events. events ≡ length (slot_events_back slot.old)) }
     ensures text { OnOk result (string_bytes text.new ≡ string_bytes text.old
         ++ slot_text_back source.now.time.now source.now.device source.now.options slot.old) }
+    ensures memory { IfErr result (λ _. is_some slot.old ≡ true) }
     ensures gone { slot.new ≡ None }
 {
     match mem::replace(slot, None) {

@@ -5,9 +5,9 @@ ghost use Rattle.hid_names.specs.Names.{name_of_value, name_of};
 ghost use Rattle.hid_recording.specs.EventJson.{usage_in, control_in, path_round, event_word, source_tokens, usage_tokens, place_tokens, path_tokens, control_tokens, number_tokens, value_tokens, named_tokens, name_tokens, event_members, event_tokens, counted_word, refusal_members, refusal_tokens, json_text};
 ghost use Rattle.hid_recording.specs.Refusals.{refusal_text};
 
+use super::counted::Counted;
 use super::event_line::Source;
 use super::fault::Refusal;
-use super::options::Counted;
 use hid_layout::{Collection, ControlId, Layout, Usage};
 use hid_names::{UsageName, usage_name};
 use hid_text::print_collections;

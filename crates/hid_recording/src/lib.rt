@@ -3,6 +3,7 @@
 //! ```text
 //!   reader --> pieces --> lines --read_record--> Record --played--> text --> writer
 //!   reader --> pieces --> frames of usb_capture --hid_capture--> descriptor, report, end --played--> text --> writer
+//!   device --> a report a read, its end --played--> text --> writer
 //!
 //!   # a mouse                                  nothing, as of lines that begin with N:, P: or I:
 //!   D: 0                                       what follows is of the device 0
@@ -24,12 +25,16 @@
 //! a descriptor may be given one ([`GivenDescriptor`]). A device that is gone, or whose descriptor is read again, lets go of what it
 //! holds. Where no frame can be found any more, the run ends ([`CaptureRunFault`]).
 //!
+//! A live device is played a report at a time, each at the time when it was read ([`LiveDevice`]). Where it is gone, it lets go of
+//! what it holds.
+//!
 //! Several controls may have one usage, as the fingers of a touch screen do. With the option `places` the text of an event has
 //! its control after the usage, `down 0D:42 @7.0`; its JSON has the control and the collections around it in any case.
 //!
 //! The rule to know: each device has a view of its own, and an event is a change of the view that its earlier reports made.
 //!
-//! The promise: [`play`] writes exactly the text of the recording, and [`play_capture`] that of the capture's frames, by their clauses.
+//! The promise: [`play`] writes exactly the text of the recording, [`play_capture`] that of the capture's frames, and [`play_live`] that
+//! of the reports that came, by their clauses.
 #![tactic(auto)]
 
 mod act;
@@ -37,6 +42,7 @@ mod binary;
 mod capture_fault;
 mod capture_player;
 mod capture_run;
+mod counted;
 mod device;
 mod devices;
 mod dump;
@@ -46,6 +52,7 @@ mod fault;
 mod fault_text;
 mod given;
 mod line_fields;
+mod live;
 mod moment;
 mod options;
 mod output;
@@ -62,6 +69,7 @@ pub use event_line::{Source, print_events};
 pub use fault::{Cause, RecordingFault, Refusal};
 pub use given::{EndpointAddress, GivenDescriptor};
 pub use line_fields::read_bytes;
-pub use options::{Counted, Options};
+pub use live::{LiveDevice, LiveFault, Received, play_live};
+pub use options::Options;
 pub use runs::{Watch, play};
 pub use summary::Summary;

@@ -1,16 +1,5 @@
 //! What a run is asked to print.
 
-/// What is counted, so that a refusal has a number.
-#[derive(Clone, Copy, Debug, PartialEq, Eq)]
-pub enum Counted {
-    /// The lines of a recording.
-    Lines,
-    /// The frames of a capture.
-    Frames,
-    /// The reports that a device sends.
-    Reports,
-}
-
 /// What is printed beside the events, and whether what is refused ends the run.
 #[derive(Clone, Copy, Debug, PartialEq, Eq)]
 pub struct Options {
@@ -26,6 +15,4 @@ pub struct Options {
     pub strict: bool,
     /// Events and refusals are reported as JSON.
     pub json: bool,
-    /// What the number of a refusal counts.
-    pub counted: Counted,
 }

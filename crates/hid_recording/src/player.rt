@@ -1,22 +1,23 @@
 //! A session: what stands between two lines or frames, and how a line is played.
 
-ghost use Rattle.std.specs.Prelude.{◌≡◌, ◌++◌, [], ◌∷◌, true, None, Option, IfOk, IfErr, OnOk, is_some, string_bytes};
+ghost use Rattle.std.specs.Prelude.{◌≡◌, ◌≢◌, ◌++◌, [], ◌∷◌, true, None, Option, IfOk, IfErr, OnOk, is_some, string_bytes};
 ghost use Rattle.std.specs.Option.{option_map};
 ghost use Rattle.hid_report_descriptor.specs.Real.{Explains};
-ghost use Rattle.hid_recording.specs.Session.{at_first};
+ghost use Rattle.hid_recording.specs.Session.{at_first, at_time, with_options};
 ghost use Rattle.hid_recording.specs.Records.{record_of};
-ghost use Rattle.hid_recording.specs.LineOutput.{layout_shown, described_text, LineGives, LineBegins, MeaningGives, DescriptorGives, DumpEndGives, with_device, outcome_of_device, outcome_of_refusal, DescriptorIsRefused, with_dropped_dump, outcome_of_unread_descriptor, outcome_of_dump_head, outcome_of_dump_bytes, outcome_of_stray_bytes, with_line_counted, chunk_outcome, stream_outcome, report_outcome};
+ghost use Rattle.hid_recording.specs.LineOutput.{layout_shown, described_text, LineGives, LineBegins, MeaningGives, DescriptorGives, DescriptionGives, DumpEndGives, with_device, outcome_of_device, session_refusal_line, with_refusal, outcome_of_refusal, DescriptorIsRefused, named_text_back, without_named, with_dropped_dump, dropped_dump_text, outcome_of_dropped_dump, described_by, with_interface, outcome_of_unread_descriptor, outcome_of_dump_head, outcome_of_dump_bytes, outcome_of_stray_bytes, with_line_counted, chunk_outcome, stream_outcome, report_outcome};
 ghost use Rattle.hid_recording.specs.Words.{time_of};
 ghost use Rattle.hid_recording.specs.Player.{summary_of};
 ghost use Rattle.hid_recording.specs.Refusals.{refusal_line};
 ghost use Rattle.hid_recording.specs.Gathering.{Gathers, IsCauseOfLine};
-ghost use Rattle.hid_recording.specs.MemoryUse.{RunsOutIf, refusal_allocates, layout_refusal_allocates, descriptor_allocates, unread_descriptor_allocates, report_allocates, dump_head_allocates, stray_bytes_allocate, dump_bytes_allocate, chunk_allocates, stream_allocates, dump_end_allocates, short_line_allocates, line_allocates};
+ghost use Rattle.hid_recording.specs.MemoryUse.{RunsOutIf, refusal_allocates, layout_refusal_allocates, descriptor_allocates, holds_named, description_allocates, report_allocates, dump_head_allocates, stray_bytes_allocate, dump_bytes_allocate, chunk_allocates, stream_allocates, dump_end_allocates, short_line_allocates, line_allocates};
 ghost use Rattle.hid_recording.specs.Dumps.{number_of_address};
 ghost use Rattle.hid_recording.specs.declared.fault.Refusal.TheVariants as refusals;
 ghost use Rattle.hid_recording.specs.Place.{AppendsOutput};
-ghost use Rattle.hid_recording.specs.Acts.{act_of, ActGives, AppendsActs, turned_to, slot_text_back, without_member, current_member, DescriptionGives};
+ghost use Rattle.hid_recording.specs.Acts.{act_of, ActGives, AppendsActs, turned_to};
 
 use super::act::Act;
+use super::counted::Counted;
 use super::device::{Joined, RecordedDevice};
 use super::devices::Devices;
 use super::dump::{Address, Addresses, Content, Dump, MAX_DUMP};
@@ -41,9 +42,12 @@ pub const MAX_LINE: usize = 65_536;
 pub struct Player {
     alloc: Global,
     options: Options,
+    counted: Counted,
     devices: Devices,
     addresses: Addresses,
     dump: Dump,
+    /// The time of the report that was read last; of a capture that of what it said last of a device.
+    time: String,
     lines: u64,
     descriptors: u64,
     reports: u64,
@@ -87,16 +91,17 @@ fn print_refusal(
     text: &mut String,
     alloc: Global,
     options: Options,
+    counted: Counted,
     place: u64,
     refusal: Refusal,
 ) -> Result<(), AllocError>
     ensures { OnOk result (string_bytes text.new
-        ≡ string_bytes text.old ++ refusal_line options place refusal) }
+        ≡ string_bytes text.old ++ refusal_line options counted place refusal) }
 {
     if options.json {
-        return print_refusal_json(text, alloc, options.counted, place, refusal);
+        return print_refusal_json(text, alloc, counted, place, refusal);
     }
-    let word = counted_word(options.counted);
+    let word = counted_word(counted);
     writeln!(text, "{word} {place}: {refusal}")
 }
 
@@ -104,21 +109,23 @@ impl Player {
     ghost use Rattle.std.specs.Prelude.{IfOk, IfErr, string_bytes};
     ghost use Rattle.hid_recording.specs.Player.{session_of};
 
-    /// A player that has played no line.
+    /// A player that has played nothing of what it counts.
     ///
     /// # Errors
     /// R10 if memory runs out for the places of the devices.
-    pub fn new(alloc: Global, options: Options) -> Result<Self, Cause>
-        ensures new { IfOk result (λ player. session_of player ≡ at_first options) }
+    pub fn new(alloc: Global, options: Options, counted: Counted) -> Result<Self, Cause>
+        ensures new { IfOk result (λ player. session_of player ≡ at_first options counted) }
         ensures memory { IfErr result (λ cause. cause ≡ Cause.Memory) }
     {
         let devices = Devices::new(alloc)?;
         Ok(Player {
             alloc,
             options,
+            counted,
             devices,
             addresses: Addresses::new(alloc),
             dump: Dump::none(alloc),
+            time: String::new(alloc),
             lines: 0,
             descriptors: 0,
             reports: 0,
@@ -185,7 +192,7 @@ impl Player {
                 self.devices.select(device.number);
                 Ok(())
             }
-            Ok(Record::Descriptor(bytes)) => self.describe(bytes.as_slice()),
+            Ok(Record::Descriptor(bytes)) => self.redescribe(bytes.as_slice()),
             Ok(Record::Unread { interface, refusal }) => self.lose_descriptor(interface, refusal),
             Ok(Record::Report { time, bytes }) => self.report(time, bytes.as_slice()),
             Ok(
@@ -203,33 +210,85 @@ impl Player {
 
     /// A line is refused, and with it the dump in which it stands.
     fn drop_dump(&mut self, refusal: Refusal) -> Result<(), Cause>
-        ensures outcome { Gathers
-            (λ o. o ≡ outcome_of_refusal (with_dropped_dump (session_of self.old)) refusal) result
+        ensures outcome { Gathers (λ o. o ≡ outcome_of_dropped_dump (session_of self.old) refusal) result
             (string_bytes self.new.text) (session_of self.new) }
         ensures memory { RunsOutIf (refusal_allocates (session_of self.old)) result }
     {
-        self.devices.forget(self.dump.described_device());
-        self.devices.doubt();
-        self.dump = Dump::dropped_dump(self.alloc);
-        self.refuse(refusal)
+        if self.options.strict {
+            return Err(Cause::Refused(refusal));
+        }
+        self.text.clear();
+        Ok(self.add_dropped_dump(refusal)?)
     }
 
-    /// A descriptor can't be read: the device that it was for has none.
+    /// Drops the dump that may be open, and adds what the device lets go of whose descriptor it was to be, and the refusal.
+    fn add_dropped_dump(&mut self, refusal: Refusal) -> Result<(), AllocError>
+        ensures text { OnOk result (string_bytes self.new.text
+            ≡ string_bytes self.old.text ++ dropped_dump_text (session_of self.old) refusal) }
+        ensures session { OnOk result (session_of self.new
+            ≡ with_refusal (with_dropped_dump (session_of self.old))) }
+    {
+        let device = self.dump.described_device();
+        self.let_go(device)?;
+        self.devices.doubt();
+        self.dump = Dump::dropped_dump(self.alloc);
+        self.add_refusal(refusal)
+    }
+
+    /// A descriptor can't be read: the device that it was for lets go of what it holds, and has none.
     fn lose_descriptor(&mut self, interface: Option<Address>, refusal: Refusal) -> Result<(), Cause>
         ensures outcome { Gathers
             (λ o. o ≡ outcome_of_unread_descriptor (session_of self.old) interface refusal) result
             (string_bytes self.new.text) (session_of self.new) }
-        ensures memory { RunsOutIf
-            (unread_descriptor_allocates (session_of self.old) interface) result }
+        ensures memory { RunsOutIf (refusal_allocates (session_of self.old)) result }
+    {
+        if self.options.strict {
+            return Err(Cause::Refused(refusal));
+        }
+        self.text.clear();
+        let device = self.described_by(interface)?;
+        self.let_go(device)?;
+        Ok(self.add_dropped_dump(refusal)?)
+    }
+
+    /// The number of the device whose descriptor can't be read: the current one, or that of an interface, if it has one.
+    fn described_by(
+        &mut self,
+        interface: Option<Address>,
+    ) -> Result<Option<DeviceNumber>, AllocError>
+        ensures number { IfOk result (λ found. option_map (λ device. device.number) found
+            ≡ described_by (session_of self.old) interface) }
+        ensures session { OnOk result (session_of self.new
+            ≡ with_interface (session_of self.old) interface) }
+        ensures text { string_bytes self.new.text ≡ string_bytes self.old.text }
     {
         match interface {
-            None => self.devices.put(None),
-            Some(address) => {
-                let device = self.addresses.number(address)?;
-                self.devices.forget(device);
-            }
+            None => Ok(Some(self.devices.current_device())),
+            Some(address) => self.addresses.number(address),
         }
-        self.drop_dump(refusal)
+    }
+
+    /// The device of a number that may be given lets go of what it holds, and has no descriptor then.
+    fn let_go(&mut self, device: Option<DeviceNumber>) -> Result<(), AllocError>
+        ensures text { OnOk result (string_bytes self.new.text ≡ string_bytes self.old.text
+            ++ named_text_back (session_of self.old) (option_map (λ some. some.number) device)) }
+        ensures session { OnOk result (session_of self.new
+            ≡ without_named (session_of self.old) (option_map (λ some. some.number) device)) }
+        ensures memory { IfErr result (λ _. holds_named (session_of self.old)
+            (option_map (λ some. some.number) device) ≡ true) }
+    {
+        let Some(device) = device else {
+            return Ok(());
+        };
+        let events = self.devices.release(
+            device,
+            self.alloc,
+            &mut self.text,
+            self.time.as_str(),
+            self.options,
+        )?;
+        self.events = self.events.saturating_add(events);
+        Ok(())
     }
 
     /// What is reported is that a line is refused.
@@ -241,11 +300,26 @@ impl Player {
         if self.options.strict {
             return Err(Cause::Refused(refusal));
         }
-        let line = self.lines;
-        self.refused = self.refused.saturating_add(1);
         self.text.clear();
-        print_refusal(&mut self.text, self.alloc, self.options, line, refusal)?;
-        Ok(())
+        Ok(self.add_refusal(refusal)?)
+    }
+
+    /// Adds the line of a refusal, and counts it.
+    fn add_refusal(&mut self, refusal: Refusal) -> Result<(), AllocError>
+        ensures text { OnOk result (string_bytes self.new.text ≡ string_bytes self.old.text
+            ++ session_refusal_line (session_of self.old) refusal) }
+        ensures session { OnOk result (session_of self.new ≡ with_refusal (session_of self.old)) }
+    {
+        let place = self.lines;
+        self.refused = self.refused.saturating_add(1);
+        print_refusal(
+            &mut self.text,
+            self.alloc,
+            self.options,
+            self.counted,
+            place,
+            refusal,
+        )
     }
 
     /// Takes a report descriptor of the current device.
@@ -309,6 +383,7 @@ impl Player {
             .play(self.alloc, &mut self.text, time, self.options, bytes)
         {
             Ok(events) => {
+                self.set_time(time)?;
                 self.reports = self.reports.saturating_add(1);
                 self.events = self.events.saturating_add(events);
                 Ok(())
@@ -316,6 +391,15 @@ impl Player {
             Err(Cause::Refused(refusal)) => self.refuse(refusal),
             Err(cause) => Err(cause),
         }
+    }
+
+    /// What is released from now on has this time.
+    fn set_time(&mut self, time: &str) -> Result<(), AllocError>
+        ensures session { OnOk result (session_of self.new ≡ at_time (session_of self.old) time.now) }
+        ensures text { string_bytes self.new.text ≡ string_bytes self.old.text }
+    {
+        self.time.clear();
+        self.time.push_str(time)
     }
 
     /// A dump begins.
@@ -333,13 +417,16 @@ impl Player {
         };
         let begun = Dump::begin(self.alloc, content, device, time)?;
         let before = mem::replace(&mut self.dump, begun);
-        if before.content.is_some() {
-            self.devices.forget(before.described_device());
-            self.devices.doubt();
-            return self.refuse(Refusal::Unended);
-        }
         self.text.clear();
-        Ok(())
+        if before.content.is_none() {
+            return Ok(());
+        }
+        if self.options.strict {
+            return Err(Cause::Refused(Refusal::Unended));
+        }
+        self.let_go(before.described_device())?;
+        self.devices.doubt();
+        Ok(self.add_refusal(Refusal::Unended)?)
     }
 
     /// Takes bytes of the dump that is open.
@@ -391,7 +478,7 @@ impl Player {
         };
         self.devices.select(dump.device);
         match content {
-            Content::Descriptor => self.describe(dump.bytes.as_slice()),
+            Content::Descriptor => self.redescribe(dump.bytes.as_slice()),
             Content::Stream => self.stream(dump.time.as_slice(), dump.bytes.as_slice()),
         }
     }
@@ -427,7 +514,7 @@ impl Player {
         }
     }
 
-    /// The next frame of a capture is counted.
+    /// The next frame of a capture, or the next report of a live device, is counted.
     pub fn begin_frame(&mut self)
         ensures { session_of self.new ≡ with_line_counted (session_of self.old) }
     {
@@ -453,52 +540,44 @@ impl Player {
     {
         match act {
             Act::Descriptor { device, bytes } => {
-                self.turn_to(device);
-                self.redescribe(time, bytes)
+                self.turn_to(device, time)?;
+                self.redescribe(bytes)
             }
             Act::Report { device, bytes } => {
-                self.turn_to(device);
+                self.turn_to(device, time)?;
                 self.report(time, bytes)
             }
             Act::RefusedFrame(refusal) => self.refuse(refusal),
             Act::Disconnection { device } => {
-                self.turn_to(device);
-                Ok(self.release(time)?)
+                self.turn_to(device, time)?;
+                self.text.clear();
+                Ok(self.let_go(Some(device))?)
             }
         }
     }
 
-    /// What comes next is of this device.
-    fn turn_to(&mut self, device: DeviceNumber)
-        ensures { session_of self.new ≡ turned_to (session_of self.old) device.number }
+    /// What comes next is of this device, at this time.
+    fn turn_to(&mut self, device: DeviceNumber, time: &str) -> Result<(), AllocError>
+        ensures { OnOk result (session_of self.new
+            ≡ turned_to (session_of self.old) device.number time.now) }
     {
         self.devices.select(device.number);
-    }
-
-    /// The current device lets go of what it holds, and has no descriptor then.
-    fn release(&mut self, time: &str) -> Result<(), AllocError>
-        ensures text { OnOk result (string_bytes self.new.text ≡ slot_text_back time.now
-            self.old.devices.current self.old.options (current_member (session_of self.old))) }
-        ensures session { OnOk result (session_of self.new
-            ≡ without_member (session_of self.old) (current_member (session_of self.old))) }
-    {
-        self.text.clear();
-        let events = self
-            .devices
-            .release(self.alloc, &mut self.text, time, self.options)?;
-        self.events = self.events.saturating_add(events);
-        Ok(())
+        self.set_time(time)
     }
 
     /// Takes a report descriptor of the current device, which lets go of what it held by another one.
-    fn redescribe(&mut self, time: &str, descriptor: &[u8]) -> Result<(), Cause>
-        ensures { Gathers (DescriptionGives time.now descriptor.now (session_of self.old)) result
+    fn redescribe(&mut self, descriptor: &[u8]) -> Result<(), Cause>
+        ensures outcome { Gathers (DescriptionGives descriptor.now (session_of self.old)) result
             (string_bytes self.new.text) (session_of self.new) }
+        ensures memory { RunsOutIf
+            (description_allocates (session_of self.old) descriptor.now) result }
     {
-        self.release(time)?;
+        self.text.clear();
+        let device = self.devices.current_device();
+        self.let_go(Some(device))?;
         let before = mem::replace(&mut self.text, String::new(self.alloc));
         match self.describe(descriptor) {
-            Ok(()) => self.put_before(before),
+            Ok(()) => Ok(self.put_before(before)?),
             Err(cause) => {
                 drop(before);
                 Err(cause)
@@ -506,17 +585,28 @@ impl Player {
         }
     }
 
-    /// Puts a text before what was gathered.
-    fn put_before(&mut self, before: String) -> Result<(), Cause>
+    /// Puts a text before what was gathered. An empty one takes no memory.
+    fn put_before(&mut self, before: String) -> Result<(), AllocError>
         ensures text { OnOk result (string_bytes self.new.text
             ≡ string_bytes before ++ string_bytes self.old.text) }
-        ensures memory { IfErr result (λ cause. cause ≡ Cause.Memory) }
+        ensures memory { IfErr result (λ _. string_bytes before ≢ []) }
         ensures session { session_of self.new ≡ session_of self.old }
     {
+        if before.is_empty() {
+            drop(before);
+            return Ok(());
+        }
         let mut before = before;
         let joined = before.push_str(self.text.as_str());
         drop(mem::replace(&mut self.text, before));
-        joined.map_err(Cause::from)
+        joined
+    }
+
+    /// What is printed from now on.
+    pub fn set_options(&mut self, options: Options)
+        ensures { session_of self.new ≡ with_options (session_of self.old) options }
+    {
+        self.options = options;
     }
 
     /// Whether a dump is open.

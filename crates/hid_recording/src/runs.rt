@@ -5,6 +5,7 @@ ghost use Rattle.hid_recording.specs.Runs.{AppendsRecording, line_of, summary_un
 ghost use Rattle.hid_recording.specs.Place.{AppendsFrom};
 ghost use Rattle.hid_recording.specs.Recording.{place_of};
 
+use super::counted::Counted;
 use super::fault::{Cause, RecordingFault};
 use super::options::Options;
 use super::player::Player;
@@ -91,7 +92,7 @@ fn play_lines<R: Read, W: Write, H: Watch>(
         (W.contents writer.new) result }
     ensures count { IfOk result (λ summary. summary.lines ≤ 4096 * 1000000000000) }
 {
-    match Player::new(alloc, options) {
+    match Player::new(alloc, options, Counted::Lines) {
         Ok(player) => {
             let mut recording = Recording::new(player);
             play_pieces(&mut recording, reader, writer, watch)

@@ -1,5 +1,5 @@
 -- The line of JSON that says what ended a file early (RFC 8259; the members: our choice, docs/RECORDINGS.md).
-use Rattle.std.specs.Prelude.{ℕ, ◌+◌, ◌-◌, ◌^◌, min, List, [], ◌∷◌, ◌++◌, codes}
+use Rattle.std.specs.Prelude.{ℕ, ◌+◌, ◌-◌, ◌^◌, min, List, [], ◌∷◌, ◌++◌, codes, Option, None, Some}
 use Rattle.std.specs.Fmt.{decimal}
 use Rattle.json.specs.Token.{Token, begin_object, end_object, key, string, number}
 use Rattle.hid_recording.specs.declared.fault.Cause.{Cause}
@@ -7,7 +7,7 @@ use Rattle.hid_recording.specs.declared.fault.Cause.TheVariants.{Refused, LineTo
 use Rattle.hidplay.specs.declared.fault.FileFault.{FileFault}
 use Rattle.hidplay.specs.declared.fault.Why.{Why}
 use Rattle.hidplay.specs.declared.fault.Why.TheVariants.{Recording, Capture, Descriptor}
-use Rattle.hidplay.specs.FileFault.{place_word, place_number, why_text}
+use Rattle.hidplay.specs.FileFault.{place_of_file, why_text}
 
 -- a count of refusals, one more if what ended the file is one; it stops at the greatest number of 64 bits
 abbrev pub with_cause : Cause → ℕ → ℕ
@@ -33,9 +33,14 @@ refusals_of fault = with_why fault.why fault.played.refused
 abbrev pub count_tokens : List ℕ → ℕ → List Token
 count_tokens name count = key name ∷ number (decimal count) ∷ []
 
--- what ended a file, as members: "line":N,"ended":"CODE: WORDS", or with "frame" or "byte"
-abbrev pub cause_tokens : List ℕ → ℕ → List ℕ → List Token
-cause_tokens word place words = key word ∷ number (decimal place) ∷ key (codes "ended") ∷ string words ∷ []
+-- where a file ended, as a member: "line":N, or "frame", "byte" or "report"; none at its start
+abbrev pub place_tokens : Option (List ℕ × ℕ) → List Token
+place_tokens None = []
+place_tokens (Some place) = count_tokens place.0 place.1
+
+-- what ended a file, as members: "line":N,"ended":"CODE: WORDS"
+abbrev pub cause_tokens : Option (List ℕ × ℕ) → List ℕ → List Token
+cause_tokens place words = place_tokens place ++ key (codes "ended") ∷ string words ∷ []
 
 -- what was played, as members: "descriptors":N,"reports":N,"events":N,"refusals":N
 abbrev pub played_tokens : FileFault → List Token
@@ -45,8 +50,8 @@ played_tokens fault =
     ∷ key (codes "events") ∷ number (decimal fault.played.events)
     ∷ key (codes "refusals") ∷ number (decimal (refusals_of fault)) ∷ []
 
--- what ended a file early and what was played of it, as a JSON object
-unfoldable pub end_tokens : FileFault → List Token
-end_tokens fault =
-    begin_object ∷ cause_tokens (place_word fault.place) (place_number fault.place) (why_text fault.why)
+-- what ended a file early, with the system's words after its own, and what was played of it, as a JSON object
+unfoldable pub end_tokens : FileFault → List ℕ → List Token
+end_tokens fault system =
+    begin_object ∷ cause_tokens (place_of_file fault.place) (why_text fault.why ++ system)
     ++ played_tokens fault ++ end_object ∷ []

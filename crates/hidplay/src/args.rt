@@ -4,11 +4,14 @@ use super::codes::CODES;
 use super::source::Kind;
 use clap::error::ErrorKind;
 use clap::{Arg, ArgAction, ArgMatches, Command, Error};
-use hid_recording::{Counted, EndpointAddress, Options};
+use hid_recording::{EndpointAddress, Options};
 use std::alloc::{AllocError, Global};
 
 /// The greatest number of an endpoint (USB 2.0, 9.6.6).
 const MAX_ENDPOINT: u8 = 15;
+
+/// Where Linux has what it knows of hidraw nodes.
+const SYSTEM: &str = "/sys/class/hidraw";
 
 /// What the words ask for.
 #[derive(Drop)]
@@ -20,6 +23,8 @@ pub struct CliArgs<'a> {
     pub descriptor: Option<&'a str>,
     /// The endpoint whose interface that descriptor is of, if one is named.
     pub endpoint: Option<EndpointAddress>,
+    /// Where the system has what it knows of hidraw nodes.
+    pub system: &'a str,
     /// The files in their order; `-` is standard input.
     pub files: Vec<&'a str>,
 }
@@ -38,7 +43,7 @@ fn files<'a>(alloc: Global) -> Arg<'a> {
         .action(ArgAction::Append)
         .num_args(0..)
         .help(
-            "Text of hid-recorder or usbhid-dump, a capture (pcap, pcapng), or a report descriptor; - and no FILE are standard input",
+            "Text of hid-recorder or usbhid-dump, a capture (pcap, pcapng), a live device (/dev/hidraw0), or a report descriptor; - and no FILE are standard input",
         )
 }
 
@@ -60,7 +65,26 @@ fn text<'a>(alloc: Global) -> Result<Arg<'a>, AllocError> {
         "text",
         "Take each file for text, whatever its first byte is",
     )
+    .conflicts_with("binary")?
+    .conflicts_with("live")
+}
+
+/// The option `--live`.
+fn live<'a>(alloc: Global) -> Result<Arg<'a>, AllocError> {
+    flag(
+        alloc,
+        "live",
+        "Take each file for a live device: each read of it is a report",
+    )
     .conflicts_with("binary")
+}
+
+/// The option `--sysfs FOLDER`.
+fn sysfs<'a>(alloc: Global) -> Arg<'a> {
+    Arg::new(alloc, "sysfs")
+        .long("sysfs")
+        .value_name("FOLDER")
+        .help("Where report descriptors of live devices are; without it /sys/class/hidraw")
 }
 
 /// The option `--descriptor FILE`.
@@ -68,7 +92,9 @@ fn descriptor<'a>(alloc: Global) -> Arg<'a> {
     Arg::new(alloc, "descriptor")
         .long("descriptor")
         .value_name("FILE")
-        .help("The report descriptor of a capture's devices that have none in it")
+        .help(
+            "The report descriptor of a capture's devices that have none in it, or of a live device",
+        )
 }
 
 /// The option `--endpoint BUS.DEV.EP`.
@@ -151,17 +177,21 @@ fn command<'a>(alloc: Global) -> Result<Command<'a>, AllocError> {
             "Take each file for a binary report descriptor",
         )),
     );
+    let command = add(command, live(alloc));
+    let command = add(command, Ok(sysfs(alloc)));
     let command = add(command, Ok(descriptor(alloc)));
     let command = add(command, endpoint(alloc));
     add(command, Ok(files(alloc)))
 }
 
-/// What files are taken for; one of the two at most is asked for.
-fn kind_of(is_text: bool, is_binary: bool) -> Kind {
+/// What files are taken for; one of the three at most is asked for.
+fn kind_of(is_text: bool, is_binary: bool, is_live: bool) -> Kind {
     if is_text {
         Kind::Text
     } else if is_binary {
         Kind::Binary
+    } else if is_live {
+        Kind::Live
     } else {
         Kind::Detected
     }
@@ -225,11 +255,15 @@ fn read_matches<'a>(alloc: Global, matches: &ArgMatches<'a>) -> Result<CliArgs<'
             places: matches.get_flag("places"),
             strict: matches.get_flag("strict"),
             json: matches.get_flag("json"),
-            counted: Counted::Lines,
         },
         descriptor: matches.get_str("descriptor"),
         endpoint,
-        kind: kind_of(matches.get_flag("text"), matches.get_flag("binary")),
+        kind: kind_of(
+            matches.get_flag("text"),
+            matches.get_flag("binary"),
+            matches.get_flag("live"),
+        ),
+        system: matches.get_str("sysfs").unwrap_or(SYSTEM),
         files,
     })
 }

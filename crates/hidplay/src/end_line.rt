@@ -1,9 +1,10 @@
 //! The line of JSON that says what ended a file early, and what was played of it.
 
 ghost use Rattle.std.specs.Prelude.{◌≡◌, ◌++◌, IfOk, OnOk};
-ghost use Rattle.hidplay.specs.EndLine.{with_cause, count_tokens, cause_tokens, played_tokens, end_tokens, refusals_of};
+ghost use Rattle.std.specs.Option.{option_map};
+ghost use Rattle.hidplay.specs.EndLine.{with_cause, count_tokens, place_tokens, cause_tokens, played_tokens, end_tokens, refusals_of};
 ghost use Rattle.hid_recording.specs.EventJson.{json_text};
-ghost use Rattle.hidplay.specs.FileFault.{why_text, place_word, place_number};
+ghost use Rattle.hidplay.specs.FileFault.{why_text, place_of_file};
 
 use super::fault::{FileFault, Place, Why};
 use hid_recording::Cause;
@@ -39,13 +40,25 @@ fn put_count(json: &mut Writer, name: &str, count: u64) -> Result<(), AllocError
     json.u64(count)
 }
 
+/// Writes where a file ended, if that has a number.
+fn put_place(json: &mut Writer, place: &Place) -> Result<(), AllocError>
+    ensures tokens { OnOk result (json.new.tokens ≡ json.old.tokens
+        ++ place_tokens (place_of_file place.now)) }
+    ensures before { json.new.before ≡ json.old.before }
+{
+    match place.counted() {
+        Some((word, number)) => put_count(json, word, number),
+        None => Ok(()),
+    }
+}
+
 /// Writes where and why a file ended.
 fn put_cause(json: &mut Writer, place: &Place, words: &str) -> Result<(), AllocError>
     ensures tokens { OnOk result (json.new.tokens ≡ json.old.tokens
-        ++ cause_tokens (place_word place.now) (place_number place.now) words.now) }
+        ++ cause_tokens (place_of_file place.now) words.now) }
     ensures before { json.new.before ≡ json.old.before }
 {
-    put_count(json, place.word(), place.number())?;
+    put_place(json, place)?;
     json.key("ended")?;
     json.string(words)
 }
@@ -62,9 +75,14 @@ fn put_played(json: &mut Writer, fault: &FileFault) -> Result<(), AllocError>
 }
 
 /// Writes what ended a file and what was played of it, as an object.
-fn put_end(json: &mut Writer, fault: &FileFault, words: &str) -> Result<(), AllocError>
-    requires { words.now ≡ why_text fault.now.why }
-    ensures tokens { OnOk result (json.new.tokens ≡ json.old.tokens ++ end_tokens fault.now) }
+fn put_end(
+    json: &mut Writer,
+    fault: &FileFault,
+    system: &str,
+    words: &str,
+) -> Result<(), AllocError>
+    requires { words.now ≡ why_text fault.now.why ++ system.now }
+    ensures tokens { OnOk result (json.new.tokens ≡ json.old.tokens ++ end_tokens fault.now system.now) }
     ensures before { json.new.before ≡ json.old.before }
 {
     json.begin_object()?;
@@ -73,17 +91,18 @@ fn put_end(json: &mut Writer, fault: &FileFault, words: &str) -> Result<(), Allo
     json.end_object()
 }
 
-/// `{"line":N,"ended":"CODE: WORDS","descriptors":..,"reports":..,"events":..,"refusals":..}`, and the end of the line.
+/// `{"line":N,"ended":"CODE: WORDS","descriptors":..,"reports":..,"events":..,"refusals":..}`, and the end of the line. The
+/// system's words stand after the others.
 ///
 /// # Errors
 /// Out of memory.
-pub fn end_line(alloc: Global, fault: &FileFault) -> Result<Vec<u8>, AllocError>
-    ensures { IfOk result (λ line. line.items ≡ json_text (end_tokens fault.now)) }
+pub fn end_line(alloc: Global, fault: &FileFault, system: &str) -> Result<Vec<u8>, AllocError>
+    ensures { IfOk result (λ line. line.items ≡ json_text (end_tokens fault.now system.now)) }
 {
     let why = fault.why;
-    let words = format!(in alloc; "{why}")?;
+    let words = format!(in alloc; "{why}{system}")?;
     let mut json = Writer::new(Vec::new(alloc));
-    match put_end(&mut json, fault, words.as_str()) {
+    match put_end(&mut json, fault, system, words.as_str()) {
         Ok(()) => {
             let mut line = json.into_inner();
             line.push(b'\n')?;

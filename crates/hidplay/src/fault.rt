@@ -1,22 +1,29 @@
 //! What ended a file early.
 
 ghost use Rattle.std.specs.Prelude.{◌≡◌, Some};
-ghost use Rattle.hidplay.specs.FileFault.{place_word, place_number, why_text};
+ghost use Rattle.std.specs.Option.{option_map};
+ghost use Rattle.hidplay.specs.FileFault.{place_of_file, why_text};
 
 use hid_input::{InputCause, InputFault};
-use hid_recording::{CaptureCause, CaptureRunFault, Cause, RecordingFault, Summary};
+use hid_recording::{
+    CaptureCause, CaptureRunFault, Cause, LiveFault, RecordingFault, Refusal, Summary,
+};
 use std::fmt;
 use usb_capture::Cause as FormatCause;
 
 /// Where a file ended.
 #[derive(Clone, Copy, Debug)]
 pub enum Place {
+    /// No line or other part of it: before the first one, or all of it.
+    Start,
     /// A line of a recording, from 1.
     Line(u64),
     /// A frame of a capture, from 1.
     Frame(u64),
     /// A block of a capture, by the bytes before it.
     Byte(u64),
+    /// A report of a live device, from 1.
+    Report(u64),
 }
 
 /// Why a file ended early.
@@ -38,45 +45,42 @@ pub struct FileFault {
     pub played: Summary,
 }
 
-/// What ended a file before its first line was played.
+/// What ended a file of which nothing was read.
 pub fn before_all(cause: Cause) -> FileFault {
     FileFault {
-        place: Place::Line(1),
+        place: Place::Start,
         why: Why::Recording(cause),
         played: Summary::none(),
     }
 }
 
-/// Why a descriptor can't be read, at its line or the first one.
+/// Why a descriptor can't be read, at its line if it is one's fault.
 pub fn unread_descriptor(fault: InputFault) -> FileFault {
     if fault.cause == InputCause::Memory {
         return before_all(Cause::Memory);
     }
+    let place = match fault.line {
+        Some(line) => Place::Line(line),
+        None => Place::Start,
+    };
     FileFault {
-        place: Place::Line(fault.line.unwrap_or(1)),
+        place,
         why: Why::Descriptor(fault.cause),
         played: Summary::none(),
     }
 }
 
 impl Place {
-    /// What the place counts.
-    pub fn word(&self) -> &'static str
-        ensures { result.now ≡ place_word self.now }
+    /// What the place counts, and its number; none at the start.
+    pub fn counted(&self) -> Option<(&'static str, u64)>
+        ensures { option_map (λ counted. (counted.0.now, counted.1)) result ≡ place_of_file self.now }
     {
         match self {
-            Place::Line(_) => "line",
-            Place::Frame(_) => "frame",
-            Place::Byte(_) => "byte",
-        }
-    }
-
-    /// The number of the line, the frame or the byte.
-    pub fn number(&self) -> u64
-        ensures { result ≡ place_number self.now }
-    {
-        match self {
-            Place::Line(number) | Place::Frame(number) | Place::Byte(number) => *number,
+            Place::Start => None,
+            Place::Line(number) => Some(("line", *number)),
+            Place::Frame(number) => Some(("frame", *number)),
+            Place::Byte(number) => Some(("byte", *number)),
+            Place::Report(number) => Some(("report", *number)),
         }
     }
 }
@@ -108,6 +112,25 @@ impl From<CaptureRunFault> for FileFault {
         FileFault {
             place,
             why,
+            played: fault.played,
+        }
+    }
+}
+
+impl From<LiveFault> for FileFault {
+    ghost use Rattle.hidplay.specs.FileFault.{at_report};
+
+    ghost from_gives = { λ fault ended. ended ≡ at_report fault };
+
+    fn from(fault: LiveFault) -> FileFault {
+        let place = match fault.cause {
+            // (the descriptor comes before the first report)
+            Cause::Refused(Refusal::Layout(_, _)) => Place::Start,
+            _ => Place::Report(fault.report),
+        };
+        FileFault {
+            place,
+            why: Why::Recording(fault.cause),
             played: fault.played,
         }
     }

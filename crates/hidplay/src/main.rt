@@ -4,6 +4,7 @@
 //!
 //!   each FILE, or standard input --> text, or a report descriptor --> hid_recording::play --> a buffer --> standard output
 //!                                --> a capture --> hid_recording::play_capture ^  |
+//!                                --> /dev/hidraw0 --> hid_recording::play_live ^  |
 //!                                                                                 |
 //!                                           progress, what ended a run, a summary --> standard error
 //! ```
@@ -17,6 +18,9 @@ mod codes;
 mod end_line;
 mod fault;
 mod file_line;
+mod heard;
+mod hidraw;
+mod name;
 mod progress;
 mod source;
 mod status;
@@ -27,20 +31,25 @@ use clap::error::ErrorKind;
 use end_line::end_line;
 use fault::{FileFault, Why, before_all};
 use file_line::file_line;
-use hid_recording::{Cause, GivenDescriptor, Summary};
+use heard::Heard;
+use hid_recording::{Cause, GivenDescriptor, Summary, play_live};
+use hidraw::{ReportFile, descriptor_name, node_of};
+use name::ShownName;
 use progress::Progress;
-use source::{Manner, play_source, read_descriptor};
+use source::{Kind, Manner, play_source, read_descriptor};
 use status::{FINE, OUTSIDE, WRONG_USAGE, ends_all, exit_of, worse};
-use std::alloc::Global;
-use std::io::{BufWriter, IsTerminal, Stderr, Write};
+use std::alloc::{AllocError, Global};
+use std::fs::File;
+use std::io::{self, BufWriter, IsTerminal, Read, Stderr, Write};
 use std::process::ExitCode;
 use std::{env, fs};
 use total::Total;
 
 fn main(rt: HostRuntime) -> ExitCode {
     let alloc = rt.alloc();
-    let Ok(args) = env::args(&rt) else {
-        return ExitCode::from(OUTSIDE);
+    let args = match env::args(&rt) {
+        Ok(args) => args,
+        Err(error) => return ExitCode::from(print_no_words(&rt, error.kind())),
     };
     let words: Result<Vec<String>, _> = args.collect(alloc);
     let Ok(words) = words else {
@@ -49,6 +58,50 @@ fn main(rt: HostRuntime) -> ExitCode {
     match parse_args(alloc, words.as_slice()) {
         Ok(asked) => ExitCode::from(play_with_descriptor(&rt, &asked)),
         Err(error) => ExitCode::from(print_bad_words(&rt, &error)),
+    }
+}
+
+/// Why the words of the command line can't be read: memory, or one isn't UTF-8.
+fn print_no_words(rt: &HostRuntime, kind: io::ErrorKind) -> u8 {
+    if kind == io::ErrorKind::InvalidData {
+        let _ = eprintln!(rt; "hidplay: a word of the command line isn't UTF-8");
+        WRONG_USAGE
+    } else {
+        OUTSIDE
+    }
+}
+
+/// What ended a file, and the system's words for it, if it has some.
+#[derive(Clone, Copy)]
+struct FileEnd {
+    fault: FileFault,
+    system: Option<io::Error>,
+}
+
+/// A file that can't be opened or read.
+fn unread(error: io::Error) -> FileEnd {
+    FileEnd {
+        fault: before_all(Cause::Read),
+        system: Some(error),
+    }
+}
+
+/// What ended a file by a cause that the system has no words for.
+fn without_words(fault: FileFault) -> FileEnd {
+    FileEnd {
+        fault,
+        system: None,
+    }
+}
+
+/// What ended a file whose reader failed so last, if it did.
+fn heard_end(fault: FileFault, failure: Option<io::Error>) -> FileEnd {
+    match fault.why {
+        Why::Recording(Cause::Read) => FileEnd {
+            fault,
+            system: failure,
+        },
+        _ => without_words(fault),
     }
 }
 
@@ -65,20 +118,37 @@ fn play_with_descriptor(rt: &HostRuntime, asked: &CliArgs<'_>) -> u8 {
             };
             play_all(rt, asked, Some(given))
         }
-        Err(fault) => {
-            let why = fault.why;
-            let _ = eprintln!(rt; "{name}: {why}");
-            exit_of(&Err(fault))
+        Err(end) => {
+            print_fault(rt, name, &end);
+            exit_of(&Err(end.fault))
         }
     }
 }
 
 /// The report descriptor in a file.
-fn open_descriptor(rt: &HostRuntime, name: &str) -> Result<Vec<u8>, FileFault> {
+fn open_descriptor(rt: &HostRuntime, name: &str) -> Result<Vec<u8>, FileEnd> {
     match fs::open(rt, name) {
-        Ok(mut file) => read_descriptor(rt.alloc(), &mut file),
-        Err(_) => Err(before_all(Cause::Read)),
+        Ok(file) => {
+            let mut heard = Heard::new(file);
+            let read = read_descriptor(rt.alloc(), &mut heard);
+            read.map_err(|fault| heard_end(fault, heard.failure))
+        }
+        Err(error) => Err(unread(error)),
     }
+}
+
+/// Says on standard error what ended a file: its name, its place if it has one, the code, and the system's words.
+fn print_fault(rt: &HostRuntime, name: &str, end: &FileEnd) {
+    let name = ShownName(name);
+    let FileFault { place, why, .. } = end.fault;
+    let _ = match (place.counted(), end.system) {
+        (Some((word, number)), Some(system)) => {
+            eprintln!(rt; "{name}: {word} {number}: {why}: {system}")
+        }
+        (Some((word, number)), None) => eprintln!(rt; "{name}: {word} {number}: {why}"),
+        (None, Some(system)) => eprintln!(rt; "{name}: {why}: {system}"),
+        (None, None) => eprintln!(rt; "{name}: {why}"),
+    };
 }
 
 /// Help and version go to standard output, and what is wrong with the words to standard error.
@@ -137,39 +207,44 @@ fn play_one<W: Write>(
     out: &mut W,
 ) -> Result<Summary, FileFault> {
     let end = match print_file(rt.alloc(), asked, name, out) {
-        Ok(()) => play_named(rt, manner, name, out),
-        Err(cause) => Err(before_all(cause)),
+        Ok(()) => play_named(rt, asked, manner, name, out),
+        Err(cause) => Err(without_words(before_all(cause))),
     };
-    let Err(fault) = end else {
-        return end;
-    };
-    let fault = print_end(rt.alloc(), asked, fault, out);
-    let FileFault { place, why, .. } = fault;
-    let word = place.word();
-    let number = place.number();
-    let _ = eprintln!(rt; "{name}: {word} {number}: {why}");
-    Err(fault)
+    match end {
+        Ok(summary) => Ok(summary),
+        Err(end) => {
+            let end = print_end(rt.alloc(), asked, end, out);
+            print_fault(rt, name, &end);
+            Err(end.fault)
+        }
+    }
 }
 
 /// With JSON, prints what ended a file too. Where that fails, it is what ended the file.
-fn print_end<W: Write>(
-    alloc: Global,
-    asked: &CliArgs<'_>,
-    fault: FileFault,
-    out: &mut W,
-) -> FileFault {
-    if !asked.options.json || matches!(fault.why, Why::Recording(Cause::Write)) {
-        return fault;
+fn print_end<W: Write>(alloc: Global, asked: &CliArgs<'_>, end: FileEnd, out: &mut W) -> FileEnd {
+    if !asked.options.json || matches!(end.fault.why, Why::Recording(Cause::Write)) {
+        return end;
     }
-    let Ok(line) = end_line(alloc, &fault) else {
-        return fault;
+    let Ok(system) = system_words(alloc, end.system) else {
+        return end;
+    };
+    let Ok(line) = end_line(alloc, &end.fault, system.as_str()) else {
+        return end;
     };
     if out.write_all(line.as_slice()).is_ok() && out.flush().is_ok() {
-        return fault;
+        return end;
     }
-    FileFault {
+    without_words(FileFault {
         why: Why::Recording(Cause::Write),
-        ..fault
+        ..end.fault
+    })
+}
+
+/// The system's words after a colon, or none.
+fn system_words(alloc: Global, system: Option<io::Error>) -> Result<String, AllocError> {
+    match system {
+        Some(error) => format!(in alloc; ": {error}"),
+        None => Ok(String::new(alloc)),
     }
 }
 
@@ -189,6 +264,7 @@ fn print_file<W: Write>(
         };
         out.write_all(line.as_slice())
     } else {
+        let name = ShownName(name);
         writeln!(out, "file {name}")
     };
     told.map_err(|_| Cause::Write)
@@ -206,26 +282,79 @@ fn terminal(rt: &HostRuntime) -> Option<Stderr> {
 /// Plays a file, or standard input where the name is `-`.
 fn play_named<W: Write>(
     rt: &HostRuntime,
+    asked: &CliArgs<'_>,
     manner: Manner<'_>,
     name: &str,
     out: &mut W,
-) -> Result<Summary, FileFault> {
+) -> Result<Summary, FileEnd> {
     if name == "-" {
-        let mut progress = Progress::new(terminal(rt), None);
-        let end = play_source(rt.alloc(), rt.stdin(), manner, out, &mut progress);
-        progress.clear();
-        return end;
+        return play_stream(rt, rt.stdin(), None, manner, out);
     }
-    let Ok(file) = fs::open(rt, name) else {
-        return Err(before_all(Cause::Read));
+    let file = match fs::open(rt, name) {
+        Ok(file) => file,
+        Err(error) => return Err(unread(error)),
     };
-    // (a pipe has no size)
-    let size = match file.metadata() {
-        Ok(metadata) if metadata.len() > 0 => Some(metadata.len()),
-        _ => None,
+    let Ok(metadata) = file.metadata() else {
+        return play_stream(rt, file, None, manner, out);
     };
-    let mut progress = Progress::new(terminal(rt), size);
-    let end = play_source(rt.alloc(), file, manner, out, &mut progress);
+    match node_of(rt, name, metadata.file_type()) {
+        Some(node) if matches!(manner.kind, Kind::Detected | Kind::Live) => {
+            play_node(rt, asked, manner, node.as_str(), file, out)
+        }
+        _ if manner.kind == Kind::Live => play_node(rt, asked, manner, name, file, out),
+        // (a pipe has no size)
+        _ => play_stream(rt, file, Some(metadata.len()), manner, out),
+    }
+}
+
+/// Plays a file of this size, if it is known.
+fn play_stream<R: Read + Drop, W: Write>(
+    rt: &HostRuntime,
+    reader: R,
+    size: Option<u64>,
+    manner: Manner<'_>,
+    out: &mut W,
+) -> Result<Summary, FileEnd> {
+    let mut heard = Heard::new(reader);
+    let mut progress = Progress::new(terminal(rt), size.filter(|size| *size > 0));
+    let end = play_source(rt.alloc(), &mut heard, manner, out, &mut progress);
     progress.clear();
-    end
+    end.map_err(|fault| heard_end(fault, heard.failure))
+}
+
+/// Plays a live device, by the descriptor that is given, or that the system has for its node.
+fn play_node<W: Write>(
+    rt: &HostRuntime,
+    asked: &CliArgs<'_>,
+    manner: Manner<'_>,
+    node: &str,
+    file: File,
+    out: &mut W,
+) -> Result<Summary, FileEnd> {
+    if let Some(given) = manner.given {
+        return play_reports(rt, manner, given.bytes, file, out);
+    }
+    let Ok(name) = descriptor_name(rt.alloc(), asked.system, node) else {
+        return Err(without_words(before_all(Cause::Memory)));
+    };
+    match open_descriptor(rt, name.as_str()) {
+        Ok(bytes) => play_reports(rt, manner, bytes.as_slice(), file, out),
+        Err(end) => {
+            print_fault(rt, name.as_str(), &end);
+            Err(end)
+        }
+    }
+}
+
+/// Plays the reports of a live device.
+fn play_reports<W: Write>(
+    rt: &HostRuntime,
+    manner: Manner<'_>,
+    descriptor: &[u8],
+    file: File,
+    out: &mut W,
+) -> Result<Summary, FileEnd> {
+    let mut device = ReportFile::new(rt, file);
+    let end = play_live(rt.alloc(), descriptor, &mut device, out, manner.options);
+    end.map_err(|fault| heard_end(FileFault::from(fault), device.failure))
 }

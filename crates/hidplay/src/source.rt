@@ -16,6 +16,8 @@ pub enum Kind {
     Detected,
     Text,
     Binary,
+    /// A live device.
+    Live,
 }
 
 /// More bytes than a descriptor has: it is refused for its length, whatever comes after them.
@@ -138,9 +140,8 @@ pub struct Manner<'a> {
 /// Plays a file, as what it is.
 ///
 /// # Errors
-/// At line 1, before anything is played: [`Cause::Memory`] where there is none to read with, [`Cause::Read`] and
-/// [`Cause::TooManyReads`] where the first bytes, or those of a descriptor, can't be read; at its line, why a descriptor can't be
-/// read. Later what [`play`] and
+/// Before anything is played: [`Cause::Memory`] where there is none to read with, [`Cause::Read`] and [`Cause::TooManyReads`]
+/// where the first bytes, or those of a descriptor, can't be read; at its line, why a descriptor can't be read. Later what [`play`] and
 /// [`play_capture`] give.
 pub fn play_source<R: Read + Drop, W: Write, H: Watch>(
     alloc: Global,
@@ -222,6 +223,6 @@ fn play_buffered<R: Read, W: Write, H: Watch>(
     match manner.kind {
         Kind::Binary => play_binary(alloc, reader, out, manner.options, watch),
         Kind::Text => play_text(alloc, reader, out, manner.options, watch),
-        Kind::Detected => play_detected(alloc, reader, manner, out, watch),
+        Kind::Detected | Kind::Live => play_detected(alloc, reader, manner, out, watch),
     }
 }

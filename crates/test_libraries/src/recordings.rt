@@ -2,7 +2,7 @@
 //! The mouse is that of HID 1.11, appendix E.10; its reports were worked out by hand from appendix B.2, and every expected
 //! text from docs/RECORDINGS.md.
 
-use hid_recording::{Cause, Counted, Options, RecordingFault, Refusal, Summary, play};
+use hid_recording::{Cause, Options, RecordingFault, Refusal, Summary, play};
 use std::alloc::{AllocError, Global};
 use std::test::Fail;
 
@@ -13,7 +13,6 @@ const PLAIN: Options = Options {
     places: false,
     strict: false,
     json: false,
-    counted: Counted::Lines,
 };
 
 const ALL: Options = Options {
@@ -23,7 +22,6 @@ const ALL: Options = Options {
     places: false,
     strict: false,
     json: false,
-    counted: Counted::Lines,
 };
 
 const STRICT: Options = Options {
@@ -33,7 +31,6 @@ const STRICT: Options = Options {
     places: false,
     strict: true,
     json: false,
-    counted: Counted::Lines,
 };
 
 const JSON: Options = Options {
@@ -43,7 +40,6 @@ const JSON: Options = Options {
     places: false,
     strict: false,
     json: true,
-    counted: Counted::Lines,
 };
 
 const NO_NAMES: Options = Options {
@@ -53,7 +49,6 @@ const NO_NAMES: Options = Options {
     places: false,
     strict: false,
     json: true,
-    counted: Counted::Lines,
 };
 
 const PLACES: Options = Options {
@@ -63,7 +58,6 @@ const PLACES: Options = Options {
     places: true,
     strict: false,
     json: false,
-    counted: Counted::Lines,
 };
 
 /// What a recording is about, the options, the recording, and its output.

@@ -1,8 +1,7 @@
-use Rattle.std.proofs.Common.{sym, subst, refl}
+use Rattle.std.proofs.Common.{sym, subst}
 use Rattle.usb_capture.proofs.ExtentLemmas.{nothing_begun}
 use Rattle.usb_capture.specs.declared.format.Format.TheVariants.{Unknown}
 use Rattle.hid_recording.specs.CaptureRuns.{CapturePlace, IsBetween, capture_at_first}
-use Rattle.hid_recording.specs.FrameActs.{given_of}
 use Rattle.hid_recording.specs.declared.capture_fault.CaptureCause.TheVariants.{Run}
 use Rattle.hid_recording.specs.declared.fault.Cause.TheVariants as causes
 use Rattle.std.proofs.Common.{ap}

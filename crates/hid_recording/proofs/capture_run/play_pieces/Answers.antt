@@ -1,9 +1,9 @@
-use Rattle.std.proofs.Common.{[], refl, ap, ◌∙◌, ◌++◌, take, arith, Err}
+use Rattle.std.proofs.Common.{[], refl, ap, ◌∙◌, ◌++◌, take, arith}
 use Rattle.std.proofs.KnownBytes.{Appends-nil, Appends-trans, Appends-kept, Consumes-nil, Consumes-trans, Consumes-kept}
 use Rattle.hid_recording.specs.CaptureRun.{capture_place}
 use Rattle.hid_recording.specs.FrameActs.{given_of}
 use Rattle.hid_recording.specs.declared.fault.Cause.TheVariants as causes
-use Rattle.hid_recording.proofs.CaptureLemmas.{plays_nothing, plays_more, plays_as, stops_as, whole_capture, outside_capture, piece_ends, kept_capture}
+use Rattle.hid_recording.proofs.CaptureLemmas.{plays_nothing, plays_more, plays_as, stops_as, whole_capture, outside_capture, piece_ends}
 use Rattle.hid_recording.proofs.capture_run.play_pieces.Goals.{in-Ok+in_ok-feed-in-Ok, in-Err}
 use Rattle.hid_recording.proofs.capture_run.play_pieces.Goals as goal
 

@@ -1,4 +1,4 @@
-use Rattle.std.proofs.Common.{[], refl, ap, ◌∙◌, subst, arith, Ok, Err}
+use Rattle.std.proofs.Common.{[], refl, ◌∙◌, subst, arith, Ok, Err}
 use Rattle.std.specs.Prelude.{slice_get}
 use Rattle.std.proofs.KnownBytes.{Appends-nil}
 use Rattle.hid_capture.specs.Tracking.{Tracking, tracking_of}

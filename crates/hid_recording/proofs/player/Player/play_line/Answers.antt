@@ -9,4 +9,4 @@ select-requires c = c.in-Ok-Device.device.small
 
 pub returns-in-Ok-Descriptor-clause-outcome : goal.returns-in-Ok-Descriptor-clause-outcome
 returns-in-Ok-Descriptor-clause-outcome c =
-    said_meant (session_of c.args.self.now) (record_of c.args.line.now) (Descriptor c.in-Ok-Descriptor.bytes.items) _ _ _ (search rules) (rw c.as_slice.ensures.value at c.describe.ensures.outcome)
+    said_meant (session_of c.args.self.now) (record_of c.args.line.now) (Descriptor c.in-Ok-Descriptor.bytes.items) _ _ _ (search rules) (rw c.as_slice.ensures.value at c.redescribe.ensures.outcome)
