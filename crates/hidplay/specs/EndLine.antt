@@ -53,5 +53,5 @@ played_tokens fault =
 -- what ended a file early, with the system's words after its own, and what was played of it, as a JSON object
 unfoldable pub end_tokens : FileFault → List ℕ → List Token
 end_tokens fault system =
-    begin_object ∷ cause_tokens (place_of_file fault.place) (why_text fault.why ++ system)
-    ++ played_tokens fault ++ end_object ∷ []
+    begin_object
+    ∷ (cause_tokens (place_of_file fault.place) (why_text fault.why ++ system) ++ (played_tokens fault ++ end_object ∷ []))
