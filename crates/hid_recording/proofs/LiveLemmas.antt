@@ -12,7 +12,7 @@ use Rattle.hid_recording.specs.declared.summary.Summary.{Summary}
 use Rattle.hid_recording.specs.Acts.{Descriptor, AppendsActs}
 use Rattle.hid_recording.specs.CaptureRuns.{IsOutside}
 use Rattle.hid_recording.specs.LiveReports.{TimedReport, timed_report, Receives}
-use Rattle.hid_recording.specs.LiveRuns.{ReportGives, ReportsGive, live_fault, LiveStops, ReportsRunTo, before_first, AppendsLive, unflushed, AppendsFlushed, ReportTells, AppendsReport, EndTells, AppendsEnd, AppendsReports}
+use Rattle.hid_recording.specs.LiveRuns.{ReportGives, ReportsGive, live_fault, LiveStops, ReportsRunTo, before_first, AppendsLive, flush_failure, AppendsFlushed, ReportTells, AppendsReport, EndTells, AppendsEnd, AppendsReports}
 use Rattle.hid_recording.specs.Moments.{time_text}
 use Rattle.hid_recording.specs.Player.{summary_of}
 use Rattle.hid_recording.specs.Session.{Session, with_options, saturating_sum}
@@ -224,7 +224,7 @@ pub flushed : (options : Options) (bytes : List ℕ) (sent : Option (List TimedR
 flushed options bytes sent c d e result h k = (result, kept_live options bytes sent c d e result h k, inl refl)
 
 pub not_flushed : (options : Options) (bytes : List ℕ) (sent : Option (List TimedReport)) (c d e : Option (List ℕ)) (end result : Result Summary LiveFault)
-    → AppendsLive options bytes sent c d end → Keeps d e → result ≡ Err (unflushed end) → AppendsFlushed options bytes sent c e result
+    → AppendsLive options bytes sent c d end → Keeps d e → result ≡ Err (flush_failure end) → AppendsFlushed options bytes sent c e result
 not_flushed options bytes sent c d e end result h k is = (end, kept_live options bytes sent c d e end h k, inr is)
 
 -- ---- where a run ended

@@ -142,15 +142,15 @@ live_summary (Ok summary) = summary
 live_summary (Err fault) = fault.played
 
 -- how a run ended whose last flush failed
-abbrev pub unflushed : Result Summary LiveFault → LiveFault
-unflushed end = record { report = report_of end; cause = causes.Write; played = live_summary end }
+abbrev pub flush_failure : Result Summary LiveFault → LiveFault
+flush_failure end = record { report = report_of end; cause = causes.Write; played = live_summary end }
 
 -- the writer's bytes grew so, and the run ended so, or its last flush failed
 abbrev pub AppendsFlushed : Options → List ℕ → Option (List TimedReport) → Option (List ℕ) → Option (List ℕ)
     → Result Summary LiveFault → Type 0
 AppendsFlushed options bytes sent old new result =
     (end : Result Summary LiveFault) × AppendsLive options bytes sent old new end
-    × ((result ≡ end) ⊎ (result ≡ Err (unflushed end)))
+    × ((result ≡ end) ⊎ (result ≡ Err (flush_failure end)))
 
 -- ---- piece by piece
 

@@ -60,7 +60,7 @@ pub struct ReportFile<'a> {
     file: File,
     /// Why it can't be read, if that is known.
     pub failure: Option<io::Error>,
-    /// The time that was told last.
+    /// The time that the clock gave last.
     time: u64,
 }
 
@@ -75,7 +75,7 @@ impl<'a> ReportFile<'a> {
         }
     }
 
-    /// The time, in nanoseconds since 1970; if the clock can't be read, what it told last.
+    /// The time, in nanoseconds since 1970; if the clock can't be read, what it gave last.
     fn now(&mut self) -> u64 {
         if let Ok(now) = SystemTime::now(self.rt) {
             if let Ok(since) = now.duration_since(SystemTime::UNIX_EPOCH) {

@@ -18,20 +18,19 @@ mod codes;
 mod end_line;
 mod fault;
 mod file_line;
-mod heard;
 mod hidraw;
 mod name;
 mod progress;
 mod source;
 mod status;
 mod total;
+mod watched_reader;
 
 use args::{CliArgs, parse_args};
 use clap::error::ErrorKind;
 use end_line::end_line;
 use fault::{FileFault, Why, before_all};
 use file_line::file_line;
-use heard::Heard;
 use hid_recording::{Cause, GivenDescriptor, Summary, play_live};
 use hidraw::{ReportFile, descriptor_name, node_of};
 use name::ShownName;
@@ -44,6 +43,7 @@ use std::io::{self, BufWriter, IsTerminal, Read, Stderr, Write};
 use std::process::ExitCode;
 use std::{env, fs};
 use total::Total;
+use watched_reader::WatchedReader;
 
 fn main(rt: HostRuntime) -> ExitCode {
     let alloc = rt.alloc();
@@ -95,7 +95,7 @@ fn without_words(fault: FileFault) -> FileEnd {
 }
 
 /// What ended a file whose reader failed so last, if it did.
-fn heard_end(fault: FileFault, failure: Option<io::Error>) -> FileEnd {
+fn end_of_file(fault: FileFault, failure: Option<io::Error>) -> FileEnd {
     match fault.why {
         Why::Recording(Cause::Read) => FileEnd {
             fault,
@@ -129,9 +129,9 @@ fn play_with_descriptor(rt: &HostRuntime, asked: &CliArgs<'_>) -> u8 {
 fn open_descriptor(rt: &HostRuntime, name: &str) -> Result<Vec<u8>, FileEnd> {
     match fs::open(rt, name) {
         Ok(file) => {
-            let mut heard = Heard::new(file);
-            let read = read_descriptor(rt.alloc(), &mut heard);
-            read.map_err(|fault| heard_end(fault, heard.failure))
+            let mut watched = WatchedReader::new(file);
+            let read = read_descriptor(rt.alloc(), &mut watched);
+            read.map_err(|fault| end_of_file(fault, watched.failure))
         }
         Err(error) => Err(unread(error)),
     }
@@ -315,11 +315,11 @@ fn play_stream<R: Read + Drop, W: Write>(
     manner: Manner<'_>,
     out: &mut W,
 ) -> Result<Summary, FileEnd> {
-    let mut heard = Heard::new(reader);
+    let mut watched = WatchedReader::new(reader);
     let mut progress = Progress::new(terminal(rt), size.filter(|size| *size > 0));
-    let end = play_source(rt.alloc(), &mut heard, manner, out, &mut progress);
+    let end = play_source(rt.alloc(), &mut watched, manner, out, &mut progress);
     progress.clear();
-    end.map_err(|fault| heard_end(fault, heard.failure))
+    end.map_err(|fault| end_of_file(fault, watched.failure))
 }
 
 /// Plays a live device, by the descriptor that is given, or that the system has for its node.
@@ -356,5 +356,5 @@ fn play_reports<W: Write>(
 ) -> Result<Summary, FileEnd> {
     let mut device = ReportFile::new(rt, file);
     let end = play_live(rt.alloc(), descriptor, &mut device, out, manner.options);
-    end.map_err(|fault| heard_end(FileFault::from(fault), device.failure))
+    end.map_err(|fault| end_of_file(FileFault::from(fault), device.failure))
 }

@@ -1,30 +1,30 @@
-//! A reader whose last failure is remembered: a run tells only that it couldn't read.
+//! A reader that keeps why its last read failed, which a run leaves out.
 
 use std::io::{self, Read};
 
 /// A reader, and why its last read failed, if one did.
 #[derive(Drop)]
-pub struct Heard<R> {
+pub struct WatchedReader<R> {
     reader: R,
     pub failure: Option<io::Error>,
 }
 
-impl<R: Read> Heard<R> {
+impl<R: Read> WatchedReader<R> {
     /// No read failed yet.
     pub fn new(reader: R) -> Self {
-        Heard {
+        WatchedReader {
             reader,
             failure: None,
         }
     }
 }
 
-impl<R: Read> Read for Heard<R> {
+impl<R: Read> Read for WatchedReader<R> {
     fn read(&mut self, buf: &mut [u8]) -> io::Result<usize> {
-        let told = self.reader.read(buf);
-        if let Err(error) = &told {
+        let count = self.reader.read(buf);
+        if let Err(error) = &count {
             self.failure = Some(*error);
         }
-        told
+        count
     }
 }
