@@ -1,5 +1,5 @@
 -- What the calls of a driver make of the interface at a place.
-use Rattle.std.proofs.Common.{◌≡◌, ℕ, ◌<◌, ◌≤◌, refl, sym, ◌∙◌, ap, subst, Bool, List, [], length, get_or, map, Some, None, Result, Ok, Err}
+use Rattle.std.proofs.Common.{◌≡◌, ℕ, ◌<◌, ◌≤◌, refl, sym, ◌∙◌, ap, subst, Bool, List, [], length, get_or, map, Option, Some, None, Result, Ok, Err}
 use Rattle.std.specs.Prelude.{slice_get, slice_set}
 use Rattle.std.proofs.lemmas.List.{set-get_or}
 use Rattle.std.proofs.lemmas.Option.{slice_get_past, slice_get_read}
@@ -11,7 +11,7 @@ use Rattle.hid_driver.specs.declared.interface.Reading.TheVariants.{Boot}
 use Rattle.hid_driver.specs.declared.outcome.Outcome.{Outcome}
 use Rattle.hid_driver.specs.declared.state.DriverState.{DriverState}
 use Rattle.hid_driver.specs.declared.state.DriverState.TheVariants as states
-use Rattle.hid_driver.specs.Driver.{DriverValue, driver_asking, events_asking, driver_after_outcome, driver_after_protocol, driver_after_protocol_of, driver_after_report, driver_by_protocol, driver_with_interfaces, events_by_protocol, events_of_interface, interface_after_outcome, outcome_of_interface, protocol_answer, protocol_events, protocol_events_of, protocol_of_interface, protocol_outcome, report_events, report_outcome, state_after_outcome}
+use Rattle.hid_driver.specs.Driver.{DriverValue, driver_asking, events_asking, driver_after_outcome, driver_after_protocol, driver_after_protocol_of, driver_after_report, driver_by_protocol, driver_with_interfaces, events_by_protocol, events_of_interface, interface_after_outcome, outcome_of_interface, protocol_answer, protocol_events, protocol_events_of, protocol_of_interface, protocol_outcome, received_events, report_events, report_outcome, state_after_outcome}
 use Rattle.hid_driver.specs.Interfaces.{SetsReading, is_boot, reading_events, reading_outcome}
 use Rattle.hid_driver.specs.Moves.{driver_settled, driver_with_next, settled_at}
 use Rattle.hid_driver.specs.Pipe.{event_of}
@@ -22,6 +22,7 @@ pub record HasNoInterface (driver : DriverValue) (place : ℕ) (came : Outcome) 
   pub read : slice_get driver.interfaces place ≡ None
   pub outcome : report_outcome driver place came ≡ Err NoInterface
   pub after : driver_after_report driver place came ≡ driver
+  pub received : received_events driver place came ≡ []
   pub events : report_events driver place came ≡ []
 
 pub no_interface : (driver : DriverValue) (place : ℕ) (came : Outcome) → length driver.interfaces ≤ place → HasNoInterface driver place came
@@ -31,7 +32,8 @@ no_interface driver place came past =
       read = none;
       outcome = ap (outcome_of_interface came) none;
       after = ap (driver_after_outcome driver place came) none;
-      events = ap (events_of_interface place came) none;
+      received = ap (events_of_interface came) none;
+      events = ap (λ (o : Option Interface). map (event_of place) (events_of_interface came o)) none;
     }
 
 -- the interface at a place
@@ -44,6 +46,7 @@ pub record HasInterface (driver : DriverValue) (place : ℕ) (came : Outcome) (i
   pub outcome : report_outcome driver place came ≡ reading_outcome interface.reading came
   pub after : driver_after_report driver place came
       ≡ driver_with_interfaces driver came (slice_set driver.interfaces place (interface_after_outcome interface came))
+  pub received : received_events driver place came ≡ reading_events interface.reading came
   pub events : report_events driver place came ≡ map (event_of place) (reading_events interface.reading came)
 
 pub an_interface : (driver : DriverValue) (place : ℕ) (came : Outcome) (interface : Interface) → place < length driver.interfaces
@@ -53,7 +56,8 @@ an_interface driver place came interface within is =
     record {
       outcome = ap (outcome_of_interface came) some;
       after = ap (driver_after_outcome driver place came) some;
-      events = ap (events_of_interface place came) some;
+      received = ap (events_of_interface came) some;
+      events = ap (λ (o : Option Interface). map (event_of place) (events_of_interface came o)) some;
     }
 
 -- the driver whose interface took a transfer

@@ -3,6 +3,7 @@
 use Rattle.std.specs.Prelude.{◌≡◌, ℕ, Bool, ◌==◌, if◌then◌else◌, List, [], map, slice_get, slice_set, Option, Some, None, Result, Ok, Err}
 use Rattle.usb_control.specs.declared.descriptors.DeviceInfo.{DeviceInfo}
 use Rattle.usb_control.specs.declared.setup.Setup.{Setup}
+use Rattle.hid_snapshots.specs.declared.event.Event.{Event}
 use Rattle.hid_driver.specs.declared.ask.Ask.{Ask}
 use Rattle.hid_driver.specs.declared.driver.Todo.{Todo}
 use Rattle.hid_driver.specs.declared.driver.Todo.TheVariants.{Control, Nothing}
@@ -92,13 +93,17 @@ abbrev pub report_outcome : DriverValue → ℕ → Outcome → Result (Unit {0}
 report_outcome driver place outcome = outcome_of_interface outcome (slice_get driver.interfaces place)
 
 -- the events of an interrupt transfer of an interface, if there is one
-abbrev pub events_of_interface : ℕ → Outcome → Option Interface → List DriverEvent
-events_of_interface place outcome None = []
-events_of_interface place outcome (Some interface) = map (event_of place) (reading_events interface.reading outcome)
+abbrev pub events_of_interface : Outcome → Option Interface → List Event
+events_of_interface outcome None = []
+events_of_interface outcome (Some interface) = reading_events interface.reading outcome
 
 -- The events of an interrupt transfer of the interface at this place.
+abbrev pub received_events : DriverValue → ℕ → Outcome → List Event
+received_events driver place outcome = events_of_interface outcome (slice_get driver.interfaces place)
+
+-- The events of an interrupt transfer of the interface at this place, each with that place.
 abbrev pub report_events : DriverValue → ℕ → Outcome → List DriverEvent
-report_events driver place outcome = events_of_interface place outcome (slice_get driver.interfaces place)
+report_events driver place outcome = map (event_of place) (received_events driver place outcome)
 
 -- the request of what is asked in a state: only one that waits for nothing makes it
 abbrev pub ask_in_state : DriverState → Result Setup DriverFault → Result Setup DriverFault

@@ -30,9 +30,13 @@ pub record PipeState : Type 0 where
 abbrev pub receiver_at_start : Contents → ReceiverState
 receiver_at_start layout = record { layout = layout; view = blank (items_of layout); collected = [] }
 
+-- the pipe with this receiver, of an endpoint that is live or not
+abbrev pub pipe_of_parts : Flow → ℕ → ReceiverState → PipeState
+pipe_of_parts flow packet_size receiving = record { flow = flow; packet_size = packet_size; receiving = receiving }
+
 -- the pipe of a live endpoint with this receiver
 abbrev pub pipe_of_receiver : ℕ → ReceiverState → PipeState
-pipe_of_receiver packet_size receiving = record { flow = Live; packet_size = packet_size; receiving = receiving }
+pipe_of_receiver packet_size receiving = pipe_of_parts Live packet_size receiving
 
 -- a pipe of which no report came yet
 abbrev pub pipe_at_start : ℕ → Contents → PipeState

@@ -1,6 +1,6 @@
 //! The host's end of any real device.
 ghost use Rattle.std.specs.Prelude.{◌≡◌, ◌≤◌, ◌<◌, ◌+◌, ◌++◌, length, slice_get, vec_len, vec_capacity, None, Ok, Err, IfOk, IfErr, OnOk, OnErr};
-ghost use Rattle.hid_driver.specs.Driver.{IsTodo, data_awaited, state_after_outcome, ask_answer, ask_outcome, driver_after_ask, driver_after_protocol, driver_after_report, driver_at_start, driver_asking, events_asking, protocol_answer, protocol_events, protocol_outcome, report_events, report_outcome};
+ghost use Rattle.hid_driver.specs.Driver.{IsTodo, data_awaited, state_after_outcome, ask_answer, ask_outcome, driver_after_ask, driver_after_protocol, driver_after_report, driver_at_start, driver_asking, events_asking, protocol_answer, protocol_events, protocol_outcome, received_events, report_events, report_outcome};
 ghost use Rattle.hid_driver.specs.Interfaces.{AreUnread, SetsReading, all_back_events, pipe_of, total_room};
 ghost use Rattle.hid_driver.specs.Requests.{next_state};
 ghost use Rattle.hid_driver.specs.Moves.{AnswerMoves, ClearMoves, ConfigurationMoves, ConfigureMoves, DeviceMoves, IdleMoves, LengthMoves, Moves, ProtocolMoves, ReportMoves, answer_result, driver_refused, driver_settled, reading_after_protocol};
@@ -18,6 +18,7 @@ use crate::outcome::{DriverEvent, Outcome};
 use crate::pipe::{Flow, Pipe, longest_report};
 use crate::requests::{next_state, setup_awaited};
 use crate::state::{DriverState, Moved};
+use hid_snapshots::Event;
 use std::alloc::Global;
 use std::marker::Model;
 use std::mem;
@@ -94,20 +95,17 @@ fn settle(interfaces: &mut Vec<Interface>, place: usize, reading: Reading) -> Dr
     next_state(interfaces)
 }
 
-/// What a driver waits for after an interrupt transfer: a STALL is to be cleared, unless a request is made already.
-fn state_after_outcome(
-    state: DriverState,
-    outcome: Outcome<'_>,
-    interfaces: &[Interface],
-) -> DriverState
-    ensures { result ≡ state_after_outcome state outcome.entry interfaces.now }
+/// A driver goes on after an interrupt transfer: a STALL is to be cleared, unless a request is made already.
+#[inline(always)]
+fn go_on(state: &mut DriverState, outcome: Outcome<'_>, interfaces: &[Interface])
+    ensures { state.new ≡ state_after_outcome state.old outcome.entry interfaces.now }
 {
     match outcome {
-        Outcome::Stalled => match state {
-            DriverState::Ready => next_state(interfaces),
-            _ => state,
+        Outcome::Stalled => match *state {
+            DriverState::Ready => *state = next_state(interfaces),
+            _ => {}
         },
-        Outcome::Done(_) | Outcome::Failed => state,
+        Outcome::Done(_) | Outcome::Failed => {}
     }
 }
 
@@ -192,8 +190,8 @@ impl Driver {
         &self.interfaces
     }
 
-    /// How many events the interfaces give at most, of each as many as one of its reports: room for which [`Driver::report`],
-    /// [`Driver::set_protocol`] and [`Driver::reset`] ask.
+    /// How many events the interfaces give at most, of each as many as one of its reports: room for which [`Driver::receive`],
+    /// [`Driver::report`], [`Driver::set_protocol`] and [`Driver::reset`] ask.
     pub fn max_events(&self) -> usize
         ensures { result ≡ total_room self.now.interfaces }
     {
@@ -452,13 +450,41 @@ impl Driver {
     }
 
     /// Takes what came of an interrupt transfer of the interface at this place: its bytes are joined to what came of a
-    /// report before, and a report that ends with them is read. A transfer that failed leaves what came. There is reserved room
-    /// for [`Driver::max_events`] more events; no memory is taken. A transfer asks for a full packet: wMaxPacketSize bytes.
+    /// report before, and a report that ends with them is read. A transfer that failed leaves what came. Its events are those of
+    /// this interface alone. There is reserved room for [`Driver::max_events`] more events; no memory is taken. A transfer asks for
+    /// a full packet: wMaxPacketSize bytes.
     ///
     /// # Errors
     /// [`DriverFault::NoInterface`]; [`DriverFault::BootProtocol`] where the interface may send boot reports;
     /// [`DriverFault::NotRead`] where it isn't live for another cause; [`DriverFault::LongTransfer`] and
     /// [`DriverFault::Report`] of a report that is thrown away. The view stays.
+    pub fn receive(
+        &mut self,
+        interface: usize,
+        outcome: Outcome<'_>,
+        out: &mut Vec<Event>,
+    ) -> Result<(), DriverFault>
+        requires room { vec_len out.old + total_room self.old.interfaces ≤ vec_capacity out.old }
+        ensures outcome { result ≡ report_outcome self.old interface outcome.entry }
+        ensures after { self.new ≡ driver_after_report self.old interface outcome.entry }
+        ensures events { out.new.items
+            ≡ out.old.items ++ received_events self.old interface outcome.entry }
+        ensures few { vec_len out.new ≤ vec_len out.old + total_room self.old.interfaces }
+        ensures room { vec_capacity out.new ≡ vec_capacity out.old }
+    {
+        if interface >= self.interfaces.len() {
+            return Err(DriverFault::NoInterface);
+        }
+        let told = self.interfaces[interface].hear(outcome, out);
+        go_on(&mut self.state, outcome, &self.interfaces);
+        told
+    }
+
+    /// Does what [`Driver::receive`] does, and gives each event with the place of the interface, so that those of several interfaces
+    /// can stand in one list. There is reserved room for [`Driver::max_events`] more events; no memory is taken.
+    ///
+    /// # Errors
+    /// Those of [`Driver::receive`].
     pub fn report(
         &mut self,
         interface: usize,
@@ -476,8 +502,8 @@ impl Driver {
         if interface >= self.interfaces.len() {
             return Err(DriverFault::NoInterface);
         }
-        let told = self.interfaces[interface].hear(interface, outcome, out);
-        self.state = state_after_outcome(self.state, outcome, &self.interfaces);
+        let told = self.interfaces[interface].report(interface, outcome, out);
+        go_on(&mut self.state, outcome, &self.interfaces);
         told
     }
 

@@ -9,6 +9,7 @@ use crate::outcome::{DriverEvent, Outcome};
 use crate::pipe::{Flow, Pipe};
 use hid_interfaces::InterfaceInfo;
 use hid_layout::Layout;
+use hid_snapshots::Event;
 use hid_usages::View;
 use std::mem;
 
@@ -133,6 +134,32 @@ impl Interface {
     /// cause; else [`DriverFault::LongTransfer`] or [`DriverFault::Report`].
     pub(crate) fn hear(
         &mut self,
+        outcome: Outcome<'_>,
+        out: &mut Vec<Event>,
+    ) -> Result<(), DriverFault>
+        requires room { vec_len out.old + event_room self.old ≤ vec_capacity out.old }
+        ensures outcome { result ≡ reading_outcome self.old.reading outcome.entry }
+        ensures after { self.new ≡ record self.old {
+          reading = reading_after_outcome self.old.reading outcome.entry;
+        } }
+        ensures events { out.new.items ≡ out.old.items ++ reading_events self.old.reading outcome.entry }
+        ensures few { vec_len out.new ≤ vec_len out.old + event_room self.old }
+        ensures room { vec_capacity out.new ≡ vec_capacity out.old }
+    {
+        match &mut self.reading {
+            Reading::Open(pipe) => pipe.hear(outcome, out),
+            Reading::Boot => Err(DriverFault::BootProtocol),
+            Reading::Waiting | Reading::Refused(_) => Err(DriverFault::NotRead),
+        }
+    }
+
+    /// Takes what came of an interrupt transfer, and gives its events with the place of the interface. There is reserved room for
+    /// them; no memory is taken.
+    ///
+    /// # Errors
+    /// Those of [`Interface::hear`].
+    pub(crate) fn report(
+        &mut self,
         place: usize,
         outcome: Outcome<'_>,
         out: &mut Vec<DriverEvent>,
@@ -148,7 +175,7 @@ impl Interface {
         ensures room { vec_capacity out.new ≡ vec_capacity out.old }
     {
         match &mut self.reading {
-            Reading::Open(pipe) => pipe.hear(place, outcome, out),
+            Reading::Open(pipe) => pipe.report(place, outcome, out),
             Reading::Boot => Err(DriverFault::BootProtocol),
             Reading::Waiting | Reading::Refused(_) => Err(DriverFault::NotRead),
         }

@@ -17,8 +17,9 @@
 //!
 //! The promise, whatever comes of the transfers: each call returns, and the driver goes on by its table, the definition `Moves`:
 //! [`Driver::done`]. A report is read where it ends, by its bytes joined, and its events are those of a `Reader` of `hid_usages`
-//! (`events` on [`Driver::report`]). An interface that is refused leaves the others. What is held is released at a reset
-//! (`events` on [`Driver::reset`]). Room is made by [`Driver::done`] alone, and where memory runs out nothing changes.
+//! (`events` on [`Driver::report`], and on [`Driver::receive`], which gives them without the place of the interface). An interface
+//! that is refused leaves the others. What is held is released at a reset (`events` on [`Driver::reset`]). Room is made by
+//! [`Driver::done`] alone, and where memory runs out nothing changes.
 //! ```text
 //!   let mut driver = Driver::new(alloc);
 //!   while let Todo::Control { setup, data } = driver.todo() {

@@ -7,7 +7,7 @@ ghost use Rattle.hid_snapshots.specs.ControlStates.{FitsView};
 ghost use Rattle.hid_usages.specs.Reading.{report_named};
 ghost use Rattle.hid_usages.specs.Receiving.{events_of_report, view_after_report, whole_outcome};
 ghost use Rattle.std.specs.Bool.{OnTrue};
-ghost use Rattle.hid_driver.specs.Pipe.{EndsAtOnce, event_of, events_back, full_size, has_packet_past, pipe_events, pipe_outcome, pipe_after_outcome, is_full, is_long, length_begun, longest_report, pipe_after_transfer, pipe_at_start, pipe_of_receiver, pipe_with_flow, receiving_after_transfer, report_end, transfer_events, transfer_outcome, transfer_result, transfer_room, unnumbered_length};
+ghost use Rattle.hid_driver.specs.Pipe.{EndsAtOnce, event_of, events_back, full_size, has_packet_past, pipe_events, pipe_outcome, pipe_after_outcome, is_full, is_long, length_begun, longest_report, pipe_at_start, pipe_of_parts, pipe_of_receiver, pipe_with_flow, receiving_after_transfer, report_end, transfer_events, transfer_outcome, transfer_result, transfer_room, unnumbered_length};
 
 use crate::ask::report_size;
 use crate::fault::DriverFault;
@@ -286,6 +286,54 @@ fn receive(
     join(packet_size, receiver, bytes, out)
 }
 
+/// Takes what came of an interrupt transfer, by the parts of a pipe. Bytes are taken as [`Receiver::take`] takes a packet: a transfer
+/// of full packets alone of an Input report as a full one, any other as a short one. A STALL halts the endpoint, and nothing is kept
+/// of a report then; a transfer that failed changes nothing. There is reserved room for `max_events` more; no memory is taken.
+///
+/// # Errors
+/// [`DriverFault::NotRead`] where the endpoint is halted; [`DriverFault::LongTransfer`] where a whole packet or more lies past the
+/// end of the report; [`DriverFault::Report`] where the report that ended is none of the layout. The view stays, and nothing is
+/// kept of the report.
+#[inline(always)]
+fn hear(
+    flow: &mut Flow,
+    packet_size: u16,
+    fixed_length: &Option<u16>,
+    receiver: &mut Receiver,
+    outcome: Outcome<'_>,
+    out: &mut Vec<Event>,
+) -> Result<(), DriverFault>
+    requires size { 0 < packet_size }
+    requires length { fixed_length.now ≡ unnumbered_length receiver.old.state.layout }
+    requires place { transfer_room packet_size receiver.old.state.layout ≤ receiver.old.room }
+    requires room { vec_len out.old + max_events (items_of receiver.old.state.layout)
+        ≤ vec_capacity out.old }
+    ensures outcome { result
+        ≡ pipe_outcome (pipe_of_parts flow.old packet_size receiver.old.state) outcome.entry }
+    ensures after { pipe_of_parts flow.new packet_size receiver.new.state
+        ≡ pipe_after_outcome (pipe_of_parts flow.old packet_size receiver.old.state) outcome.entry }
+    ensures layout { receiver.new.state.layout ≡ receiver.old.state.layout }
+    ensures grows { receiver.old.room ≤ receiver.new.room }
+    ensures events { out.new.items ≡ out.old.items
+        ++ pipe_events (pipe_of_parts flow.old packet_size receiver.old.state) outcome.entry }
+    ensures few { vec_len out.new ≤ vec_len out.old + max_events (items_of receiver.old.state.layout) }
+    ensures room { vec_capacity out.new ≡ vec_capacity out.old }
+{
+    match *flow {
+        Flow::Live => {}
+        Flow::Halted | Flow::Stopped => return Err(DriverFault::NotRead),
+    }
+    match outcome {
+        Outcome::Done(bytes) => receive(packet_size, fixed_length, receiver, bytes, out),
+        Outcome::Stalled => {
+            *flow = Flow::Halted;
+            receiver.forget();
+            Ok(())
+        }
+        Outcome::Failed => Ok(()),
+    }
+}
+
 impl Pipe {
     /// The pipe of an endpoint of which no report came yet.
     ///
@@ -373,46 +421,41 @@ impl Pipe {
         self.receiver.forget();
     }
 
-    /// Takes the bytes of an interrupt transfer, as [`Receiver::take`] takes a packet: a transfer of full packets alone of an
-    /// Input report as a full one, any other as a short one. There is reserved room for `max_events` more; no memory is taken.
+    /// Takes what came of an interrupt transfer, and appends its events. There is reserved room for `max_events` more; no memory is
+    /// taken.
     ///
     /// # Errors
-    /// [`DriverFault::LongTransfer`] where a whole packet or more lies past the end of the report; [`DriverFault::Report`]
-    /// where the report that ended is none of the layout. The view stays, and nothing is kept of the report.
-    pub(crate) fn take(
+    /// Those of [`hear`].
+    pub(crate) fn hear(
         &mut self,
-        interface: usize,
-        bytes: &[u8],
-        out: &mut Vec<DriverEvent>,
+        outcome: Outcome<'_>,
+        out: &mut Vec<Event>,
     ) -> Result<(), DriverFault>
         requires room { vec_len out.old + max_events (items_of self.old.receiving.layout)
             ≤ vec_capacity out.old }
-        ensures outcome { result ≡ transfer_outcome self.old bytes.now }
-        ensures after { self.new ≡ pipe_after_transfer self.old bytes.now }
-        ensures events { out.new.items
-            ≡ out.old.items ++ map (event_of interface) (transfer_events self.old bytes.now) }
+        ensures outcome { result ≡ pipe_outcome self.old outcome.entry }
+        ensures after { self.new ≡ pipe_after_outcome self.old outcome.entry }
+        ensures events { out.new.items ≡ out.old.items ++ pipe_events self.old outcome.entry }
         ensures few { vec_len out.new
             ≤ vec_len out.old + max_events (items_of self.old.receiving.layout) }
         ensures room { vec_capacity out.new ≡ vec_capacity out.old }
     {
-        self.events.clear();
-        let told = receive(
+        hear(
+            &mut self.flow,
             self.packet_size,
             &self.fixed_length,
             &mut self.receiver,
-            bytes,
-            &mut self.events,
-        );
-        deliver(interface, &self.events, out);
-        told
+            outcome,
+            out,
+        )
     }
 
-    /// Takes what came of an interrupt transfer. A STALL halts the endpoint, and nothing is kept of a report then; a transfer
-    /// that failed changes nothing. There is reserved room for `max_events` more; no memory is taken.
+    /// Takes what came of an interrupt transfer, and appends its events with the place of the interface. There is reserved room
+    /// for `max_events` more; no memory is taken.
     ///
     /// # Errors
-    /// [`DriverFault::NotRead`] where the endpoint is halted; those of [`Pipe::take`].
-    pub(crate) fn hear(
+    /// Those of [`hear`].
+    pub(crate) fn report(
         &mut self,
         interface: usize,
         outcome: Outcome<'_>,
@@ -428,18 +471,17 @@ impl Pipe {
             ≤ vec_len out.old + max_events (items_of self.old.receiving.layout) }
         ensures room { vec_capacity out.new ≡ vec_capacity out.old }
     {
-        match self.flow {
-            Flow::Live => {}
-            Flow::Halted | Flow::Stopped => return Err(DriverFault::NotRead),
-        }
-        match outcome {
-            Outcome::Done(bytes) => self.take(interface, bytes, out),
-            Outcome::Stalled => {
-                self.turn(Flow::Halted);
-                Ok(())
-            }
-            Outcome::Failed => Ok(()),
-        }
+        self.events.clear();
+        let told = hear(
+            &mut self.flow,
+            self.packet_size,
+            &self.fixed_length,
+            &mut self.receiver,
+            outcome,
+            &mut self.events,
+        );
+        deliver(interface, &self.events, out);
+        told
     }
 
     /// Appends the events that lead back to the initial view. There is reserved room for `max_events` more; no memory is

@@ -1,5 +1,5 @@
 -- The room for events that the interfaces of a driver need after each call.
-use Rattle.std.proofs.Common.{◌≡◌, ℕ, ◌+◌, ◌≤◌, refl, sym, subst, inl, inr, Bool, true, false, List, [], get_or, Option, Some, None, IfSome, Result, Ok, Err, arith}
+use Rattle.std.proofs.Common.{◌≡◌, ℕ, ◌+◌, ◌≤◌, refl, sym, subst, inl, inr, Bool, true, false, List, [], get_or, Option, Some, None, IfSome, Result, Ok, Err, OnOk, arith}
 use Rattle.std.specs.Prelude.{slice_get, slice_set}
 use Rattle.std.proofs.lemmas.Option.{get_or_from_slice_get, slice_get_within}
 use Rattle.hid_layout.specs.Controls.{items_of, max_events}
@@ -23,7 +23,7 @@ use Rattle.hid_driver.specs.Moves.{ClearMovesOf, Goes, Moves, MovesAt, ProtocolM
 use Rattle.hid_driver.specs.Pipe.{PipeState}
 use Rattle.hid_driver.specs.Requests.{next_state}
 use Rattle.hid_driver.proofs.InterfaceLemmas.{flow_room, heard_room, listed_unread, set_total, unread_total}
-use Rattle.hidstack_host.specs.Hosts.{HasRoomFor, HasRoomIn, descriptor_of}
+use Rattle.hidstack_host.specs.Hosts.{HasRoomFor, HasRoomIn, descriptor_came, descriptor_of}
 
 -- a number of events is enough for a report by the report descriptor that came, if one came
 abbrev HasRoomOf : ℕ → Outcome → Type 0
@@ -170,3 +170,12 @@ pub protocol_shrinks : (before : DriverValue) (place : ℕ) (boot : Bool)
     → total_room (driver_after_protocol before place boot).interfaces ≤ total_room before.interfaces
 protocol_shrinks before place boot =
     let few = asked_grows_of before place boot (slice_get before.interfaces place) refl in omega (arith, few)
+
+-- room for a report descriptor that came is room for what came
+pub room_came : {A E : Type 0} (result : Result A E) (state : DriverState) (outcome : Outcome) (descriptor : List ℕ) (before received events : ℕ)
+    → descriptor_came state outcome ≡ Some descriptor
+    → OnOk result ((most : ℕ) × HasRoomFor most descriptor × (before + most ≤ received) × (before + most ≤ events))
+    → OnOk result ((most : ℕ) × HasRoomIn state most outcome × (before + most ≤ received) × (before + most ≤ events))
+room_came (Ok done) state outcome descriptor before received events came room =
+    (room.0, subst (λ (o : Option (List ℕ)). IfSome o (HasRoomFor room.0)) (sym came) room.1, room.2, room.3)
+room_came (Err fault) state outcome descriptor before received events came room = tt

@@ -5,8 +5,8 @@ ghost use Rattle.hid_driver.specs.Driver.{ask_answer, ask_outcome, driver_after_
 ghost use Rattle.hid_driver.specs.Interfaces.{all_back_events, total_room};
 ghost use Rattle.hidstack_host.specs.Hosts.{Delivers, HasRoomFor, HasRoomIn, HostMoves, descriptor_came};
 
-use crate::event::{HidHostEvent, put_host_events};
-use hid_driver::{Ask, Driver, DriverEvent, DriverFault, DriverState, Moved, Outcome};
+use crate::event::{HidHostEvent, put_host_events, put_interface_events};
+use hid_driver::{Ask, Driver, DriverEvent, DriverFault, DriverState, Event, Moved, Outcome};
 use hid_layout::{Layout, Limits, laws};
 use std::alloc::{AllocError, Global};
 use std::marker::Model;
@@ -20,11 +20,14 @@ pub struct Told {
     pub result: Result<(), DriverFault>,
 }
 
-/// A driver, and room for the events of a transfer or a reset. A contract sees the driver alone.
+/// A driver, and room for the events of a transfer, and of a protocol or a reset. A contract sees the driver alone.
 #[derive(Drop)]
 pub struct Host {
     alloc: Global,
     driver: Driver,
+    /// Of a transfer, which are of one interface.
+    received: Vec<Event>,
+    /// Of a protocol or a reset.
     events: Vec<DriverEvent>,
 }
 
@@ -37,7 +40,8 @@ impl Model for Host {
 
     ghost view = { λ h. h.driver };
 
-    ghost invariant = { λ h. total_room h.driver.interfaces ≤ vec_capacity h.events };
+    ghost invariant = { λ h. (total_room h.driver.interfaces ≤ vec_capacity h.received)
+        × (total_room h.driver.interfaces ≤ vec_capacity h.events) };
 }
 
 /// Room for the events of a report by this report descriptor, none where it is refused.
@@ -78,16 +82,21 @@ fn make_room(
     alloc: Global,
     driver: &Driver,
     descriptor: &[u8],
+    received: &mut Vec<Event>,
     events: &mut Vec<DriverEvent>,
 ) -> Result<(), AllocError>
     ensures ok { OnOk result ((most : ℕ) × HasRoomFor most descriptor.now
+        × (total_room driver.now.interfaces + most ≤ vec_capacity received.new)
         × (total_room driver.now.interfaces + most ≤ vec_capacity events.new)) }
+    ensures received { vec_capacity received.old ≤ vec_capacity received.new }
     ensures grows { vec_capacity events.old ≤ vec_capacity events.new }
 {
     let more = descriptor_room(alloc, descriptor)?;
     let Some(most) = driver.max_events().checked_add(more) else {
         return Err(AllocError);
     };
+    received.clear();
+    received.reserve(most)?;
     events.clear();
     events.reserve(most)
 }
@@ -98,16 +107,20 @@ fn make_room_after(
     alloc: Global,
     driver: &Driver,
     outcome: Outcome<'_>,
+    received: &mut Vec<Event>,
     events: &mut Vec<DriverEvent>,
 ) -> Result<(), AllocError>
+    requires received { total_room driver.now.interfaces ≤ vec_capacity received.old }
     requires room { total_room driver.now.interfaces ≤ vec_capacity events.old }
     ensures ok { OnOk result ((most : ℕ) × HasRoomIn driver.now.state most outcome.entry
+        × (total_room driver.now.interfaces + most ≤ vec_capacity received.new)
         × (total_room driver.now.interfaces + most ≤ vec_capacity events.new)) }
     ensures err { OnErr result (IsSome (descriptor_came driver.now.state outcome.entry)) }
+    ensures received { vec_capacity received.old ≤ vec_capacity received.new }
     ensures grows { vec_capacity events.old ≤ vec_capacity events.new }
 {
     match descriptor_came(driver.state(), outcome) {
-        Some(descriptor) => make_room(alloc, driver, descriptor, events),
+        Some(descriptor) => make_room(alloc, driver, descriptor, received, events),
         None => Ok(()),
     }
 }
@@ -120,6 +133,7 @@ impl Host {
         Host {
             alloc,
             driver: Driver::new(alloc),
+            received: Vec::new(alloc),
             events: Vec::new(alloc),
         }
     }
@@ -139,7 +153,13 @@ impl Host {
     pub fn done(&mut self, outcome: Outcome<'_>) -> Result<Moved, DriverFault>
         ensures { HostMoves self.old outcome.entry result self.new }
     {
-        match make_room_after(self.alloc, &self.driver, outcome, &mut self.events) {
+        match make_room_after(
+            self.alloc,
+            &self.driver,
+            outcome,
+            &mut self.received,
+            &mut self.events,
+        ) {
             Ok(()) => self.driver.done(outcome),
             Err(_) => Err(DriverFault::Memory),
         }
@@ -160,11 +180,11 @@ impl Host {
         if out.len() < self.driver.max_events() {
             return None;
         }
-        self.events.clear();
-        let result = self.driver.report(interface, outcome, &mut self.events);
-        put_host_events(&self.events, out);
+        self.received.clear();
+        let result = self.driver.receive(interface, outcome, &mut self.received);
+        put_interface_events(interface, &self.received, out);
         Some(Told {
-            count: self.events.len(),
+            count: self.received.len(),
             result,
         })
     }

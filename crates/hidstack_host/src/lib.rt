@@ -28,7 +28,7 @@ mod reading;
 
 pub use asked::{GET_REPORT, HidAsk, SET_IDLE, SET_REPORT, ask_of};
 pub use cause::{Code, cause_code, detail_number, fault_number};
-pub use event::{HidHostEvent, host_event, put_host_events};
+pub use event::{HidHostEvent, host_event, put_host_events, put_interface_events};
 pub use find::find_element;
 pub use hid_driver::{
     Ask, Driver, DriverEvent, DriverFault, InterfaceCause, InterfaceState, Moved, Outcome, Setup,

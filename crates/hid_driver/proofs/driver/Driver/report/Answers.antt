@@ -23,11 +23,11 @@ pub invariant_of-self : goal.invariant_of-self
 invariant_of-self c =
     let xs = c.self.inside.interfaces.items in
     let old = c.index_mut.result.now in
-    let new = c.hear-told.new.self in
+    let new = c.report-told.new.self in
     let within : c.args.interface < length xs = omega arith in (
-      heard_total xs c.args.interface old new c.args.outcome within c.index_mut.ensures.value c.hear-told.ensures.after ∙ c.self.invariant.0,
+      heard_total xs c.args.interface old new c.args.outcome within c.index_mut.ensures.value c.report-told.ensures.after ∙ c.self.invariant.0,
       heard_all_fit (vec_capacity c.self.inside.asked) xs c.args.interface old new c.args.outcome within c.index_mut.ensures.value
-          c.hear-told.ensures.after c.self.invariant.1,
+          c.report-told.ensures.after c.self.invariant.1,
     )
 
 pub returns-clause-outcome : goal.returns-clause-outcome
@@ -39,7 +39,7 @@ returns-clause-outcome c =
       asked = c.self.inside.asked.items;
     } in
     let within : c.args.interface < length shown.interfaces = omega arith in
-    c.hear-told.ensures.outcome
+    c.report-told.ensures.outcome
     ∙ sym (an_interface shown c.args.interface c.args.outcome c.index_mut.result.now within c.index_mut.ensures.value).outcome
     ∙ ap (λ (d : DriverValue). report_outcome d c.args.interface c.args.outcome) c.self.view_is
 
@@ -52,10 +52,9 @@ returns-clause-after c =
       asked = c.self.inside.asked.items;
     } in
     let within : c.args.interface < length shown.interfaces = omega arith in
-    let next = c.state_after_outcome-self-inside.ensures
-    ∙ ap (state_after_outcome c.self.inside.state c.args.outcome) c.deref.ensures.value in
-    heard_is shown c.args.interface c.args.outcome c.index_mut.result.now c.hear-told.new.self c.state_after_outcome-self-inside.result within
-    c.index_mut.ensures.value c.hear-told.ensures.after next
+    let next = c.go_on.ensures ∙ ap (state_after_outcome c.self.inside.state c.args.outcome) c.deref.ensures.value in
+    heard_is shown c.args.interface c.args.outcome c.index_mut.result.now c.report-told.new.self c.go_on.new.state within
+    c.index_mut.ensures.value c.report-told.ensures.after next
     ∙ ap (λ (d : DriverValue). driver_after_report d c.args.interface c.args.outcome) c.self.view_is
 
 pub returns-clause-events : goal.returns-clause-events
@@ -68,7 +67,7 @@ returns-clause-events c =
     } in
     let within : c.args.interface < length shown.interfaces = omega arith in
     let out = c.args.out.now.items in
-    c.hear-told.ensures.events
+    c.report-told.ensures.events
     ∙ ap (λ (es : List DriverEvent). out ++ es)
     (sym (an_interface shown c.args.interface c.args.outcome c.index_mut.result.now within c.index_mut.ensures.value).events
     ∙ ap (λ (d : DriverValue). report_events d c.args.interface c.args.outcome) c.self.view_is)

@@ -6,5 +6,5 @@ pub invariant_of-self : goal.invariant_of-self
 invariant_of-self c =
     let room = c.in-Ok.ensures.ok in
     let few = done_grows room.0 c.self.inside.driver c.args.outcome c.done.result c.done.new.self room.1 c.done.ensures in
-    let enough = room.2 in
-    omega (arith, few, enough)
+    let received = room.2 in
+    let events = room.3 in (omega (arith, few, received), omega (arith, few, events))

@@ -8,8 +8,12 @@ pub invariant_of-self : goal.invariant_of-self
 invariant_of-self c =
     let before : DriverValue = c.self.inside.driver in
     let few = protocol_shrinks before c.args.interface c.args.boot in
-    let room = c.self.invariant in
+    let received = c.self.invariant.0 in
+    let events = c.self.invariant.1 in
     let cleared = c.clear.ensures.capacity in
-    let same = c.set_protocol-result.ensures.room in
-    subst (λ (d : DriverValue). total_room d.interfaces ≤ vec_capacity c.set_protocol-result.new.out) (sym c.set_protocol-result.ensures.after)
-    (omega (arith, few, room, cleared, same))
+    let same = c.set_protocol-result.ensures.room in (
+      subst (λ (d : DriverValue). total_room d.interfaces ≤ vec_capacity c.self.inside.received) (sym c.set_protocol-result.ensures.after)
+          (omega (arith, few, received)),
+      subst (λ (d : DriverValue). total_room d.interfaces ≤ vec_capacity c.set_protocol-result.new.out) (sym c.set_protocol-result.ensures.after)
+          (omega (arith, few, events, cleared, same)),
+    )
