@@ -160,51 +160,47 @@ fn no_result() -> HidHostResult
     }
 }
 
-/// The record of a call that gave so many events.
-fn result_of(count: u64, answer: Result<(), DriverFault>) -> HidHostResult
-    ensures { result ≡ result_of count answer }
+/// Writes the record of a call that gave so many events, and gives its status.
+fn write_result(count: u64, answer: Result<(), DriverFault>, told: &mut HidHostResult) -> u32
+    ensures told { told.new ≡ result_of count answer }
+    ensures status { result ≡ result_status answer }
 {
     match answer {
-        Ok(()) => HidHostResult {
-            count,
-            cause: 0,
-            detail: 0,
-        },
-        Err(fault) => HidHostResult {
-            count,
-            cause: fault_number(fault),
-            detail: detail_number(fault),
-        },
+        Ok(()) => {
+            *told = HidHostResult {
+                count,
+                cause: 0,
+                detail: 0,
+            };
+            OK
+        }
+        Err(fault) => {
+            *told = HidHostResult {
+                count,
+                cause: fault_number(fault),
+                detail: detail_number(fault),
+            };
+            REFUSED
+        }
     }
 }
 
-/// The status of a call that may be refused.
-fn result_status(answer: Result<(), DriverFault>) -> u32
-    ensures { result ≡ result_status answer }
+/// Writes the record of a call that gives events, of which there may be so many, and gives its status: none where the table is too
+/// small.
+fn write_told(room: usize, answer: Option<Told>, told: &mut HidHostResult) -> u32
+    ensures told { told.new ≡ told_result room answer }
+    ensures status { result ≡ told_status answer }
 {
     match answer {
-        Ok(()) => OK,
-        Err(_) => REFUSED,
-    }
-}
-
-/// The status of a call that gives events; none where the table is too small.
-fn told_status(answer: Option<Told>) -> u32
-    ensures { result ≡ told_status answer }
-{
-    match answer {
-        Some(told) => result_status(told.result),
-        None => NO_ROOM,
-    }
-}
-
-/// The record of a call that gives events, of which there may be so many.
-fn told_result(room: usize, answer: Option<Told>) -> HidHostResult
-    ensures { result ≡ told_result room answer }
-{
-    match answer {
-        Some(told) => result_of(told.count as u64, told.result),
-        None => result_of(room as u64, Ok(())),
+        Some(given) => write_result(given.count as u64, given.result, told),
+        None => {
+            *told = HidHostResult {
+                count: room as u64,
+                cause: 0,
+                detail: 0,
+            };
+            NO_ROOM
+        }
     }
 }
 
@@ -222,15 +218,14 @@ pub extern "C" fn hidstack_host_report(
     ensures { ReportsHost handle.old.kept interface outcome bytes.now events.old result handle.new.kept
         events.new told.new }
 {
-    *told = no_result();
     let Some(mut host) = handle.take(alloc) else {
+        *told = no_result();
         return CLOSED;
     };
     let room = host.driver().max_events();
     let answer = host.report(interface as usize, outcome_of(outcome, bytes), events);
     *handle = HostHandle::of(host);
-    *told = told_result(room, answer);
-    told_status(answer)
+    write_told(room, answer, told)
 }
 
 /// Asks something of an interface.
@@ -245,18 +240,18 @@ pub extern "C" fn hidstack_host_ask(
 ) -> u32
     ensures { AsksHost handle.old.kept interface ask.now bytes.now result handle.new.kept told.new }
 {
-    *told = no_result();
     let Some(mut host) = handle.take(alloc) else {
+        *told = no_result();
         return CLOSED;
     };
     let Some(asked) = ask_of(ask, bytes) else {
         *handle = HostHandle::of(host);
+        *told = no_result();
         return NONE;
     };
     let answer = host.ask(interface as usize, &asked);
     *handle = HostHandle::of(host);
-    *told = result_of(0, answer);
-    result_status(answer)
+    write_result(0, answer, told)
 }
 
 /// Asks an interface for a protocol.
@@ -272,15 +267,14 @@ pub extern "C" fn hidstack_host_protocol(
     ensures { ProtocolsHost handle.old.kept interface protocol events.old result handle.new.kept events.new
         told.new }
 {
-    *told = no_result();
     let Some(mut host) = handle.take(alloc) else {
+        *told = no_result();
         return CLOSED;
     };
     let room = host.driver().max_events();
     let answer = host.set_protocol(interface as usize, protocol == PROTOCOL_BOOT, events);
     *handle = HostHandle::of(host);
-    *told = told_result(room, answer);
-    told_status(answer)
+    write_told(room, answer, told)
 }
 
 /// The device was unplugged, or its bus was reset.
@@ -293,15 +287,14 @@ pub extern "C" fn hidstack_host_reset(
 ) -> u32
     ensures { ResetsHost handle.old.kept events.old result handle.new.kept events.new told.new }
 {
-    *told = no_result();
     let Some(mut host) = handle.take(alloc) else {
+        *told = no_result();
         return CLOSED;
     };
     let room = host.driver().max_events();
     let answer = host.reset(events);
     *handle = HostHandle::of(host);
-    *told = told_result(room, answer);
-    told_status(answer)
+    write_told(room, answer, told)
 }
 
 /// Gives back what an open handle keeps. A closed one stays as it is.
