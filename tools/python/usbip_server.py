@@ -3,6 +3,7 @@
 It answers as Linux's usbip-host does with QEMU's devices and with gadgets, and is stricter: a submit that Linux would refuse, drop
 or misread is a fault of the host, and ends the scene with an AssertionError.
 """
+import collections
 import socket
 import struct
 
@@ -42,9 +43,9 @@ class Server:
         self.near, self.far = socket.socketpair()
         self.near.settimeout(60)
         self.device = device
-        self.reports = {endpoint: list(answers) for endpoint, answers in (reports or {}).items()}
+        self.reports = {endpoint: collections.deque(answers) for endpoint, answers in (reports or {}).items()}
         self.pending = {}     # the submits that wait for a report: endpoint to number
-        self.numbers = []
+        self.numbers = {}     # those of all submits, in their order
         self.one_by_one = one_by_one
 
     def read(self, count):
@@ -86,7 +87,7 @@ class Server:
         assert command == 1, f"command {command}"
         assert devid == DEVID, f"devid {devid:X}"
         assert number not in self.numbers, f"number {number} twice"
-        self.numbers.append(number)
+        self.numbers[number] = endpoint
         if endpoint:
             self.poll(number, direction, endpoint, length, interval)
             return None
@@ -138,7 +139,7 @@ class Server:
         """Answers the next report of an endpoint whose submit waits. Whether one was answered."""
         for endpoint, number in list(self.pending.items()):
             if self.reports.get(endpoint):
-                status, data = self.reports[endpoint].pop(0)
+                status, data = self.reports[endpoint].popleft()
                 del self.pending[endpoint]
                 self.answer(number, status, data)
                 return True

@@ -1,6 +1,7 @@
 -- What is reported while a session goes on (our choice: docs/USBIP.md).
-use Rattle.std.specs.Prelude.{ℕ, List, ◌++◌, codes, slice_get, Option, Some, None, Ok, Err}
+use Rattle.std.specs.Prelude.{ℕ, Bool, true, false, List, ◌++◌, codes, slice_get, Option, Some, None, Ok, Err}
 use Rattle.std.specs.Fmt.{decimal}
+use Rattle.hid_driver.specs.declared.fault.DriverFault.{DriverFault}
 use Rattle.hid_driver.specs.declared.interface.Interface.{Interface}
 use Rattle.hid_driver.specs.declared.interface.InterfaceState.{InterfaceState}
 use Rattle.hid_driver.specs.declared.interface.InterfaceState.TheVariants as states
@@ -52,10 +53,16 @@ notice_of_move moves.Onward driver = None
 notice_of_move (moves.Cleared place) driver = None
 notice_of_move moves.Answered driver = None
 
--- What is reported of what a message led to: of a request that wasn't done, and of a report that isn't read, why.
-abbrev pub notice_of : Told → DriverValue → Option Notice
-notice_of told.Onward driver = None
-notice_of (told.Control status (Ok moved)) driver = notice_of_move moved driver
-notice_of (told.Control status (Err fault)) driver = Some (Request fault)
-notice_of (told.Report place status (Ok done)) driver = None
-notice_of (told.Report place status (Err fault)) driver = Some (Report place fault)
+-- what is reported of a report that isn't read: nothing where its answer has no data, as with Linux
+abbrev pub notice_of_report : Bool → ℕ → DriverFault → Option Notice
+notice_of_report false place fault = None
+notice_of_report true place fault = Some (Report place fault)
+
+-- What is reported of what a message led to, which was the data of an answer or not: of a request that wasn't done, and of a
+-- report that isn't read, why.
+abbrev pub notice_of : Told → Bool → DriverValue → Option Notice
+notice_of told.Onward has_data driver = None
+notice_of (told.Control status (Ok moved)) has_data driver = notice_of_move moved driver
+notice_of (told.Control status (Err fault)) has_data driver = Some (Request fault)
+notice_of (told.Report place status (Ok done)) has_data driver = None
+notice_of (told.Report place status (Err fault)) has_data driver = notice_of_report has_data place fault

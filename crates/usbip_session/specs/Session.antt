@@ -23,18 +23,19 @@ use Rattle.usbip_import.specs.Sending.{import_at_start}
 use Rattle.usbip_import.specs.Taking.{Takes, import_ended, wants}
 use Rattle.usbip_session.specs.declared.session.Laid.{Laid}
 
--- an import, what came of the next message, what is still to be sent, the events of the last message, and the layouts of the
--- interfaces that are read
+-- an import, what came of the next message, what is still to be sent, whether the last message was the data of an answer, its
+-- events, and the layouts of the interfaces that are read
 pub record SessionState : Type 0 where
   pub import : Import
   pub came : List ℕ
   pub unsent : List ℕ
+  pub has_data : Bool
   pub events : List DriverEvent
   pub laid : List Laid
 
 -- a session of which nothing was sent
 abbrev pub session_at_start : List ℕ → SessionState
-session_at_start bus_id = record { import = import_at_start bus_id; came = []; unsent = []; events = []; laid = [] }
+session_at_start bus_id = record { import = import_at_start bus_id; came = []; unsent = []; has_data = false; events = []; laid = [] }
 
 -- in bytes, what the next message lacks
 abbrev pub lacks : SessionState → ℕ
@@ -62,12 +63,22 @@ abbrev pub LaysAfter : Result Told ImportFault → List ℕ → List Laid → Li
 LaysAfter (Ok told) message old new = Lays told message old new
 LaysAfter (Err fault) message old new = new ≡ old
 
+-- what comes in this stage is the data of an answer: an answer without data is its header alone
+abbrev pub is_data : Stage → Bool
+is_data (Answering flight status len) = true
+is_data (Start bus_id) = false
+is_data Requested = false
+is_data Described = false
+is_data Attached = false
+is_data Over = false
+
 -- a message came whole: it is taken, nothing is left of it, and what is to be sent stays
 pub record TakesWhole (before : SessionState) (message : List ℕ) (result : Result Told ImportFault) (after : SessionState)
     : Type 0 where
   pub taken : Takes before.import.stage message before.import result after.import [] after.events
   pub came : after.came ≡ []
   pub unsent : after.unsent ≡ before.unsent
+  pub has_data : after.has_data ≡ is_data before.import.stage
   pub laid : LaysAfter result message before.laid after.laid
 
 -- a message is taken if it is whole; else what came of it is kept, and nothing else changes

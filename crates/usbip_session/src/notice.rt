@@ -90,9 +90,9 @@ fn notice_of_move(moved: Moved, driver: &Driver) -> Option<Notice>
     }
 }
 
-/// What is reported of what a message led to, where the driver is this one.
-pub(crate) fn notice_of(told: Told, driver: &Driver) -> Option<Notice>
-    ensures { result ≡ notice_of told driver.now }
+/// What is reported of what a message led to, where the driver is this one, and the message was the data of an answer or not.
+pub(crate) fn notice_of(told: Told, has_data: bool, driver: &Driver) -> Option<Notice>
+    ensures { result ≡ notice_of told has_data driver.now }
 {
     match told {
         Told::Onward => None,
@@ -105,8 +105,8 @@ pub(crate) fn notice_of(told: Told, driver: &Driver) -> Option<Notice>
             result,
             ..
         } => match result {
-            Ok(()) => None,
-            Err(fault) => Some(Notice::Report { interface, fault }),
+            Err(fault) if has_data => Some(Notice::Report { interface, fault }),
+            _ => None,
         },
     }
 }

@@ -7,7 +7,7 @@ ghost use Rattle.usbip_import.specs.Taking.{import_ended, wants};
 ghost use Rattle.usbip_session.specs.Ends.{end_after, end_of_stream, has_live, is_live, is_refused, is_unread};
 ghost use Rattle.usbip_session.specs.Notices.{notice_of};
 ghost use Rattle.usbip_session.specs.Requests.{Asks, first_with_output, has_output, has_output_in, output_id, output_id_at, output_id_of, place_of};
-ghost use Rattle.usbip_session.specs.Session.{Lays, TakesBytes, TakesMessage, awaits_answer, is_between, is_control, is_ready, lacks, session_at_end, session_at_start};
+ghost use Rattle.usbip_session.specs.Session.{Lays, TakesBytes, TakesMessage, awaits_answer, is_between, is_control, is_data, is_ready, lacks, session_at_end, session_at_start};
 
 use crate::end::End;
 use crate::notice::{Notice, notice_of};
@@ -29,14 +29,15 @@ pub struct Laid {
     pub layout: Layout,
 }
 
-/// A session: an import, what came of the next message, what is still to be sent, the events of the last message, and the
-/// layouts of the interfaces that are read.
+/// A session: an import, what came of the next message, what is still to be sent, whether the last message was the data of an
+/// answer, its events, and the layouts of the interfaces that are read.
 #[derive(Drop)]
 pub struct Session {
     alloc: Global,
     import: Import,
     came: Vec<u8>,
     unsent: Vec<u8>,
+    has_data: bool,
     events: Vec<DriverEvent>,
     laid: Vec<Laid>,
 }
@@ -50,6 +51,7 @@ impl Model for Session {
       import = s.import;
       came = s.came.items;
       unsent = s.unsent.items;
+      has_data = s.has_data;
       events = s.events.items;
       laid = s.laid.items;
     } };
@@ -115,6 +117,17 @@ fn is_control(purpose: Purpose) -> bool
     match purpose {
         Purpose::Control => true,
         Purpose::Report { .. } => false,
+    }
+}
+
+/// Whether what comes in this stage is the data of an answer.
+fn is_data(stage: Stage) -> bool
+    ensures { result ≡ is_data stage }
+{
+    match stage {
+        Stage::Answering { .. } => true,
+        Stage::Start { .. } | Stage::Requested | Stage::Described | Stage::Attached | Stage::Over =>
+            false,
     }
 }
 
@@ -215,6 +228,7 @@ impl Session {
             import: Import::new(alloc, bus_id),
             came: Vec::new(alloc),
             unsent: Vec::new(alloc),
+            has_data: false,
             events: Vec::new(alloc),
             laid: Vec::new(alloc),
         }
@@ -264,6 +278,7 @@ impl Session {
             self.events.clear();
             return Ok(Told::Onward);
         }
+        self.has_data = is_data(self.import.stage());
         match take_message(&mut self.import, &self.came, &mut self.events) {
             Ok(told) => match lay(self.alloc, told, &self.came, &mut self.laid) {
                 Ok(()) => {
@@ -397,11 +412,12 @@ impl Session {
         }
     }
 
-    /// What is reported of what a message led to.
+    /// What is reported of what the last message led to. Of an answer without data nothing is, as with Linux: a device that ends
+    /// its transfers by an empty packet sends one after each report that fills its packets.
     pub fn notice_of(&self, told: Told) -> Option<Notice>
-        ensures { result ≡ notice_of told self.now.import.driver }
+        ensures { result ≡ notice_of told self.now.has_data self.now.import.driver }
     {
-        notice_of(told, self.import.driver())
+        notice_of(told, self.has_data, self.import.driver())
     }
 
     /// Asks the interface at this place to take these bytes as an Output report.
