@@ -1,4 +1,5 @@
-//! The turns of a run: what is to be sent is sent, what came is taken, and where there is neither it waits a little.
+//! The turns of a run: what is to be sent is sent, what came is taken, and where there is neither it waits a little. A report
+//! costs a read, a write of its event, and a write of the next submit.
 
 use super::args::CliArgs;
 use super::event_lines::{Printing, print_driver_events};
@@ -16,7 +17,7 @@ const MEMORY: End = End::Import(ImportFault::Memory);
 /// In bytes, how much a read is asked for at most.
 const PIECE: usize = 4096;
 
-/// How many messages a turn sends at most: as many submits as can be in flight, and one more.
+/// How many messages a turn adds to what is to be sent at most: as many submits as can be in flight, and one more.
 const MAX_SENT: u32 = 17;
 
 /// In milliseconds, how long the next submit waits after a transfer that failed, as with Linux.
@@ -37,11 +38,14 @@ struct Run<'a> {
     asked: &'a CliArgs<'a>,
     alloc: Global,
     session: Session,
+    /// The lines of events that aren't written yet.
     text: String,
     lines: Lines,
     /// The number of the line of Output reports that was read last.
     line: u64,
     start: Instant,
+    /// The time of this turn, since the start.
+    time: Duration,
     answer: Timer,
     incoming: Timer,
     outgoing: Timer,
@@ -84,6 +88,7 @@ pub fn attach(rt: &HostRuntime, asked: &CliArgs<'_>, bus_id: &[u8; 32], files: &
         lines: Lines::new(rt.alloc()),
         line: 0,
         start,
+        time: Duration::ZERO,
         answer: Timer::default(),
         incoming: Timer::default(),
         outgoing: Timer::default(),
@@ -98,12 +103,12 @@ pub fn attach(rt: &HostRuntime, asked: &CliArgs<'_>, bus_id: &[u8; 32], files: &
 }
 
 impl Run<'_> {
-    /// The time since the start; the longest where there is no clock any more, so that a limit is over.
-    fn time(&self, rt: &HostRuntime) -> Duration {
-        match self.start.elapsed(rt) {
+    /// Looks at the clock; where there is none any more, a limit is over.
+    fn look(&mut self, rt: &HostRuntime) {
+        self.time = match self.start.elapsed(rt) {
             Ok(time) => time,
             Err(_) => Duration::MAX,
-        }
+        };
     }
 
     /// Turn after turn, until the session ends.
@@ -118,25 +123,25 @@ impl Run<'_> {
         End::Late
     }
 
-    /// Releases what is held.
+    /// Releases what is held, and writes what isn't written yet.
     fn finish(&mut self, rt: &HostRuntime, files: &mut Files, end: End) -> End {
         if self.session.release().is_err() {
             return MEMORY;
         }
-        match self.print(rt, files) {
+        self.look(rt);
+        match self.print().and_then(|()| self.write_events(files)) {
             Ok(()) => end,
             Err(other) => other,
         }
     }
 
-    /// Writes the events of the last message.
-    fn print(&mut self, rt: &HostRuntime, files: &mut Files) -> Result<(), End> {
+    /// Adds the lines of the last message's events to those that aren't written yet.
+    fn print(&mut self) -> Result<(), End> {
         if self.session.events().is_empty() {
             return Ok(());
         }
-        let time = self.time(rt);
-        let seconds = time.as_secs();
-        let micros = time.subsec_micros();
+        let seconds = self.time.as_secs();
+        let micros = self.time.subsec_micros();
         let Ok(time) = format!(in self.alloc; "{seconds:06}.{micros:06}") else {
             return Err(MEMORY);
         };
@@ -145,12 +150,21 @@ impl Run<'_> {
             time: time.as_str(),
             options: self.asked.options,
         };
-        self.text.clear();
         let laid = self.session.layouts();
         if print_driver_events(&mut self.text, &printing, laid, self.session.events()).is_err() {
             return Err(MEMORY);
         }
-        match files.output.write_all(self.text.as_bytes()) {
+        Ok(())
+    }
+
+    /// Writes the lines of events.
+    fn write_events(&mut self, files: &mut Files) -> Result<(), End> {
+        if self.text.is_empty() {
+            return Ok(());
+        }
+        let written = files.output.write_all(self.text.as_bytes());
+        self.text.clear();
+        match written {
             Ok(()) => Ok(()),
             Err(_) => Err(End::Output),
         }
@@ -166,26 +180,21 @@ impl Run<'_> {
     ) -> Result<(), End> {
         self.request(rt, files)?;
         let has_sent = self.send(output)?;
-        let has_come = self.receive(rt, input, files)?;
-        self.see(rt)?;
+        let has_come = self.receive(rt, input)?;
+        self.write_events(files)?;
+        self.see()?;
         self.wait(rt, has_sent || has_come);
         Ok(())
     }
 
     /// Sends what is to be sent, as far as the connection takes it. Whether some bytes went over.
     fn send<W: Write>(&mut self, output: &mut W) -> Result<bool, End> {
-        let mut has_sent = false;
         for _ in 0..MAX_SENT {
-            if self.session.unsent().is_empty() && !self.fill()? {
+            if !self.fill()? {
                 break;
             }
-            let count = self.write(output)?;
-            if count == 0 {
-                break;
-            }
-            has_sent = true;
         }
-        Ok(has_sent)
+        Ok(self.write(output)? > 0)
     }
 
     /// Adds the next message to what is to be sent. Whether there was one.
@@ -199,7 +208,7 @@ impl Run<'_> {
     /// Writes some of what is to be sent: how many bytes went over. Where the server takes nothing any more, what it sent before
     /// is still read.
     fn write<W: Write>(&mut self, output: &mut W) -> Result<usize, End> {
-        if self.is_shut {
+        if self.is_shut || self.session.unsent().is_empty() {
             return Ok(0);
         }
         match output.write(self.session.unsent()) {
@@ -219,22 +228,19 @@ impl Run<'_> {
         }
     }
 
-    /// Reads some of the next message. Whether some bytes came.
-    fn receive<R: Read>(
-        &mut self,
-        rt: &HostRuntime,
-        input: &mut R,
-        files: &mut Files,
-    ) -> Result<bool, End> {
-        let mut piece = [0u8; PIECE];
-        let room = self.session.lacks().min(PIECE);
-        if room == 0 {
+    /// Reads what came. Whether there was something.
+    fn receive<R: Read>(&mut self, rt: &HostRuntime, input: &mut R) -> Result<bool, End> {
+        if self.session.lacks() == 0 {
+            self.look(rt);
             return Ok(false);
         }
-        match input.read(&mut piece[..room]) {
+        let mut piece = [0u8; PIECE];
+        let read = input.read(&mut piece);
+        self.look(rt);
+        match read {
             Ok(0) => Err(self.session.end_of_stream()),
             Ok(count) => {
-                self.take(rt, &piece[..count], files)?;
+                self.take_all(rt, &piece[..count])?;
                 Ok(true)
             }
             Err(error) => match error.kind() {
@@ -245,18 +251,32 @@ impl Run<'_> {
         }
     }
 
-    /// Takes bytes that came, writes the events, and reports what they led to.
-    fn take(&mut self, rt: &HostRuntime, bytes: &[u8], files: &mut Files) -> Result<(), End> {
-        if bytes.len() > self.session.lacks() {
+    /// Takes bytes that came, message by message.
+    fn take_all(&mut self, rt: &HostRuntime, bytes: &[u8]) -> Result<(), End> {
+        let mut rest = bytes;
+        for _ in 0..bytes.len() {
+            if rest.is_empty() {
+                break;
+            }
+            let (first, others) = rest.split_at(self.session.lacks().min(rest.len()));
+            self.take(rt, first)?;
+            rest = others;
+        }
+        Ok(())
+    }
+
+    /// Takes some of a message, adds the lines of its events, and reports what it led to.
+    fn take(&mut self, rt: &HostRuntime, bytes: &[u8]) -> Result<(), End> {
+        if bytes.is_empty() || bytes.len() > self.session.lacks() {
             return Err(End::Connection);
         }
         let told = match self.session.take(bytes) {
             Ok(told) => told,
             Err(fault) => return Err(End::Import(fault)),
         };
-        self.print(rt, files)?;
+        self.print()?;
         if let Told::Report { status, .. } = told {
-            self.has_failed = status != Status::Success;
+            self.has_failed = self.has_failed || status != Status::Success;
         }
         self.judge(rt, told)
     }
@@ -324,8 +344,8 @@ impl Run<'_> {
     }
 
     /// Sees whether something is awaited for too long.
-    fn see(&mut self, rt: &HostRuntime) -> Result<(), End> {
-        let now = milliseconds(self.time(rt));
+    fn see(&mut self) -> Result<(), End> {
+        let now = milliseconds(self.time);
         let limit = u64::from(self.asked.seconds).saturating_mul(1000);
         self.answer.see(self.session.awaits_answer(), now);
         self.incoming.see(!self.session.is_between(), now);
