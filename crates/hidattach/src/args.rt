@@ -3,7 +3,7 @@
 use super::codes::CODES;
 use clap::error::ErrorKind;
 use clap::{Arg, ArgAction, ArgMatches, Command, Error};
-use hid_recording::{Counted, Options};
+use hid_recording::Options;
 use std::alloc::{AllocError, Global};
 
 /// In seconds, how long an answer may take where nothing else is asked for.
@@ -151,7 +151,6 @@ fn read_matches<'a>(alloc: Global, matches: &ArgMatches<'a>) -> Result<CliArgs<'
             places: matches.get_flag("places"),
             strict: false,
             json: matches.get_flag("json"),
-            counted: Counted::Reports,
         },
         bus_id: matches.get_str("BUSID").unwrap_or(""),
         output: matches.get_str("output").unwrap_or(""),
