@@ -3,8 +3,8 @@ use Rattle.std.specs.Prelude.{⊤, ◌≡◌, ℕ, ◌==◌, Bool, false, List, 
 use Rattle.std.specs.Global.{Vec}
 use Rattle.std.specs.Str.{bytes_eq}
 use Rattle.hid_text.specs.Lines.{IsUnbroken}
-use Rattle.hid_text.specs.Words.{Word}
-use Rattle.hid_recording.specs.Words.{bytes_of, decimal_of}
+use Rattle.hid_text.specs.Words.{Word, hex_of}
+use Rattle.hid_recording.specs.Words.{decimal_of}
 use Rattle.hidattach.specs.declared.output_lines.LineFault.{LineFault}
 use Rattle.hidattach.specs.declared.output_lines.LineFault.TheVariants.{Unread, Memory}
 use Rattle.hidattach.specs.declared.output_lines.OutputLine.{OutputLine}
@@ -22,7 +22,7 @@ with_bytes interface (Some bytes) = Some (Report interface bytes)
 
 -- an Output report with the bytes that words in hex encode
 abbrev pub report_line : Option ℕ → List Word → Option Meaning
-report_line interface words = with_bytes interface (bytes_of words)
+report_line interface words = with_bytes interface (hex_of words)
 
 -- the place that a word names: decimal digits
 abbrev pub place_of_word : Word → Option ℕ
