@@ -71,9 +71,11 @@ scale: $(HIDPLAY)  ## plays a folder of recordings in parallel
 play-cost: $(HIDPLAY)  ## counts the instructions of a report in hidplay
 	tools/measure/cost hidplay $(HIDPLAY)
 
-# Counts the instructions of the stack's work, by callgrind: the table of docs/SPEED.md.
-bench: $(BENCH)  ## counts the instructions of the stack's work
+# Counts the instructions of the stack's work, by callgrind: the table of docs/SPEED.md; then those of the C library's calls, if
+# there is a C compiler.
+bench: $(BENCH)  ## counts the instructions of the stack's work, and of calls of the C library
 	tools/measure/cost stack $(BENCH)
+	if test -n "$$(command -v "$${CC:-cc}")"; then $(MAKE) --no-print-directory library-cost; fi
 
 # The C library: bin/lib/libhidstack.a and the shared libhidstack.so.$(LIBRARY_VERSION), from the proved crate.
 library: bin/lib/libhidstack.a  ## bin/lib/libhidstack.a and .so, the C library
@@ -92,7 +94,8 @@ library-check: library  ## runs them under valgrind and the sanitizers, and with
 	tools/check/library --memory
 	tools/check/manual
 
-# Counts the instructions of calls, by callgrind, beside the crate's own: by hid_bench if it is there, else those of docs/SPEED.md.
+# Counts the instructions of calls, by callgrind, beside the crate's own, by hid_bench if it is there, else those of docs/SPEED.md; or
+# beside their limits: the table of docs/C.md.
 library-cost: library  ## counts the instructions of calls of the C library
 	tools/measure/cost library
 

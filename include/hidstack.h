@@ -19,16 +19,16 @@
  *
  * Places: an `item` is the place of a listed item, the Input, Output and Feature items of a descriptor that have bits,
  * from 0 in its order. An `index` is the place of an element in its item, and of a control the place of its element, or
- * of an array the place of its key in the item's usage list. Bytes and numbers are those of the machine, which has 64
- * bits. Each struct but `struct hidstack` has only fields of fixed width, each at a multiple of its own width.
+ * of an array the place of its key in the item's usage list. Bytes and numbers are those of x86-64. Each struct but
+ * `struct hidstack` has only fields of fixed width, each at a multiple of its own width.
  *
  * What is said of a `struct hidstack` is so of a `struct hidstack_device` and a `struct hidstack_host` too, with the calls of
  * their own.
  *
  * Memory: an opening takes memory, of a host hidstack_host_done too; the closing gives it back. No other call on a handle
  * takes any, nor do hidstack_number, hidstack_put, hidstack_boot_descriptor and hidstack_cause_words. The rest give back what
- * they took. Of stack a call takes up to 10 kB, hidstack_device_open 23 kB and hidstack_run 37 kB, with what a thread takes
- * itself (measured, but for hosts: docs/C.md).
+ * they took. Of stack a call takes up to 10 kB, hidstack_host_done 11 kB, hidstack_device_open 23 kB and hidstack_run 37 kB, with
+ * what a thread takes itself (measured: docs/C.md).
  *
  * It compiles as C99 and as C++17. Link with -lhidstack. docs/C.md, docs/FORMATS.md and docs/SCRIPT.md are installed below PREFIX
  * as share/doc/rulohevian, with the Debian package as /usr/share/doc/libhidstack-dev. */
@@ -41,11 +41,15 @@
 #define HIDSTACK_VERSION_PATCH 0
 #define HIDSTACK_VERSION "1.0.0"
 
+#ifndef __x86_64__
+#error "libhidstack is for x86-64 alone"
+#endif
+
 #include <stddef.h>
 #include <stdint.h>
 
 #if SIZE_MAX < UINT64_MAX
-#error "libhidstack is for machines of 64 bits"
+#error "libhidstack is for programs with pointers of 64 bits"
 #endif
 
 #ifdef __cplusplus
@@ -313,7 +317,8 @@ struct hidstack_interface_info {
 
 /* What came of a control transfer. */
 struct hidstack_moved {
-    uint64_t interface; /* of MOVE_LIVE, MOVE_REFUSED, MOVE_CLEARED and MOVE_STOPPED the place of the interface; else 0 */
+    uint64_t interface; /* of HIDSTACK_MOVE_LIVE, HIDSTACK_MOVE_REFUSED, HIDSTACK_MOVE_CLEARED and HIDSTACK_MOVE_STOPPED the
+                           place of the interface; else 0 */
     uint32_t step;      /* enum hidstack_move; 0 where it is refused */
     uint32_t cause;     /* where it is refused, 1 for H1 to 16 for H16 of docs/FORMATS.md; else 0 */
     uint32_t detail;    /* of H10 and H11 the number of the inner code: 2 of `H10 B2`; else 0 */
@@ -356,7 +361,9 @@ uint32_t hidstack_open(const uint8_t *descriptor, size_t length, struct hidstack
  *   OK       `count` is how many events there are; the places after them are unchanged. They come by rising item,
  *            and in an item by rising index, but for an array: each key that went up, and then each that went down
  *   NO_ROOM  `room` is less than the `room` of hidstack_open, which `count` has; whatever the report is
- *   SHORT, UNKNOWN, CLOSED: `count` is 0
+ *   SHORT    the report has fewer bytes than it should; `count` is 0
+ *   UNKNOWN  the bytes are of no Input report of the device; `count` is 0
+ *   CLOSED   `count` is 0
  * But for OK the view and the table stay as they were. */
 uint32_t hidstack_feed(struct hidstack *handle, const uint8_t *report, size_t length, struct hidstack_event *events, size_t room, uint64_t *count);
 
@@ -374,7 +381,7 @@ uint32_t hidstack_release(struct hidstack *handle, struct hidstack_event *events
 /* Closes a handle, and gives back its memory. A closed one stays as it is, and a null pointer is to none. */
 void hidstack_close(struct hidstack *handle);
 
-/* ---- Reading an open handle. With NONE and CLOSED nothing is written, but for a `length`; no call here changes it. ---- */
+/* ---- Reading an open handle. No call here changes it, and but for OK it writes only what is said of it. ---- */
 
 /* The report at a place, from 0, Input before Output before Feature and then by ID; NONE past the last. */
 uint32_t hidstack_report(struct hidstack *handle, uint64_t place, struct hidstack_report_info *report);
@@ -426,7 +433,8 @@ void hidstack_device_close(struct hidstack_device *device);
 uint32_t hidstack_device_find(struct hidstack_device *device, uint16_t page, uint16_t id, uint64_t number, uint64_t *item, uint64_t *index);
 
 /* Changes of a control: a switch or a key goes down, or up; an absolute control that is no switch has a value, or null; a
- * relative one moves, beside what it moved since its last report.
+ * relative one moves, beside what it moved since its last report. A report says how its controls are as it is taken: a key that
+ * goes down and up between two reports is in none. So take the report that is due before you let go of a key that was just pressed.
  *   OK            it is done
  *   NONE          no control stands there: no Input item, or no element or key
  *   WRONG_KIND    a control of this kind can't change so
@@ -450,8 +458,8 @@ uint32_t hidstack_device_release_all(struct hidstack_device *device);
  * `data` are sent, and take effect once; of a read up to wLength bytes are written over the first of `answer`, which has
  * `room`. `data` of a read and `answer` of a write may be null, with 0.
  *   OK       `answered` is how many bytes were answered; of a write 0
- *   STALLED  the device refuses the request: answer it with STALL. `answer` stays, and but for the request before, which it
- *            forgets, the device does; `answered` is 0
+ *   STALLED  the device refuses the request: answer it with STALL. The device forgets the request before it, and stays as it was
+ *            else. `answer` stays, and `answered` is 0
  *   NO_ROOM  a read: `room` is less than wLength, which `answered` has. 65,535 are always enough
  *   SHORT    a write: `length` is less than wLength
  * With NO_ROOM, SHORT and CLOSED nothing reaches the device, and `answer` stays; `answered` is 0 but for NO_ROOM. */
@@ -502,7 +510,8 @@ uint32_t hidstack_device_configured(struct hidstack_device *device, uint32_t *co
  *
  * An `outcome` is a status: OK where the transfer is done, with the bytes that came to the host, STALLED where the device
  * answered STALL, any other where it failed. What hidstack_device_control and hidstack_device_report return is one, but for
- * NONE, of which nothing came. */
+ * NONE, of which nothing came. Give bytes with OK alone, and else a length of 0: with NO_ROOM the length that those calls
+ * return is the room that they need, and the buffer has less. */
 
 /* A host that knows nothing of its device, in a closed handle. It takes memory, which hidstack_host_close gives back.
  *   BUSY    the handle was open, and stays as it was
@@ -524,7 +533,8 @@ uint32_t hidstack_host_todo(struct hidstack_host *host, struct hidstack_setup *s
  *   REFUSED  `moved` has the cause. H1: no transfer was to be made, and nothing changed. H8 or H9 of what was asked for or of a
  *            protocol: the device refused it, or the transfer failed, and the host goes on. Else the device can't be read:
  *            HIDSTACK_HOST_REFUSED
- *   MEMORY   out of memory: nothing changed. Make the transfer again, or call again with the same bytes
+ *   MEMORY   out of memory: `moved` has the cause, H2, and the host stays as it was. Make the transfer again, or call again with the
+ *            same bytes
  *   CLOSED   `moved` stays as it was */
 uint32_t hidstack_host_done(struct hidstack_host *host, uint32_t outcome, const uint8_t *bytes, size_t length, struct hidstack_moved *moved);
 
@@ -532,7 +542,8 @@ uint32_t hidstack_host_done(struct hidstack_host *host, uint32_t outcome, const 
  * that ends with them is read. Its events are written over the first entries of `events`, which has `room` places. A STALL
  * halts the interface, and hidstack_host_todo has the CLEAR_FEATURE then. A transfer that failed changes nothing. It takes no
  * memory.
- *   OK       `result` has how many events there are, 0 where the report goes on; the places after them are unchanged
+ *   OK       `result` has how many events there are: 0 where the report goes on, and of any outcome but OK; the places after them are
+ *            unchanged
  *   NO_ROOM  `room` is less than that of hidstack_host_device, which `result` has; nothing changes, and nothing is read
  *   REFUSED  `result` has the cause. H3: no interface stands there. H4, H14: it isn't live. H12, H13: the report is thrown
  *            away, and what is held stays
@@ -553,7 +564,7 @@ uint32_t hidstack_host_ask(struct hidstack_host *host, uint64_t interface, const
 /* Asks an interface for the boot protocol (HIDSTACK_PROTOCOL_BOOT), or for the report protocol (any other number):
  * hidstack_host_todo has the request from then on. What is held of it is let go, with the events in the first entries of
  * `events`, which has `room` places. Its reports aren't read until it is in the report protocol and its report descriptor is
- * read again. It takes no memory.
+ * read again. It takes no memory. A struct hidstack_device answers the request with STALL once it is configured.
  *   OK       `result` has how many events there are; the places after them are unchanged
  *   NO_ROOM  `room` is less than that of hidstack_host_device, which `result` has
  *   REFUSED  `result` has the cause. H3: no interface stands there. H4: its report descriptor wasn't read, or is refused, or its
@@ -574,8 +585,7 @@ uint32_t hidstack_host_reset(struct hidstack_host *host, struct hidstack_host_ev
  * go by hidstack_host_reset before. */
 void hidstack_host_close(struct hidstack_host *host);
 
-/* What a host knows. With NONE and CLOSED nothing is written, but for a `length`; no call here changes the host or takes
- * memory. */
+/* What a host knows. No call here changes the host or takes memory, and but for OK it writes only what is said of it. */
 
 /* What is known of the device. */
 uint32_t hidstack_host_device(struct hidstack_host *host, struct hidstack_host_info *device);
@@ -614,7 +624,7 @@ uint32_t hidstack_table(const uint8_t *descriptor, size_t length, struct hidstac
 /* The number of an element in the bytes of a report. `element` may have any contents.
  *   SHORT    its bits don't lie in the bytes, or its width is 0 or over 32
  *   UNKNOWN  it has a Report ID, and the bytes don't begin with it
- * Both leave `value` as it was. */
+ * But for OK `value` stays as it was. */
 uint32_t hidstack_number(const struct hidstack_element_info *element, const uint8_t *report, size_t length, int64_t *value);
 
 /* Writes `value` into an element of a report: hidstack_number gives it again, and all other bits stay. `element` may have any
@@ -623,7 +633,7 @@ uint32_t hidstack_number(const struct hidstack_element_info *element, const uint
  *   SHORT    its bits don't lie in the bytes after the Report ID, or its width is 0 or over 32
  *   UNKNOWN  it has a Report ID, and the bytes don't begin with it
  *   RANGE    its bits don't hold the number: 8 of them hold -128 to 127 in two's complement, else 0 to 255
- * With all three the bytes stay. */
+ * But for OK the bytes stay as they were. */
 uint32_t hidstack_put(const struct hidstack_element_info *element, uint8_t *report, size_t length, int64_t value);
 
 /* The report descriptor of a boot keyboard or mouse (enum hidstack_boot; HID 1.11, E.6 and E.10), over the first bytes of
@@ -640,12 +650,14 @@ uint32_t hidstack_boot_descriptor(uint32_t protocol, uint8_t *out, size_t room, 
  *   REFUSED  the run ended at a line: `out` has the text printed before it, `fault` the line that names the fault. A line
  *            is refused by X1 to X4 and X9; X7 means out of memory at the line, X6 out of memory for its text
  *   NO_ROOM  a text is longer than its room: `ran` has both lengths and the line, and neither text is written
- *   MEMORY   out of memory, also for the line that names the fault; neither text is written, `ran` is all 0 */
+ *   MEMORY   out of memory where no line can be named, or for the line that names the fault. Neither text is written, and `ran`
+ *            is all 0 */
 uint32_t hidstack_run(const uint8_t *script, size_t length, uint32_t options, uint8_t *out, size_t out_room, uint8_t *fault, size_t fault_room, struct hidstack_ran *ran);
 
 /* The code of a cause, `L10` of 10, over the first bytes of `out`; `length` is its length in bytes.
  *   NO_ROOM  `length` is the room that it needs
- *   NONE, MEMORY: `length` is 0 */
+ *   NONE     no cause has this number; `length` is 0
+ *   MEMORY   out of memory; `length` is 0 */
 uint32_t hidstack_cause_text(uint32_t cause, uint8_t *out, size_t room, uint64_t *length);
 
 /* The words of a cause, `a Pop without a Push` of 3; else as hidstack_cause_text. It takes no memory. */

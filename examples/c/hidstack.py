@@ -84,7 +84,8 @@ class Reader(Handle):
         super().__init__(c, c.close)
         self.handle, self.opened, self.count = c.new(""), c.new("_opened"), ctypes.c_uint64()
         if c.open(descriptor, len(descriptor), self.handle, self.opened) != c.OK:
-            raise Refused((c.text(c.refusal_text, descriptor, len(descriptor)) or b"out of memory").decode())
+            why = self.opened.cause != 17 and c.text(c.refusal_text, descriptor, len(descriptor))
+            raise Refused(why.decode()) if why else MemoryError()
         self.table = (c.types["struct hidstack_event"] * self.opened.room)()
 
     def events_of(self, status):
@@ -124,13 +125,13 @@ class Device(Handle):
         """A control transfer: its outcome and what it answers."""
         room, answered = ctypes.create_string_buffer(65535), ctypes.c_uint64()
         outcome = self.c.device_control(self.handle, setup, data, len(data), room, len(room), answered)
-        return outcome, room.raw[:answered.value]
+        return outcome, room.raw[:answered.value] if outcome == self.c.OK else b""
 
     def report(self):
         """An interrupt transfer: its outcome, and the report that was due."""
         room, length = ctypes.create_string_buffer(256), ctypes.c_uint64()
         outcome = self.c.device_report(self.handle, room, len(room), length)
-        return outcome, room.raw[:length.value]
+        return outcome, room.raw[:length.value] if outcome == self.c.OK else b""
 
     def output(self, kind, report_id):
         """An Output or Feature report as the host set it last; None where there is none."""

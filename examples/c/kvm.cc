@@ -23,6 +23,8 @@ template <typename Struct, void (*close)(Struct *)> struct Handle {
 
 // A virtual device: the device's end of a cable.
 struct Device : Handle<hidstack_device, hidstack_device_close> {
+    bool loses = false; // whether the next report that is sent to it is lost on its cable
+
     Device(const hidstack_config &config, const Bytes &descriptor)
     {
         hidstack_device_opened opened;
@@ -36,6 +38,20 @@ struct Device : Handle<hidstack_device, hidstack_device_close> {
         std::uint64_t item, index;
         if (hidstack_device_find(&it, page, id, 0, &item, &index) == HIDSTACK_OK)
             call(&it, item, index);
+    }
+
+    // A control transfer: its outcome, and the bytes that it answers.
+    std::uint32_t control(const hidstack_setup &setup, const Bytes &data, Bytes &answer)
+    {
+        if (loses && setup.request == HIDSTACK_SET_REPORT) {
+            loses = false;
+            return HIDSTACK_FAILED;
+        }
+        std::uint64_t answered = 0;
+        answer.resize(setup.request_type >= 0x80 ? setup.length : 0);
+        const auto outcome = hidstack_device_control(&it, &setup, data.data(), data.size(), answer.data(), answer.size(), &answered);
+        answer.resize(outcome == HIDSTACK_OK ? answered : 0);
+        return outcome;
     }
 
     // The first byte after the ID of an Output report, as the host set it last.
@@ -58,56 +74,73 @@ struct Host : Handle<hidstack_host, hidstack_host_close> {
             throw std::bad_alloc();
     }
 
-    // Makes the control transfers that the host wants of a device.
-    void transfer(Device &device)
+    // Makes the control transfers that the host wants of a device: whether what it was asked for is done.
+    bool transfer(Device &device)
     {
         hidstack_setup setup;
         hidstack_moved moved;
         hidstack_host_info info{};
-        std::array<std::uint8_t, 256> data, answer;
-        std::uint64_t length, answered;
-        while (hidstack_host_todo(&it, &setup, data.data(), data.size(), &length) == HIDSTACK_OK) {
-            const auto outcome = hidstack_device_control(&device.it, &setup, data.data(), length, answer.data(), answer.size(), &answered);
-            if (hidstack_host_done(&it, outcome, answer.data(), answered, &moved) == HIDSTACK_MEMORY)
+        Bytes data(16384), answer; // no data are longer
+        std::uint64_t length;
+        bool done = false;
+        for (; data.resize(16384), hidstack_host_todo(&it, &setup, data.data(), data.size(), &length) == HIDSTACK_OK; answer.clear()) {
+            data.resize(length);
+            const auto outcome = device.control(setup, data, answer);
+            const auto status = hidstack_host_done(&it, outcome, answer.data(), answer.size(), &moved);
+            if (status == HIDSTACK_MEMORY)
                 throw std::bad_alloc();
+            done |= status == HIDSTACK_OK && moved.step == HIDSTACK_MOVE_ANSWERED;
         }
         hidstack_host_device(&it, &info);
         events.resize(info.room);
+        return done;
     }
 
-    // The events of the interrupt transfer that is due from a device, if one is.
-    std::vector<hidstack_host_event> poll_report(Device &device)
+    // The first events of the table: none unless the call that wrote them was done.
+    std::vector<hidstack_host_event> first(std::uint32_t status, const hidstack_host_result &result) const
+    {
+        return {events.begin(), events.begin() + static_cast<std::ptrdiff_t>(status == HIDSTACK_OK ? result.count : 0)};
+    }
+
+    // The events of the interrupt transfer that is due from a device to an interface, if one is.
+    std::vector<hidstack_host_event> poll_report(std::uint64_t interface, Device &device)
     {
         std::array<std::uint8_t, 64> report;
         std::uint64_t length;
-        hidstack_host_result result{};
+        hidstack_host_result result;
         const auto outcome = hidstack_device_report(&device.it, report.data(), report.size(), &length);
-        if (outcome != HIDSTACK_NONE)
-            hidstack_host_report(&it, 0, outcome, report.data(), length, events.data(), events.size(), &result);
-        return {events.begin(), events.begin() + static_cast<std::ptrdiff_t>(result.count)};
+        if (outcome == HIDSTACK_NONE)
+            return {};
+        const auto came = outcome == HIDSTACK_OK ? length : 0;
+        const auto status = hidstack_host_report(&it, interface, outcome, report.data(), came, events.data(), events.size(), &result);
+        return first(status, result);
     }
 
     // The device is gone: the events that let go of all that is held.
     std::vector<hidstack_host_event> reset()
     {
-        hidstack_host_result result{};
-        hidstack_host_reset(&it, events.data(), events.size(), &result);
-        return {events.begin(), events.begin() + static_cast<std::ptrdiff_t>(result.count)};
+        hidstack_host_result result;
+        const auto status = hidstack_host_reset(&it, events.data(), events.size(), &result);
+        return first(status, result);
     }
 
-    // The Output elements of these usages of the first interface that has one, and its place.
-    std::pair<std::uint64_t, std::vector<hidstack_element_info>> outputs(std::uint16_t page, std::uint16_t first, std::uint16_t last)
+    // What is known of each interface.
+    std::vector<hidstack_interface_info> interfaces()
     {
+        std::vector<hidstack_interface_info> found;
         hidstack_interface_info info;
+        while (hidstack_host_interface(&it, found.size(), &info) == HIDSTACK_OK)
+            found.push_back(info);
+        return found;
+    }
+
+    // The first Output element of a usage, and the place of its interface.
+    std::optional<std::pair<std::uint64_t, hidstack_element_info>> find_output(std::uint16_t page, std::uint16_t id)
+    {
         hidstack_element_info element;
-        for (std::uint64_t interface = 0; hidstack_host_interface(&it, interface, &info) == HIDSTACK_OK; interface++) {
-            std::vector<hidstack_element_info> found;
-            for (std::uint16_t id = first; id <= last; id++)
-                if (hidstack_host_find(&it, interface, HIDSTACK_OUTPUT, page, id, 0, &element) == HIDSTACK_OK)
-                    found.push_back(element);
-            if (!found.empty())
-                return {interface, found};
-        }
+        for (std::uint64_t interface = 0; interface < interfaces().size(); interface++)
+            if (hidstack_host_find(&it, interface, HIDSTACK_OUTPUT, page, id, 0, &element) == HIDSTACK_OK)
+                return std::pair{interface, element};
         return {};
     }
 
@@ -136,7 +169,8 @@ class Kvm {
     static constexpr hidstack_config config{0x1209, 0x0001, 1, HIDSTACK_BOOT_KEYBOARD, 0};
     Host keyboard;
     std::size_t active = 0;
-    Bytes leds; // the report of LEDs that the keyboard was sent last
+    std::uint8_t lit = 0;               // the LEDs that the keyboard shows, LED 1 in the first bit
+    std::uint8_t asked = 0, wanted = 0; // the LEDs of the report that is on its way to the keyboard, and which of them it lights
 
     // Lets go of all keys of the machine in use, and goes to the other.
     void change()
@@ -159,20 +193,32 @@ class Kvm {
         }
     }
 
-    // Asks the keyboard for the LEDs of the machine in use, where they aren't what it was sent last.
-    void pass_leds()
+    // Asks an interface of the keyboard to take its report of this ID, with the LEDs of `on`.
+    void ask_for_leds(std::uint64_t interface, std::uint8_t report_id, std::uint8_t on)
     {
-        const auto [interface, elements] = keyboard.outputs(LEDS, 1, 5);
-        const std::uint8_t lit = machines[active].output(0); // its first bit is LED 1
-        Bytes report(64);
+        Bytes report(16384); // no report is longer
         std::uint64_t length;
-        if (elements.empty() || hidstack_host_blank(&keyboard.it, interface, HIDSTACK_OUTPUT, elements[0].report, report.data(), report.size(), &length) != HIDSTACK_OK)
+        if (hidstack_host_blank(&keyboard.it, interface, HIDSTACK_OUTPUT, report_id, report.data(), report.size(), &length) != HIDSTACK_OK)
             return;
         report.resize(length);
-        for (const hidstack_element_info &led : elements)
-            hidstack_put(&led, report.data(), report.size(), lit >> (led.id - 1) & 1);
-        if (report != leds && keyboard.send(interface, elements[0].report, report))
-            leds = report;
+        asked = 0;
+        wanted = on;
+        for (std::uint16_t id = 1; id <= 5; id++)
+            if (const auto led = keyboard.find_output(LEDS, id); led && led->first == interface && led->second.report == report_id) {
+                hidstack_put(&led->second, report.data(), report.size(), on >> (id - 1) & 1);
+                asked |= static_cast<std::uint8_t>(1 << (id - 1));
+            }
+        keyboard.send(interface, report_id, report);
+    }
+
+    // Asks the keyboard for the first LED that it doesn't show as the machine in use has it.
+    void pass_leds()
+    {
+        const std::uint8_t on = machines[active].output(0); // its first bit is LED 1
+        for (std::uint16_t id = 1; id <= 5; id++)
+            if ((on ^ lit) >> (id - 1) & 1)
+                if (const auto led = keyboard.find_output(LEDS, id))
+                    return ask_for_leds(led->first, led->second.report, on);
     }
 
 public:
@@ -181,8 +227,12 @@ public:
     // What the keyboard has to say goes to the machine in use, and that one's LEDs to the keyboard.
     void turn(Device &at_hand)
     {
-        keyboard.transfer(at_hand);
-        pass(keyboard.poll_report(at_hand));
+        if (keyboard.transfer(at_hand))
+            lit = static_cast<std::uint8_t>((lit & ~asked) | (wanted & asked));
+        const auto interfaces = keyboard.interfaces();
+        for (std::size_t place = 0; place < interfaces.size(); place++)
+            if (interfaces[place].state == HIDSTACK_INTERFACE_LIVE)
+                pass(keyboard.poll_report(place, at_hand));
         pass_leds();
     }
 
@@ -190,24 +240,25 @@ public:
     void unplug()
     {
         pass(keyboard.reset());
-        leds.clear();
+        lit = 0;
     }
 };
 
 // ---- That was the switch. From here on: what stands in for a desk, and what happens there ----
 
-// A keyboard with Report IDs: modifiers, the keys up to F20, LEDs after three bits of padding; and two volume keys.
+// A keyboard with Report IDs: modifiers, the keys up to F20, three LEDs after three bits of padding; two LEDs in a report of their own;
+// and two volume keys.
 static const Bytes descriptor{
     0x05, 0x01, 0x09, 0x06, 0xA1, 0x01, 0x85, 0x01, 0x05, 0x07, 0x19, 0xE0, 0x29, 0xE7, 0x15, 0x00, 0x25, 0x01, 0x75, 0x01, 0x95, 0x08,
     0x81, 0x02, 0x19, 0x04, 0x29, 0x6F, 0x95, 0x6C, 0x81, 0x02, 0x95, 0x04, 0x81, 0x01, 0x05, 0x08, 0x95, 0x03, 0x91, 0x01, 0x19, 0x01,
-    0x29, 0x05, 0x95, 0x05, 0x91, 0x02, 0xC0, 0x05, 0x0C, 0x09, 0x01, 0xA1, 0x01, 0x85, 0x02, 0x09, 0xE9, 0x09, 0xEA, 0x95, 0x02, 0x81,
-    0x02, 0x95, 0x06, 0x81, 0x01, 0xC0};
+    0x29, 0x03, 0x91, 0x02, 0x95, 0x02, 0x91, 0x01, 0x85, 0x03, 0x19, 0x04, 0x29, 0x05, 0x91, 0x02, 0x95, 0x06, 0x91, 0x01, 0xC0, 0x05,
+    0x0C, 0x09, 0x01, 0xA1, 0x01, 0x85, 0x02, 0x09, 0xE9, 0x09, 0xEA, 0x95, 0x02, 0x81, 0x02, 0x95, 0x06, 0x81, 0x01, 0xC0};
 
 struct Desk {
     Kvm kvm;
     std::optional<Device> keyboard{std::in_place, hidstack_config{0x1209, 0x0002, 10, 0, 0}, descriptor};
     std::array<Host, 2> machines;
-    std::uint8_t leds = 0; // that were printed last
+    std::pair<std::uint8_t, std::uint8_t> leds; // of the keyboard's reports 1 and 3, as they were printed last
 
     static void print(std::size_t machine, const hidstack_event &event)
     {
@@ -225,12 +276,14 @@ struct Desk {
                 kvm.turn(*keyboard);
             for (std::size_t machine = 0; machine < machines.size(); machine++) {
                 machines[machine].transfer(kvm.machines[machine]);
-                for (const hidstack_host_event &each : machines[machine].poll_report(kvm.machines[machine]))
+                for (const hidstack_host_event &each : machines[machine].poll_report(0, kvm.machines[machine]))
                     print(machine, each.event);
             }
         }
-        if (keyboard && keyboard->output(1) != leds)
-            std::printf("  LEDs of the keyboard: %02X\n", leds = keyboard->output(1));
+        const auto now = keyboard ? std::pair{keyboard->output(1), keyboard->output(3)} : leds;
+        if (now != leds)
+            std::printf("  LEDs of the keyboard: %02X %02X\n", now.first, now.second);
+        leds = now;
     }
 
     void finger(const char *what, std::uint16_t page, std::uint16_t id, bool down)
@@ -240,7 +293,7 @@ struct Desk {
         wait();
     }
 
-    // A machine lights LEDs of its keyboard: 1 Num Lock, 2 Caps Lock, 4 Scroll Lock.
+    // A machine lights LEDs of its keyboard: 1 Num Lock, 2 Caps Lock, 4 Scroll Lock, 16 Kana.
     void light(const char *what, std::size_t machine, std::uint8_t lit)
     {
         std::puts(what);
@@ -265,6 +318,8 @@ try {
     desk.light("machine 1 lights Caps Lock and Scroll Lock", 0, 6);
     desk.finger("Scroll Lock goes down", KEYS, SCROLL_LOCK, true);
     desk.finger("C goes down", KEYS, 0x06, true);
+    desk.keyboard->loses = true;
+    desk.light("machine 1 lights Num Lock and Kana, and a report to the keyboard is lost", 0, 17);
     std::puts("the keyboard is unplugged");
     desk.keyboard.reset();
     desk.kvm.unplug();

@@ -12,21 +12,26 @@ KEYS, LEDS, SCROLL_LOCK = 0x07, 0x08, 0x47  # pages of the HID Usage Tables, and
 
 
 def transfer(host, device):
-    """Makes the control transfers that a host wants of a device."""
-    while (todo := host.todo()) and host.done(*device.control(*todo))[0] != host.c.MEMORY:
-        pass
+    """Makes the control transfers that a host wants of a device: whether what it was asked for is done."""
+    is_done, status = False, host.c.OK
+    while status != host.c.MEMORY and (todo := host.todo()):
+        status, moved = host.done(*device.control(*todo))
+        is_done |= status == host.c.OK and moved.step == host.c.MOVE_ANSWERED
+    return is_done
 
 
-def poll_report(host, device):
-    """The events of the interrupt transfer that is due from a device, if one is."""
+def poll_report(host, interface, device):
+    """The events of the interrupt transfer that is due from a device to an interface, if one is."""
     outcome, report = device.report()
-    return [] if outcome == device.c.NONE else host.report(0, outcome, report)
+    return [] if outcome == device.c.NONE else host.report(interface, outcome, report)
 
 
 class Kvm:
     def __init__(self, c):
         descriptor = c.text(c.boot_descriptor, c.BOOT_KEYBOARD)
-        self.c, self.keyboard, self.active, self.leds = c, Host(c), 0, b""
+        self.c, self.keyboard, self.active = c, Host(c), 0
+        self.lit = 0  # the LEDs that the keyboard shows, LED 1 in the first bit
+        self.asked = self.wanted = 0  # the LEDs of the report that is on its way to the keyboard, and which of them it lights
         self.machines = [Device(c, descriptor, 0x1209, 0x0001, 1, c.BOOT_KEYBOARD) for _ in range(2)]
 
     def change(self):
@@ -44,44 +49,72 @@ class Kvm:
             elif event.kind in calls:
                 self.machines[self.active].change(calls[event.kind], event.page, event.id)
 
-    def pass_leds(self):
-        """Asks the keyboard for the LEDs of the machine in use, where they aren't what it was sent last."""
-        lit = self.machines[self.active].output(self.c.OUTPUT, 0)[0]  # its first bit is LED 1 ..
+    def led(self, usage):
+        """The place of the first interface that has this LED, and the element."""
         for interface, _ in enumerate(self.keyboard.interfaces()):
-            leds = [led for led in (self.keyboard.find(interface, self.c.OUTPUT, LEDS, usage) for usage in range(1, 6)) if led]
-            if leds:
-                report = bytearray(self.keyboard.blank(interface, self.c.OUTPUT, leds[0].report))
-                room = (self.c.types["uint8_t"] * len(report)).from_buffer(report)
-                for led in leds:  # .. and the keyboard's are found by their usages
-                    self.c.put(led, room, len(report), lit >> led.id - 1 & 1)
-                request = (interface, self.c.SET_REPORT, self.c.OUTPUT, leds[0].report, bytes(report))
-                if bytes(report) != self.leds and self.keyboard.ask(*request) == self.c.OK:
-                    self.leds = bytes(report)
-                return
+            if led := self.keyboard.find(interface, self.c.OUTPUT, LEDS, usage):
+                return interface, led
+        return None
+
+    def ask_for_leds(self, interface, report_id, lit):
+        """Asks an interface of the keyboard to take its report of this ID, with the LEDs of `lit`."""
+        report = bytearray(self.keyboard.blank(interface, self.c.OUTPUT, report_id))
+        room = (self.c.types["uint8_t"] * len(report)).from_buffer(report)
+        self.asked, self.wanted = 0, lit
+        for usage in range(1, 6):  # (a report may have them at other places than a boot keyboard's)
+            found = self.led(usage)
+            if found and (found[0], found[1].report) == (interface, report_id):
+                self.c.put(found[1], room, len(report), lit >> usage - 1 & 1)
+                self.asked |= 1 << usage - 1
+        self.keyboard.ask(interface, self.c.SET_REPORT, self.c.OUTPUT, report_id, bytes(report))
+
+    def pass_leds(self):
+        """Asks the keyboard for the first LED that it doesn't show as the machine in use has it."""
+        lit = self.machines[self.active].output(self.c.OUTPUT, 0)[0]  # its first bit is LED 1
+        for usage in range(1, 6):
+            found = self.led(usage) if (lit ^ self.lit) >> usage - 1 & 1 else None
+            if found:
+                return self.ask_for_leds(found[0], found[1].report, lit)
+        return None
 
     def turn(self, keyboard):
         """What the keyboard has to say goes to the machine in use, and that one's LEDs to the keyboard."""
-        transfer(self.keyboard, keyboard)
-        self.take(poll_report(self.keyboard, keyboard))
+        if transfer(self.keyboard, keyboard):
+            self.lit = self.lit & ~self.asked | self.wanted & self.asked
+        for place, interface in enumerate(self.keyboard.interfaces()):
+            if interface.state == self.c.INTERFACE_LIVE:
+                self.take(poll_report(self.keyboard, place, keyboard))
         self.pass_leds()
 
     def unplug(self):
         """The keyboard is unplugged: what is held goes up, also in the machine."""
         self.take(self.keyboard.reset())
-        self.leds = b""
+        self.lit = 0
 
 
 # ---- That was the switch. From here on: what stands in for a desk, and what happens there ----
 
-# a keyboard with Report IDs: modifiers, the keys up to F20, LEDs after three bits of padding; and two volume keys
+# a keyboard with Report IDs: modifiers, the keys up to F20, three LEDs after three bits of padding; two LEDs in a report of their own;
+# and two volume keys
 DESCRIPTOR = bytes.fromhex("05010906A1018501050719E029E7150025017501950881021904296F956C8102950481010508950391011901"
-                           + "290595059102C0050C0901A101850209E909EA9502810295068101C0")
+                           + "2903910295029101850319042905910295069101C0050C0901A101850209E909EA9502810295068101C0")
+
+
+class Keyboard(Device):
+    """A virtual keyboard whose cable loses the next report that is sent to it, where `loses` is true."""
+    loses = False
+
+    def control(self, setup, data):
+        if self.loses and setup.request == self.c.SET_REPORT:
+            self.loses = False
+            return self.c.FAILED, b""
+        return super().control(setup, data)
 
 
 class Desk:
     def __init__(self, c):
-        self.c, self.kvm, self.leds = c, Kvm(c), b"\x01\x00"
-        self.keyboard, self.machines = Device(c, DESCRIPTOR, 0x1209, 0x0002, 10), [Host(c), Host(c)]
+        self.c, self.kvm, self.leds = c, Kvm(c), [0, 0]
+        self.keyboard, self.machines = Keyboard(c, DESCRIPTOR, 0x1209, 0x0002, 10), [Host(c), Host(c)]
 
     def wait(self):
         """Some milliseconds pass: turns of the switch, and transfers of the machines, which print what comes to them."""
@@ -89,12 +122,12 @@ class Desk:
             self.kvm.turn(self.keyboard)
             for number, (host, device) in enumerate(zip(self.machines, self.kvm.machines), 1):
                 transfer(host, device)
-                for event in poll_report(host, device):
+                for event in poll_report(host, 0, device):
                     print(f"  machine {number}: {self.c.name(event.page, event.id)} {'down' if event.kind == self.c.DOWN else 'up'}")
-        leds = self.keyboard.output(self.c.OUTPUT, 1)
-        if leds and leds != self.leds:
-            print(f"  LEDs of the keyboard: {leds[1]:02X}")
-            self.leds = leds
+        reports = [self.keyboard.output(self.c.OUTPUT, report) for report in (1, 3)]
+        if all(reports) and [report[1] for report in reports] != self.leds:
+            self.leds = [report[1] for report in reports]
+            print("  LEDs of the keyboard: {:02X} {:02X}".format(*self.leds))
 
     def finger(self, what, page, usage, call):
         print(what)
@@ -102,7 +135,7 @@ class Desk:
         self.wait()
 
     def light(self, what, machine, leds):
-        """A machine lights LEDs of its keyboard: 1 Num Lock, 2 Caps Lock, 4 Scroll Lock."""
+        """A machine lights LEDs of its keyboard: 1 Num Lock, 2 Caps Lock, 4 Scroll Lock, 16 Kana."""
         print(what)
         self.machines[machine].ask(0, self.c.SET_REPORT, self.c.OUTPUT, 0, bytes([leds]))
         self.wait()
@@ -123,6 +156,8 @@ def main(c):
     desk.light("machine 1 lights Caps Lock and Scroll Lock", 0, 6)
     desk.finger("Scroll Lock goes down", KEYS, SCROLL_LOCK, down)
     desk.finger("C goes down", KEYS, 0x06, down)
+    desk.keyboard.loses = True
+    desk.light("machine 1 lights Num Lock and Kana, and a report to the keyboard is lost", 0, 17)
     print("the keyboard is unplugged")
     desk.keyboard.close()
     desk.kvm.unplug()

@@ -4,7 +4,7 @@
  *     cc libusb.c $(pkg-config --cflags --libs hidstack libusb-1.0) -o libusb && sudo ./libusb 046d:c31c
  *
  * Meanwhile the system doesn't have the device: don't take the keyboard on which you type. It ends with 0; with 1 where the device
- * can't be read, and with 2 where there is none, or memory runs out. */
+ * can't be read, or three transfers in a row fail; and with 2 where there is none, or memory runs out. */
 #include <hidstack.h>
 #include <inttypes.h>
 #include <libusb.h>
@@ -121,7 +121,7 @@ static void LIBUSB_CALL came(struct libusb_transfer *transfer)
                                                                      : HIDSTACK_FAILED;
     pipe->underway = 0;
     reader->errors = outcome == HIDSTACK_FAILED ? reader->errors + 1 : 0;
-    reader->gone |= transfer->status == LIBUSB_TRANSFER_NO_DEVICE || reader->errors == ERRORS;
+    reader->gone |= transfer->status == LIBUSB_TRANSFER_NO_DEVICE;
     if (hidstack_host_report(&reader->host, pipe->interface, outcome, pipe->packet, (size_t)transfer->actual_length, reader->events, reader->room,
                              &result) == HIDSTACK_OK)
         print(reader->events, result.count);
@@ -144,7 +144,7 @@ static int poll_all(struct reader *reader)
         pipe->interface = place;
         libusb_fill_interrupt_transfer(pipe->transfer, reader->device, 0x80 | info.endpoint, pipe->packet, info.packet_size, came, pipe, 0);
         pipe->underway = outcome_of(reader, libusb_submit_transfer(pipe->transfer)) == HIDSTACK_OK;
-        reader->gone |= !pipe->underway;
+        reader->errors += !pipe->underway;
     }
     return 1;
 }
@@ -190,6 +190,10 @@ static int play(struct reader *reader)
             return 2;
         if (reader->gone)
             return 0;
+        if (reader->errors >= ERRORS) {
+            fprintf(stderr, "libusb: %d transfers in a row failed\n", reader->errors);
+            return 1;
+        }
         result = libusb_handle_events_timeout_completed(NULL, &second, NULL);
         if (result != 0 && result != LIBUSB_ERROR_INTERRUPTED)
             return 2;
