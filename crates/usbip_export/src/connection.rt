@@ -42,6 +42,18 @@ pub enum Stage {
     Over,
 }
 
+impl Stage {
+    /// The place of the device that a connection at this stage has, if it has one.
+    pub fn place(&self) -> Option<usize>
+        ensures { result ≡ place_of_stage self.now }
+    {
+        match self {
+            Stage::Command(place) | Stage::Data(place, _) => Some(*place),
+            Stage::Operation | Stage::BusId | Stage::Over => None,
+        }
+    }
+}
+
 /// A connection of a host to exported devices.
 #[derive(Drop)]
 pub struct Connection {
@@ -83,16 +95,6 @@ fn data_after(submit: &Submit) -> usize
     match submit.direction {
         Direction::Out => submit.length as usize,
         Direction::In => 0,
-    }
-}
-
-/// The place of the device that a connection at this stage has.
-fn place_of(stage: &Stage) -> Option<usize>
-    ensures { result ≡ place_of_stage stage.now }
-{
-    match stage {
-        Stage::Command(place) | Stage::Data(place, _) => Some(*place),
-        Stage::Operation | Stage::BusId | Stage::Over => None,
     }
 }
 
@@ -162,7 +164,7 @@ impl Connection {
         ensures count { result ≡ length (report_answer devices.old self.now.stage) }
         ensures room { room.new ≡ with_front (report_answer devices.old self.now.stage) room.old }
     {
-        match place_of(&self.stage) {
+        match self.stage.place() {
             Some(place) if place < devices.len() => devices[place].report(room),
             _ => 0,
         }
@@ -173,7 +175,7 @@ impl Connection {
         ensures stage { self.new.stage ≡ Stage.Over }
         ensures devices { devices.new ≡ devices_after_end devices.old self.old.stage }
     {
-        if let Some(place) = place_of(&self.stage)
+        if let Some(place) = self.stage.place()
             && place < devices.len()
         {
             devices[place].end();

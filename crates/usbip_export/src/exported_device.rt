@@ -3,6 +3,8 @@ ghost use Rattle.std.specs.Prelude.{◌≡◌, ◌≤◌, ◌++◌, [], length, 
 ghost use Rattle.std.specs.Option.{option_copied};
 ghost use Rattle.hid_device.specs.Core.{changed_core, framed_core, reset_core};
 ghost use Rattle.hid_device.specs.RequestTable.{output_of};
+ghost use Rattle.hid_layout.specs.Controls.{items_of};
+ghost use Rattle.hid_snapshots.specs.Snapshots.{Changes};
 ghost use Rattle.hid_gadget.specs.Gadgets.{FindsControl, MakesGadget, halted_gadget};
 ghost use Rattle.hid_gadget.specs.Rooms.{with_front};
 ghost use Rattle.usbip.specs.Messages.{data_length, reply_bytes};
@@ -131,9 +133,11 @@ impl ExportedDevice {
     /// Changes a control of the gadget.
     ///
     /// # Errors
-    /// Those of [`Gadget::change`]. A change that is refused changes nothing.
+    /// Those of [`Gadget::change`], U1 to U7. A change that is refused changes nothing.
     pub fn change(&mut self, change: Change) -> Result<(), ChangeFault>
-        ensures { self.new ≡ record self.old { gadget = changed_core self.old.gadget change } }
+        ensures changes { Changes (items_of self.old.gadget.layout) self.old.gadget.reports.snapshot change result
+            self.new.gadget.reports.snapshot }
+        ensures device { self.new ≡ record self.old { gadget = changed_core self.old.gadget change } }
     {
         self.gadget.change(change)
     }

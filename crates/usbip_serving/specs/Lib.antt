@@ -1,2 +1,3 @@
 pub mod SetReports
 pub mod Turns
+pub mod Words

@@ -1,7 +1,10 @@
 -- When an action comes at a device that is served, and what it does (our choice: docs/USBIP.md).
-use Rattle.std.specs.Prelude.{◌≡◌, ℕ, zero, suc, ◌+◌, ◌-◌, ◌^◌, ◌==◌, ◌&&◌, not, min, nat_le, Bool, false, if◌then◌else◌, List, length, slice_get, Option, Some, None, is_some, Result, Ok, MatchResult}
+use Rattle.std.specs.Prelude.{◌≡◌, ℕ, zero, suc, ◌+◌, ◌-◌, ◌^◌, ◌==◌, ◌&&◌, not, min, nat_le, Bool, false, if◌then◌else◌, List, length, slice_get, Option, Some, None, is_some, Result, Ok, Err, MatchResult}
+use Rattle.hid_layout.specs.Controls.{items_of}
 use Rattle.hid_snapshots.specs.declared.change.Change.{Change as OneChange}
 use Rattle.hid_snapshots.specs.declared.fault.ChangeFault.{ChangeFault}
+use Rattle.hid_snapshots.specs.declared.control_state.ControlState.{ControlState}
+use Rattle.hid_snapshots.specs.Snapshots.{snapshot_after}
 use Rattle.hid_device.specs.Core.{changed_core, framed_core, reset_core}
 use Rattle.hid_gadget.specs.Gadgets.{halted_gadget}
 use Rattle.hid_gadget.specs.Rooms.{with_front}
@@ -12,7 +15,6 @@ use Rattle.usbip_serving.specs.declared.action.Action.TheVariants.{Change, Halt,
 use Rattle.usbip_serving.specs.declared.action.Turn.{Turn}
 use Rattle.usbip_serving.specs.declared.action.Turn.TheVariants.{Sends, Acted, Waits}
 use Rattle.usbip_serving.specs.declared.serving.Serving.{Serving}
-use Rattle.usbip_serving.specs.declared.serving.TheConstants.{MAX_FRAMES}
 
 -- ---- when an action comes
 
@@ -71,6 +73,28 @@ devices_after_action ds place (Halt at) = changed_if ds place at with_halt
 devices_after_action ds place (Reset at) = changed_if ds place at with_reset
 devices_after_action ds place (Frames count) = ds
 
+-- the device at a place, where it is the one that the host has
+abbrev pub device_if : List ExportedDevice → Option ℕ → ℕ → Option ExportedDevice
+device_if ds None at = None
+device_if ds (Some place) at = if place == at then slice_get ds at else None
+
+-- why there is no snapshot, if there is none
+abbrev pub fault_of : Result (List ControlState) ChangeFault → Option ChangeFault
+fault_of (Ok states) = None
+fault_of (Err fault) = Some fault
+
+-- Why a change is refused at this device: the first of U1 to U7 that stands. Where there is no device nothing is refused.
+abbrev pub refusal_at : Option ExportedDevice → OneChange → Option ChangeFault
+refusal_at None change = None
+refusal_at (Some d) change = fault_of (snapshot_after (items_of d.gadget.layout) d.gadget.reports.snapshot change)
+
+-- Why an action is refused, if it is: a change of a control alone can be. Example: 1 more than a motion of 7FFFFFFF hex is U6
+abbrev pub refusal_of : List ExportedDevice → Option ℕ → Action → Option ChangeFault
+refusal_of ds place (Change at change) = refusal_at (device_if ds place at) change
+refusal_of ds place (Halt at) = None
+refusal_of ds place (Reset at) = None
+refusal_of ds place (Frames count) = None
+
 -- When the action after this one may come: after frames, once they are over.
 abbrev pub due_after : ℕ → ℕ → Action → ℕ
 due_after due now (Frames count) = min (now + count) (2 ^ 64 - 1)
@@ -79,11 +103,6 @@ due_after due now _ = due
 -- an action that is done is done once
 abbrev pub after_action : Serving → ℕ → Action → Serving
 after_action s now action = record s { due = due_after s.due now action; done = s.done + 1 }
-
--- the action is a change of a control: no other is refused
-abbrev pub IsChange : Action → Type 0
-IsChange (Change at change) = Unit {0}
-IsChange _ = ⊥
 
 -- ---- what a turn leaves
 
@@ -95,11 +114,13 @@ pub record Leaves (result : Result Turn ChangeFault) (turn : Turn) (next before 
   pub devices : after ≡ left
   pub filled : written ≡ room
 
--- What an action leaves. It is done; or it is a change that is refused, and comes again.
+-- What an action leaves. It is done; or it is refused for its cause, the device stays, and the action comes again.
 pub record LeavesAction (s : Serving) (ds : List ExportedDevice) (now : ℕ) (room : List ℕ) (action : Action)
     (result : Result Turn ChangeFault) (next : Serving) (after : List ExportedDevice) (written : List ℕ) : Type 0 where
-  pub ended : MatchResult result (λ told. (told ≡ Acted) × (next ≡ after_action s now action))
-      (λ fault. IsChange action × (next ≡ s))
+  pub ended : MatchResult result
+      (λ told. (told ≡ Acted) × (refusal_of ds (place_of_stage s.connection.stage) action ≡ None)
+      × (next ≡ after_action s now action))
+      (λ fault. (refusal_of ds (place_of_stage s.connection.stage) action ≡ Some fault) × (next ≡ s))
   pub devices : after ≡ devices_after_action ds (place_of_stage s.connection.stage) action
   pub filled : written ≡ room
 
@@ -125,6 +146,6 @@ abbrev pub after_frames : ℕ → ExportedDevice → ExportedDevice
 after_frames zero d = d
 after_frames (suc n) d = with_frame (after_frames n d)
 
--- How many frames are over by the clock since this much of it passed. More than 1,020 change nothing: no idle time is longer.
+-- How many frames are over by the clock since this much of it passed, 1,020 at most: no idle time is longer (HID 1.11, 7.2.4).
 abbrev pub frames_over : ℕ → ℕ → ℕ
-frames_over passed now = min (now - passed) MAX_FRAMES
+frames_over passed now = min (now - passed) 1020

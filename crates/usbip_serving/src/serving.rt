@@ -1,10 +1,10 @@
 //! A connection to exported devices, the clock, and the actions that are done at them.
-ghost use Rattle.std.specs.Prelude.{◌≡◌, ◌≤◌, ◌<◌, ◌^◌, max, length, OnOk, OnErr, IfOk, IfErr, slice_get};
+ghost use Rattle.std.specs.Prelude.{◌≡◌, ◌≤◌, ◌<◌, ◌^◌, max, length, OnOk, IfOk, IfErr, Some, None};
 ghost use Rattle.usbip_export.specs.declared.description.TheConstants.{MAX_DEVICES};
 ghost use Rattle.usbip_export.specs.declared.exported_device.TheConstants.{MAX_ANSWER};
 ghost use Rattle.usbip_export.specs.Connections.{Takes, bytes_wanted, changed_device, devices_after_end, place_of_stage};
 ghost use Rattle.usbip_serving.specs.SetReports.{count_of, report_set};
-ghost use Rattle.usbip_serving.specs.Turns.{IsChange, Turns, after_frames, asks, changed_if, device_at, devices_after_action, due_after, frames_over, move_of, with_change, with_halt, with_reset};
+ghost use Rattle.usbip_serving.specs.Turns.{Turns, after_frames, asks, changed_if, device_at, device_if, devices_after_action, due_after, frames_over, move_of, refusal_at, refusal_of, with_change, with_halt, with_reset};
 
 use crate::action::{Action, Turn};
 use crate::set_report::{Taken, awaited_report, says_done};
@@ -31,16 +31,6 @@ fn pass_frames(device: &mut ExportedDevice, count: u64)
 {
     for passed in 0..count {
         device.frame();
-    }
-}
-
-/// The place of the device that a connection at this stage has.
-fn place_of(stage: &Stage) -> Option<usize>
-    ensures { result ≡ place_of_stage stage.now }
-{
-    match stage {
-        Stage::Command(place) | Stage::Data(place, _) => Some(*place),
-        Stage::Operation | Stage::BusId | Stage::Over => None,
     }
 }
 
@@ -132,7 +122,7 @@ impl Serving {
         ensures passed { self.new ≡ record self.old { passed = max self.old.passed now } }
     {
         let count = now.saturating_sub(self.passed).min(MAX_FRAMES);
-        if let Some(place) = place_of(&self.connection.stage())
+        if let Some(place) = self.connection.stage().place()
             && place < devices.len()
         {
             pass_frames(&mut devices[place], count);
@@ -157,7 +147,7 @@ impl Serving {
         ensures { Turns self.old devices.old now room.old (move_of self.old devices.old actions.now now) result
             self.new devices.new room.new }
     {
-        let place = place_of(&self.connection.stage());
+        let place = self.connection.stage().place();
         let may_act = is_asked(devices, place) && self.due <= now;
         let count = self.connection.report(devices, room);
         if count > 0 {
@@ -176,11 +166,12 @@ impl Serving {
     pub fn end(&mut self, devices: &mut [ExportedDevice])
         ensures stage { self.new.connection.stage ≡ Stage.Over }
         ensures devices { devices.new ≡ devices_after_end devices.old self.old.connection.stage }
+        ensures clock { self.new ≡ record self.old { connection = self.new.connection } }
     {
         self.connection.end(devices);
     }
 
-    /// Carries out an action.
+    /// Carries out an action. One that is refused changes nothing.
     fn act(
         &mut self,
         devices: &mut [ExportedDevice],
@@ -189,8 +180,9 @@ impl Serving {
         now: u64,
     ) -> Result<(), ChangeFault>
         ensures devices { devices.new ≡ devices_after_action devices.old place action }
-        ensures done { OnOk result (self.new ≡ record self.old { due = due_after self.old.due now action }) }
-        ensures refused { OnErr result (IsChange action × (self.new ≡ self.old)) }
+        ensures done { OnOk result ((refusal_of devices.old place action ≡ None)
+            × (self.new ≡ record self.old { due = due_after self.old.due now action })) }
+        ensures refused { IfErr result (λ fault. (refusal_of devices.old place action ≡ Some fault) × (self.new ≡ self.old)) }
     {
         match action {
             Action::Change(at, change) => change_at(devices, place, at, change)?,
@@ -202,14 +194,16 @@ impl Serving {
     }
 }
 
-/// Changes a control of the device at a place, if the host has that.
+/// Changes a control of the device at a place, if the host has that, or gives why that is refused.
 fn change_at(
     devices: &mut [ExportedDevice],
     place: Option<usize>,
     at: usize,
     change: Change,
 ) -> Result<(), ChangeFault>
-    ensures { devices.new ≡ changed_if devices.old place at (with_change change) }
+    ensures devices { devices.new ≡ changed_if devices.old place at (with_change change) }
+    ensures done { OnOk result (refusal_at (device_if devices.old place at) change ≡ None) }
+    ensures refused { IfErr result (λ fault. refusal_at (device_if devices.old place at) change ≡ Some fault) }
 {
     if place == Some(at) && at < devices.len() {
         devices[at].change(change)
