@@ -45,20 +45,25 @@ def prepare(guest):
     devices = guest.devices()
     for name in (KBD, POINTER, TABLET, GADGET):
         guest.export(devices[name])
-    guest.run("usbipd -4 -D --tcp-port %d" % PORT)
+    listen(guest)
     return devices
+
+
+def listen(guest):
+    """Starts Debian's usbipd in the guest, anew where one is there."""
+    guest.run("killall usbipd && sleep 1; usbipd -4 -D --tcp-port %d" % PORT)
 
 
 class Printed:
     """A file in which a program prints events, as TIME DEVICE EVENT."""
 
-    def __init__(self, read):
-        self.read, self.taken = read, 0
+    def __init__(self, read, patience=60):
+        self.read, self.patience, self.taken = read, patience, 0
 
     def expect(self, text, device=0):
         """The next events are these of a device, and no more come."""
         want = ["%d %s" % (device, event) for event in text.split(", ") if event]
-        end = time.monotonic() + 60
+        end = time.monotonic() + self.patience
         while len(self.events()) < len(want) and time.monotonic() < end:
             time.sleep(0.05)
         time.sleep(WAIT)
@@ -76,7 +81,7 @@ class Attached(Printed):
 
     def __init__(self, bench, name, busid, *options):
         place = folder(bench.work, name)
-        super().__init__(lambda: shown(place / "events"))
+        super().__init__(lambda: bench.spoil_events("".join(line + "\n" for line in shown(place / "events"))).splitlines(), bench.patience)
         self.leds, self.errors = place / "leds", place / "errors"
         self.leds.touch()
         words = " ".join(["'%s'" % bench.hidattach, *options, "--output", str(place / "events"), "--leds", str(self.leds), busid])
