@@ -8,6 +8,7 @@ use Rattle.hid_requests.specs.Fault.{device_fault_text}
 use Rattle.hid_text.specs.declared.fault.LineFault.{LineFault}
 use Rattle.hid_text.specs.declared.fault.LineFault.TheVariants.{Syntax, LineTooLong, BadHex}
 use Rattle.usbip_export.specs.Faults.{export_fault_code}
+use Rattle.usbip_serving.specs.Words.{export_words}
 use Rattle.hidserve.specs.declared.fault.LineCause.{LineCause}
 use Rattle.hidserve.specs.declared.fault.LineCause.TheVariants.{Text, NoDevice, Change, Device, TooManyDevices, NotServed}
 use Rattle.hidserve.specs.declared.fault.ServeFault.{ServeFault}
@@ -41,7 +42,7 @@ line_cause_text NotServed = codes "E1: the host does this, or hidrun prints it"
 -- why serving ends early. Example: line 2: X1: no line of a script
 abbrev pub serve_fault_text : ServeFault → List ℕ
 serve_fault_text (Line number cause) = codes "line " ++ decimal number ++ codes ": " ++ line_cause_text cause
-serve_fault_text (Message fault) = export_fault_code fault ++ codes ": the host sent no message that can be answered"
+serve_fault_text (Message fault) = export_fault_code fault ++ codes ": " ++ export_words fault
 serve_fault_text NoDevices = codes "E2: the script has no device"
 serve_fault_text HalfMessage = codes "E3: the connection ends in the middle of a message"
 serve_fault_text Script = codes "E4: the script can't be read"

@@ -6,6 +6,7 @@ ghost use Rattle.hidserve.specs.FaultText.{change_words, line_cause_text, serve_
 use hid_text::LineFault;
 use std::fmt;
 use usbip_export::{ChangeFault, DeviceFault, ExportFault};
+use usbip_serving::export_words;
 
 /// Why a line is refused.
 #[derive(Clone, Copy, Debug, PartialEq, Eq)]
@@ -101,10 +102,10 @@ impl fmt::Display for ServeFault {
     fn fmt<W: fmt::Write>(&self, f: &mut fmt::Formatter<W>) -> fmt::Result {
         let words = match self {
             ServeFault::Line(number, cause) => return write!(f, "line {number}: {cause}"),
-            ServeFault::Message(fault) => return write!(
-                f,
-                "{fault}: the host sent no message that can be answered"
-            ),
+            ServeFault::Message(fault) => {
+                let words = export_words(*fault);
+                return write!(f, "{fault}: {words}");
+            }
             ServeFault::NoDevices => "E2: the script has no device",
             ServeFault::HalfMessage => "E3: the connection ends in the middle of a message",
             ServeFault::Script => "E4: the script can't be read",

@@ -229,7 +229,8 @@ impl Script {
 /// The script of these bytes.
 ///
 /// # Errors
-/// The first line that is refused, by its number; E2 where there is no device; E5 where memory runs out.
+/// The first line that is refused, by its number; E2 where there is no device; E5 where memory runs out. Of changes those of a
+/// control that isn't there are refused here (U1), and all others once they come: [`usbip_serving::Serving::turn`] says which (U2 to U7).
 pub fn read_script(alloc: Global, bytes: &[u8]) -> Result<Script, ServeFault>
     ensures ok { IfOk result (λ script. AllGive nothing_read 1 (lines bytes.now) (read_of script)
         × ((read_of script).devices ≢ [])) }

@@ -6,7 +6,7 @@ use crate::script::Script;
 use std::io::{ErrorKind, Read, Write};
 use std::thread;
 use std::time::{Duration, Instant};
-use usbip_export::{ExportedDevice, MAX_ANSWER, MAX_DEVICES, MAX_ROOM, Stage};
+use usbip_export::{ExportedDevice, MAX_ANSWER, MAX_DEVICES, Stage};
 use usbip_serving::{Serving, SetReport, Turn};
 
 /// How often a write is tried that would block, a millisecond apart: ten seconds.
@@ -18,25 +18,25 @@ const FIRST_REST: u64 = 20;
 /// In microseconds, the longest rest: a frame.
 const LONGEST_REST: u64 = 1_000;
 
-/// What a read brought.
+/// What came of a part of a round.
 #[derive(Clone, Copy, PartialEq, Eq)]
 enum Came {
-    /// Bytes.
+    /// Bytes were read, or something was done.
     Some,
-    /// Nothing is there yet.
+    /// Nothing is there yet, or was to be done.
     Nothing,
     /// The stream is at its end, or the connection is over.
     End,
 }
 
-/// A connection, with room for what comes and goes.
+/// A connection that is served, with room for what comes and goes.
 #[derive(Drop)]
-struct Session {
+struct Service {
     serving: Serving,
-    /// Room for a message, and how much of it came.
+    /// Room for a message, as long as the longest that came, and how much of the next one came.
     message: Vec<u8>,
     filled: usize,
-    /// Room for an answer.
+    /// Room for an answer, once one was needed.
     room: Vec<u8>,
     /// Room for the line of a report that was set.
     text: String,
@@ -46,16 +46,8 @@ struct Session {
     rest: u64,
 }
 
-/// Bytes of zeros.
-fn zeros(rt: &HostRuntime, count: usize) -> Result<Vec<u8>, ServeFault> {
-    let mut bytes = Vec::new(rt.alloc());
-    match bytes.resize(count, 0) {
-        Ok(()) => Ok(bytes),
-        Err(_) => Err(ServeFault::Memory),
-    }
-}
-
-/// Writes some of these bytes, one at least. Where the stream would block, that is tried again each millisecond, for ten seconds.
+/// Writes some of these bytes, one at least; 0 where the host is gone. Where the stream would block, that is tried again each
+/// millisecond, for ten seconds.
 fn send_some<W: Write>(rt: &HostRuntime, to: &mut W, bytes: &[u8]) -> Result<usize, ServeFault> {
     for _ in 0..MAX_WAITS {
         match to.write(bytes) {
@@ -64,6 +56,7 @@ fn send_some<W: Write>(rt: &HostRuntime, to: &mut W, bytes: &[u8]) -> Result<usi
             Err(error) => match error.kind() {
                 ErrorKind::WouldBlock => thread::sleep(rt, Duration::from_millis(1)),
                 ErrorKind::Interrupted => {}
+                ErrorKind::BrokenPipe | ErrorKind::ConnectionReset => return Ok(0),
                 _ => return Err(ServeFault::Output),
             },
         }
@@ -71,17 +64,20 @@ fn send_some<W: Write>(rt: &HostRuntime, to: &mut W, bytes: &[u8]) -> Result<usi
     Err(ServeFault::Full)
 }
 
-/// Writes bytes, all of them.
-fn send<W: Write>(rt: &HostRuntime, to: &mut W, bytes: &[u8]) -> Result<(), ServeFault> {
+/// Writes bytes, all of them. False where the host is gone.
+fn send<W: Write>(rt: &HostRuntime, to: &mut W, bytes: &[u8]) -> Result<bool, ServeFault> {
     let mut rest = bytes;
     for _ in 0..bytes.len() {
         if rest.is_empty() {
-            return Ok(());
+            return Ok(true);
         }
         let count = send_some(rt, to, rest)?;
+        if count == 0 {
+            return Ok(false);
+        }
         rest = rest.get(count..).unwrap_or(&[]);
     }
-    Ok(())
+    Ok(true)
 }
 
 /// Writes the line of a report that a host set.
@@ -102,25 +98,21 @@ fn tell<T: Write>(
     Ok(())
 }
 
-impl Session {
+impl Service {
     /// A connection of which nothing came.
-    fn new(rt: &HostRuntime) -> Result<Session, ServeFault> {
+    fn new(rt: &HostRuntime) -> Result<Service, ServeFault> {
         let Ok(start) = Instant::now(rt) else {
             return Err(ServeFault::Clock);
         };
-        let message = zeros(rt, MAX_ROOM)?;
-        match zeros(rt, MAX_ANSWER) {
-            Ok(room) => Ok(Session {
-                serving: Serving::new(),
-                message,
-                filled: 0,
-                room,
-                text: String::new(rt.alloc()),
-                start,
-                rest: FIRST_REST,
-            }),
-            Err(fault) => Err(fault),
-        }
+        Ok(Service {
+            serving: Serving::new(),
+            message: Vec::new(rt.alloc()),
+            filled: 0,
+            room: Vec::new(rt.alloc()),
+            text: String::new(rt.alloc()),
+            start,
+            rest: FIRST_REST,
+        })
     }
 
     /// What the end of the stream is: it may come between two messages alone.
@@ -138,8 +130,11 @@ impl Session {
             return Ok(Came::End);
         }
         let filled = self.filled;
-        if filled >= wanted || wanted > self.message.len() {
-            return Err(ServeFault::Input);
+        if filled >= wanted {
+            return Ok(Came::Some);
+        }
+        if self.message.len() < wanted && self.message.resize(wanted, 0).is_err() {
+            return Err(ServeFault::Memory);
         }
         match from.read(&mut self.message[filled..wanted]) {
             Ok(0) => self.end_of_stream(),
@@ -149,6 +144,7 @@ impl Session {
             }
             Err(error) => match error.kind() {
                 ErrorKind::WouldBlock | ErrorKind::Interrupted => Ok(Came::Nothing),
+                ErrorKind::ConnectionReset | ErrorKind::BrokenPipe => self.end_of_stream(),
                 _ => Err(ServeFault::Input),
             },
         }
@@ -161,18 +157,17 @@ impl Session {
         devices: &mut [ExportedDevice],
         to: &mut W,
         told: &mut T,
-    ) -> Result<(), ServeFault> {
+    ) -> Result<Came, ServeFault> {
         let wanted = self.serving.wants();
-        if self.filled < wanted {
-            return Ok(());
+        if self.filled < wanted || self.message.len() < wanted {
+            return Ok(Came::Some);
         }
-        if devices.len() > MAX_DEVICES
-            || self.room.len() < MAX_ANSWER
-            || self.message.len() < wanted
-        {
-            return Err(ServeFault::Input);
+        if self.room.resize(MAX_ANSWER, 0).is_err() {
+            return Err(ServeFault::Memory);
         }
         self.filled = 0;
+        let count = devices.len().min(MAX_DEVICES);
+        let devices = &mut devices[..count];
         let taken = match self
             .serving
             .take(devices, &self.message[..wanted], &mut self.room)
@@ -185,35 +180,51 @@ impl Session {
         {
             tell(&mut self.text, device, &set, told)?;
         }
-        send(rt, to, self.room.get(..taken.length).unwrap_or(&[]))
+        self.send(rt, to, taken.length)
     }
 
-    /// Does all that is to be done now, and gives whether there was anything.
+    /// Sends so many bytes at the front of the room.
+    fn send<W: Write>(
+        &self,
+        rt: &HostRuntime,
+        to: &mut W,
+        count: usize,
+    ) -> Result<Came, ServeFault> {
+        if send(rt, to, self.room.get(..count).unwrap_or(&[]))? {
+            Ok(Came::Some)
+        } else {
+            self.end_of_stream()
+        }
+    }
+
+    /// Does all that is to be done now.
     fn act<W: Write>(
         &mut self,
         rt: &HostRuntime,
         script: &mut Script,
         to: &mut W,
         now: u64,
-    ) -> Result<bool, ServeFault> {
-        let mut acted = false;
+    ) -> Result<Came, ServeFault> {
+        let mut came = Came::Nothing;
         for _ in 0..u64::MAX {
-            if self.room.len() < MAX_ANSWER {
-                return Err(ServeFault::Input);
+            if self.room.resize(MAX_ANSWER, 0).is_err() {
+                return Err(ServeFault::Memory);
             }
             let actions = script.actions.as_slice();
             match self.serving.turn(script.devices.as_mut_slice(), actions, now, &mut self.room) {
                 Ok(Turn::Waits) => break,
-                Ok(Turn::Acted) => {}
-                Ok(Turn::Sends(count)) => send(rt, to, self.room.get(..count).unwrap_or(&[]))?,
+                Ok(Turn::Acted) => came = Came::Some,
+                Ok(Turn::Sends(count)) => came = self.send(rt, to, count)?,
                 Err(fault) => {
                     let line = script.lines.get(self.serving.done()).copied().unwrap_or(0);
                     return Err(ServeFault::Line(line, LineCause::Change(fault)));
                 }
             }
-            acted = true;
+            if came == Came::End {
+                break;
+            }
         }
-        Ok(acted)
+        Ok(came)
     }
 }
 
@@ -228,41 +239,47 @@ fn millis(rt: &HostRuntime, start: &Instant) -> Result<u64, ServeFault> {
 /// One round: what came, the frames, and what is to be done; a rest, where there was nothing. False at the end.
 fn go_round<R: Read, W: Write, T: Write>(
     rt: &HostRuntime,
-    session: &mut Session,
+    service: &mut Service,
     script: &mut Script,
     from: &mut R,
     to: &mut W,
     told: &mut T,
 ) -> Result<bool, ServeFault> {
-    let came = session.read(from)?;
-    match came {
-        Came::End => return Ok(false),
-        Came::Some => session.answer(rt, script.devices.as_mut_slice(), to, told)?,
-        Came::Nothing => {}
+    let read = service.read(from)?;
+    let came = match read {
+        Came::Some => service.answer(rt, script.devices.as_mut_slice(), to, told)?,
+        Came::Nothing | Came::End => read,
+    };
+    if came == Came::End {
+        return Ok(false);
     }
     // (a read that blocks takes time)
-    let now = millis(rt, &session.start)?;
-    session.serving.pass(script.devices.as_mut_slice(), now);
-    if session.act(rt, script, to, now)? || came == Came::Some {
-        session.rest = FIRST_REST;
+    let now = millis(rt, &service.start)?;
+    service.serving.pass(script.devices.as_mut_slice(), now);
+    let done = service.act(rt, script, to, now)?;
+    if done == Came::End {
+        return Ok(false);
+    }
+    if done == Came::Some || came == Came::Some {
+        service.rest = FIRST_REST;
         return Ok(true);
     }
-    thread::sleep(rt, Duration::from_micros(session.rest));
-    session.rest = session.rest.saturating_mul(2).min(LONGEST_REST);
+    thread::sleep(rt, Duration::from_micros(service.rest));
+    service.rest = service.rest.saturating_mul(2).min(LONGEST_REST);
     Ok(true)
 }
 
 /// Rounds, until the connection ends.
 fn go_on<R: Read, W: Write, T: Write>(
     rt: &HostRuntime,
-    session: &mut Session,
+    service: &mut Service,
     script: &mut Script,
     from: &mut R,
     to: &mut W,
     told: &mut T,
 ) -> Result<(), ServeFault> {
     for _ in 0..u64::MAX {
-        if !go_round(rt, session, script, from, to, told)? {
+        if !go_round(rt, service, script, from, to, told)? {
             break;
         }
     }
@@ -280,9 +297,9 @@ pub fn serve<R: Read, W: Write, T: Write>(
     to: &mut W,
     told: &mut T,
 ) -> Result<(), ServeFault> {
-    let mut session = Session::new(rt)?;
-    let end = go_on(rt, &mut session, script, from, to, told);
-    session.serving.end(script.devices.as_mut_slice());
-    drop(session);
+    let mut service = Service::new(rt)?;
+    let end = go_on(rt, &mut service, script, from, to, told);
+    service.serving.end(script.devices.as_mut_slice());
+    drop(service);
     end
 }
