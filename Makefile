@@ -72,10 +72,10 @@ play-cost: $(HIDPLAY)  ## counts the instructions of a report in hidplay
 	tools/measure/cost hidplay $(HIDPLAY)
 
 # Counts the instructions of the stack's work, by callgrind: the table of docs/SPEED.md; then those of the C library's calls, if
-# there is a C compiler.
+# there are a C compiler and valgrind.
 bench: $(BENCH)  ## counts the instructions of the stack's work, and of calls of the C library
 	tools/measure/cost stack $(BENCH)
-	if test -n "$$(command -v "$${CC:-cc}")"; then $(MAKE) --no-print-directory library-cost; fi
+	if command -v "$${CC:-cc}" > /dev/null && command -v valgrind > /dev/null; then $(MAKE) --no-print-directory library-cost; fi
 
 # The C library: bin/lib/libhidstack.a and the shared libhidstack.so.$(LIBRARY_VERSION), from the proved crate.
 library: bin/lib/libhidstack.a  ## bin/lib/libhidstack.a and .so, the C library
