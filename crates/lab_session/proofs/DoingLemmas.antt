@@ -1,0 +1,198 @@
+-- What a bench did, one thing after the other.
+use Rattle.std.proofs.Common.{◌≡◌, Bool, true, false, ◌≢◌, ℕ, ◌+◌, ◌<◌, add-one, zero, suc, List, [], ◌∷◌, ◌++◌, refl, sym, ap, ◌∙◌, subst, append-nil, append_assoc, Option, None, Some, Result, Ok, Err, OnOk}
+use Rattle.std.specs.Io.KnownBytes.{Appends}
+use Rattle.std.proofs.KnownBytes.{Appends-nil, Appends-trans}
+use Rattle.usb_transact.specs.declared.transaction.Fate.{Fate}
+use Rattle.usb_transact.specs.declared.transaction.Fate.TheVariants.{Clean}
+use Rattle.hid_bus.specs.declared.step.Step.{Step}
+use Rattle.hid_bus.specs.declared.step.Step.TheVariants as step
+use Rattle.hid_text.specs.declared.line.Line.{Line}
+use Rattle.hid_text.specs.declared.line.Line.TheVariants as line
+use Rattle.hid_text.specs.declared.short.ShortLine.TheVariants as short
+use Rattle.hid_script.specs.Session.{Session, Outcome, success}
+use Rattle.hid_script.specs.Steps.{StepPrints}
+use Rattle.hid_bus.specs.declared.step.Told.{Told}
+use Rattle.hid_stack.specs.StepResult.{StepReturns}
+use Rattle.hid_script.specs.declared.fault.Cause.{Cause}
+use Rattle.hid_script.specs.Interpreter.{session_of}
+use Rattle.hid_script.specs.Place.{AppendsOutput}
+use Rattle.hid_script.specs.LineOutput.{CarriesOut, LineOutcomeOnce, ShortLinePrints, short_times, times}
+use Rattle.hid_script.proofs.RepeatLemmas.{no_times, one_more}
+use Rattle.lab_session.specs.declared.bench.Bench.{Bench}
+use Rattle.lab_session.specs.Bench.{Does, moment_of}
+use Rattle.lab_session.specs.Lines.{Moment, DoesNothing, DoesPart, Often, PollsOnce, Polls, Settles, Then, Tries, has_nothing}
+use Rattle.lab_session.specs.Parts.{Part, PartPrints, Says}
+use Rattle.lab_session.specs.Chances.{chance_at, chance_after, fate_by}
+use Rattle.lab_session.proofs.PrintedLemmas.{part_done}
+use Rattle.lab_session.specs.Printed.{IsPlain, PrintsPart, WritesText, is_styled}
+
+-- one thing and then another
+pub does_then : (First Next : Moment → List Part → List ℕ → Moment → Type 0) (a b c : Bench) (u v w : Option (List ℕ))
+    → Does First a b u v → Does Next b c v w → Does (Then First Next) a c u w
+does_then First Next a b c u v w h k = record {
+  parts = h.parts ++ k.parts;
+  text = h.text ++ k.text;
+  done = record {
+    middle = moment_of b;
+    first_parts = h.parts;
+    first_text = h.text;
+    next_parts = k.parts;
+    next_text = k.text;
+    first = h.done;
+    next = k.done;
+    all_parts = refl;
+    all_text = refl;
+  };
+  options = k.options ∙ h.options;
+  written = λ plain. Appends-trans u v w h.text k.text (h.written plain)
+      (k.written (subst IsPlain (sym h.options) plain));
+}
+
+-- nothing was done
+pub does_nothing : (a : Bench) (u : Option (List ℕ)) → Does DoesNothing a a u u
+does_nothing a u = record {
+  parts = [];
+  text = [];
+  done = (refl, refl, refl, λ dev. refl);
+  options = refl;
+  written = λ plain. Appends-nil u;
+}
+
+-- a poll is a line that polls once
+pub polled_once : (dev : ℕ) (fate : Fate) (session next : Session) (text : List ℕ)
+    → StepPrints (step.Poll dev fate) session (success text next)
+    → PartPrints (Says (line.Step (short.Poll dev fate 1))) session (success text next)
+unfolding PartPrints LineOutcomeOnce ShortLinePrints times short_times
+polled_once dev fate session next text h = one_more 0 (ShortLinePrints (short.Poll dev fate 1)) session session next [] text (no_times (ShortLinePrints (short.Poll dev fate 1)) session) h
+
+-- a try is a line that tries once
+pub tried_once : (dev : ℕ) (fate : Fate) (session next : Session) (text : List ℕ)
+    → StepPrints (step.Control dev fate) session (success text next)
+    → PartPrints (Says (line.Step (short.Control dev fate 1))) session (success text next)
+unfolding PartPrints LineOutcomeOnce ShortLinePrints times short_times
+tried_once dev fate session next text h = one_more 0 (ShortLinePrints (short.Control dev fate 1)) session session next [] text (no_times (ShortLinePrints (short.Control dev fate 1)) session) h
+
+-- what follows where a part ended well
+pub ok_so : {A B : Type 0} (r : Result A B) (P Q : Type 0) → (P → Q) → OnOk r P → OnOk r Q
+ok_so (Ok x) P Q f h = f h
+ok_so (Err e) P Q f h = tt
+
+-- a text that was kept in a place that was empty
+kept_text : (kept text written : List ℕ) → kept ≡ [] → Appends (Some kept) (Some text) written → text ≡ written
+kept_text kept text written none h = h ∙ ap (λ l. l ++ written) none
+
+-- a part was carried out, and its text was printed
+pub did_part : (part : Part) (a b : Bench) (kept text shown written : List ℕ) (u v : Option (List ℕ)) (r : Result (Unit {0}) Cause)
+    → kept ≡ [] → Appends (Some kept) (Some text) written → shown ≡ text
+    → PartPrints part (session_of a.interpreter) (success written (session_of b.interpreter))
+    → (is_styled a.options ≡ false → WritesText u v shown r)
+    → ((dev : ℕ) → chance_at b.draws dev ≡ chance_at a.draws dev) → b.options ≡ a.options
+    → OnOk r (Does (DoesPart part) a b u v)
+did_part part a b kept text shown written u v (Err e) none h same prints k stays options = tt
+did_part part a b kept text shown written u v (Ok x) none h same prints k stays options = record {
+  parts = part ∷ [];
+  text = written;
+  done = (refl, prints, stays);
+  options = options;
+  written = λ plain. subst (Appends u v) (same ∙ kept_text kept text written none h) (k plain.style);
+}
+
+-- a line of a script was carried out, and its text was printed
+pub did_line : (said : Line) (Begun : List ℕ → Type 0) (a b : Bench) (kept text shown : List ℕ) (u v : Option (List ℕ)) (part r : Result (Unit {0}) Cause)
+    → kept ≡ [] → shown ≡ text
+    → AppendsOutput (Some kept) (Some text) (CarriesOut (session_of a.interpreter) said) Begun part (session_of b.interpreter)
+    → (is_styled a.options ≡ false → PrintsPart u v shown part r) → OnOk r (part ≡ Ok tt)
+    → ((dev : ℕ) → chance_at b.draws dev ≡ chance_at a.draws dev) → b.options ≡ a.options
+    → OnOk r (Does (DoesPart (Says said)) a b u v)
+unfolding PartPrints
+did_line said Begun a b kept text shown u v part (Err e) none same h k is stays options = tt
+did_line said Begun a b kept text shown u v part (Ok x) none same h k is stays options =
+    let told = subst (λ p. AppendsOutput (Some kept) (Some text) (CarriesOut (session_of a.interpreter) said) Begun p (session_of b.interpreter)) is h in
+    record {
+      parts = Says said ∷ [];
+      text = told.0;
+      done = (refl, told.2, stays);
+      options = options;
+      written = λ plain. subst (Appends u v) (same ∙ kept_text kept text told.0 none told.1) (part_done u v shown part is (k plain.style));
+    }
+
+-- a device was polled once, and what that printed was printed
+pub did_poll : (dev : ℕ) (said fate : Fate) (idle : Bool) (told : Told) (a b : Bench) (kept text shown written : List ℕ) (u v : Option (List ℕ))
+    → fate ≡ fate_by (chance_at a.draws dev) said
+    → kept ≡ [] → Appends (Some kept) (Some text) written → shown ≡ text
+    → StepPrints (step.Poll dev fate) (session_of a.interpreter) (success written (session_of b.interpreter))
+    → StepReturns (session_of a.interpreter).members (step.Poll dev fate) told → idle ≡ has_nothing told
+    → (is_styled a.options ≡ false → Appends u v shown)
+    → chance_at b.draws dev ≡ chance_after (chance_at a.draws dev) said
+    → ((other : ℕ) → other ≢ dev → chance_at b.draws other ≡ chance_at a.draws other) → b.options ≡ a.options
+    → Does (PollsOnce dev said idle) a b u v
+did_poll dev said fate idle told a b kept text shown written u v is none h same prints returns answers k its others options =
+    let drawn = fate_by (chance_at a.draws dev) said in
+    record {
+      parts = Says (line.Step (short.Poll dev drawn 1)) ∷ [];
+      text = written;
+      done = record {
+        part = refl;
+        prints = polled_once dev drawn (session_of a.interpreter) (session_of b.interpreter) written
+            (subst (λ f. StepPrints (step.Poll dev f) (session_of a.interpreter) (success written (session_of b.interpreter))) is prints);
+        answers = (told, subst (λ f. StepReturns (session_of a.interpreter).members (step.Poll dev f) told) is returns, sym answers);
+        drawn = (its, others);
+      };
+      options = options;
+      written = λ plain. subst (Appends u v) (same ∙ kept_text kept text written none h) (k plain.style);
+    }
+
+-- a try was made, and what that printed was printed
+pub did_try : (dev : ℕ) (said fate : Fate) (a b : Bench) (kept text shown written : List ℕ) (u v : Option (List ℕ))
+    → fate ≡ fate_by (chance_at a.draws dev) said
+    → kept ≡ [] → Appends (Some kept) (Some text) written → shown ≡ text
+    → StepPrints (step.Control dev fate) (session_of a.interpreter) (success written (session_of b.interpreter))
+    → (IsPlain a.options → Appends u v shown)
+    → chance_at b.draws dev ≡ chance_after (chance_at a.draws dev) said
+    → ((other : ℕ) → other ≢ dev → chance_at b.draws other ≡ chance_at a.draws other) → b.options ≡ a.options
+    → Does (Tries dev said) a b u v
+did_try dev said fate a b kept text shown written u v is none h same prints k its others options =
+    let drawn = fate_by (chance_at a.draws dev) said in
+    record {
+      parts = Says (line.Step (short.Control dev drawn 1)) ∷ [];
+      text = written;
+      done = record {
+        part = refl;
+        prints = tried_once dev drawn (session_of a.interpreter) (session_of b.interpreter) written
+            (subst (λ f. StepPrints (step.Control dev f) (session_of a.interpreter) (success written (session_of b.interpreter))) is prints);
+        drawn = (its, others);
+      };
+      options = options;
+      written = λ plain. subst (Appends u v) (same ∙ kept_text kept text written none h) (k plain);
+    }
+
+-- one thing once more
+pub often_more : (Doing : Moment → List Part → List ℕ → Moment → Type 0) (n : ℕ) (a b c : Bench) (u v w : Option (List ℕ))
+    → Does (Often n Doing) a b u v → Does Doing b c v w → Does (Often (n + 1) Doing) a c u w
+often_more Doing n a b c u v w h k =
+    let both = does_then (Often n Doing) Doing a b c u v w h k in
+    rw add-one (record { parts = both.parts; text = both.text; done = both.done; options = both.options; written = both.written })
+
+-- a poll, whatever the answer is
+pub polled_some : (dev : ℕ) (said : Fate) (idle : Bool) (a b : Bench) (u v : Option (List ℕ))
+    → Does (PollsOnce dev said idle) a b u v → Does (Polls dev said) a b u v
+polled_some dev said idle a b u v h =
+    record { parts = h.parts; text = h.text; done = (idle, h.done); options = h.options; written = h.written }
+
+-- polls up to the one that found nothing to send
+pub settled : (dev n : ℕ) (idle : Bool) (a b c : Bench) (u v w : Option (List ℕ)) → n < 100 → idle ≡ true
+    → Does (Often n (PollsOnce dev Clean false)) a b u v → Does (PollsOnce dev Clean idle) b c v w → Does (Settles dev) a c u w
+settled dev n idle a b c u v w few is h k =
+    let last : Does (PollsOnce dev Clean true) b c v w = subst (λ i. Does (PollsOnce dev Clean i) b c v w) is k in
+    let both = does_then (Often n (PollsOnce dev Clean false)) (PollsOnce dev Clean true) a b c u v w h last in
+    record { parts = both.parts; text = both.text; done = (n, few, both.done); options = both.options; written = both.written }
+
+-- one thing, and then another that ended well
+pub ok_then : {B : Type 0} (r : Result (Unit {0}) B) (First Next : Moment → List Part → List ℕ → Moment → Type 0) (a b c : Bench) (u v w : Option (List ℕ))
+    → Does First a b u v → OnOk r (Does Next b c v w) → OnOk r (Does (Then First Next) a c u w)
+ok_then r First Next a b c u v w h k = ok_so r (Does Next b c v w) (Does (Then First Next) a c u w) (does_then First Next a b c u v w h) k
+
+-- what holds however a part ended
+pub however : {A B : Type 0} (r : Result A B) (Q : Type 0) → Q → OnOk r Q
+however (Ok x) Q h = h
+however (Err e) Q h = tt

@@ -1,0 +1,3 @@
+pub mod DoingLemmas
+pub mod LawLemmas
+pub mod PrintedLemmas

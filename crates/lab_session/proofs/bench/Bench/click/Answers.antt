@@ -1,0 +1,9 @@
+use Rattle.hid_text.specs.declared.change_kind.ChangeKind.TheVariants.{Press, Release}
+use Rattle.lab_session.specs.Lines.{SettlesChange}
+use Rattle.lab_session.proofs.DoingLemmas.{ok_then}
+use Rattle.lab_session.proofs.bench.Bench.click.Goals as goal
+
+pub returns : goal.returns
+returns g c = record {
+  does = ok_then c.settle_change-2.result (SettlesChange c.args.dev c.args.control Press) (SettlesChange c.args.dev c.args.control Release) c.args.self.now c.settle_change.new.self c.settle_change-2.new.self _ (g.W.Sink.contents c.settle_change.new.writer) _ c.in_ok-settle_change.ensures.does c.settle_change-2.ensures.does;
+}

@@ -1,0 +1,13 @@
+use Rattle.hid_text.specs.declared.change_kind.ChangeKind.TheVariants.{Press, Release}
+use Rattle.lab_session.specs.Bench.{Does}
+use Rattle.lab_session.specs.Lines.{Clicks, SettlesChange, Then}
+use Rattle.lab_session.proofs.DoingLemmas.{ok_then}
+use Rattle.lab_session.proofs.bench.Bench.click_shifted.Goals as goal
+
+pub returns : goal.returns
+returns g c = record {
+  does = ok_then c.settle_change-2.result (SettlesChange c.args.dev c.args.shift Press) (Then (Clicks c.args.dev c.args.control) (SettlesChange c.args.dev c.args.shift Release))
+      c.args.self.now c.settle_change.new.self c.settle_change-2.new.self _ (g.W.Sink.contents c.settle_change.new.writer) _ c.in_ok-settle_change.ensures.does
+      (ok_then c.settle_change-2.result (Clicks c.args.dev c.args.control) (SettlesChange c.args.dev c.args.shift Release)
+      c.settle_change.new.self c.click.new.self c.settle_change-2.new.self _ (g.W.Sink.contents c.click.new.writer) _ c.in_ok-click.ensures.does c.settle_change-2.ensures.does);
+}

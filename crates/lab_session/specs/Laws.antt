@@ -1,0 +1,33 @@
+-- Laws of what the lines of the bench are, which hold whatever runs them (our choice: docs/LAB.md).
+use Rattle.std.specs.Prelude.{ℕ, List, []}
+use Rattle.hid_layout.specs.declared.control.ControlId.{ControlId}
+use Rattle.hid_text.specs.declared.short.ShortLine.{ShortLine}
+use Rattle.hid_script.specs.declared.options.Options.{Options}
+use Rattle.hid_script.specs.Session.{Session, at_first}
+use Rattle.hid_script.specs.Printing.{PrintsHistories}
+use Rattle.lab_lines.specs.declared.keys.Key.{Key}
+use Rattle.lab_session.specs.Acts.{AllAct}
+use Rattle.lab_session.specs.Lines.{Moment, Clicks, ClicksKeys, ShortLineDoes}
+use Rattle.lab_session.specs.Parts.{Part, AllCarry}
+
+-- what is done is what its parts do, one after the other
+abbrev pub IsItsParts : (Moment → List Part → List ℕ → Moment → Type 0) → Type 0
+IsItsParts Doing = (before after : Moment) (parts : List Part) (text : List ℕ)
+    → Doing before parts text after → AllCarry before.session parts text after.session
+
+-- a click is its parts: a change, polls, a change, and polls
+abbrev pub ClicksAreParts : Type 0
+ClicksAreParts = (dev : ℕ) (control : ControlId) → IsItsParts (Clicks dev control)
+
+-- keys that are clicked, one after the other, are their parts
+abbrev pub KeysAreParts : Type 0
+KeysAreParts = (dev : ℕ) (keys : List Key) → IsItsParts (ClicksKeys dev keys)
+
+-- a short line of a script, with what is drawn of its polls and tries, is its parts
+abbrev pub ShortLinesAreParts : Type 0
+ShortLinesAreParts = (said : ShortLine) → IsItsParts (ShortLineDoes said)
+
+-- parts that are all carried out, from the first of a run on, print the histories of their devices
+abbrev pub PartsPrintLives : Type 0
+PartsPrintLives = (options : Options) (parts : List Part) (text : List ℕ) (last : Session)
+    → AllCarry (at_first options) parts text last → PrintsHistories (AllAct [] parts) text last.members

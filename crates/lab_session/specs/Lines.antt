@@ -1,0 +1,150 @@
+-- What the lines of the bench are, in parts (our choice: docs/LAB.md).
+use Rattle.std.specs.Prelude.{◌≡◌, ◌≢◌, ◌⊎◌, ℕ, ◌<◌, zero, suc, Bool, true, false, List, [], ◌∷◌, ◌++◌, Option, None, Some, Ok}
+use Rattle.arrayvec.specs.ArrayVec.{ArrayVec}
+use Rattle.hid_report_descriptor.specs.declared.usage.Usage.{Usage}
+use Rattle.hid_layout.specs.declared.control.ControlId.{ControlId}
+use Rattle.usb_transact.specs.declared.transaction.Fate.{Fate}
+use Rattle.usb_transact.specs.declared.transaction.Fate.TheVariants.{Clean}
+use Rattle.usb_transact.specs.declared.host.Took.{Took}
+use Rattle.usb_transact.specs.declared.host.Took.TheVariants.{Nak}
+use Rattle.hid_bus.specs.declared.step.Step.TheVariants as step
+use Rattle.hid_bus.specs.declared.step.Told.{Told}
+use Rattle.hid_bus.specs.declared.step.Told.TheVariants.{Polled}
+use Rattle.hid_stack.specs.Attaching.{Finds}
+use Rattle.hid_stack.specs.Members.{Member}
+use Rattle.hid_stack.specs.StepResult.{StepReturns}
+use Rattle.hid_text.specs.declared.change_kind.ChangeKind.{ChangeKind}
+use Rattle.hid_text.specs.declared.change_kind.ChangeKind.TheVariants.{Press, Release}
+use Rattle.hid_text.specs.declared.line.Line.{Line}
+use Rattle.hid_text.specs.declared.line.Line.TheVariants as line
+use Rattle.hid_text.specs.declared.short.ShortLine.{ShortLine}
+use Rattle.hid_text.specs.declared.short.ShortLine.TheVariants as short
+use Rattle.hid_script.specs.Session.{Session, success}
+use Rattle.lab_lines.specs.declared.keys.Key.{Key}
+use Rattle.lab_lines.specs.declared.keys.TheConstants.{LEFT_SHIFT}
+use Rattle.lab_lines.specs.Losses.{generator_at_first}
+use Rattle.lab_session.specs.Chances.{Chance, fate_by, chance_after}
+use Rattle.lab_session.specs.Parts.{Part, Says, Changes, PartPrints}
+
+-- what stands between two lines: the session of a script, and of each device how fates are drawn
+pub record Moment : Type 0 where
+  pub session : Session
+  pub chance : ℕ → Option Chance
+
+-- what is drawn of each device stays as it is
+abbrev pub DrawsNothing : Moment → Moment → Type 0
+DrawsNothing before after = (dev : ℕ) → after.chance dev ≡ before.chance dev
+
+-- the fate of a poll or a try of a device is taken, and no other device's
+abbrev pub DrawsOne : ℕ → Fate → Moment → Moment → Type 0
+DrawsOne dev said before after =
+    (after.chance dev ≡ chance_after (before.chance dev) said)
+    × ((other : ℕ) → other ≢ dev → after.chance other ≡ before.chance other)
+
+-- ---- what is done: from one moment to another, by these parts, which print this text
+
+-- nothing
+abbrev pub DoesNothing : Moment → List Part → List ℕ → Moment → Type 0
+DoesNothing before parts text after =
+    (parts ≡ []) × (text ≡ []) × (after.session ≡ before.session) × DrawsNothing before after
+
+-- one part
+abbrev pub DoesPart : Part → Moment → List Part → List ℕ → Moment → Type 0
+DoesPart part before parts text after =
+    (parts ≡ part ∷ []) × PartPrints part before.session (success text after.session) × DrawsNothing before after
+
+-- one thing and then another
+pub record Then (First Next : Moment → List Part → List ℕ → Moment → Type 0) (before : Moment) (parts : List Part)
+    (text : List ℕ) (after : Moment) : Type 0 where
+  pub middle : Moment
+  pub first_parts : List Part
+  pub first_text : List ℕ
+  pub next_parts : List Part
+  pub next_text : List ℕ
+  pub first : First before first_parts first_text middle
+  pub next : Next middle next_parts next_text after
+  pub all_parts : parts ≡ first_parts ++ next_parts
+  pub all_text : text ≡ first_text ++ next_text
+
+-- one thing so often
+abbrev pub Often : ℕ → (Moment → List Part → List ℕ → Moment → Type 0) → Moment → List Part → List ℕ → Moment → Type 0
+Often zero Does before parts text after = DoesNothing before parts text after
+Often (suc n) Does before parts text after = Then (Often n Does) Does before parts text after
+
+-- ---- polls and tries
+
+-- whether an answer to a poll is that there is nothing to send
+abbrev pub has_nothing : Told → Bool
+has_nothing (Polled reply Nak) = true
+has_nothing _ = false
+
+-- a poll of a bus returns that the device has nothing to send, or something else
+abbrev pub PollAnswers : List Member → ℕ → Fate → Bool → Type 0
+PollAnswers members dev fate idle =
+    (told : Told) × StepReturns members (step.Poll dev fate) told × (has_nothing told ≡ idle)
+
+-- `poll D` once, with what is drawn of it if its line says nothing: whether the device has nothing to send
+pub record PollsOnce (dev : ℕ) (said : Fate) (idle : Bool) (before : Moment) (parts : List Part) (text : List ℕ)
+    (after : Moment) : Type 0 where
+  pub part : parts ≡ Says (line.Step (short.Poll dev (fate_by (before.chance dev) said) 1)) ∷ []
+  pub prints : PartPrints (Says (line.Step (short.Poll dev (fate_by (before.chance dev) said) 1))) before.session
+      (success text after.session)
+  pub answers : PollAnswers before.session.members dev (fate_by (before.chance dev) said) idle
+  pub drawn : DrawsOne dev said before after
+
+-- `poll D` once, whatever the answer is
+abbrev pub Polls : ℕ → Fate → Moment → List Part → List ℕ → Moment → Type 0
+Polls dev said before parts text after = (idle : Bool) × PollsOnce dev said idle before parts text after
+
+-- `control D` once, with what is drawn of it if its line says nothing
+pub record Tries (dev : ℕ) (said : Fate) (before : Moment) (parts : List Part) (text : List ℕ) (after : Moment)
+    : Type 0 where
+  pub part : parts ≡ Says (line.Step (short.Control dev (fate_by (before.chance dev) said) 1)) ∷ []
+  pub prints : PartPrints (Says (line.Step (short.Control dev (fate_by (before.chance dev) said) 1))) before.session
+      (success text after.session)
+  pub drawn : DrawsOne dev said before after
+
+-- Polls up to the first one that is answered by nothing to send: a hundred at most.
+abbrev pub Settles : ℕ → Moment → List Part → List ℕ → Moment → Type 0
+Settles dev before parts text after =
+    (n : ℕ) × (n < 100) × Then (Often n (PollsOnce dev Clean false)) (PollsOnce dev Clean true) before parts text after
+
+-- ---- lines
+
+-- a control changes, and the device is polled until it has nothing to send
+abbrev pub SettlesChange : ℕ → ControlId → ChangeKind → Moment → List Part → List ℕ → Moment → Type 0
+SettlesChange dev control wanted = Then (DoesPart (Changes dev control wanted)) (Settles dev)
+
+-- `click D C`: the control is pressed and let go
+abbrev pub Clicks : ℕ → ControlId → Moment → List Part → List ℕ → Moment → Type 0
+Clicks dev control = Then (SettlesChange dev control Press) (SettlesChange dev control Release)
+
+-- a click while Shift is held
+abbrev pub ClicksShifted : ℕ → ControlId → ControlId → Moment → List Part → List ℕ → Moment → Type 0
+ClicksShifted dev shift control =
+    Then (SettlesChange dev shift Press) (Then (Clicks dev control) (SettlesChange dev shift Release))
+
+-- a click of the least control with a key's usage, with Shift where it is needed
+abbrev pub ClicksKey : ℕ → Key → Moment → List Part → List ℕ → Moment → Type 0
+ClicksKey dev key before parts text after =
+    (control : ControlId) × Finds before.session.members dev key.usage (Ok control)
+    × (((key.is_shifted ≡ false) × Clicks dev control before parts text after)
+    ⊎ ((key.is_shifted ≡ true) × (shift : ControlId) × Finds before.session.members dev LEFT_SHIFT (Ok shift)
+    × ClicksShifted dev shift control before parts text after))
+
+-- keys are clicked, one after the other
+abbrev pub ClicksKeys : ℕ → List Key → Moment → List Part → List ℕ → Moment → Type 0
+ClicksKeys dev [] = DoesNothing
+ClicksKeys dev (key ∷ more) = Then (ClicksKey dev key) (ClicksKeys dev more)
+
+-- `poll D FATE N`: the line itself where nothing is drawn of the device; else so many polls, each with its fate
+abbrev pub PollLineDoes : ℕ → Fate → ℕ → Moment → List Part → List ℕ → Moment → Type 0
+PollLineDoes dev fate count before parts text after =
+    ((before.chance dev ≡ None) × DoesPart (Says (line.Step (short.Poll dev fate count))) before parts text after)
+    ⊎ Often count (Polls dev fate) before parts text after
+
+-- a short line of a script
+unfoldable pub ShortLineDoes : ShortLine → Moment → List Part → List ℕ → Moment → Type 0
+ShortLineDoes (short.Poll dev fate count) = PollLineDoes dev fate count
+ShortLineDoes (short.Control dev fate count) = Often count (Tries dev fate)
+ShortLineDoes said = DoesPart (Says (line.Step said))

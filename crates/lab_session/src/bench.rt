@@ -1,0 +1,611 @@
+//! The bench between two lines, and how a line is carried out.
+
+ghost use Rattle.std.specs.Prelude.{◌≡◌, ◌||◌, None, IfOk, OnOk, is_some};
+ghost use Rattle.hid_text.specs.declared.change_kind.ChangeKind.TheVariants.{Press, Release};
+ghost use Rattle.hid_text.specs.declared.line.Line.TheVariants as Lines;
+ghost use Rattle.hid_script.specs.LineOutput.{Begins, CarriesOut, LineBegins, LineOutcomeOnce, LinePrints, times};
+ghost use Rattle.hid_script.specs.Place.{AppendsOutput};
+ghost use Rattle.lab_session.specs.Lines.{has_nothing};
+ghost use Rattle.lab_session.specs.Parts.{Says, Changes};
+ghost use Rattle.lab_session.specs.Printed.{IsPlain, is_styled, kept_cause};
+
+use super::counts::Counts;
+use super::draws::Draws;
+use super::fault::LabCause;
+use super::options::LabOptions;
+use super::outputs::Outputs;
+use super::printer::Printer;
+use super::shown::is_styled;
+use hid_layout::{ControlId, ControlKind, Usage};
+use hid_requests::Boot;
+use hid_script::{Cause, Interpreter, Options, Sink, StepFault};
+use hid_snapshots::ChangeFault;
+use hid_stack::{Rig, StackFault, Start, Step, Told};
+use hid_text::{ChangeKind, ShortLine};
+use lab_expectations::Expectation;
+use lab_lines::{ControlName, Key, LEFT_SHIFT, LabLine, TypedText, find_control, key_of, read_hex};
+use std::alloc::Global;
+use usb_control::Progress;
+use usb_transact::{Fate, Took};
+
+/// How often a change is polled for until the device has nothing to send.
+const MOST_POLLS: u16 = 100;
+
+/// The interpreter of scripts, how fates are drawn, what is printed and expected, and room that is used again.
+#[derive(Drop)]
+pub struct Bench {
+    alloc: Global,
+    options: LabOptions,
+    interpreter: Interpreter,
+    draws: Draws,
+    outputs: Outputs,
+    printer: Printer,
+    counts: Counts,
+    /// What the interpreter prints of a part.
+    text: Vec<u8>,
+    /// The control of a change that was refused.
+    control: Option<(Usage, ControlKind)>,
+    /// What came in place of a line that was expected.
+    came: Vec<u8>,
+}
+
+/// The refusal of a control that isn't there.
+fn no_control() -> Cause {
+    Cause::Step(StepFault::Stack(StackFault::Refused(ChangeFault::NoSuchControl)))
+}
+
+/// Whether an answer to a poll is that there is nothing to send.
+fn has_nothing(told: &Told) -> bool
+    ensures { result ≡ has_nothing told.now }
+{
+    match told {
+        Told::Polled {
+            took: Took::Nak,
+            ..
+        } => true,
+        _ => false,
+    }
+}
+
+/// Whether an answer to a poll is data that the host had already.
+fn is_repeated(told: &Told) -> bool {
+    matches!(told, Told::Polled { took: Took::Again, .. })
+}
+
+/// Whether a try was the last one of its transfer, and the transfer is done.
+fn ends_transfer(told: &Told) -> bool {
+    matches!(told, Told::Transfer(Progress::Done))
+}
+
+/// Why a part ended early whose text was kept first: where there was no room to keep it, memory ran out.
+fn kept_cause(cause: Cause) -> Cause
+    ensures { result ≡ kept_cause cause }
+{
+    match cause {
+        Cause::Write => Cause::Memory,
+        _ => cause,
+    }
+}
+
+/// What a control is, if there is such a control.
+fn kind_of(rig: &Rig, dev: u8, control: ControlId) -> Option<(Usage, ControlKind)> {
+    let device = rig.device(dev).ok()?;
+    let control = device.layout().control(control)?;
+    Some((control.usage, control.kind))
+}
+
+/// What the least control with a usage is, if there is such a control.
+fn kind_of_usage(rig: &Rig, dev: u8, usage: Usage) -> Option<(Usage, ControlKind)> {
+    let control = rig.find(dev, usage).ok()?;
+    kind_of(rig, dev, control)
+}
+
+impl Bench {
+    ghost use Rattle.hid_script.specs.Interpreter.{session_of};
+    ghost use Rattle.lab_session.specs.Bench.{Does, moment_of};
+    ghost use Rattle.lab_session.specs.Chances.{chance_at};
+    ghost use Rattle.hid_stack.specs.Attaching.{Finds};
+    ghost use Rattle.lab_session.specs.Lines.{Clicks, ClicksKey, ClicksShifted, DoesPart, Often, Polls, PollsOnce, Settles, SettlesChange, Tries};
+
+    /// A bench without devices.
+    ///
+    /// # Errors
+    /// X7.
+    pub fn new(alloc: Global, options: LabOptions) -> Result<Bench, LabCause> {
+        let printed = Options {
+            layout: options.layout,
+            trace: options.trace,
+        };
+        let interpreter = Interpreter::new(alloc, printed)?;
+        Ok(Bench {
+            alloc,
+            options,
+            interpreter,
+            draws: Draws::new(),
+            outputs: Outputs::new(),
+            printer: Printer::new(alloc),
+            counts: Counts::default(),
+            text: Vec::new(alloc),
+            control: None,
+            came: Vec::new(alloc),
+        })
+    }
+
+    /// What was counted.
+    pub fn counts(&self) -> Counts {
+        let mut counts = self.counts;
+        counts.events = self.interpreter.events();
+        counts
+    }
+
+    /// The control of the last change that was refused, if it is known.
+    pub fn control(&self) -> Option<(Usage, ControlKind)> {
+        self.control
+    }
+
+    /// What came in place of the line that was expected last, if another one came; without its end.
+    pub fn came(&self) -> &[u8] {
+        self.came.as_slice()
+    }
+
+    /// Carries out a line. Of `repeat`, `end`, `include` and a descriptor in a file nothing: who reads the lines does that.
+    ///
+    /// # Errors
+    /// Why the line is not carried out; what it printed before stands.
+    pub fn carry_out<W: Sink>(
+        &mut self,
+        line: &LabLine<'_>,
+        writer: &mut W,
+    ) -> Result<(), LabCause> {
+        match *line {
+            LabLine::Nothing
+            | LabLine::Repeat { .. }
+            | LabLine::End
+            | LabLine::Include(_)
+            | LabLine::DeviceFile { .. } => Ok(()),
+            LabLine::Script(text) => Ok(self.script_line(text, writer)?),
+            LabLine::Short(short) => Ok(self.short_line(&short, writer)?),
+            LabLine::Wait { count } => Ok(self.short_part(&ShortLine::Frame { count }, writer)?),
+            LabLine::Layout(hex) => Ok(self.lay_out(hex, writer)?),
+            LabLine::Values(hex) => Ok(self.print_values(hex, writer)?),
+            LabLine::Device { start, boot, hex } => Ok(self.attach_hex(start, boot, hex, writer)?),
+            LabLine::Change {
+                dev,
+                control,
+                wanted,
+            } => {
+                let control = self.find(dev, &control)?;
+                Ok(self.change(dev, control, wanted, writer)?)
+            }
+            LabLine::Click { dev, control } => {
+                let control = self.find(dev, &control)?;
+                self.click(dev, control, writer)
+            }
+            LabLine::Type { dev, text } => self.type_text(dev, text, writer),
+            LabLine::Lose { dev, percent, seed } => {
+                self.lose(dev, percent, seed);
+                Ok(())
+            }
+            LabLine::Expect(expected) => self.expect(expected),
+            LabLine::ExpectNone => self.expect_none(),
+        }
+    }
+
+    /// A line of a script that isn't short.
+    fn script_line<W: Sink>(&mut self, line: &[u8], writer: &mut W) -> Result<(), Cause>
+        ensures prints { IsPlain self.old.options → AppendsOutput (W.contents writer.old)
+            (W.contents writer.new) (LinePrints (session_of self.old.interpreter) line.now)
+            (LineBegins (session_of self.old.interpreter) line.now) result
+            (session_of self.new.interpreter) }
+    {
+        self.text.clear();
+        let part = self.interpreter.line(line, &mut self.text);
+        self.outputs.note(self.interpreter.rig(), line);
+        self.printer.print_part(
+            &self.options,
+            part,
+            self.text.as_slice(),
+            &[],
+            writer,
+        )
+    }
+
+    /// A short line of a script, whose fates are those that it says.
+    fn short_part<W: Sink>(&mut self, short: &ShortLine, writer: &mut W) -> Result<(), Cause>
+        ensures prints { IsPlain self.old.options → AppendsOutput (W.contents writer.old)
+            (W.contents writer.new)
+            (CarriesOut (session_of self.old.interpreter) (Lines.Step short.now))
+            (Begins (times (Lines.Step short.now)) (LineOutcomeOnce (Lines.Step short.now))
+            (session_of self.old.interpreter)) result (session_of self.new.interpreter) }
+        ensures does { OnOk result (Does (DoesPart (Says (Lines.Step short.now))) self.old self.new
+            (W.contents writer.old) (W.contents writer.new)) }
+    {
+        self.text.clear();
+        let part = self.interpreter.repeat(short, &mut self.text);
+        self.printer.print_part(
+            &self.options,
+            part,
+            self.text.as_slice(),
+            self.interpreter.delivered(),
+            writer,
+        )
+    }
+
+    /// `layout HEX`, of any length.
+    fn lay_out<W: Sink>(&mut self, hex: &[u8], writer: &mut W) -> Result<(), Cause> {
+        let Some(bytes) = read_hex(self.alloc, hex)? else {
+            return Err(Cause::BadHex);
+        };
+        self.text.clear();
+        let part = self.interpreter.lay_out(bytes.as_slice(), &mut self.text);
+        self.printer.print_part(&self.options, part, self.text.as_slice(), &[], writer)
+    }
+
+    /// `values HEX`, of any length.
+    fn print_values<W: Sink>(&mut self, hex: &[u8], writer: &mut W) -> Result<(), Cause> {
+        let Some(bytes) = read_hex(self.alloc, hex)? else {
+            return Err(Cause::BadHex);
+        };
+        self.text.clear();
+        let part = self
+            .interpreter
+            .print_values_of(bytes.as_slice(), &mut self.text);
+        self.printer.print_part(&self.options, part, self.text.as_slice(), &[], writer)
+    }
+
+    /// `device START KIND HEX`, of any length.
+    fn attach_hex<W: Sink>(
+        &mut self,
+        start: Start,
+        boot: Boot,
+        hex: &[u8],
+        writer: &mut W,
+    ) -> Result<(), Cause> {
+        match read_hex(self.alloc, hex)? {
+            Some(bytes) => self.attach_device(start, boot, bytes.as_slice(), writer),
+            None => Err(Cause::BadHex),
+        }
+    }
+
+    /// Attaches a device with this descriptor.
+    fn attach_device<W: Sink>(
+        &mut self,
+        start: Start,
+        boot: Boot,
+        descriptor: &[u8],
+        writer: &mut W,
+    ) -> Result<(), Cause> {
+        self.text.clear();
+        let part = self
+            .interpreter
+            .attach(start, boot, descriptor, &mut self.text);
+        self.printer.print_part(&self.options, part, self.text.as_slice(), &[], writer)
+    }
+
+    /// Attaches a device with this descriptor.
+    ///
+    /// # Errors
+    /// X4 where there is no such device; X6 or X7.
+    pub fn attach<W: Sink>(
+        &mut self,
+        start: Start,
+        boot: Boot,
+        descriptor: &[u8],
+        writer: &mut W,
+    ) -> Result<(), LabCause> {
+        Ok(self.attach_device(start, boot, descriptor, writer)?)
+    }
+
+    /// A short line of a script, with the fates that are drawn.
+    fn short_line<W: Sink>(&mut self, short: &ShortLine, writer: &mut W) -> Result<(), Cause> {
+        match *short {
+            ShortLine::Poll { dev, fate, count } => self.poll_line(dev, fate, count, writer),
+            ShortLine::Control { dev, fate, count } => self.tries(dev, fate, count, writer),
+            ShortLine::Press { dev, usage }
+            | ShortLine::Release { dev, usage }
+            | ShortLine::Null { dev, usage }
+            | ShortLine::Set { dev, usage, .. }
+            | ShortLine::Move { dev, usage, .. } => {
+                match self.short_part(short, writer) {
+                    Ok(()) => Ok(()),
+                    Err(cause) => {
+                        self.control = kind_of_usage(self.interpreter.rig(), dev, usage);
+                        Err(cause)
+                    }
+                }
+            }
+            ShortLine::Frame { .. } | ShortLine::Reset { .. } | ShortLine::Halt { .. } => {
+                self.short_part(short, writer)
+            }
+        }
+    }
+
+    /// Whether each poll of a device has to be made by itself: something of it is drawn, counted, or printed otherwise.
+    fn polls_singly(&self, dev: u8) -> bool
+        ensures { result ≡ (self.now.options.summary || is_styled self.now.options
+            || is_some (chance_at self.now.draws dev)) }
+    {
+        self.options.summary || is_styled(&self.options) || self.draws.are_drawn(dev)
+    }
+
+    /// `poll D FATE N`.
+    fn poll_line<W: Sink>(
+        &mut self,
+        dev: u8,
+        fate: Fate,
+        count: u16,
+        writer: &mut W,
+    ) -> Result<(), Cause> {
+        if self.polls_singly(dev) {
+            return self.polls(dev, fate, count, writer);
+        }
+        self.counts.add_polls(fate, u64::from(count));
+        self.short_part(&ShortLine::Poll { dev, fate, count }, writer)
+    }
+
+    /// Polls a device so often, with what is lost of each.
+    fn polls<W: Sink>(
+        &mut self,
+        dev: u8,
+        fate: Fate,
+        count: u16,
+        writer: &mut W,
+    ) -> Result<(), Cause>
+        ensures does { OnOk result (Does (Often count (Polls dev fate)) self.old self.new
+            (W.contents writer.old) (W.contents writer.new)) }
+    {
+        for _ in 0..count {
+            let _is_idle = self.poll(dev, fate, writer)?;
+        }
+        Ok(())
+    }
+
+    /// Polls a device once. Whether it answered that it has nothing to send.
+    fn poll<W: Sink>(&mut self, dev: u8, said: Fate, writer: &mut W) -> Result<bool, Cause>
+        ensures does { IfOk result (λ idle. Does (PollsOnce dev said idle) self.old self.new
+            (W.contents writer.old) (W.contents writer.new)) }
+    {
+        let fate = self.draws.next_fate(dev, said);
+        self.text.clear();
+        let step = Step::Poll { dev, fate };
+        let told = match self.interpreter.take_step(&step, &mut self.text) {
+            Ok(told) => told,
+            Err(cause) => return Err(kept_cause(cause)),
+        };
+        self.counts.add_poll(fate, is_repeated(&told));
+        self.printer.print(
+            &self.options,
+            self.text.as_slice(),
+            self.interpreter.delivered(),
+            writer,
+        )?;
+        Ok(has_nothing(&told))
+    }
+
+    /// Makes so many tries of the transfer that runs, with what is lost of each.
+    fn tries<W: Sink>(
+        &mut self,
+        dev: u8,
+        fate: Fate,
+        count: u16,
+        writer: &mut W,
+    ) -> Result<(), Cause>
+        ensures does { OnOk result (Does (Often count (Tries dev fate)) self.old self.new
+            (W.contents writer.old) (W.contents writer.new)) }
+    {
+        for _ in 0..count {
+            self.try_once(dev, fate, writer)?;
+        }
+        Ok(())
+    }
+
+    /// Makes a try of the transfer that runs, and prints the Output report that it set.
+    fn try_once<W: Sink>(&mut self, dev: u8, said: Fate, writer: &mut W) -> Result<(), Cause>
+        ensures does { OnOk result (Does (Tries dev said) self.old self.new
+            (W.contents writer.old) (W.contents writer.new)) }
+    {
+        let fate = self.draws.next_fate(dev, said);
+        self.text.clear();
+        let step = Step::Control { dev, fate };
+        let told = match self.interpreter.take_step(&step, &mut self.text) {
+            Ok(told) => told,
+            Err(cause) => return Err(kept_cause(cause)),
+        };
+        self.counts.add_try(fate);
+        self.printer.print(
+            &self.options,
+            self.text.as_slice(),
+            self.interpreter.delivered(),
+            writer,
+        )?;
+        let is_done = ends_transfer(&told);
+        match self
+            .outputs
+            .take_effect(self.alloc, self.interpreter.rig(), dev, is_done)
+        {
+            Ok(Some(text)) => self
+                .printer
+                .print_output(&self.options, text.as_bytes(), writer),
+            Ok(None) => Ok(()),
+            Err(_) => Err(Cause::Memory),
+        }
+    }
+
+    /// The control of a device that is named.
+    fn find(&self, dev: u8, name: &ControlName<'_>) -> Result<ControlId, Cause> {
+        let device = match self.interpreter.rig().device(dev) {
+            Ok(device) => device,
+            Err(fault) => return Err(Cause::from(fault)),
+        };
+        match find_control(device.layout(), name) {
+            Some(control) => Ok(control),
+            None => Err(no_control()),
+        }
+    }
+
+    /// Changes a control.
+    fn change<W: Sink>(
+        &mut self,
+        dev: u8,
+        control: ControlId,
+        wanted: ChangeKind,
+        writer: &mut W,
+    ) -> Result<(), Cause>
+        ensures does { OnOk result (Does (DoesPart (Changes dev control wanted)) self.old self.new
+            (W.contents writer.old) (W.contents writer.new)) }
+    {
+        self.text.clear();
+        if let Err(cause) = self
+            .interpreter
+            .change_at(dev, control, wanted, &mut self.text)
+        {
+            self.control = kind_of(self.interpreter.rig(), dev, control);
+            return Err(kept_cause(cause));
+        }
+        self.printer.print(
+            &self.options,
+            self.text.as_slice(),
+            self.interpreter.delivered(),
+            writer,
+        )
+    }
+
+    /// Polls until the device answers that it has nothing to send: all its changes have crossed then.
+    fn settle<W: Sink>(&mut self, dev: u8, writer: &mut W) -> Result<(), LabCause>
+        ensures does { OnOk result (Does (Settles dev) self.old self.new
+            (W.contents writer.old) (W.contents writer.new)) }
+    {
+        for _ in 0..MOST_POLLS {
+            if self.poll(dev, Fate::Clean, writer)? {
+                return Ok(());
+            }
+        }
+        Err(LabCause::Unsettled)
+    }
+
+    /// Changes a control, and polls until the device has nothing to send.
+    fn settle_change<W: Sink>(
+        &mut self,
+        dev: u8,
+        control: ControlId,
+        wanted: ChangeKind,
+        writer: &mut W,
+    ) -> Result<(), LabCause>
+        ensures does { OnOk result (Does (SettlesChange dev control wanted) self.old self.new
+            (W.contents writer.old) (W.contents writer.new)) }
+    {
+        self.change(dev, control, wanted, writer)?;
+        self.settle(dev, writer)
+    }
+
+    /// Presses a control, and lets it go once that has crossed.
+    fn click<W: Sink>(
+        &mut self,
+        dev: u8,
+        control: ControlId,
+        writer: &mut W,
+    ) -> Result<(), LabCause>
+        ensures does { OnOk result (Does (Clicks dev control) self.old self.new
+            (W.contents writer.old) (W.contents writer.new)) }
+    {
+        self.settle_change(dev, control, ChangeKind::Press, writer)?;
+        self.settle_change(dev, control, ChangeKind::Release, writer)
+    }
+
+    /// The least control with a usage.
+    fn find_usage(&self, dev: u8, usage: Usage) -> Result<ControlId, LabCause>
+        ensures { IfOk result
+            (λ control. Finds (session_of self.now.interpreter).members dev usage (Ok control)) }
+    {
+        match self.interpreter.rig().find(dev, usage) {
+            Ok(control) => Ok(control),
+            Err(fault) => Err(LabCause::Script(Cause::from(fault))),
+        }
+    }
+
+    /// Clicks a key while Shift is held.
+    fn click_shifted<W: Sink>(
+        &mut self,
+        dev: u8,
+        shift: ControlId,
+        control: ControlId,
+        writer: &mut W,
+    ) -> Result<(), LabCause>
+        ensures does { OnOk result (Does (ClicksShifted dev shift control) self.old self.new
+            (W.contents writer.old) (W.contents writer.new)) }
+    {
+        self.settle_change(dev, shift, ChangeKind::Press, writer)?;
+        self.click(dev, control, writer)?;
+        self.settle_change(dev, shift, ChangeKind::Release, writer)
+    }
+
+    /// Clicks a key, with Shift around it where it is needed.
+    fn click_key<W: Sink>(&mut self, dev: u8, key: Key, writer: &mut W) -> Result<(), LabCause>
+        ensures does { OnOk result (Does (ClicksKey dev key) self.old self.new
+            (W.contents writer.old) (W.contents writer.new)) }
+    {
+        let control = self.find_usage(dev, key.usage)?;
+        if key.is_shifted {
+            let shift = self.find_usage(dev, LEFT_SHIFT)?;
+            self.click_shifted(dev, shift, control, writer)
+        } else {
+            self.click(dev, control, writer)
+        }
+    }
+
+    /// Types a text.
+    fn type_text<W: Sink>(
+        &mut self,
+        dev: u8,
+        text: TypedText<'_>,
+        writer: &mut W,
+    ) -> Result<(), LabCause> {
+        let mut text = text;
+        for _ in 0..text.len() {
+            let Some(character) = text.next_character() else {
+                return Ok(());
+            };
+            let Some(key) = key_of(character) else {
+                return Err(LabCause::Script(Cause::Syntax));
+            };
+            self.click_key(dev, key, writer)?;
+        }
+        Ok(())
+    }
+
+    /// From now on draws what is lost of a device's polls and tries.
+    fn lose(&mut self, dev: u8, percent: u8, seed: u64) {
+        let seed = self.options.seed.unwrap_or(seed);
+        self.draws.lose(dev, percent, seed);
+    }
+
+    /// Whether the next line that was printed is this one.
+    fn expect(&mut self, expected: &[u8]) -> Result<(), LabCause>
+        ensures moment { moment_of self.new ≡ moment_of self.old }
+    {
+        let expectation = self.printer.expect(expected);
+        conclude(expectation, &mut self.came)
+    }
+
+    /// Whether all that was printed has been expected.
+    fn expect_none(&mut self) -> Result<(), LabCause>
+        ensures moment { moment_of self.new ≡ moment_of self.old }
+    {
+        let expectation = self.printer.expect_none();
+        conclude(expectation, &mut self.came)
+    }
+}
+
+/// The end of an expectation; what came in place of what is expected is kept.
+fn conclude(expectation: Expectation<'_>, came: &mut Vec<u8>) -> Result<(), LabCause> {
+    came.clear();
+    match expectation {
+        Expectation::Met => return Ok(()),
+        Expectation::Other(line) => came.extend_from_slice(line)?,
+        Expectation::Nothing => came.extend_from_slice(b"nothing")?,
+        Expectation::TooMuch => {
+            came.extend_from_slice(b"over 1048576 bytes since the last expect")?
+        }
+    }
+    Err(LabCause::Unmet)
+}

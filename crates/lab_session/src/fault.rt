@@ -1,0 +1,51 @@
+//! Why the bench ends early.
+
+use hid_script::Cause;
+use std::alloc::AllocError;
+use std::fmt;
+
+/// Why a line is not carried out. It is printed as its codes.
+#[derive(Clone, Copy, Debug, PartialEq, Eq)]
+pub enum LabCause {
+    /// X1 to X9: as in a script.
+    Script(Cause),
+    /// X10: an `end` without its `repeat`, or the other way round.
+    Unpaired,
+    /// X11: over eight `repeat` or files in one another, or a body of over 1 MiB.
+    TooDeep,
+    /// X12: after 100 polls the device still has something to send.
+    Unsettled,
+    /// X13: another line was printed than the one that is expected.
+    Unmet,
+    /// X14: a file can't be read.
+    Unreadable,
+    /// X15: a file has no descriptor.
+    NoDescriptor,
+}
+
+impl From<Cause> for LabCause {
+    fn from(cause: Cause) -> LabCause {
+        LabCause::Script(cause)
+    }
+}
+
+impl From<AllocError> for LabCause {
+    fn from(_error: AllocError) -> LabCause {
+        LabCause::Script(Cause::Memory)
+    }
+}
+
+impl fmt::Display for LabCause {
+    fn fmt<W: fmt::Write>(&self, f: &mut fmt::Formatter<W>) -> fmt::Result {
+        let code = match self {
+            LabCause::Script(cause) => return write!(f, "{cause}"),
+            LabCause::Unpaired => "X10",
+            LabCause::TooDeep => "X11",
+            LabCause::Unsettled => "X12",
+            LabCause::Unmet => "X13",
+            LabCause::Unreadable => "X14",
+            LabCause::NoDescriptor => "X15",
+        };
+        f.write_str(code)
+    }
+}

@@ -1,0 +1,30 @@
+//! The test bench: carries out its lines on the interpreter of scripts, and says what was printed (docs/LAB.md).
+//! ```text
+//!   LabLine --Bench::carry_out--> lines of a script, by the interpreter --> text --> what is printed, by option with names,
+//!      |                              ^       |                                      places or as JSON --> writer
+//!      | lose: Losses -- a fate ------+       +-- what was printed --> expect: Met, or what came in its place
+//!      | click, type: press, polls until the device has nothing to send, release, polls again
+//! ```
+//! The rule to know: nothing here takes a step of the bus by itself. A new line is a list of parts, each a line of a script or the
+//! change of one control by its place, and each part is carried out by `hid_script`.
+//!
+//! The promise: the rig after a run, and what was printed, are those of the parts, one after the other, by the clauses of
+//! [`Interpreter`](hid_script::Interpreter). An expectation changes neither.
+#![tactic(auto)]
+
+mod bench;
+mod counts;
+mod draws;
+mod fault;
+pub mod laws;
+mod options;
+mod outputs;
+mod printer;
+mod shown;
+mod words;
+
+pub use bench::Bench;
+pub use counts::Counts;
+pub use fault::LabCause;
+pub use options::LabOptions;
+pub use words::{CauseWords, cause_words};

@@ -1,0 +1,120 @@
+//! What is printed of the parts of a line, and is expected.
+
+ghost use Rattle.std.specs.Prelude.{◌≡◌, Ok, OnOk, IfErr, [], false};
+ghost use Rattle.std.specs.Io.KnownBytes.{Appends};
+ghost use Rattle.lab_session.specs.Printed.{is_styled, IsPlain, WritesText, PrintsPart};
+
+use super::options::LabOptions;
+use super::shown::{is_styled, show_lines};
+use hid_script::{Cause, Sink, write_text};
+use hid_stack::Delivered;
+use lab_expectations::{Expectation, Transcript};
+use std::alloc::Global;
+
+/// The lines that were printed and not expected yet, and room for lines that are printed with names, places or as JSON.
+#[derive(Drop)]
+pub struct Printer {
+    alloc: Global,
+    transcript: Transcript,
+    shown: Vec<u8>,
+}
+
+impl Printer {
+    /// Nothing was printed.
+    pub fn new(alloc: Global) -> Self {
+        Printer {
+            alloc,
+            transcript: Transcript::new(alloc),
+            shown: Vec::new(alloc),
+        }
+    }
+
+    /// Prints lines, and keeps them for expectations. Lines of these events are the last of them.
+    ///
+    /// # Errors
+    /// X7: nothing is printed. X6: the writer took some of it.
+    pub fn print<W: Sink>(
+        &mut self,
+        options: &LabOptions,
+        text: &[u8],
+        events: &[Delivered],
+        writer: &mut W,
+    ) -> Result<(), Cause>
+        ensures { is_styled options.now ≡ false
+            → WritesText (W.contents writer.old) (W.contents writer.new) text.now result }
+    {
+        if text.is_empty() {
+            return Ok(());
+        }
+        if self.transcript.add(text).is_err() {
+            return Err(Cause::Memory);
+        }
+        if !is_styled(options) {
+            return write_text(writer, text);
+        }
+        self.shown.clear();
+        if show_lines(&mut self.shown, self.alloc, options, text, events).is_err() {
+            return Err(Cause::Memory);
+        }
+        write_text(writer, self.shown.as_slice())
+    }
+
+    /// Prints what a part of a line printed, however it ended.
+    ///
+    /// # Errors
+    /// Why the part ended early; X7 where there was no room for its text, and nothing is printed; X6.
+    pub fn print_part<W: Sink>(
+        &mut self,
+        options: &LabOptions,
+        part: Result<(), Cause>,
+        text: &[u8],
+        events: &[Delivered],
+        writer: &mut W,
+    ) -> Result<(), Cause>
+        ensures written { is_styled options.now ≡ false
+            → PrintsPart (W.contents writer.old) (W.contents writer.new) text.now part result }
+        ensures ok { OnOk result (part ≡ Ok tt) }
+    {
+        match part {
+            Err(Cause::Write) => Err(Cause::Memory),
+            _ => {
+                self.print(options, text, events, writer)?;
+                part
+            }
+        }
+    }
+
+    /// Prints the line of an Output report where polls and tries are printed. Else it may be expected, and needn't.
+    ///
+    /// # Errors
+    /// X7 or X6.
+    pub fn print_output<W: Sink>(
+        &mut self,
+        options: &LabOptions,
+        text: &[u8],
+        writer: &mut W,
+    ) -> Result<(), Cause>
+        ensures quiet { options.now.trace ≡ false
+            → Appends (W.contents writer.old) (W.contents writer.new) [] }
+        ensures memory { options.now.trace ≡ false
+            → IfErr result (λ cause. cause ≡ Cause.Memory) }
+    {
+        if options.trace {
+            return self.print(options, text, &[], writer);
+        }
+        if self.transcript.add_optional(text).is_err() {
+            return Err(Cause::Memory);
+        }
+        Ok(())
+    }
+
+    /// Whether the next line that was printed is this one, which is expected then.
+    pub fn expect(&mut self, line: &[u8]) -> Expectation<'_> {
+        self.transcript.expect(line)
+    }
+
+    /// Whether all that was printed has been expected.
+    pub fn expect_none(&mut self) -> Expectation<'_> {
+        self.transcript.expect_none()
+    }
+}
