@@ -5,6 +5,8 @@ ghost use Rattle.hid_text.specs.declared.change_kind.ChangeKind.TheVariants.{Pre
 ghost use Rattle.hid_text.specs.declared.line.Line.TheVariants as Lines;
 ghost use Rattle.hid_script.specs.LineOutput.{Begins, CarriesOut, LineBegins, LineOutcomeOnce, LinePrints, times};
 ghost use Rattle.hid_script.specs.Place.{AppendsOutput};
+ghost use Rattle.lab_expectations.specs.Expectations.{answer_of};
+ghost use Rattle.lab_session.specs.Expecting.{Expects, ExpectsNone, came_words};
 ghost use Rattle.lab_session.specs.Lines.{has_nothing};
 ghost use Rattle.lab_session.specs.Parts.{Says, Changes};
 ghost use Rattle.lab_session.specs.Printed.{IsPlain, is_styled, kept_cause};
@@ -24,7 +26,7 @@ use hid_stack::{Rig, StackFault, Start, Step, Told};
 use hid_text::{ChangeKind, ShortLine};
 use lab_expectations::Expectation;
 use lab_lines::{ControlName, Key, LEFT_SHIFT, LabLine, TypedText, find_control, key_of, read_hex};
-use std::alloc::Global;
+use std::alloc::{AllocError, Global};
 use usb_control::Progress;
 use usb_transact::{Fate, Took};
 
@@ -69,7 +71,13 @@ fn has_nothing(told: &Told) -> bool
 
 /// Whether an answer to a poll is data that the host had already.
 fn is_repeated(told: &Told) -> bool {
-    matches!(told, Told::Polled { took: Took::Again, .. })
+    matches!(
+        told,
+        Told::Polled {
+            took: Took::Again,
+            ..
+        }
+    )
 }
 
 /// Whether a try was the last one of its transfer, and the transfer is done.
@@ -201,13 +209,8 @@ impl Bench {
         self.text.clear();
         let part = self.interpreter.line(line, &mut self.text);
         self.outputs.note(self.interpreter.rig(), line);
-        self.printer.print_part(
-            &self.options,
-            part,
-            self.text.as_slice(),
-            &[],
-            writer,
-        )
+        self.printer
+            .print_part(&self.options, part, self.text.as_slice(), &[], writer)
     }
 
     /// A short line of a script, whose fates are those that it says.
@@ -238,7 +241,8 @@ impl Bench {
         };
         self.text.clear();
         let part = self.interpreter.lay_out(bytes.as_slice(), &mut self.text);
-        self.printer.print_part(&self.options, part, self.text.as_slice(), &[], writer)
+        self.printer
+            .print_part(&self.options, part, self.text.as_slice(), &[], writer)
     }
 
     /// `values HEX`, of any length.
@@ -250,7 +254,8 @@ impl Bench {
         let part = self
             .interpreter
             .print_values_of(bytes.as_slice(), &mut self.text);
-        self.printer.print_part(&self.options, part, self.text.as_slice(), &[], writer)
+        self.printer
+            .print_part(&self.options, part, self.text.as_slice(), &[], writer)
     }
 
     /// `device START KIND HEX`, of any length.
@@ -279,7 +284,8 @@ impl Bench {
         let part = self
             .interpreter
             .attach(start, boot, descriptor, &mut self.text);
-        self.printer.print_part(&self.options, part, self.text.as_slice(), &[], writer)
+        self.printer
+            .print_part(&self.options, part, self.text.as_slice(), &[], writer)
     }
 
     /// Attaches a device with this descriptor.
@@ -582,30 +588,45 @@ impl Bench {
     /// Whether the next line that was printed is this one.
     fn expect(&mut self, expected: &[u8]) -> Result<(), LabCause>
         ensures moment { moment_of self.new ≡ moment_of self.old }
+        ensures options { self.new.options ≡ self.old.options }
+        ensures expects { Expects expected.now self.old.printer.transcript
+            self.new.printer.transcript self.new.came.items result }
     {
-        let expectation = self.printer.expect(expected);
-        conclude(expectation, &mut self.came)
+        if self.printer.expect(expected) {
+            return Ok(());
+        }
+        match keep_answer(self.printer.answer(expected), &mut self.came) {
+            Ok(()) => Err(LabCause::Unmet),
+            Err(_) => Err(LabCause::Script(Cause::Memory)),
+        }
     }
 
     /// Whether all that was printed has been expected.
     fn expect_none(&mut self) -> Result<(), LabCause>
         ensures moment { moment_of self.new ≡ moment_of self.old }
+        ensures options { self.new.options ≡ self.old.options }
+        ensures expects { ExpectsNone self.old.printer.transcript self.new.printer.transcript
+            self.new.came.items result }
     {
-        let expectation = self.printer.expect_none();
-        conclude(expectation, &mut self.came)
+        if self.printer.expect_none() {
+            return Ok(());
+        }
+        match keep_answer(self.printer.answer_to_none(), &mut self.came) {
+            Ok(()) => Err(LabCause::Unmet),
+            Err(_) => Err(LabCause::Script(Cause::Memory)),
+        }
     }
 }
 
-/// The end of an expectation; what came in place of what is expected is kept.
-fn conclude(expectation: Expectation<'_>, came: &mut Vec<u8>) -> Result<(), LabCause> {
+/// Keeps what came in place of what is expected.
+fn keep_answer(answer: Expectation<'_>, came: &mut Vec<u8>) -> Result<(), AllocError>
+    ensures { OnOk result (came.new.items ≡ came_words (answer_of answer.entry)) }
+{
     came.clear();
-    match expectation {
-        Expectation::Met => return Ok(()),
-        Expectation::Other(line) => came.extend_from_slice(line)?,
-        Expectation::Nothing => came.extend_from_slice(b"nothing")?,
-        Expectation::TooMuch => {
-            came.extend_from_slice(b"over 1048576 bytes since the last expect")?
-        }
+    match answer {
+        Expectation::Met => Ok(()),
+        Expectation::Other(line) => came.extend_from_slice(line),
+        Expectation::Nothing => came.extend_from_slice(b"nothing"),
+        Expectation::TooMuch => came.extend_from_slice(b"over 1048576 bytes since the last expect"),
     }
-    Err(LabCause::Unmet)
 }

@@ -1,6 +1,6 @@
 //! What is printed of the parts of a line, and is expected.
 
-ghost use Rattle.std.specs.Prelude.{◌≡◌, Ok, OnOk, IfErr, [], false};
+ghost use Rattle.std.specs.Prelude.{◌≡◌, Ok, OnOk, IfErr, [], true, false};
 ghost use Rattle.std.specs.Io.KnownBytes.{Appends};
 ghost use Rattle.lab_session.specs.Printed.{is_styled, IsPlain, WritesText, PrintsPart};
 
@@ -20,6 +20,9 @@ pub struct Printer {
 }
 
 impl Printer {
+    ghost use Rattle.lab_expectations.specs.Expectations.{Met, answer_at, answer_of, is_expected_at, is_none_at, outcome, parts_of, waits};
+    ghost use Rattle.lab_session.specs.Expecting.{answer_to_none};
+
     /// Nothing was printed.
     pub fn new(alloc: Global) -> Self {
         Printer {
@@ -108,13 +111,36 @@ impl Printer {
         Ok(())
     }
 
-    /// Whether the next line that was printed is this one, which is expected then.
-    pub fn expect(&mut self, line: &[u8]) -> Expectation<'_> {
+    /// Whether the next line that was printed is this one, which is taken then. Otherwise nothing changes.
+    pub fn expect(&mut self, line: &[u8]) -> bool
+        ensures met { result ≡ is_expected_at self.old.transcript line.now }
+        ensures left { result ≡ true → outcome line.now (parts_of (waits self.old.transcript))
+            ≡ Met (parts_of (waits self.new.transcript)) }
+        ensures same { result ≡ false → self.new ≡ self.old }
+    {
         self.transcript.expect(line)
     }
 
-    /// Whether all that was printed has been expected.
-    pub fn expect_none(&mut self) -> Expectation<'_> {
+    /// What came of an expectation of this line.
+    pub fn answer(&self, line: &[u8]) -> Expectation<'_>
+        ensures { answer_of result ≡ answer_at self.now.transcript line.now }
+    {
+        self.transcript.answer(line)
+    }
+
+    /// Whether all that was printed has been expected; what needn't be expected is taken then. Otherwise nothing changes.
+    pub fn expect_none(&mut self) -> bool
+        ensures met { result ≡ is_none_at self.old.transcript }
+        ensures left { result ≡ true → waits self.new.transcript ≡ [] }
+        ensures same { result ≡ false → self.new ≡ self.old }
+    {
         self.transcript.expect_none()
+    }
+
+    /// What came where no line is expected.
+    pub fn answer_to_none(&self) -> Expectation<'_>
+        ensures { answer_of result ≡ answer_to_none self.now.transcript }
+    {
+        self.transcript.answer_to_none()
     }
 }

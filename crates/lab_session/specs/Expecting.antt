@@ -1,0 +1,31 @@
+-- What an expectation of the bench takes, and what it keeps of the line that came in its place (our choice: docs/LAB.md).
+use Rattle.std.specs.Prelude.{◌≡◌, ℕ, true, false, List, [], ◌∷◌, ◌++◌, if◌then◌else◌, Result, Ok, Err, codes}
+use Rattle.lab_expectations.specs.declared.transcript.Transcript.{Transcript}
+use Rattle.lab_expectations.specs.Expectations.{Answer, Came, Instead, NoLine, TooMuch, Met, answer_at, answer_none, first_required, is_expected_at, is_none_at, outcome, parts_of, waits}
+use Rattle.lab_session.specs.declared.fault.LabCause.{LabCause}
+use Rattle.lab_session.specs.declared.fault.LabCause.TheVariants.{Unmet}
+
+-- the answer where no line is expected
+abbrev pub answer_to_none : Transcript → Answer
+answer_to_none transcript =
+    if transcript.is_cut then TooMuch else answer_none (first_required (parts_of (waits transcript)))
+
+-- the words of what came
+abbrev pub came_words : Answer → List ℕ
+came_words Came = []
+came_words (Instead line) = line
+came_words NoLine = codes "nothing"
+came_words TooMuch = codes "over 1048576 bytes since the last expect"
+
+-- An expectation is met, and takes the line; or it isn't, and the lines that wait stay. What came is kept, unless memory ran out.
+abbrev pub Expects : List ℕ → Transcript → Transcript → List ℕ → Result (Unit {0}) LabCause → Type 0
+Expects expected old new came (Ok _) =
+    (is_expected_at old expected ≡ true) × (outcome expected (parts_of (waits old)) ≡ Met (parts_of (waits new)))
+Expects expected old new came (Err cause) =
+    (is_expected_at old expected ≡ false) × (new ≡ old) × (cause ≡ Unmet → came ≡ came_words (answer_at old expected))
+
+-- All that was printed has been expected, and nothing waits; or a line waits that has to be expected.
+abbrev pub ExpectsNone : Transcript → Transcript → List ℕ → Result (Unit {0}) LabCause → Type 0
+ExpectsNone old new came (Ok _) = (is_none_at old ≡ true) × (waits new ≡ [])
+ExpectsNone old new came (Err cause) =
+    (is_none_at old ≡ false) × (new ≡ old) × (cause ≡ Unmet → came ≡ came_words (answer_to_none old))
