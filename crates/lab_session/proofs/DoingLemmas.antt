@@ -15,12 +15,14 @@ use Rattle.hid_bus.specs.declared.step.Told.{Told}
 use Rattle.hid_stack.specs.StepResult.{StepReturns}
 use Rattle.hid_script.specs.declared.fault.Cause.{Cause}
 use Rattle.hid_script.specs.Interpreter.{session_of}
-use Rattle.hid_script.specs.Place.{AppendsOutput}
-use Rattle.hid_script.specs.LineOutput.{CarriesOut, LineOutcomeOnce, ShortLinePrints, short_times, times}
+use Rattle.hid_script.specs.Place.{AppendsOnce, AppendsOutput}
+use Rattle.hid_script.specs.LineOutput.{CarriesOut, LineBegins, LineOutcomeOnce, LinePrints, MeaningPrints, ShortLinePrints, short_times, times}
 use Rattle.hid_script.proofs.RepeatLemmas.{no_times, one_more}
+use Rattle.hid_text.specs.declared.fault.LineFault.{LineFault}
+use Rattle.hid_text.specs.Line.{meaning_of}
 use Rattle.lab_session.specs.declared.bench.Bench.{Bench}
 use Rattle.lab_session.specs.Bench.{Does, moment_of}
-use Rattle.lab_session.specs.Lines.{Moment, DoesNothing, DoesPart, Often, PollsOnce, Polls, Settles, Then, Tries, has_nothing}
+use Rattle.lab_session.specs.Lines.{Moment, DoesNothing, DoesPart, Often, PollsOnce, Polls, ScriptLineDoes, Settles, Then, Tries, has_nothing}
 use Rattle.lab_session.specs.Parts.{Part, PartPrints, Says}
 use Rattle.lab_session.specs.Chances.{chance_at, chance_after, fate_by}
 use Rattle.lab_session.proofs.PrintedLemmas.{part_done}
@@ -196,3 +198,61 @@ ok_then r First Next a b c u v w h k = ok_so r (Does Next b c v w) (Does (Then F
 pub however : {A B : Type 0} (r : Result A B) (Q : Type 0) → Q → OnOk r Q
 however (Ok x) Q h = h
 however (Err e) Q h = tt
+
+-- what was done is also this
+pub does_so : (A B : Moment → List Part → List ℕ → Moment → Type 0) (a b : Bench) (u v : Option (List ℕ))
+    → ((parts : List Part) (text : List ℕ) → A (moment_of a) parts text (moment_of b) → B (moment_of a) parts text (moment_of b))
+    → Does A a b u v → Does B a b u v
+does_so A B a b u v f h =
+    record { parts = h.parts; text = h.text; done = f h.parts h.text h.done; options = h.options; written = h.written }
+
+-- what was done, where it ended well, is also this
+pub ok_does_so : {C D : Type 0} (r : Result C D) (A B : Moment → List Part → List ℕ → Moment → Type 0) (a b : Bench) (u v : Option (List ℕ))
+    → ((parts : List Part) (text : List ℕ) → A (moment_of a) parts text (moment_of b) → B (moment_of a) parts text (moment_of b))
+    → OnOk r (Does A a b u v) → OnOk r (Does B a b u v)
+ok_does_so r A B a b u v f h = ok_so r (Does A a b u v) (Does B a b u v) (does_so A B a b u v f) h
+
+-- a part that is carried out once was carried out, and its text was printed
+pub did_once : (what : Part) (a b : Bench) (kept text shown : List ℕ) (u v : Option (List ℕ)) (part r : Result (Unit {0}) Cause)
+    → kept ≡ [] → shown ≡ text
+    → AppendsOnce (Some kept) (Some text) (PartPrints what (session_of a.interpreter)) part (session_of b.interpreter)
+    → (is_styled a.options ≡ false → PrintsPart u v shown part r) → OnOk r (part ≡ Ok tt)
+    → ((dev : ℕ) → chance_at b.draws dev ≡ chance_at a.draws dev) → b.options ≡ a.options
+    → OnOk r (Does (DoesPart what) a b u v)
+did_once what a b kept text shown u v part (Err e) none same h k is stays options = tt
+did_once what a b kept text shown u v part (Ok x) none same h k is stays options =
+    let told = subst (λ p. AppendsOnce (Some kept) (Some text) (PartPrints what (session_of a.interpreter)) p (session_of b.interpreter)) is h in
+    record {
+      parts = what ∷ [];
+      text = told.0;
+      done = (refl, told.2, stays);
+      options = options;
+      written = λ plain. subst (Appends u v) (same ∙ kept_text kept text told.0 none told.1) (part_done u v shown part is (k plain.style));
+    }
+
+-- a line that was carried out says something
+said_of_meaning : (session next : Session) (text bytes : List ℕ) (meaning : Result Line LineFault) → meaning_of bytes ≡ meaning
+    → MeaningPrints session meaning (success text next)
+    → (said : Line) × (meaning_of bytes ≡ Ok said) × CarriesOut session said (success text next)
+said_of_meaning session next text bytes (Ok said) is h = (said, is, h)
+said_of_meaning session next text bytes (Err fault) is h = let ends = ap (λ (o : Outcome). o.end) h in absurd (cc)
+
+-- a line of a script was carried out, and its text was printed
+pub did_script : (bytes : List ℕ) (a b : Bench) (kept text shown : List ℕ) (u v : Option (List ℕ)) (part r : Result (Unit {0}) Cause)
+    → kept ≡ [] → shown ≡ text
+    → AppendsOutput (Some kept) (Some text) (LinePrints (session_of a.interpreter) bytes) (LineBegins (session_of a.interpreter) bytes) part (session_of b.interpreter)
+    → (is_styled a.options ≡ false → PrintsPart u v shown part r) → OnOk r (part ≡ Ok tt)
+    → ((dev : ℕ) → chance_at b.draws dev ≡ chance_at a.draws dev) → b.options ≡ a.options
+    → OnOk r (Does (ScriptLineDoes bytes) a b u v)
+unfolding LinePrints PartPrints
+did_script bytes a b kept text shown u v part (Err e) none same h k is stays options = tt
+did_script bytes a b kept text shown u v part (Ok x) none same h k is stays options =
+    let told = subst (λ p. AppendsOutput (Some kept) (Some text) (LinePrints (session_of a.interpreter) bytes) (LineBegins (session_of a.interpreter) bytes) p (session_of b.interpreter)) is h in
+    let line = said_of_meaning (session_of a.interpreter) (session_of b.interpreter) told.0 bytes (meaning_of bytes) refl told.2 in
+    record {
+      parts = Says line.0 ∷ [];
+      text = told.0;
+      done = (line.0, line.1, (refl, line.2, stays));
+      options = options;
+      written = λ plain. subst (Appends u v) (same ∙ kept_text kept text told.0 none told.1) (part_done u v shown part is (k plain.style));
+    }

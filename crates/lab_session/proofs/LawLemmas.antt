@@ -12,14 +12,22 @@ use Rattle.hid_text.specs.declared.line.Line.TheVariants as line
 use Rattle.hid_text.specs.declared.short.ShortLine.TheVariants as short
 use Rattle.hid_text.specs.EventLines.{ShowsEvents}
 use Rattle.hid_text.proofs.ShownLemmas.{shows_nothing}
-use Rattle.hid_script.specs.Session.{Session, Outcome, success, at_first}
+use Rattle.hid_requests.specs.declared.boot.Boot.{Boot}
+use Rattle.hid_bus.specs.declared.start.Start.{Start}
+use Rattle.hid_text.specs.Words.{Word}
+use Rattle.hid_text.specs.declared.line.Line.{Line}
+use Rattle.hid_script.specs.Session.{Session, Outcome, success, at_first, Repeats}
+use Rattle.hid_script.specs.LineOutput.{CarriesOut, LineOutcomeOnce, times}
+use Rattle.hid_script.specs.Printing.{ScriptActs}
+use Rattle.hid_script.proofs.RepeatLemmas.{no_times, one_more}
+use Rattle.lab_lines.specs.LabLines as lab
 use Rattle.hid_script.specs.Steps.{change_of}
 use Rattle.hid_script.proofs.PrintingLemmas.{Done, done_both, done_nothing, step_done, line_done, lives_of}
 use Rattle.lab_lines.specs.declared.keys.Key.{Key}
 use Rattle.lab_session.specs.Acts.{PartActs, AllAct}
-use Rattle.lab_session.specs.Laws.{IsItsParts, ClicksAreParts, KeysAreParts, ShortLinesAreParts, PartsPrintLives}
-use Rattle.lab_session.specs.Lines.{Moment, DoesNothing, DoesPart, Then, Often, PollsOnce, Polls, Tries, Settles, SettlesChange, Clicks, ClicksShifted, ClicksKey, ClicksKeys, PollLineDoes, ShortLineDoes}
-use Rattle.lab_session.specs.Parts.{Part, Says, Changes, PartPrints, AllCarry}
+use Rattle.lab_session.specs.Laws.{IsItsParts, ClicksAreParts, KeysAreParts, ShortLinesAreParts, LinesAreParts, PartsPrintLives}
+use Rattle.lab_session.specs.Lines.{Moment, DoesNothing, DoesPart, Then, Often, PollsOnce, Polls, Tries, Settles, SettlesChange, Clicks, ClicksShifted, ClicksKey, ClicksKeys, PollLineDoes, ShortLineDoes, ScriptLineDoes, DoesBytes, Types, Loses, LineDoes, seed_by}
+use Rattle.lab_session.specs.Parts.{Part, Says, Changes, LaysOut, ShowsValues, Attaches, PartPrints, AllCarry}
 
 -- ---- lines are their parts
 
@@ -101,6 +109,38 @@ short_lines_are_parts (short.Poll dev fate count) before after parts text h = it
 short_lines_are_parts (short.Control dev fate count) before after parts text h = its_parts_often (Tries dev fate) (its_parts_try dev fate) count before after parts text h
 short_lines_are_parts said before after parts text h = its_parts_part (Says (line.Step said)) before after parts text h
 
+its_parts_bytes : (part : List ℕ → Part) (words : List Word) → IsItsParts (DoesBytes part words)
+its_parts_bytes part words before after parts text h = its_parts_part (part h.0) before after parts text h.2
+
+its_parts_script : (bytes : List ℕ) → IsItsParts (ScriptLineDoes bytes)
+its_parts_script bytes before after parts text h = its_parts_part (Says h.0) before after parts text h.2
+
+its_parts_types : (dev : ℕ) (bytes : List ℕ) → IsItsParts (Types dev bytes)
+its_parts_types dev bytes before after parts text h = keys_are_parts dev h.0 before after parts text h.2
+
+its_parts_loses : (dev percent seed : ℕ) → IsItsParts (Loses dev percent seed)
+its_parts_loses dev percent seed before after parts text h = carried_as before.session after.session [] parts text h.0 (h.1, h.2)
+
+pub lines_are_parts : LinesAreParts
+unfolding LineDoes
+lines_are_parts given (lab.Script bytes) before after parts text h = its_parts_script bytes before after parts text h
+lines_are_parts given (lab.Short short) before after parts text h = short_lines_are_parts short before after parts text h
+lines_are_parts given (lab.Layout words) before after parts text h = its_parts_bytes LaysOut words before after parts text h
+lines_are_parts given (lab.Values words) before after parts text h = its_parts_bytes ShowsValues words before after parts text h
+lines_are_parts given (lab.Device start boot words) before after parts text h = its_parts_bytes (Attaches start boot) words before after parts text h
+lines_are_parts given (lab.Change dev named wanted) before after parts text h = its_parts_part (Changes dev h.0 wanted) before after parts text h.2
+lines_are_parts given (lab.Click dev named) before after parts text h = clicks_are_parts dev h.0 before after parts text h.2
+lines_are_parts given (lab.Typing dev bytes) before after parts text h = its_parts_types dev bytes before after parts text h
+lines_are_parts given (lab.Lose dev percent seed) before after parts text h = its_parts_loses dev percent (seed_by given seed) before after parts text h
+lines_are_parts given (lab.Wait count) before after parts text h = its_parts_part (Says (line.Step (short.Frame count))) before after parts text h
+lines_are_parts given lab.Nothing before after parts text h = its_parts_nothing before after parts text h
+lines_are_parts given (lab.DeviceFile start boot name) before after parts text h = its_parts_nothing before after parts text h
+lines_are_parts given (lab.Repeat count) before after parts text h = its_parts_nothing before after parts text h
+lines_are_parts given lab.End before after parts text h = its_parts_nothing before after parts text h
+lines_are_parts given (lab.Expect words) before after parts text h = its_parts_nothing before after parts text h
+lines_are_parts given lab.ExpectNone before after parts text h = its_parts_nothing before after parts text h
+lines_are_parts given (lab.Include name) before after parts text h = its_parts_nothing before after parts text h
+
 -- ---- what parts do, and print
 
 -- what a part did, and printed
@@ -108,15 +148,34 @@ abbrev PartDone : Part → Session → List ℕ → Session → Type 0
 PartDone part session text next =
     (acts : List Action) × PartActs part session.members acts × Done session.members text acts next.members
 
+-- a line that is carried out once
+line_once : (said : Line) (session next : Session) (text : List ℕ) → times said ≡ 1
+    → LineOutcomeOnce said session (success text next) → CarriesOut session said (success text next)
+line_once said session next text one h =
+    subst (λ n. Repeats n (LineOutcomeOnce said) session (success text next)) (sym one) (one_more 0 (LineOutcomeOnce said) session session next [] text (no_times (LineOutcomeOnce said) session) h)
+
+-- lines with as many bytes as there are
+long_layout : List ℕ → Line
+long_layout bytes = line.Layout (record { items = bytes })
+
+long_values : List ℕ → Line
+long_values bytes = line.Values (record { items = bytes })
+
+long_device : Start → Boot → List ℕ → Line
+long_device start boot bytes = line.Device start boot (record { items = bytes })
+
 part_done : (part : Part) (session next : Session) (text : List ℕ) → length session.members < 10
     → PartPrints part session (success text next) → PartDone part session text next
-unfolding PartPrints PartActs
+unfolding PartPrints PartActs ScriptActs LineOutcomeOnce times long_layout long_values long_device
 part_done (Says said) session next text few h = line_done said session next text few h
 part_done (Changes dev control wanted) session next text few h = (
   Taken (step.Change dev (change_of wanted control)) ∷ [],
   refl,
   step_done (step.Change dev (change_of wanted control)) session next text few h,
 )
+part_done (LaysOut bytes) session next text few h = line_done (long_layout bytes) session next text few (line_once (long_layout bytes) session next text refl h)
+part_done (ShowsValues bytes) session next text few h = line_done (long_values bytes) session next text few (line_once (long_values bytes) session next text refl h)
+part_done (Attaches start boot bytes) session next text few h = line_done (long_device start boot bytes) session next text few (line_once (long_device start boot bytes) session next text refl h)
 
 all_done : (parts : List Part) (session last : Session) (text : List ℕ) → length session.members < 10
     → AllCarry session parts text last

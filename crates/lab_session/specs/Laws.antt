@@ -1,13 +1,14 @@
 -- Laws of what the lines of the bench are, which hold whatever runs them (our choice: docs/LAB.md).
-use Rattle.std.specs.Prelude.{ℕ, List, []}
+use Rattle.std.specs.Prelude.{ℕ, List, [], Option}
 use Rattle.hid_layout.specs.declared.control.ControlId.{ControlId}
 use Rattle.hid_text.specs.declared.short.ShortLine.{ShortLine}
 use Rattle.hid_script.specs.declared.options.Options.{Options}
 use Rattle.hid_script.specs.Session.{Session, at_first}
 use Rattle.hid_script.specs.Printing.{PrintsHistories}
 use Rattle.lab_lines.specs.declared.keys.Key.{Key}
+use Rattle.lab_lines.specs.LabLines.{Said}
 use Rattle.lab_session.specs.Acts.{AllAct}
-use Rattle.lab_session.specs.Lines.{Moment, Clicks, ClicksKeys, ShortLineDoes}
+use Rattle.lab_session.specs.Lines.{Moment, Clicks, ClicksKeys, ShortLineDoes, LineDoes}
 use Rattle.lab_session.specs.Parts.{Part, AllCarry}
 
 -- what is done is what its parts do, one after the other
@@ -26,6 +27,10 @@ KeysAreParts = (dev : ℕ) (keys : List Key) → IsItsParts (ClicksKeys dev keys
 -- a short line of a script, with what is drawn of its polls and tries, is its parts
 abbrev pub ShortLinesAreParts : Type 0
 ShortLinesAreParts = (said : ShortLine) → IsItsParts (ShortLineDoes said)
+
+-- any line is its parts, whatever it says
+abbrev pub LinesAreParts : Type 0
+LinesAreParts = (given : Option ℕ) (said : Said) → IsItsParts (LineDoes given said)
 
 -- parts that are all carried out, from the first of a run on, print the histories of their devices
 abbrev pub PartsPrintLives : Type 0

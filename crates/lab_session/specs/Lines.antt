@@ -1,6 +1,5 @@
 -- What the lines of the bench are, in parts (our choice: docs/LAB.md).
-use Rattle.std.specs.Prelude.{◌≡◌, ◌≢◌, ◌⊎◌, ℕ, ◌<◌, zero, suc, Bool, true, false, List, [], ◌∷◌, ◌++◌, Option, None, Some, Ok}
-use Rattle.arrayvec.specs.ArrayVec.{ArrayVec}
+use Rattle.std.specs.Prelude.{◌≡◌, ◌≢◌, ◌⊎◌, ℕ, ◌<◌, zero, suc, Bool, true, false, List, [], ◌∷◌, ◌++◌, map, Option, None, Some, Ok}
 use Rattle.hid_report_descriptor.specs.declared.usage.Usage.{Usage}
 use Rattle.hid_layout.specs.declared.control.ControlId.{ControlId}
 use Rattle.usb_transact.specs.declared.transaction.Fate.{Fate}
@@ -12,6 +11,7 @@ use Rattle.hid_bus.specs.declared.step.Told.{Told}
 use Rattle.hid_bus.specs.declared.step.Told.TheVariants.{Polled}
 use Rattle.hid_stack.specs.Attaching.{Finds}
 use Rattle.hid_stack.specs.Members.{Member}
+use Rattle.hid_stack.specs.Rig.{member_at}
 use Rattle.hid_stack.specs.StepResult.{StepReturns}
 use Rattle.hid_text.specs.declared.change_kind.ChangeKind.{ChangeKind}
 use Rattle.hid_text.specs.declared.change_kind.ChangeKind.TheVariants.{Press, Release}
@@ -19,12 +19,19 @@ use Rattle.hid_text.specs.declared.line.Line.{Line}
 use Rattle.hid_text.specs.declared.line.Line.TheVariants as line
 use Rattle.hid_text.specs.declared.short.ShortLine.{ShortLine}
 use Rattle.hid_text.specs.declared.short.ShortLine.TheVariants as short
+use Rattle.hid_text.specs.Line.{meaning_of}
+use Rattle.hid_text.specs.Words.{Word, hex_of}
 use Rattle.hid_script.specs.Session.{Session, success}
 use Rattle.lab_lines.specs.declared.keys.Key.{Key}
 use Rattle.lab_lines.specs.declared.keys.TheConstants.{LEFT_SHIFT}
+use Rattle.lab_lines.specs.Keys.{key_of}
 use Rattle.lab_lines.specs.Losses.{generator_at_first}
+use Rattle.lab_lines.specs.Typing.{characters_of}
+use Rattle.lab_lines.specs.ControlNames.{Named, control_named}
+use Rattle.lab_lines.specs.LabLines.{Said}
+use Rattle.lab_lines.specs.LabLines as lab
 use Rattle.lab_session.specs.Chances.{Chance, fate_by, chance_after}
-use Rattle.lab_session.specs.Parts.{Part, Says, Changes, PartPrints}
+use Rattle.lab_session.specs.Parts.{Part, Says, Changes, LaysOut, ShowsValues, Attaches, PartPrints}
 
 -- what stands between two lines: the session of a script, and of each device how fates are drawn
 pub record Moment : Type 0 where
@@ -148,3 +155,62 @@ unfoldable pub ShortLineDoes : ShortLine → Moment → List Part → List ℕ �
 ShortLineDoes (short.Poll dev fate count) = PollLineDoes dev fate count
 ShortLineDoes (short.Control dev fate count) = Often count (Tries dev fate)
 ShortLineDoes said = DoesPart (Says (line.Step said))
+
+-- a line of a script, as hid_text reads it
+abbrev pub ScriptLineDoes : List ℕ → Moment → List Part → List ℕ → Moment → Type 0
+ScriptLineDoes bytes before parts text after =
+    (said : Line) × (meaning_of bytes ≡ Ok said) × DoesPart (Says said) before parts text after
+
+-- what is done with the bytes that words of hex encode
+abbrev pub DoesBytes : (List ℕ → Part) → List Word → Moment → List Part → List ℕ → Moment → Type 0
+DoesBytes part words before parts text after =
+    (bytes : List ℕ) × (hex_of words ≡ Some bytes) × DoesPart (part bytes) before parts text after
+
+-- the control of a device that a line names
+abbrev pub NamesControl : List Member → ℕ → Named → ControlId → Type 0
+NamesControl members dev named control =
+    (m : Member) × (member_at members dev ≡ Some m) × (control_named m.layout named ≡ Some control)
+
+-- what is done with the control that a line names
+abbrev pub DoesNamed : ℕ → Named → (ControlId → Moment → List Part → List ℕ → Moment → Type 0) → Moment → List Part → List ℕ
+    → Moment → Type 0
+DoesNamed dev named Doing before parts text after =
+    (control : ControlId) × NamesControl before.session.members dev named control × Doing control before parts text after
+
+-- `type D "TEXT"`: the keys of its characters are clicked
+abbrev pub Types : ℕ → List ℕ → Moment → List Part → List ℕ → Moment → Type 0
+Types dev bytes before parts text after =
+    (keys : List Key) × (map key_of (characters_of bytes) ≡ map Some keys) × ClicksKeys dev keys before parts text after
+
+-- the seed of a line, unless another is given for the whole run
+abbrev pub seed_by : Option ℕ → ℕ → ℕ
+seed_by None seed = seed
+seed_by (Some other) seed = other
+
+-- `lose D PERCENT SEED`: from now on fates of the device are drawn
+abbrev pub Loses : ℕ → ℕ → ℕ → Moment → List Part → List ℕ → Moment → Type 0
+Loses dev percent seed before parts text after =
+    (parts ≡ []) × (text ≡ []) × (after.session ≡ before.session)
+    × (dev < 8 → after.chance dev ≡ Some (record { percent = percent; generator = generator_at_first dev seed }))
+    × ((other : ℕ) → other ≢ dev → after.chance other ≡ before.chance other)
+
+-- What a line does, by what it says; a seed may be given for the whole run. Lines of other sources do nothing by themselves, and
+-- an expectation changes nothing.
+unfoldable pub LineDoes : Option ℕ → Said → Moment → List Part → List ℕ → Moment → Type 0
+LineDoes given (lab.Script bytes) = ScriptLineDoes bytes
+LineDoes given (lab.Short short) = ShortLineDoes short
+LineDoes given (lab.Layout words) = DoesBytes LaysOut words
+LineDoes given (lab.Values words) = DoesBytes ShowsValues words
+LineDoes given (lab.Device start boot words) = DoesBytes (Attaches start boot) words
+LineDoes given (lab.Change dev named wanted) = DoesNamed dev named (λ control. DoesPart (Changes dev control wanted))
+LineDoes given (lab.Click dev named) = DoesNamed dev named (λ control. Clicks dev control)
+LineDoes given (lab.Typing dev bytes) = Types dev bytes
+LineDoes given (lab.Lose dev percent seed) = Loses dev percent (seed_by given seed)
+LineDoes given (lab.Wait count) = DoesPart (Says (line.Step (short.Frame count)))
+LineDoes given lab.Nothing = DoesNothing
+LineDoes given (lab.DeviceFile start boot name) = DoesNothing
+LineDoes given (lab.Repeat count) = DoesNothing
+LineDoes given lab.End = DoesNothing
+LineDoes given (lab.Expect words) = DoesNothing
+LineDoes given lab.ExpectNone = DoesNothing
+LineDoes given (lab.Include name) = DoesNothing

@@ -1,6 +1,6 @@
 //! The bench between two lines, and how a line is carried out.
 
-ghost use Rattle.std.specs.Prelude.{◌≡◌, ◌||◌, None, IfOk, OnOk, is_some};
+ghost use Rattle.std.specs.Prelude.{◌≡◌, ◌||◌, ℕ, List, Option, None, IfOk, OnOk, is_some};
 ghost use Rattle.hid_text.specs.declared.change_kind.ChangeKind.TheVariants.{Press, Release};
 ghost use Rattle.hid_text.specs.declared.line.Line.TheVariants as Lines;
 ghost use Rattle.hid_script.specs.LineOutput.{Begins, CarriesOut, LineBegins, LineOutcomeOnce, LinePrints, times};
@@ -8,7 +8,7 @@ ghost use Rattle.hid_script.specs.Place.{AppendsOutput};
 ghost use Rattle.lab_expectations.specs.Expectations.{answer_of};
 ghost use Rattle.lab_session.specs.Expecting.{Expects, ExpectsNone, came_words};
 ghost use Rattle.lab_session.specs.Lines.{has_nothing};
-ghost use Rattle.lab_session.specs.Parts.{Says, Changes};
+ghost use Rattle.lab_session.specs.Parts.{Says, Changes, Attaches};
 ghost use Rattle.lab_session.specs.Printed.{IsPlain, is_styled, kept_cause};
 
 use super::counts::Counts;
@@ -113,7 +113,8 @@ impl Bench {
     ghost use Rattle.lab_session.specs.Bench.{Does, moment_of};
     ghost use Rattle.lab_session.specs.Chances.{chance_at};
     ghost use Rattle.hid_stack.specs.Attaching.{Finds};
-    ghost use Rattle.lab_session.specs.Lines.{Clicks, ClicksKey, ClicksShifted, DoesPart, Often, Polls, PollsOnce, Settles, SettlesChange, Tries};
+    ghost use Rattle.lab_session.specs.Lines.{Clicks, ClicksKey, ClicksShifted, DoesPart, Loses, NamesControl, Often, PollLineDoes, Polls, PollsOnce, ScriptLineDoes, Settles, SettlesChange, ShortLineDoes, Tries, seed_by};
+    ghost use Rattle.lab_lines.specs.ControlNames.{named_of};
 
     /// A bench without devices.
     ///
@@ -205,6 +206,8 @@ impl Bench {
             (W.contents writer.new) (LinePrints (session_of self.old.interpreter) line.now)
             (LineBegins (session_of self.old.interpreter) line.now) result
             (session_of self.new.interpreter) }
+        ensures does { OnOk result (Does (ScriptLineDoes line.now) self.old self.new
+            (W.contents writer.old) (W.contents writer.new)) }
     {
         self.text.clear();
         let part = self.interpreter.line(line, &mut self.text);
@@ -279,7 +282,10 @@ impl Bench {
         boot: Boot,
         descriptor: &[u8],
         writer: &mut W,
-    ) -> Result<(), Cause> {
+    ) -> Result<(), Cause>
+        ensures does { OnOk result (Does (DoesPart (Attaches start boot descriptor.now)) self.old self.new
+            (W.contents writer.old) (W.contents writer.new)) }
+    {
         self.text.clear();
         let part = self
             .interpreter
@@ -298,12 +304,19 @@ impl Bench {
         boot: Boot,
         descriptor: &[u8],
         writer: &mut W,
-    ) -> Result<(), LabCause> {
+    ) -> Result<(), LabCause>
+        ensures does { OnOk result (Does (DoesPart (Attaches start boot descriptor.now)) self.old self.new
+            (W.contents writer.old) (W.contents writer.new)) }
+    {
         Ok(self.attach_device(start, boot, descriptor, writer)?)
     }
 
     /// A short line of a script, with the fates that are drawn.
-    fn short_line<W: Sink>(&mut self, short: &ShortLine, writer: &mut W) -> Result<(), Cause> {
+    #[tactic(auto, unfolding(crate::specs::Lines::ShortLineDoes))]
+    fn short_line<W: Sink>(&mut self, short: &ShortLine, writer: &mut W) -> Result<(), Cause>
+        ensures does { OnOk result (Does (ShortLineDoes short.now) self.old self.new
+            (W.contents writer.old) (W.contents writer.new)) }
+    {
         match *short {
             ShortLine::Poll { dev, fate, count } => self.poll_line(dev, fate, count, writer),
             ShortLine::Control { dev, fate, count } => self.tries(dev, fate, count, writer),
@@ -341,7 +354,10 @@ impl Bench {
         fate: Fate,
         count: u16,
         writer: &mut W,
-    ) -> Result<(), Cause> {
+    ) -> Result<(), Cause>
+        ensures does { OnOk result (Does (PollLineDoes dev fate count) self.old self.new
+            (W.contents writer.old) (W.contents writer.new)) }
+    {
         if self.polls_singly(dev) {
             return self.polls(dev, fate, count, writer);
         }
@@ -438,7 +454,10 @@ impl Bench {
     }
 
     /// The control of a device that is named.
-    fn find(&self, dev: u8, name: &ControlName<'_>) -> Result<ControlId, Cause> {
+    fn find(&self, dev: u8, name: &ControlName<'_>) -> Result<ControlId, Cause>
+        ensures { IfOk result (NamesControl (session_of self.now.interpreter).members dev
+            (named_of name.now)) }
+    {
         let device = match self.interpreter.rig().device(dev) {
             Ok(device) => device,
             Err(fault) => return Err(Cause::from(fault)),
@@ -580,8 +599,14 @@ impl Bench {
     }
 
     /// From now on draws what is lost of a device's polls and tries.
-    fn lose(&mut self, dev: u8, percent: u8, seed: u64) {
-        let seed = self.options.seed.unwrap_or(seed);
+    fn lose(&mut self, dev: u8, percent: u8, seed: u64)
+        ensures does { (bytes : Option (List ℕ)) → Does (Loses dev percent
+            (seed_by self.old.options.seed seed)) self.old self.new bytes bytes }
+    {
+        let seed = match self.options.seed {
+            Some(other) => other,
+            None => seed,
+        };
         self.draws.lose(dev, percent, seed);
     }
 
