@@ -6,6 +6,7 @@ HIDPLAY := bin/hidplay
 HIDMAP := bin/hidmap
 HIDSERVE := bin/hidserve
 HIDATTACH := bin/hidattach
+HIDLAB := bin/hidlab
 BENCH := bin/hid_bench
 SCRIPT ?= examples/layouts/mouse.script
 ARGS ?=
@@ -19,7 +20,7 @@ VERSION := 0.2.0
 LIBRARY_VERSION := $(shell sed -n 's/^\#define HIDSTACK_VERSION "\(.*\)"/\1/p' include/hidstack.h)
 MAJOR := $(firstword $(subst ., ,$(LIBRARY_VERSION)))
 
-.PHONY: run test try hidrun hidplay hidmap hidserve hidattach bench examples library library-test library-check library-cost scale play-cost install deb deb-test documents tour format memory refusals mutants descriptors compare-linux help clean
+.PHONY: run test try hidrun hidplay hidmap hidlab hidserve hidattach bench examples library library-test library-check library-cost scale play-cost install deb deb-test documents tour format memory refusals mutants descriptors compare-linux help clean
 
 # The first line of each recipe that starts the toolchain: without `rt`, make ends with one line.
 NEEDS_RT = $(if $(shell command -v rt),,$(error rt is missing: it is in the bin folder of the Rattle kit, rattle-kit-13 (logic dac8208d650f15bf), which belongs on the PATH))
@@ -34,7 +35,7 @@ test:  ## proves and tests everything from nothing, and runs all examples
 	$(NEEDS_RT)
 	$(MAKE) --no-print-directory documents format
 	tools/proof/gate
-	$(MAKE) --no-print-directory hidrun hidplay hidmap hidserve hidattach examples memory
+	$(MAKE) --no-print-directory hidrun hidplay hidmap hidlab hidserve hidattach examples memory
 	if tools/proof/archive hidstack; then $(MAKE) --no-print-directory library-test; fi
 
 # Runs a script without a proof: make try SCRIPT=FILE ARGS=--trace
@@ -45,10 +46,11 @@ try:  ## runs a script without a proof: SCRIPT=FILE ARGS=--trace
 hidrun: $(HIDRUN)  ## bin/hidrun, which runs scripts
 hidplay: $(HIDPLAY)  ## bin/hidplay, which plays recordings
 hidmap: $(HIDMAP)  ## bin/hidmap, which draws reports
+hidlab: $(HIDLAB)  ## bin/hidlab, the test bench
 hidserve: $(HIDSERVE)  ## bin/hidserve, which serves the devices of a script over USB/IP
 hidattach: $(HIDATTACH)  ## bin/hidattach, which reads a device of a USB/IP server
 
-PROGRAMS := hidrun hidplay hidmap hidserve hidattach hid_bench
+PROGRAMS := hidrun hidplay hidmap hidlab hidserve hidattach hid_bench
 # (folders too, so that a file that was removed is seen)
 SOURCES := $(shell find crates/*/src crates/*/specs crates/*/proofs 2> /dev/null)
 
@@ -104,8 +106,8 @@ library-cost: library  ## counts the instructions of calls of the C library
 SHARED := $(DESTDIR)$(PREFIX)/share
 DOCUMENTS := $(SHARED)/doc/rulohevian
 
-install: $(HIDRUN) $(HIDPLAY) $(HIDMAP) $(HIDSERVE) $(HIDATTACH) library  ## installs programs, library and documents: PREFIX=/usr/local DESTDIR=
-	install -Dm755 -t $(DESTDIR)$(PREFIX)/bin $(HIDRUN) $(HIDPLAY) $(HIDMAP) $(HIDSERVE) $(HIDATTACH) tools/user/play-into tools/user/join-results
+install: $(HIDRUN) $(HIDPLAY) $(HIDMAP) $(HIDLAB) $(HIDSERVE) $(HIDATTACH) library  ## installs programs, library and documents: PREFIX=/usr/local DESTDIR=
+	install -Dm755 -t $(DESTDIR)$(PREFIX)/bin $(HIDRUN) $(HIDPLAY) $(HIDMAP) $(HIDLAB) $(HIDSERVE) $(HIDATTACH) tools/user/play-into tools/user/join-results
 	install -Dm644 -t $(DESTDIR)$(LIBDIR) bin/lib/libhidstack.a
 	install -Dm755 -t $(DESTDIR)$(LIBDIR) bin/lib/libhidstack.so.$(LIBRARY_VERSION)
 	cp -P bin/lib/libhidstack.so bin/lib/libhidstack.so.$(MAJOR) $(DESTDIR)$(LIBDIR)
@@ -124,7 +126,7 @@ install: $(HIDRUN) $(HIDPLAY) $(HIDMAP) $(HIDSERVE) $(HIDATTACH) library  ## ins
 
 # Debian packages of all that `install` installs: bin/rulohevian_$(VERSION)-1_ARCHITECTURE.deb, and libhidstack$(MAJOR) and
 # libhidstack-dev, of the library's version.
-deb: $(HIDRUN) $(HIDPLAY) $(HIDMAP) $(HIDSERVE) $(HIDATTACH) library  ## makes Debian packages of it
+deb: $(HIDRUN) $(HIDPLAY) $(HIDMAP) $(HIDLAB) $(HIDSERVE) $(HIDATTACH) library  ## makes Debian packages of it
 	tools/package/debian $(VERSION) $(LIBRARY_VERSION) bin
 
 # Installs the packages in a root of their own, and runs the programs and a C example there. It needs to be root.
@@ -136,19 +138,19 @@ PICTURED := $(shell grep -l '^N:' examples/recordings/*.hid) $(wildcard examples
 
 # Compares the expected texts with a second reader, and the manual pages and completion with programs and header; runs examples, rows
 # and command lines on the proved programs, also on failing streams.
-examples: $(HIDRUN) $(HIDPLAY) $(HIDMAP) $(HIDSERVE) $(HIDATTACH) $(BENCH)  ## runs all examples on the proved programs
+examples: $(HIDRUN) $(HIDPLAY) $(HIDMAP) $(HIDLAB) $(HIDSERVE) $(HIDATTACH) $(BENCH)  ## runs all examples on the proved programs
 	tools/check/second-reader examples/*/*.script
 	tools/check/recordings examples/*/*.hid
 	tools/check/pictures $(HIDMAP) $(PICTURED)
 	tools/check/inputs $(HIDMAP) examples/recordings/*.hid
 	tools/check/hidplay $(HIDPLAY)
 	tools/check/damaged-captures $(HIDPLAY)
-	tools/check/commands $(HIDRUN) $(HIDPLAY) $(HIDMAP) $(HIDSERVE) $(HIDATTACH) $(BENCH)
-	tools/check/manual $(HIDRUN) $(HIDPLAY) $(HIDMAP) $(HIDSERVE) $(HIDATTACH)
+	tools/check/commands $(HIDRUN) $(HIDPLAY) $(HIDMAP) $(HIDLAB) $(HIDSERVE) $(HIDATTACH) $(BENCH)
+	tools/check/manual $(HIDRUN) $(HIDPLAY) $(HIDMAP) $(HIDLAB) $(HIDSERVE) $(HIDATTACH)
 	tools/check/serve $(HIDSERVE)
 	tools/check/attach $(HIDATTACH)
 	tools/check/failures $(HIDRUN) $(HIDMAP)
-	tools/check/examples $(HIDRUN) $(HIDPLAY) $(HIDMAP)
+	tools/check/examples $(HIDRUN) $(HIDPLAY) $(HIDMAP) $(HIDLAB)
 	tools/check/rows $(HIDRUN)
 
 # Checks that everything the documents cite exists, that DEFINITIONS and the table of THEOREM are as their tools make them, and

@@ -1,0 +1,169 @@
+//! The test bench: plays USB HID devices on a bus that may lose packets, and tests what a host reports (docs/LAB.md).
+//! ```text
+//!   hidlab [OPTIONS] [FILE]
+//!
+//!   FILE, or standard input --> lines --> lab_lines --> lab_session: the rig of hidrun --> a buffer --> standard output
+//!     include FILE, repeat .. end -^                       |
+//!                                                          +-- a fault --> standard error, with words, and an exit status
+//! ```
+//! The exit status is 0, or what [`exit_of`](status::exit_of) gives for the fault, or 2 for a wrong command line.
+#![tactic(auto)]
+
+mod args;
+mod progress;
+mod run;
+mod source;
+mod status;
+
+use args::{CliArgs, parse_args};
+use clap::error::ErrorKind;
+use hid_input::FileName;
+use hid_script::Cause;
+use lab_session::{Bench, LabCause, cause_words};
+use progress::Progress;
+use run::{Trouble, run_lines};
+use source::LabSource;
+use status::{FINE, OUTSIDE, WRONG_USAGE, exit_of};
+use std::io::{BufReader, BufWriter, IsTerminal, Stderr, Write};
+use std::process::ExitCode;
+use std::{env, fs, io};
+
+fn main(rt: HostRuntime) -> ExitCode {
+    let alloc = rt.alloc();
+    let args = match env::args(&rt) {
+        Ok(args) => args,
+        Err(error) => return ExitCode::from(print_no_words(&rt, error.kind())),
+    };
+    let words: Result<Vec<String>, _> = args.collect(alloc);
+    let Ok(words) = words else {
+        return ExitCode::from(OUTSIDE);
+    };
+    match parse_args(alloc, words.as_slice()) {
+        Ok(asked) => ExitCode::from(run_file(&rt, &asked)),
+        Err(error) => ExitCode::from(print_bad_words(&rt, &error)),
+    }
+}
+
+/// Why the words of the command line can't be read: memory, or one isn't UTF-8.
+fn print_no_words(rt: &HostRuntime, kind: io::ErrorKind) -> u8 {
+    if kind == io::ErrorKind::InvalidData {
+        let _ = eprintln!(rt; "hidlab: a word of the command line isn't UTF-8");
+        WRONG_USAGE
+    } else {
+        OUTSIDE
+    }
+}
+
+/// Help and version go to standard output, and what is wrong with the words to standard error.
+fn print_bad_words(rt: &HostRuntime, error: &clap::Error) -> u8 {
+    match error.kind() {
+        ErrorKind::DisplayHelp | ErrorKind::DisplayVersion => {
+            if print!(rt; "{error}").is_ok() {
+                FINE
+            } else {
+                OUTSIDE
+            }
+        }
+        ErrorKind::OutOfMemory => OUTSIDE,
+        _ => {
+            let _ = eprint!(rt; "{error}");
+            WRONG_USAGE
+        }
+    }
+}
+
+/// The source that the words name; none where it can't be opened, which is printed.
+fn open_source(rt: &HostRuntime, name: &str) -> Option<LabSource> {
+    let alloc = rt.alloc();
+    if name == "-" {
+        let reader = BufReader::new(alloc, rt.stdin()).ok()?;
+        return Some(LabSource::input(reader, String::new(alloc)));
+    }
+    let file = match fs::open(rt, name) {
+        Ok(file) => file,
+        Err(error) => {
+            let name = FileName(name);
+            let _ = eprintln!(rt; "hidlab: {name}: it can't be read: {error}");
+            return None;
+        }
+    };
+    let path = String::from_str(alloc, name).ok()?;
+    let reader = BufReader::new(alloc, file).ok()?;
+    Some(LabSource::file(reader, path))
+}
+
+/// Runs the script that the words name.
+fn run_file(rt: &HostRuntime, asked: &CliArgs<'_>) -> u8 {
+    let alloc = rt.alloc();
+    let Some(source) = open_source(rt, asked.file) else {
+        return OUTSIDE;
+    };
+    let mut sources = Vec::new(alloc);
+    if sources.push(source).is_err() {
+        return OUTSIDE;
+    }
+    match Bench::new(alloc, asked.options) {
+        Ok(mut bench) => run_sources(rt, asked, &mut sources, &mut bench),
+        Err(_) => OUTSIDE,
+    }
+}
+
+/// Where the progress is printed: on standard error, if it is a terminal and events go elsewhere.
+fn terminal(rt: &HostRuntime) -> Option<Stderr> {
+    if rt.stderr().is_terminal() && !rt.stdout().is_terminal() {
+        Some(rt.stderr())
+    } else {
+        None
+    }
+}
+
+/// Runs the lines of the sources, and prints what ended them early, and what was counted.
+fn run_sources(
+    rt: &HostRuntime,
+    asked: &CliArgs<'_>,
+    sources: &mut Vec<LabSource>,
+    bench: &mut Bench,
+) -> u8 {
+    let Ok(mut output) = BufWriter::new(rt.alloc(), rt.stdout()) else {
+        return OUTSIDE;
+    };
+    let mut progress = Progress::new(terminal(rt));
+    let end = run_lines(rt, sources, bench, &mut output, &mut progress);
+    progress.clear();
+    let end = match output.flush() {
+        Ok(()) => end,
+        Err(_) => Err(Trouble::from(LabCause::Script(Cause::Write))),
+    };
+    if asked.options.summary {
+        let counts = bench.counts();
+        let _ = eprintln!(rt; "{counts}");
+    }
+    match end {
+        Ok(()) => FINE,
+        Err(trouble) => print_trouble(rt, sources.as_slice(), bench, &trouble),
+    }
+}
+
+/// Prints what ended a run early: the file if it is an included one, the line, the codes, and words.
+fn print_trouble(rt: &HostRuntime, sources: &[LabSource], bench: &Bench, trouble: &Trouble) -> u8 {
+    let cause = trouble.cause;
+    let mut number = 0;
+    if let Some(source) = sources.last() {
+        number = source.line;
+        if sources.iter().filter(|source| !source.is_body()).count() > 1 {
+            let name = FileName(source.name.as_str());
+            let _ = eprint!(rt; "{name}: ");
+        }
+    }
+    match &trouble.words {
+        Some(words) => {
+            let words = FileName(words.as_str());
+            let _ = eprintln!(rt; "line {number}: {cause}: {words}");
+        }
+        None => {
+            let words = cause_words(cause, bench.control());
+            let _ = eprintln!(rt; "line {number}: {cause}: {words}");
+        }
+    }
+    exit_of(cause)
+}
