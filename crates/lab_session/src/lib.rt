@@ -8,8 +8,9 @@
 //! The rule to know: nothing here takes a step of the bus by itself. A new line is a list of parts, each a line of a script or the
 //! change of one control by its place, and each part is carried out by `hid_script`.
 //!
-//! The promise: the rig after a run, and what was printed, are those of the parts, one after the other, by the clauses of
-//! [`Interpreter`](hid_script::Interpreter). An expectation changes neither.
+//! The promise: polls, tries, clicks and losses do and print what their parts do and print, one after the other, by the clauses of
+//! [`Interpreter`](hid_script::Interpreter). An expectation changes neither. That [`Bench::carry_out`] does of each line what it says
+//! is no clause yet: rows try it.
 #![tactic(auto)]
 
 mod bench;
