@@ -45,10 +45,10 @@ lacks session = wants session.import.stage - length session.came
 abbrev pub message_with : SessionState → List ℕ → List ℕ
 message_with session bytes = session.came ++ bytes
 
--- memory ran out, or a message is taken as the import takes it: its events are the import's
+-- memory ran out, and the import is as it was; or a message is taken as the import takes it: its events are the import's
 abbrev pub TakesMessage : List ℕ → Import → Result Told ImportFault → Import → List DriverEvent → Type 0
 TakesMessage message before result after events =
-    (result ≡ Err Memory) ⊎ Takes before.stage message before result after [] events
+    ((result ≡ Err Memory) × (after ≡ before)) ⊎ Takes before.stage message before result after [] events
 
 -- The layouts that are known after a message: where it was the report descriptor of an interface, and is read, its layout is one
 -- more.
@@ -87,10 +87,22 @@ TakesIf true before message result after = TakesWhole before message result afte
 TakesIf false before message result after =
     (result ≡ Ok Onward) × (after ≡ record before { came = message; events = [] })
 
--- What bytes that came lead to: with what came before they are taken where they are a whole message. Or memory ran out.
+-- memory ran out for the message: the import is as it was, and so is what is held
+abbrev pub RanOut : SessionState → Result Told ImportFault → SessionState → Type 0
+RanOut before result after = (result ≡ Err Memory) × (after.import ≡ before.import)
+
+-- memory ran out for the layout of an interface alone: the import took the message
+pub record RanOutOfLayout (before : SessionState) (message : List ℕ) (result : Result Told ImportFault) (after : SessionState)
+    : Type 0 where
+  pub told : Told
+  pub fault : result ≡ Err Memory
+  pub taken : Takes before.import.stage message before.import (Ok told) after.import [] after.events
+
+-- What bytes that came lead to: with what came before they are taken where they are a whole message. Or memory ran out, and what is
+-- held isn't forgotten.
 abbrev pub TakesBytes : SessionState → List ℕ → Result Told ImportFault → SessionState → Type 0
 TakesBytes before bytes result after =
-    (result ≡ Err Memory)
+    RanOut before result after ⊎ RanOutOfLayout before (message_with before bytes) result after
     ⊎ TakesIf (length (message_with before bytes) == wants before.import.stage) before (message_with before bytes) result after
 
 -- a submit is a control transfer

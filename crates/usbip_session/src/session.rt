@@ -266,7 +266,8 @@ impl Session {
     /// says, and what it led to is returned; its events are those of [`Session::events`].
     ///
     /// # Errors
-    /// As `take` of [`Import`]; [`ImportFault::Memory`]. The session is to be ended: [`Session::release`].
+    /// As `take` of [`Import`]; [`ImportFault::Memory`], and the import keeps what is held. The session is to be ended:
+    /// [`Session::release`].
     pub fn take(&mut self, bytes: &[u8]) -> Result<Told, ImportFault>
         requires { length bytes.now ≤ lacks self.old }
         ensures { TakesBytes self.old bytes.now result self.new }
