@@ -1,5 +1,9 @@
--- How long something is awaited (our choice: docs/USBIP.md).
-use Rattle.std.specs.Prelude.{ℕ, ◌-◌, Bool, true, false, nat_lt, Option, Some, None, unwrap_or}
+-- How long something is awaited, and how long transfers fail (our choice: docs/USBIP.md).
+use Rattle.std.specs.Prelude.{ℕ, ◌+◌, ◌-◌, ◌==◌, Bool, true, false, nat_lt, if◌then◌else◌, Option, Some, None, unwrap_or}
+use Rattle.hid_driver.specs.declared.fault.DriverFault.TheVariants.{Failed}
+use Rattle.usbip_session.specs.declared.notice.Notice.{Notice}
+use Rattle.usbip_session.specs.declared.notice.Notice.TheVariants.{Report}
+use Rattle.usbip_session.specs.declared.timer.FailedRow.{FailedRow}
 
 -- since when something is awaited: where it already was, since then
 abbrev pub since_after : Bool → ℕ → Option ℕ → Option ℕ
@@ -10,3 +14,25 @@ since_after true now since = Some (unwrap_or since now)
 abbrev pub is_late : Option ℕ → ℕ → ℕ → Bool
 is_late None now limit = false
 is_late (Some since) now limit = nat_lt limit (now - since)
+
+-- the row with a failure at this time: one that comes over a second after the last one begins a row of its own
+abbrev pub row_with : ℕ → Option FailedRow → FailedRow
+row_with now None = record { first = now; last = now }
+row_with now (Some row) =
+    if nat_lt 1000 (now - row.last) then record { first = now; last = now } else record { first = row.first; last = now }
+
+-- The row of failures of an interface after an answer, which is one of them or not. A transfer that is done ends it.
+abbrev pub row_after : Bool → ℕ → Option FailedRow → Option FailedRow
+row_after false now row = None
+row_after true now row = Some (row_with now row)
+
+-- Transfers failed in a row for longer than a limit.
+abbrev pub is_endless : Option FailedRow → ℕ → Bool
+is_endless None limit = false
+is_endless (Some row) limit = nat_lt limit (row.last - row.first)
+
+-- What is reported of an answer that makes this row of that one: that the transfer failed, where a row begins.
+abbrev pub notice_of_row : ℕ → Option FailedRow → Option FailedRow → Option Notice
+notice_of_row place before None = None
+notice_of_row place None (Some after) = Some (Report place Failed)
+notice_of_row place (Some before) (Some after) = if before.first == after.first then None else Some (Report place Failed)

@@ -14,7 +14,8 @@
 //!
 //! The promise, whatever the server sends: a message is taken where its last byte comes, once, as [`Import`] takes it
 //! ([`Session::take`]). [`Session::end_after`] and [`Session::end_of_stream`] say what ends the session, and [`Session::release`]
-//! releases what is held then. A [`Timer`] is late where an answer, or the rest of a message, takes longer than a limit.
+//! releases what is held then. A [`Timer`] is late where an answer, or the rest of a message, takes longer than a limit, and a
+//! [`FailedRow`] says how long transfers have failed.
 #![tactic(auto)]
 
 mod end;
@@ -26,6 +27,6 @@ mod words;
 pub use end::End;
 pub use notice::Notice;
 pub use session::{Laid, Session};
-pub use timer::{Timer, is_late};
+pub use timer::{FailedRow, Timer, is_endless, is_late, notice_of_row, row_after};
 pub use usbip_import::{Import, ImportFault, Told};
 pub use words::{cause_words, driver_words, import_words};

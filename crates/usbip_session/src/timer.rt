@@ -1,6 +1,9 @@
-//! How long something is awaited.
+//! How long something is awaited, and how long transfers fail.
 ghost use Rattle.std.specs.Prelude.{◌≡◌};
-ghost use Rattle.usbip_session.specs.Timers.{is_late, since_after};
+ghost use Rattle.usbip_session.specs.Timers.{is_endless, is_late, notice_of_row, row_after, row_with, since_after};
+
+use crate::notice::Notice;
+use hid_driver::DriverFault;
 
 /// Since when something is awaited, if it is.
 #[derive(Clone, Copy, Debug, Default)]
@@ -29,5 +32,70 @@ pub fn is_late(timer: &Timer, now: u64, limit: u64) -> bool
     match timer.since {
         Some(since) => now.saturating_sub(since) > limit,
         None => false,
+    }
+}
+
+/// Transfers for reports of one interface that failed, one after another, at most a second apart.
+#[derive(Clone, Copy, Debug, PartialEq, Eq)]
+pub struct FailedRow {
+    /// When the first one was answered, in milliseconds of the program's clock.
+    pub first: u64,
+    /// When the last one was.
+    pub last: u64,
+}
+
+/// The row with a failure at this time.
+fn row_with(now: u64, row: Option<FailedRow>) -> FailedRow
+    ensures { result ≡ row_with now row }
+{
+    match row {
+        Some(row) if now.saturating_sub(row.last) <= 1000 => FailedRow {
+            first: row.first,
+            last: now,
+        },
+        _ => FailedRow {
+            first: now,
+            last: now,
+        },
+    }
+}
+
+/// The row of failures of an interface after an answer at this time, which is one of them or not. Failures over a second apart are
+/// no row: the device had nothing to send meanwhile.
+pub fn row_after(failed: bool, now: u64, row: Option<FailedRow>) -> Option<FailedRow>
+    ensures { result ≡ row_after failed now row }
+{
+    if failed {
+        Some(row_with(now, row))
+    } else {
+        None
+    }
+}
+
+/// Whether transfers failed in a row for longer than a limit, in milliseconds.
+pub fn is_endless(row: Option<FailedRow>, limit: u64) -> bool
+    ensures { result ≡ is_endless row limit }
+{
+    match row {
+        Some(row) => row.last.saturating_sub(row.first) > limit,
+        None => false,
+    }
+}
+
+/// What is reported of an answer that makes the row `after` of the row `before`: the first failure of a row.
+pub fn notice_of_row(
+    interface: usize,
+    before: Option<FailedRow>,
+    after: Option<FailedRow>,
+) -> Option<Notice>
+    ensures { result ≡ notice_of_row interface before after }
+{
+    let after = after?;
+    match before {
+        Some(before) if before.first == after.first => None,
+        _ => Some(Notice::Report {
+            interface,
+            fault: DriverFault::Failed,
+        }),
     }
 }
