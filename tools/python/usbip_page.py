@@ -66,7 +66,7 @@ def read(bench):
     until(lambda: guest.devices().get(KBD) == "1-1", "keyboard 1-1")
     time.sleep(1)
     guest.run(export)
-    guest.run("cd /tmp/page; touch leds; %s > told 2>&1 &" % attach.replace("HOST", "127.0.0.1"))
+    guest.run("cd /tmp/page; %s > told 2>&1 &" % attach.replace("HOST", "127.0.0.1"))
     until(lambda: ": live" in guest.run("cat /tmp/page/told"), "live interface")
     guest.qmp.do("sendkey a")
     until(lambda: re.search(r"down 07:04.*\n.* up 07:04", guest.run("cat /tmp/page/events")), "event of the key")

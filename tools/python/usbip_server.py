@@ -145,6 +145,13 @@ class Server:
                 return True
         return False
 
+    def step_on(self, answer):
+        """Answers the next report of the first endpoint, and waits until one more is asked for."""
+        endpoint = next(iter(self.reports))
+        self.answer(self.pending.pop(endpoint), *answer)
+        while endpoint not in self.pending:
+            self.step()
+
     def is_done(self):
         """Whether all reports are answered, and each endpoint is asked for the next one."""
         return not any(self.reports.values()) and all(endpoint in self.pending for endpoint in self.reports)

@@ -1,5 +1,5 @@
 -- The lines of a file of Output reports (our choice: docs/USBIP.md).
-use Rattle.std.specs.Prelude.{⊤, ◌≡◌, ℕ, ◌==◌, Bool, false, List, [], ◌∷◌, ◌++◌, codes, if◌then◌else◌, Option, Some, None, Result, Ok, Err}
+use Rattle.std.specs.Prelude.{⊤, ◌≡◌, ◌<◌, ℕ, ◌==◌, Bool, false, List, [], ◌∷◌, ◌++◌, codes, length, if◌then◌else◌, Option, Some, None, Result, Ok, Err}
 use Rattle.std.specs.Global.{Vec}
 use Rattle.std.specs.Str.{bytes_eq}
 use Rattle.hid_text.specs.Lines.{IsUnbroken}
@@ -68,3 +68,9 @@ ReadsLine (Err Memory) meaning = ⊤
 abbrev pub LineTaken : Option (Vec ℕ) → List ℕ → List ℕ → Type 0
 LineTaken None before after = IsUnbroken before × (after ≡ before)
 LineTaken (Some line) before after = IsUnbroken line.items × (before ≡ line.items ++ 10 ∷ after)
+
+-- More came of the file. It is refused only where what came before is the beginning of a line of over 65,536 bytes.
+abbrev pub Added : Result (Unit {0}) LineFault → List ℕ → List ℕ → List ℕ → Type 0
+Added (Ok done) more before after = after ≡ before ++ more
+Added (Err Unread) more before after = IsUnbroken before × (65536 < length before)
+Added (Err Memory) more before after = ⊤

@@ -26,7 +26,7 @@ use clap::error::ErrorKind;
 use status::{FINE, OUTSIDE, WRONG_USAGE, exit_of};
 use std::process::ExitCode;
 use std::{env, fs};
-use turns::{Files, attach};
+use turns::{Files, attach, open_requests};
 use usbip_session::End;
 
 fn main(rt: HostRuntime) -> ExitCode {
@@ -90,15 +90,9 @@ fn run(rt: &HostRuntime, asked: &CliArgs<'_>) -> u8 {
     exit_of(end)
 }
 
-/// The file of Output reports, if one is named, and the file that events are written to.
+/// The file of Output reports, if one is named and is there, and the file that events are written to.
 fn open_files(rt: &HostRuntime, asked: &CliArgs<'_>) -> Result<Files, End> {
-    let mut requests = None;
-    if let Some(name) = asked.leds {
-        let Ok(file) = fs::open(rt, name) else {
-            return Err(End::Requests);
-        };
-        requests = Some(file);
-    }
+    let requests = open_requests(rt, asked.leds)?;
     match fs::create(rt, asked.output) {
         Ok(output) => Ok(Files { output, requests }),
         Err(_) => {

@@ -5,9 +5,10 @@
 //!   # a remark, or an empty line
 //! ```
 
-ghost use Rattle.std.specs.Prelude.{◌≡◌, [], ◌++◌, map, IfOk, OnOk};
+ghost use Rattle.std.specs.Prelude.{◌≡◌, [], map, IfOk};
 ghost use Rattle.hid_text.specs.Words.{words_of};
-ghost use Rattle.hidattach.specs.OutputLines.{LineTaken, ReadsLine, interface_line, is_remark, line_of_words, place_of_word, report_line};
+ghost use Rattle.std.specs.Str.Lines.{strip_carriage_return};
+ghost use Rattle.hidattach.specs.OutputLines.{Added, LineTaken, ReadsLine, interface_line, is_remark, line_of_words, place_of_word, report_line};
 
 use hid_recording::{Cause, read_bytes};
 use hid_text::{read_number, split_line, words_of_line};
@@ -101,14 +102,24 @@ fn read_words(alloc: Global, words: &[&[u8]]) -> Result<OutputLine, LineFault>
     }
 }
 
-/// What a line says.
+/// A line without the one carriage return at its end, if it has one.
+fn without_return(line: &[u8]) -> &[u8]
+    ensures { result.now ≡ strip_carriage_return line.now }
+{
+    match line {
+        [shorter @ .., b'\r'] => shorter,
+        _ => line,
+    }
+}
+
+/// What a line says. A carriage return at its end is no part of it.
 ///
 /// # Errors
 /// [`LineFault`].
 pub fn read_line(alloc: Global, line: &[u8]) -> Result<OutputLine, LineFault>
-    ensures { ReadsLine result (line_of_words (words_of line.now)) }
+    ensures { ReadsLine result (line_of_words (words_of (strip_carriage_return line.now))) }
 {
-    let Ok(words) = words_of_line(alloc, line) else {
+    let Ok(words) = words_of_line(alloc, without_return(line)) else {
         return Err(LineFault::Memory);
     };
     let read = read_words(alloc, &words);
@@ -135,11 +146,11 @@ impl Lines {
     /// More came of the file.
     ///
     /// # Errors
-    /// [`LineFault::Unread`] where a line is too long, [`LineFault::Memory`].
+    /// [`LineFault::Unread`] where what came before is the beginning of a line that is too long, [`LineFault::Memory`].
     pub fn add(&mut self, more: &[u8]) -> Result<(), LineFault>
-        ensures { OnOk result (self.new.bytes.items ≡ self.old.bytes.items ++ more.now) }
+        ensures { Added result more.now self.old.bytes.items self.new.bytes.items }
     {
-        if self.bytes.len() > MAX_LINE {
+        if self.bytes.len() > MAX_LINE && split_line(&self.bytes).is_none() {
             return Err(LineFault::Unread);
         }
         match self.bytes.extend_from_slice(more) {

@@ -7,10 +7,13 @@ use super::output_lines::{LineFault, Lines, OutputLine, read_line};
 use std::alloc::Global;
 use std::fs::File;
 use std::io::{ErrorKind, Read, Stdin, Stdout, Write};
-use std::thread;
 use std::time::{Duration, Instant};
+use std::{fs, thread};
 use usbip::Status;
-use usbip_session::{End, ImportFault, Session, Timer, Told, driver_words, is_late};
+use usbip_session::{
+    End, FailedRow, ImportFault, Session, Timer, Told, driver_words, is_endless, is_late,
+    notice_of_row, row_after,
+};
 
 const MEMORY: End = End::Import(ImportFault::Memory);
 
@@ -28,7 +31,7 @@ const AFTER_ERROR: u64 = 20;
 pub struct Files {
     /// Events are written here.
     pub output: File,
-    /// Output reports are read from here.
+    /// Output reports are read from here, once the file is there.
     pub requests: Option<File>,
 }
 
@@ -49,6 +52,8 @@ struct Run<'a> {
     answer: Timer,
     incoming: Timer,
     outgoing: Timer,
+    /// Of each interface, by its place, the transfers that failed in a row.
+    rows: Vec<Option<FailedRow>>,
     /// Whether the server takes nothing any more.
     is_shut: bool,
     /// Whether a transfer failed in this turn.
@@ -75,6 +80,21 @@ fn milliseconds(time: Duration) -> u64 {
         .saturating_add(u64::from(time.subsec_millis()))
 }
 
+/// Opens the file of Output reports, if one is named, and is there.
+///
+/// # Errors
+/// [`End::Requests`] where it is there, and can't be opened.
+pub fn open_requests(rt: &HostRuntime, name: Option<&str>) -> Result<Option<File>, End> {
+    let Some(name) = name else {
+        return Ok(None);
+    };
+    match fs::open(rt, name) {
+        Ok(file) => Ok(Some(file)),
+        Err(error) if error.kind() == ErrorKind::NotFound => Ok(None),
+        Err(_) => Err(End::Requests),
+    }
+}
+
 /// Reads the device until the session ends, releases what is held, and returns what ended it.
 pub fn attach(rt: &HostRuntime, asked: &CliArgs<'_>, bus_id: &[u8; 32], files: &mut Files) -> End {
     let Ok(start) = Instant::now(rt) else {
@@ -92,6 +112,7 @@ pub fn attach(rt: &HostRuntime, asked: &CliArgs<'_>, bus_id: &[u8; 32], files: &
         answer: Timer::default(),
         incoming: Timer::default(),
         outgoing: Timer::default(),
+        rows: Vec::new(rt.alloc()),
         is_shut: false,
         has_failed: false,
         idle: 0,
@@ -275,10 +296,47 @@ impl Run<'_> {
             Err(fault) => return Err(End::Import(fault)),
         };
         self.print()?;
-        if let Told::Report { status, .. } = told {
-            self.has_failed = self.has_failed || status != Status::Success;
+        if let Told::Report {
+            interface,
+            status,
+            ..
+        } = told
+        {
+            self.count_answer(rt, interface, status != Status::Success)?;
         }
         self.judge(rt, told)
+    }
+
+    /// In milliseconds, how long an answer may take.
+    fn limit(&self) -> u64 {
+        u64::from(self.asked.seconds).saturating_mul(1000)
+    }
+
+    /// Counts an answer for a report. The first failure of a row is reported, and a row that takes too long ends the session.
+    fn count_answer(
+        &mut self,
+        rt: &HostRuntime,
+        interface: usize,
+        failed: bool,
+    ) -> Result<(), End> {
+        self.has_failed = self.has_failed || failed;
+        let count = interface.saturating_add(1);
+        if self.rows.len() < count && self.rows.resize(count, None).is_err() {
+            return Err(MEMORY);
+        }
+        let Some(row) = self.rows.get_mut(interface) else {
+            return Ok(());
+        };
+        let before = *row;
+        let after = row_after(failed, milliseconds(self.time), before);
+        *row = after;
+        if let Some(notice) = notice_of_row(interface, before, after) {
+            let _ = eprintln!(rt; "{notice}");
+        }
+        if is_endless(after, self.limit()) {
+            return Err(End::Late);
+        }
+        Ok(())
     }
 
     /// Reports what a message led to, unless it is what ends the session.
@@ -295,28 +353,49 @@ impl Run<'_> {
         }
     }
 
-    /// Asks what the next line of the file of Output reports says, if the driver waits for nothing.
+    /// Asks what the next line of the file of Output reports says, if the driver waits for nothing. More of the file is read
+    /// where no whole line is left.
     fn request(&mut self, rt: &HostRuntime, files: &mut Files) -> Result<(), End> {
-        let Some(file) = &mut files.requests else {
-            return Ok(());
-        };
         if !self.session.is_ready() {
             return Ok(());
         }
+        if self.request_next(rt)? {
+            return Ok(());
+        }
+        if files.requests.is_none() {
+            files.requests = open_requests(rt, self.asked.leds)?;
+        }
+        let Some(file) = &mut files.requests else {
+            return Ok(());
+        };
+        self.read_requests(file)?;
+        self.request_next(rt)?;
+        Ok(())
+    }
+
+    /// Asks what the next line says that came whole. Whether there was one.
+    fn request_next(&mut self, rt: &HostRuntime) -> Result<bool, End> {
+        match self.lines.next_line(self.alloc) {
+            Ok(Some(line)) => {
+                self.request_line(rt, &line)?;
+                Ok(true)
+            }
+            Ok(None) => Ok(false),
+            Err(_) => Err(MEMORY),
+        }
+    }
+
+    /// Reads more of the file of Output reports.
+    fn read_requests(&mut self, file: &mut File) -> Result<(), End> {
         let mut piece = [0u8; 512];
         let count = match file.read(&mut piece) {
             Ok(count) => count,
             Err(_) => return Err(End::Requests),
         };
         match self.lines.add(&piece[..count]) {
-            Ok(()) => {}
-            Err(LineFault::Unread) => return Err(End::Requests),
-            Err(LineFault::Memory) => return Err(MEMORY),
-        }
-        match self.lines.next_line(self.alloc) {
-            Ok(Some(line)) => self.request_line(rt, &line),
-            Ok(None) => Ok(()),
-            Err(_) => Err(MEMORY),
+            Ok(()) => Ok(()),
+            Err(LineFault::Unread) => Err(End::Requests),
+            Err(LineFault::Memory) => Err(MEMORY),
         }
     }
 
@@ -346,7 +425,7 @@ impl Run<'_> {
     /// Sees whether something is awaited for too long.
     fn see(&mut self) -> Result<(), End> {
         let now = milliseconds(self.time);
-        let limit = u64::from(self.asked.seconds).saturating_mul(1000);
+        let limit = self.limit();
         self.answer.see(self.session.awaits_answer(), now);
         self.incoming.see(!self.session.is_between(), now);
         self.outgoing.see(!self.session.unsent().is_empty(), now);
