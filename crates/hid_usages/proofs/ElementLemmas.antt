@@ -9,7 +9,7 @@ use Rattle.std.specs.Ordering.{int_eq}
 use Rattle.std.proofs.lemmas.Bool.Decides.{Decides-int_eq}
 use Rattle.hid_snapshots.proofs.FillLemmas.{filled, length_map_zip, map_zip_at, set_length, zip_next, zip_there}
 use Rattle.hid_usages.specs.Appending.{Appends}
-use Rattle.hid_snapshots.proofs.ItemLemmas.{got, set_same}
+use Rattle.hid_snapshots.proofs.ItemLemmas.{got, set_here, set_same, set_there}
 use Rattle.hid_usages.specs.declared.elements.Carriable.{Carriable}
 use Rattle.hid_usages.specs.Elements.{switch_by_number, value_by_number, read_all}
 use Rattle.hid_usages.specs.Keeping.{AreKept, FindsKept}
@@ -188,6 +188,42 @@ reading_done read tell us start numbers can before all now out i kept so_far =
     let len = so_far.taken.same_length in
     let taken = taken_to read tell us start now numbers (before.items ++ all) out i (length now) can.same can.long (omega (arith, so_far.within, len)) (omega (arith, len)) can.quiet kept so_far.taken in
     all_taken read tell us start now numbers all before out (length now) can.same len (omega (arith, can.long, len)) taken so_far.same_room
+
+-- elements that their numbers leave are read already
+pub reading_begun : {A : Type 0} {Z : Type 0} (read : A × ℤ → A) (tell : ℕ → Usage → A × A → List Event) (us : List Usage) (start : List A) (numbers : List ℤ) → AreReadable read tell us start numbers
+    → (before : Vec Event Z) (all : List Event) (i : ℕ) → i ≤ length start → AreKept read start numbers 0 i → IsReading read tell us start numbers before all start before 0
+    → IsReading read tell us start numbers before all start before i
+reading_begun read tell us start numbers can before all i within kept begun = record {
+  taken = taken_to read tell us start start numbers (before.items ++ all) before 0 i can.same can.long (omega arith) within can.quiet kept begun.taken;
+  within = within;
+  same_room = begun.same_room;
+}
+
+-- elements that are kept are kept once one of them is read
+pub kept_set : {A : Type 0} (read : A × ℤ → A) (held new : List A) (numbers : List ℤ) (k from : ℕ) (v : ℤ) → k < length held → slice_get numbers k ≡ Some v
+    → ((b : A) → slice_get held k ≡ Some b → new ≡ slice_set held k (read (b, v))) → AreKept read held numbers from (length held) → AreKept read new numbers from (length new)
+kept_set {A = A} read held new numbers k from v within number is kept = λ j x w low high h g.
+    let b = got held k within in
+    let set = is b.0 b.1 in
+    let len : length new ≡ length held = ap length set ∙ set_length held k (read (b.0, v)) in
+    let inside : j < length held = omega arith in
+    let other : (k ≡ j → ⊥) → read (x, w) ≡ x = λ ne. kept j x w low inside (sym (set_there held k j (read (b.0, v)) ne) ∙ sym (ap (λ (l : List A). slice_get l j) set) ∙ h) g in
+    elim (cases_lt j k) [
+      | inl lt ↦ other (λ e. omega arith)
+      | inr ge ↦ elim (cases_lt k j) [
+        | inl gt ↦ other (λ e. omega arith)
+        | inr le ↦
+            let e : j ≡ k = omega arith in
+            let from_k : from ≤ k = omega arith in
+            let there : slice_get new k ≡ Some (read (b.0, v)) = ap (λ (l : List A). slice_get l k) set ∙ set_here held k (read (b.0, v)) within in
+            let one : Some x ≡ Some (read (b.0, v)) = sym h ∙ ap (λ (n : ℕ). slice_get new n) e ∙ there in
+            let two : Some w ≡ Some v = sym g ∙ ap (λ (n : ℕ). slice_get numbers n) e ∙ number in
+            let stays : read (b.0, v) ≡ b.0 = kept k b.0 v from_k within b.1 number in
+            let x_is : x ≡ b.0 = (let f : x ≡ read (b.0, v) = cc in f ∙ stays) in
+            let w_is : w ≡ v = cc in
+            rw (x_is, w_is) stays
+      ]
+    ]
 
 -- one element more stays
 pub kept_next : {A : Type 0} (read : A × ℤ → A) (held : List A) (numbers : List ℤ) (from i : ℕ) (b : A) (w : ℤ) → AreKept read held numbers from i → slice_get held i ≡ Some b → slice_get numbers i ≡ Some w → read (b, w) ≡ b

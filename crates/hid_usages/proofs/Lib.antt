@@ -19,6 +19,11 @@ pub mod RoomLemmas
 pub mod BackLemmas
 pub mod BoundLemmas
 pub mod ReaderLemmas
+pub mod ChangedBitLemmas
+pub mod FixedLemmas
+pub mod PassingLemmas
+pub mod RangeLemmas
+pub mod LastLemmas
 pub mod Vectors
 pub mod BootDescriptors
 pub mod BootLemmas

@@ -21,6 +21,8 @@ use Rattle.hid_snapshots.proofs.ItemLemmas.{got, form_at-is}
 use Rattle.hid_usages.specs.Reading.{read_state, names_rollover, read_named, is_data_in, item_numbers}
 use Rattle.hid_usages.specs.Taking.{TakesReport, list_at, state_after_report_at, events_of_report_at, state_after_numbers_at, events_of_numbers_at, view_from_item, events_from_item, read_view, read_events}
 use Rattle.hid_usages.proofs.EventLemmas.{has_places}
+use Rattle.hid_usages.specs.declared.planned_report.PlannedReport.{PlannedReport}
+use Rattle.hid_usages.specs.PlannedReports.{IsPlannedReport}
 use Rattle.hid_usages.specs.Reader.{IsStill, IsReader, still_bytes_of}
 use Rattle.hid_snapshots.proofs.CodeLemmas.{both_true}
 use Rattle.hid_usages.proofs.TakeLemmas.{named_input, read_view-at, read_view_fits}
@@ -223,6 +225,13 @@ no_events : (es : List Event) → length es ≡ 0 → es ≡ []
 no_events [] h = refl
 no_events (e ∷ es) h = absurd (omega arith)
 
+-- a report that gave no event gives none when it comes again
+pub quiet_again : (layout : Contents) (r : ℕ) (bytes : List ℕ) (view : List ControlState) → IsLayout layout → IsInput layout r → FitsView (items_of layout) view
+    → length (read_events layout r bytes view) ≡ 0 → read_events layout r bytes (read_view layout r bytes view) ≡ []
+quiet_again layout r bytes view laid input fits none =
+    let quiet : read_events layout r bytes view ≡ [] = no_events _ none in
+    ap (λ (v : List ControlState). read_events layout r bytes v) (quiet_view layout r bytes view laid input fits quiet) ∙ quiet
+
 -- a report that told nothing is still
 taken_still : (layout : Contents) (view view' : List ControlState) (bytes : List ℕ) (out out' : List Event)
     → IsLayout layout → FitsView (items_of layout) view → TakesReport layout bytes view out (Ok tt) view' out'
@@ -236,15 +245,17 @@ taken_still layout view view' bytes out out' laid fits (r, named, same, told) h 
 
 -- What is kept of a report that was taken holds of the view then.
 pub reader_after : (layout : Contents) (view view' : List ControlState) (bytes kept : List ℕ) (out out' : List Event)
-    (silent : Bool) (most : ℕ) → most ≡ max_events (items_of layout) → IsLayout layout → FitsView (items_of layout) view
+    (silent : Bool) (most : ℕ) (planned : PlannedReport) → most ≡ max_events (items_of layout) → IsLayout layout → FitsView (items_of layout) view
     → FitsView (items_of layout) view'
     → TakesReport layout bytes view out (Ok tt) view' out' → (silent ≡ true → length out' ≡ length out)
-    → kept ≡ still_bytes_of silent bytes → IsReader layout view' most kept
-reader_after layout view view' bytes kept out out' silent most counted laid fits after taken none is = record {
+    → kept ≡ still_bytes_of silent bytes → (0 < planned.room → IsPlannedReport layout view' planned)
+    → IsReader layout view' most kept planned
+reader_after layout view view' bytes kept out out' silent most planned counted laid fits after taken none is has_plan = record {
   laid = laid;
   fits = after;
   most_events = counted;
   still = subst (IsStill layout view') (sym is) (by_test (silent && nat_le (length bytes) 64) refl);
+  last = has_plan;
 }
   where
     by_test : (b : Bool) → (silent && nat_le (length bytes) 64) ≡ b → IsStill layout view' (cond b bytes [])

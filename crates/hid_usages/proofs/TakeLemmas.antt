@@ -2,6 +2,7 @@
 use Rattle.std.proofs.Common.{◌≡◌, ℕ, zero, suc, ◌+◌, ◌<◌, ◌≤◌, Bool, true, false, cond, List, [], ◌∷◌, ◌++◌, length, length-append, map, take, drop, get_or, Option, Some, None, ℤ, zero-add, refl, sym, ap, ◌∙◌, subst, arith, append-nil, ◌==◌, ◌&&◌, not, nat_lt, Result, Ok, Err}
 use Rattle.std.specs.List.{slice_get, slice_set, list_any, position}
 use Rattle.std.proofs.lemmas.List.{drop_all}
+use Rattle.std.proofs.Math.Seq.{take-append_seam}
 use Rattle.std.proofs.lemmas.Option.{slice_get_within, slice_get-get_or}
 use Rattle.hid_layout.specs.declared.main_item.MainItem.{MainItem}
 use Rattle.hid_report_descriptor.specs.declared.shape.Shape.{Shape}
@@ -500,3 +501,10 @@ all_told layout r bytes start n told all within h =
     sym (append-nil told)
     ∙ ap (λ (states : List ControlState). told ++ events_from_item layout r bytes n states)
     (sym (drop_all n start within)) ∙ h
+
+-- the control states after a report, which were lent as a slice, are the view that it leaves
+pub view_after : (layout : Contents) (r : ℕ) (bytes : List ℕ) (view old new items : List ControlState) (n : ℕ)
+    → n ≡ length new → old ≡ view → new ≡ read_view layout r bytes old
+    → take n (new ++ drop (length new) items) ≡ read_view layout r bytes view
+view_after layout r bytes view old new items n many same is =
+    ap (λ (k : ℕ). take k (new ++ drop (length new) items)) many ∙ take-append_seam new (drop (length new) items) ∙ is ∙ ap (read_view layout r bytes) same

@@ -11,6 +11,11 @@ pub mod Dropping
 pub mod Keeping
 pub mod KeyArrays
 pub mod Elements
+pub mod ChangedBits
+pub mod Plans
+pub mod Known
+pub mod PlannedReports
+pub mod Ranges
 pub mod Reader
 pub mod Receiving
 pub use Rattle.hid_snapshots.specs.Faults

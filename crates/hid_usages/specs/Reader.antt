@@ -6,6 +6,8 @@ use Rattle.hid_layout.specs.Reports.{IsLayout}
 use Rattle.hid_snapshots.specs.ControlStates.{FitsView}
 use Rattle.hid_snapshots.specs.declared.control_state.ControlState.{ControlState}
 use Rattle.hid_snapshots.specs.declared.event.Event.{Event}
+use Rattle.hid_usages.specs.declared.planned_report.PlannedReport.{PlannedReport}
+use Rattle.hid_usages.specs.PlannedReports.{IsPlannedReport}
 use Rattle.hid_usages.specs.Taking.{TakesReport}
 
 -- the layout of a device's reports, and a host's view of its controls
@@ -22,9 +24,11 @@ IsStill layout view bytes = 0 < length bytes → (out : List Event) → TakesRep
 abbrev pub still_bytes_of : Bool → List ℕ → List ℕ
 still_bytes_of silent bytes = if silent && nat_le (length bytes) 64 then bytes else []
 
--- what holds of every reader, of the most events that it counts and of the bytes that it keeps
-pub record IsReader (layout : Contents) (view : List ControlState) (most : ℕ) (bytes : List ℕ) : Type 0 where
+-- what holds of every reader, of the most events that it counts, of the bytes that it keeps and of the report that has a plan
+pub record IsReader (layout : Contents) (view : List ControlState) (most : ℕ) (bytes : List ℕ)
+    (planned : PlannedReport) : Type 0 where
   pub laid : IsLayout layout
   pub fits : FitsView (items_of layout) view
   pub most_events : most ≡ max_events (items_of layout)
   pub still : IsStill layout view bytes
+  pub last : 0 < planned.room → IsPlannedReport layout view planned

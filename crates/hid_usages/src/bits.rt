@@ -50,6 +50,7 @@ fn push_bits(layout: &Layout, item: usize, pattern: u32, held: &Flags, out: &mut
 }
 
 /// Sets switches by the pattern of their bits, and appends their events.
+#[inline(always)]
 pub(crate) fn take_bits(
     layout: &Layout,
     item: usize,

@@ -6,7 +6,7 @@ ghost use Rattle.hid_snapshots.specs.Events.{control_at, usages_at, switch_event
 ghost use Rattle.hid_snapshots.specs.Numbers.{IsWordOf};
 ghost use Rattle.hid_usages.specs.Appending.{HasSpace, Appends};
 ghost use Rattle.hid_usages.specs.Elements.{switch_by_number, value_by_number, read_all, switch_events_read, value_events_read, OfElement, BecomesAt};
-ghost use Rattle.hid_usages.specs.Keeping.{FindsKept};
+ghost use Rattle.hid_usages.specs.Keeping.{AreKept, FindsKept, KeepsOthers};
 ghost use Rattle.hid_usages.specs.Reading.{read_switch, read_value};
 
 use crate::value_range::Bounds;
@@ -14,6 +14,13 @@ use crate::view_changes::{push_switch_event, push_value_event};
 use hid_fields::FieldCodec;
 use hid_layout::Layout;
 use hid_snapshots::{Event, FieldRun, Flags, Values};
+
+/// Elements of an item, from the first index on, up to an end.
+#[derive(Clone, Copy)]
+pub(crate) struct ElementRange {
+    pub(crate) first: usize,
+    pub(crate) end: usize,
+}
 
 /// A switch, as an element's number leaves it.
 fn read_switch(before: bool, number: &i64) -> bool
@@ -65,6 +72,7 @@ fn next_by_number<C: FieldCodec>(
 }
 
 /// The first switch from one on, of the 64 at an index, that its number changes: bits are compared at once.
+#[inline(always)]
 fn next_of_64<C: FieldCodec>(
     held: &Flags,
     numbers: &FieldRun<'_>,
@@ -87,14 +95,25 @@ fn next_of_64<C: FieldCodec>(
     }
 }
 
-/// The first switch from one on that its number changes.
-fn next_switch<C: FieldCodec>(held: &Flags, numbers: &FieldRun<'_>, from: usize) -> Option<usize>
+/// The first switch from one on that its number changes. Those from an end on are left by theirs.
+#[inline(always)]
+fn next_switch<C: FieldCodec>(
+    held: &Flags,
+    numbers: &FieldRun<'_>,
+    from: usize,
+    end: usize,
+) -> Option<usize>
     requires numbers { length numbers.now ≡ length held.now }
+    requires end { end ≤ length held.now }
+    requires after { AreKept switch_by_number held.now numbers.now end (length held.now) }
     ensures found { FindsKept switch_by_number held.now numbers.now from
         (length held.now) result }
     ensures bound { IfSome result (λ place. place + 1 < 2 ^ 64) }
 {
-    for k in from / 64..held.len().div_ceil(64) {
+    // For the prover: how many switches there are at most.
+    let _ = held.len();
+
+    for k in from / 64..end.div_ceil(64) {
         match next_of_64::<C>(held, numbers, k, from.max(64 * k)) {
             Some(index) => return Some(index),
             None => {}
@@ -104,6 +123,7 @@ fn next_switch<C: FieldCodec>(held: &Flags, numbers: &FieldRun<'_>, from: usize)
 }
 
 /// Sets the switch at an index by an element's number, and appends its event, if it has one.
+#[inline(always)]
 fn take_switch(
     layout: &Layout,
     item: usize,
@@ -126,24 +146,27 @@ fn take_switch(
     held.set(index, after);
 }
 
-/// Sets switches by these numbers, and appends their events.
+/// Sets switches by these numbers, and appends their events. Those outside of a range are left by theirs.
+#[inline(always)]
 pub(crate) fn take_switches<C: FieldCodec>(
     layout: &Layout,
     item: usize,
+    range: ElementRange,
     numbers: &FieldRun<'_>,
     held: &mut Flags,
     out: &mut Vec<Event>,
 )
     requires numbers { length numbers.now ≡ length (usages_at layout.now item) }
     requires held { length held.old ≡ length (usages_at layout.now item) }
+    requires others { KeepsOthers switch_by_number held.old numbers.now range }
     requires room { HasSpace out.old (switch_events_read layout.now item held.old numbers.now) }
     ensures held { held.new ≡ read_all switch_by_number held.old numbers.now }
     ensures len { length held.new ≡ length held.old }
     ensures appends { Appends out.old
         (switch_events_read layout.now item held.old numbers.now) out.new }
 {
-    let mut from = 0;
-    while let Some(index) = next_switch::<C>(held, numbers, from) {
+    let mut from = range.first;
+    while let Some(index) = next_switch::<C>(held, numbers, from, range.end) {
         let number = numbers.number::<C>(index);
         take_switch(layout, item, index, &number, held, out);
         from = index + 1;
@@ -183,21 +206,25 @@ fn is_kept(before: Option<i64>, carriable: &Carriable, number: &i64) -> bool
     }
 }
 
-/// The first value from one on that its number changes.
+/// The first value from one on that its number changes. Those from an end on are left by theirs.
 #[inline(always)]
 fn next_value<C: FieldCodec>(
     held: &Values,
     carriable: &Carriable,
     numbers: &FieldRun<'_>,
     from: usize,
+    end: usize,
 ) -> Option<usize>
     requires numbers { length numbers.now ≡ length held.now }
+    requires end { end ≤ length held.now }
+    requires after { AreKept (value_by_number carriable.now) held.now numbers.now end
+        (length held.now) }
     ensures found { FindsKept (value_by_number carriable.now) held.now numbers.now from
         (length held.now) result }
     ensures bound { IfSome result (λ place. place + 1 < 2 ^ 64) }
 {
     let carriable = *carriable;
-    for index in from..held.len() {
+    for index in from..end {
         let number = numbers.number_by_byte::<C>(index);
         if !is_kept(held.get(index), &carriable, &number) {
             return Some(index);
@@ -207,6 +234,7 @@ fn next_value<C: FieldCodec>(
 }
 
 /// Sets the value at an index by an element's number, and appends its event, if it has one.
+#[inline(always)]
 fn take_value(
     layout: &Layout,
     item: usize,
@@ -233,17 +261,21 @@ fn take_value(
     held.set(index, after);
 }
 
-/// Sets values by these numbers, and appends their events. Values of a byte each are read by a loop of their own.
+/// Sets values by these numbers, and appends their events. Those outside of a range are left by theirs. Values of a byte each
+/// are read by a loop of their own.
+#[inline(always)]
 pub(crate) fn take_values<C: FieldCodec>(
     layout: &Layout,
     item: usize,
     carriable: &Carriable,
+    range: ElementRange,
     numbers: &FieldRun<'_>,
     held: &mut Values,
     out: &mut Vec<Event>,
 )
     requires numbers { length numbers.now ≡ length (usages_at layout.now item) }
     requires held { length held.old ≡ length (usages_at layout.now item) }
+    requires others { KeepsOthers (value_by_number carriable.now) held.old numbers.now range }
     requires room { HasSpace out.old
         (value_events_read layout.now item carriable.now held.old numbers.now) }
     ensures held { held.new ≡ read_all (value_by_number carriable.now) held.old numbers.now }
@@ -254,9 +286,9 @@ pub(crate) fn take_values<C: FieldCodec>(
     match numbers.bytes(false) {
         Some(bytes) => {
             let numbers = FieldRun::of_bytes(bytes, false);
-            take_each_value::<C>(layout, item, carriable, &numbers, held, out)
+            take_each_value::<C>(layout, item, carriable, range, &numbers, held, out)
         }
-        None => take_each_value::<C>(layout, item, carriable, numbers, held, out),
+        None => take_each_value::<C>(layout, item, carriable, range, numbers, held, out),
     }
 }
 
@@ -266,12 +298,14 @@ fn take_each_value<C: FieldCodec>(
     layout: &Layout,
     item: usize,
     carriable: &Carriable,
+    range: ElementRange,
     numbers: &FieldRun<'_>,
     held: &mut Values,
     out: &mut Vec<Event>,
 )
     requires numbers { length numbers.now ≡ length (usages_at layout.now item) }
     requires held { length held.old ≡ length (usages_at layout.now item) }
+    requires others { KeepsOthers (value_by_number carriable.now) held.old numbers.now range }
     requires room { HasSpace out.old
         (value_events_read layout.now item carriable.now held.old numbers.now) }
     ensures held { held.new ≡ read_all (value_by_number carriable.now) held.old numbers.now }
@@ -279,8 +313,8 @@ fn take_each_value<C: FieldCodec>(
     ensures appends { Appends out.old
         (value_events_read layout.now item carriable.now held.old numbers.now) out.new }
 {
-    let mut from = 0;
-    while let Some(index) = next_value::<C>(held, carriable, numbers, from) {
+    let mut from = range.first;
+    while let Some(index) = next_value::<C>(held, carriable, numbers, from, range.end) {
         let number = numbers.number::<C>(index);
         take_value(layout, item, index, carriable, &number, held, out);
         from = index + 1;

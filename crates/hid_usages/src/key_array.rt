@@ -66,6 +66,7 @@ fn reports_rollover(item: &MainItem, number: &i64, usage: &Usage) -> bool
 }
 
 /// Adds the key that an element of this number names; false where it names ErrorRollOver.
+#[inline(always)]
 fn add_key(array: &KeyArray<'_>, count: usize, number: &i64, named: &mut Flags) -> bool
     requires count { CountsUsages array.now count }
     requires can { CanAdd array.now number.now named.old }
@@ -90,6 +91,7 @@ fn add_key(array: &KeyArray<'_>, count: usize, number: &i64, named: &mut Flags) 
 }
 
 /// Adds the key that the next element's number names, unless it is the number before.
+#[inline(always)]
 fn add_next_key(
     array: &KeyArray<'_>,
     count: usize,
@@ -113,6 +115,7 @@ fn add_next_key(
 
 /// Sets the keys that these numbers name, of which none is set before; false where one names ErrorRollOver. Numbers of a byte
 /// each are read by a loop of their own.
+#[inline(always)]
 pub(crate) fn read_keys<C: FieldCodec>(
     array: &KeyArray<'_>,
     numbers: &FieldRun<'_>,

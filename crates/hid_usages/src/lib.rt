@@ -25,10 +25,13 @@
 
 mod bits;
 pub mod boot;
+mod changed_bits;
 mod dropped_motion;
 mod elements;
 mod key_array;
 pub mod laws;
+mod plan;
+mod planned_report;
 mod reader;
 mod receiver;
 mod report_lookup;

@@ -8,19 +8,24 @@ ghost use Rattle.hid_snapshots.specs.ControlStates.{blank, FitsShown, FitsView};
 ghost use Rattle.hid_snapshots.specs.Parts.{IsInput};
 ghost use Rattle.hid_snapshots.specs.Snapshots.{is_pressed, state_at};
 ghost use Rattle.hid_snapshots.specs.Keys.{keys_at, has_keys_at, key_words, AreKeyWords};
-ghost use Rattle.hid_usages.specs.Taking.{TakesReport, flag_places};
+ghost use Rattle.hid_usages.specs.Appending.{Appends};
+ghost use Rattle.hid_usages.specs.Known.{Knows};
+ghost use Rattle.hid_usages.specs.Plans.{IsPlan};
+ghost use Rattle.hid_usages.specs.Taking.{TakesReport, IsReceived, view_received, events_received, flag_places};
 ghost use Rattle.hid_snapshots.specs.Views.{value_in, changes_between, drops_between};
 
+use crate::changed_bits::BitSpan;
 use crate::dropped_motion::{Dropped, all_changes_and_drops};
+use crate::plan::PlannedItem;
 use crate::report_lookup::input_report;
 use crate::reset_events::{all_changes_back, all_changes_back_and_drops};
-use crate::take::{ReportBytes, take_items};
+use crate::take::{ReportBytes, take_items, take_planned};
 use crate::view_changes::all_changes;
 use hid_fields::FieldCodec;
 use hid_layout::{ControlId, Layout};
 use hid_snapshots::{
-    ControlState, Event, Flags, MemoryFault, ReportFault, Shown, blank_states, key_words, plan_of,
-    reset_states, state_at as state_in,
+    ControlState, Event, Flags, MemoryFault, ReportFault, Shown, blank_states, item_count,
+    key_words, plan_of, reset_states, state_at as state_in,
 };
 use std::alloc::Global;
 use std::marker::Model;
@@ -92,17 +97,71 @@ impl View {
     {
         match input_report(layout, bytes) {
             Ok(report) => {
-                let places = plan_of(layout, report);
                 let received = ReportBytes {
                     layout,
                     report,
                     bytes,
                 };
-                take_items::<C>(&received, places, &mut self.states, &mut self.named, out);
+                self.take_named::<C>(&received, out);
                 Ok(())
             }
             Err(fault) => Err(fault),
         }
+    }
+
+    /// Takes the bytes of an Input report, and appends what changes and what moves.
+    pub(crate) fn take_named<C: FieldCodec>(
+        &mut self,
+        received: &ReportBytes<'_>,
+        out: &mut Vec<Event>,
+    )
+        requires received { IsReceived received.now }
+        requires fits { FitsView (items_of received.now.layout.now) self.old }
+        requires room { vec_len out.old + max_events (items_of received.now.layout.now)
+            ≤ vec_capacity out.old }
+        ensures view { self.new ≡ view_received received.now self.old }
+        ensures appends { Appends out.old (events_received received.now self.old) out.new }
+        ensures fits { FitsView (items_of received.now.layout.now) self.new }
+        ensures few { vec_len out.new
+            ≤ vec_len out.old + max_events (items_of received.now.layout.now) }
+    {
+        let places = plan_of(received.layout, received.report);
+        take_items::<C>(received, places, &mut self.states, &mut self.named, out);
+    }
+
+    /// Takes the bytes of an Input report by its plan, as [`View::take_report`] does: outside of a span, its bits are those of
+    /// a report that left the view.
+    pub(crate) fn take_planned<C: FieldCodec>(
+        &mut self,
+        received: &ReportBytes<'_>,
+        plan: &[PlannedItem],
+        changed: BitSpan,
+        out: &mut Vec<Event>,
+    )
+        requires received { IsReceived received.now }
+        requires plan { IsPlan received.now.layout.now received.now.report plan.now }
+        requires known { Knows received.now.layout.now received.now.report received.now.bytes.now
+            changed self.old }
+        requires fits { FitsView (items_of received.now.layout.now) self.old }
+        requires room { vec_len out.old + max_events (items_of received.now.layout.now)
+            ≤ vec_capacity out.old }
+        ensures view { self.new ≡ view_received received.now self.old }
+        ensures appends { Appends out.old (events_received received.now self.old) out.new }
+        ensures fits { FitsView (items_of received.now.layout.now) self.new }
+        ensures few { vec_len out.new
+            ≤ vec_len out.old + max_events (items_of received.now.layout.now) }
+    {
+        // For the prover: what holds of every layout.
+        let _ = item_count(received.layout);
+
+        take_planned::<C>(
+            received,
+            plan,
+            changed,
+            &mut self.states,
+            &mut self.named,
+            out,
+        );
     }
 
     /// Appends what changes until the view is the initial one again, as [`changes`] does. There is reserved room for

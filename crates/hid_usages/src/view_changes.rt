@@ -266,6 +266,7 @@ pub(crate) fn value_changes(
 }
 
 /// The keys of an array that are released, by rising index; the flags after may be more than the keys.
+#[inline(always)]
 pub(crate) fn releases(
     layout: &Layout,
     item: usize,
@@ -288,6 +289,7 @@ pub(crate) fn releases(
 }
 
 /// The keys of an array that are pressed, by rising index; the flags after may be more than the keys.
+#[inline(always)]
 pub(crate) fn presses(
     layout: &Layout,
     item: usize,
@@ -333,6 +335,7 @@ fn motion<C: FieldCodec>(bounds: &Bounds, numbers: &FieldRun<'_>, index: usize) 
 }
 
 /// The motions that these numbers carry, by rising index. Those of a byte each, with sign, are read by a loop of their own.
+#[inline(always)]
 pub(crate) fn motions<C: FieldCodec>(
     layout: &Layout,
     item: usize,
@@ -446,6 +449,7 @@ pub(crate) fn key_changes(
 }
 
 /// The events of the keys of an array, of the keys before and the flags after, which may be more.
+#[inline(always)]
 pub(crate) fn flag_changes(
     layout: &Layout,
     item: usize,

@@ -20,4 +20,8 @@ returns-in-Some-clause-found g c =
     (omega (arith, found.0, c.max.ensures), omega (arith, found.1), kept_on (λ (p : Bool × ℤ). read_switch p.0 p.1) c.args.held.now c.args.numbers.now c.args.from (64 * c.loop-k.k) c.max.result c.in-Some.index c.in-Some.index c.loop-k.invariant found.2 (joined c.args.from c.loop-k.k c.max.result c.max.ensures) (λ j within high. high))
 
 pub returns-clause-found : goal.returns-clause-found
-returns-clause-found g c = λ j x v low high h k. c.loop-k.invariant j x v low (omega (arith, c.div_ceil-k-end.ensures)) h k
+returns-clause-found g c = λ j x v low high h k.
+    elim (cases_lt j (64 * c.loop-k.k)) [
+      | inl lt ↦ c.loop-k.invariant j x v low lt h k
+      | inr ge ↦ c.requires.after j x v (omega (arith, c.div_ceil-k-end.ensures)) high h k
+    ]

@@ -1,33 +1,39 @@
-use Rattle.std.proofs.Common.{◌≡◌, ◌∙◌, ℤ, to_z, of_z, w64, Some, sym, refl, ap, rules, arith}
+use Rattle.std.proofs.Common.{◌≡◌, ◌∙◌, ℤ, to_z, of_z, w64, Some, sym, length, refl, ap, rules, arith}
 use Rattle.std.specs.List.{slice_get}
 use Rattle.std.proofs.lemmas.Int.{to_z-of_z}
 use Rattle.hid_snapshots.specs.Events.{control_at, usages_at, switch_event}
 use Rattle.hid_usages.specs.Elements.{switch_by_number}
-use Rattle.hid_usages.proofs.ElementLemmas.{switches_readable, room_found, reading_found, reading_done}
+use Rattle.hid_usages.proofs.ElementLemmas.{switches_readable, kept_set, reading_begun, room_found, reading_found, reading_done}
 use Rattle.hid_usages.proofs.elements.take_switches.Goals as goal
 
 pub loop-index-init : goal.loop-index-init
 loop-index-init g c = record {
-  taken = record { so_far = refl; same_length = refl; events = refl; fits = c.requires.room };
-  within = omega arith;
-  same_room = refl;
+  reading =
+      let us = usages_at c.args.layout.now c.args.item in
+      let can = switches_readable c.args.item us c.args.held.now c.args.numbers.now c.requires.numbers c.requires.held in
+      reading_begun switch_by_number (λ j u p. switch_event (control_at c.args.item j) u p.0 p.1) us c.args.held.now c.args.numbers.now can c.args.out.now _ c.args.range.first c.requires.others.first c.requires.others.before (record {
+        taken = record { so_far = refl; same_length = refl; events = refl; fits = c.requires.room };
+        within = omega arith;
+        same_room = refl;
+      });
+  after = c.requires.others.after;
 }
 
 pub next_switch-requires : goal.next_switch-requires
-next_switch-requires g c = record { numbers = c.requires.numbers ∙ sym (c.loop-index.invariant.taken.same_length ∙ c.requires.held) }
+next_switch-requires g c = record { numbers = c.requires.numbers ∙ sym (c.loop-index.invariant.reading.taken.same_length ∙ c.requires.held); end = omega (arith, c.requires.others.end, c.loop-index.invariant.reading.taken.same_length); after = c.loop-index.invariant.after }
 
 pub number-number-requires : goal.number-number-requires
 number-number-requires g c =
     let inside = c.in-Some.ensures.found.1 in
-    omega (arith, c.requires.numbers, c.requires.held, c.loop-index.invariant.taken.same_length)
+    omega (arith, c.requires.numbers, c.requires.held, c.loop-index.invariant.reading.taken.same_length)
 
 pub take_switch-requires-clause-index : goal.take_switch-requires-clause-index
 take_switch-requires-clause-index g c =
     let inside = c.in-Some.ensures.found.1 in
-    omega (arith, c.requires.held, c.loop-index.invariant.taken.same_length)
+    omega (arith, c.requires.held, c.loop-index.invariant.reading.taken.same_length)
 
 pub take_switch-requires-clause-held : goal.take_switch-requires-clause-held
-take_switch-requires-clause-held g c = c.loop-index.invariant.taken.same_length ∙ c.requires.held
+take_switch-requires-clause-held g c = c.loop-index.invariant.reading.taken.same_length ∙ c.requires.held
 
 pub take_switch-requires-clause-room : goal.take_switch-requires-clause-room
 take_switch-requires-clause-room g c = λ usage before here there.
@@ -36,7 +42,7 @@ take_switch-requires-clause-room g c = λ usage before here there.
     let is : v ≡ c.number-number.result = search (rules, to_z-of_z) in
     let number : slice_get c.args.numbers.now c.in-Some.index ≡ Some v = c.number-number.ensures ∙ ap (λ (n : ℤ). Some n) (sym is) in
     let can = switches_readable c.args.item us c.args.held.now c.args.numbers.now c.requires.numbers c.requires.held in
-    room_found switch_by_number (λ j u p. switch_event (control_at c.args.item j) u p.0 p.1) us c.args.held.now c.args.numbers.now can _ _ c.loop-index.held c.loop-index.out c.loop-index.from c.in-Some.index usage before v c.in-Some.ensures.found c.loop-index.invariant here there number
+    room_found switch_by_number (λ j u p. switch_event (control_at c.args.item j) u p.0 p.1) us c.args.held.now c.args.numbers.now can _ _ c.loop-index.held c.loop-index.out c.loop-index.from c.in-Some.index usage before v c.in-Some.ensures.found c.loop-index.invariant.reading here there number
 
 pub loop-index-preserved : goal.loop-index-preserved
 loop-index-preserved g c =
@@ -45,24 +51,27 @@ loop-index-preserved g c =
     let is : v ≡ c.number-number.result = search (rules, to_z-of_z) in
     let number : slice_get c.args.numbers.now c.in-Some.index ≡ Some v = c.number-number.ensures ∙ ap (λ (n : ℤ). Some n) (sym is) in
     let can = switches_readable c.args.item us c.args.held.now c.args.numbers.now c.requires.numbers c.requires.held in
-    reading_found switch_by_number (λ j u p. switch_event (control_at c.args.item j) u p.0 p.1) us c.args.held.now c.args.numbers.now can _ _ c.loop-index.held c.take_switch.new.held c.loop-index.out c.take_switch.new.out c.loop-index.from c.in-Some.index v c.in-Some.ensures.found c.loop-index.invariant number c.take_switch.ensures.held c.take_switch.ensures.appends
+    record {
+      reading = reading_found switch_by_number (λ j u p. switch_event (control_at c.args.item j) u p.0 p.1) us c.args.held.now c.args.numbers.now can _ _ c.loop-index.held c.take_switch.new.held c.loop-index.out c.take_switch.new.out c.loop-index.from c.in-Some.index v c.in-Some.ensures.found c.loop-index.invariant.reading number c.take_switch.ensures.held c.take_switch.ensures.appends;
+      after = kept_set switch_by_number c.loop-index.held c.take_switch.new.held c.args.numbers.now c.in-Some.index c.args.range.end v c.in-Some.ensures.found.1 number c.take_switch.ensures.held c.loop-index.invariant.after;
+    }
 
 pub loop-index-smaller : goal.loop-index-smaller
 loop-index-smaller g c =
     let found = c.in-Some.ensures.found in
-    omega (arith, found.0, found.1, c.requires.held, c.loop-index.invariant.taken.same_length)
+    omega (arith, found.0, found.1, c.requires.held, c.loop-index.invariant.reading.taken.same_length)
 
 pub returns-clause-held : goal.returns-clause-held
 returns-clause-held g c =
     let us = usages_at c.args.layout.now c.args.item in
     let can = switches_readable c.args.item us c.args.held.now c.args.numbers.now c.requires.numbers c.requires.held in
-    (reading_done switch_by_number (λ j u p. switch_event (control_at c.args.item j) u p.0 p.1) us c.args.held.now c.args.numbers.now can _ _ c.loop-index.held c.loop-index.out c.loop-index.from c.in_default.ensures.found c.loop-index.invariant).0
+    (reading_done switch_by_number (λ j u p. switch_event (control_at c.args.item j) u p.0 p.1) us c.args.held.now c.args.numbers.now can _ _ c.loop-index.held c.loop-index.out c.loop-index.from c.in_default.ensures.found c.loop-index.invariant.reading).0
 
 pub returns-clause-appends : goal.returns-clause-appends
 returns-clause-appends g c =
     let us = usages_at c.args.layout.now c.args.item in
     let can = switches_readable c.args.item us c.args.held.now c.args.numbers.now c.requires.numbers c.requires.held in
-    (reading_done switch_by_number (λ j u p. switch_event (control_at c.args.item j) u p.0 p.1) us c.args.held.now c.args.numbers.now can _ _ c.loop-index.held c.loop-index.out c.loop-index.from c.in_default.ensures.found c.loop-index.invariant).1
+    (reading_done switch_by_number (λ j u p. switch_event (control_at c.args.item j) u p.0 p.1) us c.args.held.now c.args.numbers.now can _ _ c.loop-index.held c.loop-index.out c.loop-index.from c.in_default.ensures.found c.loop-index.invariant.reading).1
 
 pub returns-clause-len : goal.returns-clause-len
-returns-clause-len g c = c.loop-index.invariant.taken.same_length
+returns-clause-len g c = c.loop-index.invariant.reading.taken.same_length

@@ -12,6 +12,13 @@ use Rattle.hid_snapshots.specs.Views.{motions_of}
 use Rattle.hid_usages.specs.Appending.{HasSpace, Appends}
 use Rattle.hid_usages.specs.Reading.{motion_elements}
 use Rattle.hid_usages.specs.Taking.{state_after_numbers_at}
+use Rattle.hid_layout.specs.declared.control.ControlKind.{ControlKind}
+use Rattle.hid_layout.specs.declared.control.Controls.{Controls}
+use Rattle.hid_layout.specs.declared.control.Controls.TheVariants as head
+use Rattle.hid_snapshots.specs.ControlStates.{HasRoom}
+use Rattle.hid_usages.specs.declared.elements.ElementRange.{ElementRange}
+use Rattle.hid_usages.specs.Ranges.{LeaveOthers}
+use Rattle.hid_usages.proofs.RangeLemmas.{all_read}
 use Rattle.hid_usages.proofs.take.take_numbers.Goals as goal
 
 pub element_kind-requires-clause-some : goal.element_kind-requires-clause-some
@@ -27,6 +34,18 @@ take_elements-requires-clause-numbers g c =
     let heads = variable_controls layout c.args.listed.now.place item c.requires.listed.layout c.requires.listed.there c.requires.listed.input (cc) in
     c.requires.numbers
     ∙ sym (usages_count layout c.args.listed.now.place item (element_kind item) (least_of item) (greatest_of item) item.count c.requires.listed.layout c.requires.listed.there c.requires.listed.no_padding c.requires.listed.input heads)
+
+pub take_elements-requires-clause-others : goal.take_elements-requires-clause-others
+take_elements-requires-clause-others g c =
+    let layout = c.args.listed.now.layout.now in
+    let item = c.args.listed.now.item.now in
+    let least = to_z w64 (of_z w64 item.min) in
+    let greatest = to_z w64 (of_z w64 item.max) in
+    let heads = variable_controls layout c.args.listed.now.place item c.requires.listed.layout c.requires.listed.there c.requires.listed.input (cc) in
+    let room = subst (λ (k : ControlKind). HasRoom (head.Elements k (least_of item) (greatest_of item) item.count) c.args.state.now) (sym c.element_kind.ensures)
+    (subst (λ (controls : Controls). HasRoom controls c.args.state.now) (sym heads) c.requires.held) in
+    subst (λ (range : ElementRange). LeaveOthers c.element_kind.result (record { least = least; greatest = greatest }) c.args.numbers.now range c.args.state.now) (sym c.all_elements.ensures)
+    (all_read c.element_kind.result (record { least = least; greatest = greatest }) c.args.numbers.now (least_of item) (greatest_of item) item.count c.args.state.now room c.requires.numbers)
 
 pub take_elements-requires-clause-room : goal.take_elements-requires-clause-room
 take_elements-requires-clause-room g c =
