@@ -1,5 +1,6 @@
 -- What comes of the bytes that a connection gets, of a report, and of its end (USB/IP, as Linux speaks it).
 use Rattle.std.specs.Prelude.{◌≡◌, ◌≢◌, ℕ, ◌==◌, not, Bool, if◌then◌else◌, List, [], length, slice_get, slice_set, Option, Some, None, Result, Ok, Err}
+use Rattle.usbip.specs.declared.message.Status.{Status}
 use Rattle.usbip.specs.declared.message.Submit.{Submit}
 use Rattle.usbip.specs.declared.message.Unlink.{Unlink}
 use Rattle.usbip.specs.declared.message.Command.{Command}
@@ -14,10 +15,11 @@ use Rattle.usbip.specs.Faults.{IsCommandFault, IsOperationFault}
 use Rattle.hid_gadget.specs.Rooms.{with_front}
 use Rattle.usbip_export.specs.declared.fault.ExportFault.{ExportFault}
 use Rattle.usbip_export.specs.declared.fault.ExportFault.TheVariants.{Message, OtherDevice}
+use Rattle.usbip_export.specs.declared.answer.Answer.{Answer}
 use Rattle.usbip_export.specs.declared.connection.Stage.{Stage}
 use Rattle.usbip_export.specs.declared.connection.Stage.TheVariants.{Operation, BusId, Command as AtCommand, Data, Over}
 use Rattle.usbip_export.specs.declared.exported_device.ExportedDevice.{ExportedDevice}
-use Rattle.usbip_export.specs.ExportedDevices.{answer_of_report, answer_to_submit, answer_to_unlink, device_after_end, device_after_import, device_after_report, device_after_submit, device_after_unlink}
+use Rattle.usbip_export.specs.ExportedDevices.{answer_of_report, answer_to_submit, answer_to_unlink, device_after_end, device_after_import, device_after_report, device_after_submit, device_after_unlink, reply_at_submit, status_of_reply}
 use Rattle.usbip_export.specs.Descriptions.{device_number, import_bytes, list_bytes, named_place, refused_import_bytes}
 
 -- in bytes, what a connection takes next; nothing where it is over
@@ -165,6 +167,21 @@ abbrev pub report_answer : List ExportedDevice → Stage → List ℕ
 report_answer ds stage = report_at ds (place_of_stage stage)
 
 -- ---- what is taken
+
+-- the status of the reply that this device gives a submit at once, if it does
+abbrev pub status_at : Submit → Option ExportedDevice → Option Status
+status_at s None = None
+status_at s (Some d) = status_of_reply (reply_at_submit d s)
+
+-- The status of the reply to a submit whose data come at this stage, where it is answered at once. At other stages there is none.
+abbrev pub status_at_data : List ExportedDevice → Stage → Option Status
+status_at_data ds (Data place s) = status_at s (slice_get ds place)
+status_at_data ds _ = None
+
+-- how many bytes of an answer there are
+abbrev pub length_of : Result Answer ExportFault → Result ℕ ExportFault
+length_of (Ok answer) = Ok answer.length
+length_of (Err fault) = Err fault
 
 -- What is left where bytes were taken: how many bytes of the answer there are, the stage, the devices, and the room with the
 -- answer at its front.

@@ -74,6 +74,11 @@ reply_at_submit d s =
     else if asks_for_report d.gadget s then reply_to_submit d.pending s
     else Some (refused_reply s Stalled)
 
+-- the status of a reply, if there is one
+abbrev pub status_of_reply : Option SubmitReply → Option Status
+status_of_reply None = None
+status_of_reply (Some r) = Some r.status
+
 -- an exported device after a submit with these data
 abbrev pub device_after_submit : ExportedDevice → Submit → List ℕ → ExportedDevice
 device_after_submit d s sent =

@@ -1,19 +1,23 @@
 //! A connection of a host to exported devices.
-ghost use Rattle.std.specs.Prelude.{◌≡◌, ◌≤◌, ◌<◌, ◌==◌, length, slice_get};
+ghost use Rattle.std.specs.Prelude.{◌≡◌, ◌≤◌, ◌<◌, ◌==◌, IfOk, length, slice_get};
 ghost use Rattle.hid_gadget.specs.Rooms.{with_front};
 ghost use Rattle.usbip.specs.Messages.{data_length};
 ghost use Rattle.usbip_export.specs.declared.description.TheConstants.{MAX_DEVICES};
 ghost use Rattle.usbip_export.specs.declared.exported_device.TheConstants.{MAX_ANSWER};
-ghost use Rattle.usbip_export.specs.Connections.{IsLeft, Takes, TakesHead, TakesHeader, after_bus_id, after_command, after_import_of, after_submit, after_unlink_of, bytes_wanted, devices_after_end, devices_after_report, named_device, place_of_stage, report_answer};
+ghost use Rattle.usbip_export.specs.Connections.{IsLeft, Takes, TakesHead, TakesHeader, after_bus_id, after_command, after_import_of, after_submit, after_unlink_of, bytes_wanted, devices_after_end, devices_after_report, length_of, named_device, place_of_stage, report_answer, status_at, status_at_data};
 ghost use Rattle.usbip_export.specs.Descriptions.{device_number, refused_import_bytes};
 
-use crate::description::{import_reply, list, named_place};
+use crate::answer::Answer;
+use crate::description::{HEAD, import_reply, list, named_place};
 use crate::exported_device::ExportedDevice;
 use crate::fault::ExportFault;
 use usbip::{
     Command, Direction, HEADER, Operation, OperationStatus, Submit, Unlink, decode_command,
     decode_operation, encode_operation_reply,
 };
+
+/// In bytes, a bus ID.
+const BUS_ID: usize = 32;
 
 /// The number by which commands name the first device.
 const FIRST_NUMBER: usize = 65_538;
@@ -120,8 +124,8 @@ impl Connection {
         ensures { result ≡ bytes_wanted self.now.stage }
     {
         match self.stage {
-            Stage::Operation => 8,
-            Stage::BusId => 32,
+            Stage::Operation => HEAD,
+            Stage::BusId => BUS_ID,
             Stage::Command(_) => HEADER,
             Stage::Data(_, submit) => data_after(&submit),
             Stage::Over => 0,
@@ -145,15 +149,42 @@ impl Connection {
         requires room { MAX_ANSWER ≤ length room.old }
         ensures taken { Takes self.old.stage devices.old bytes.now room.old result self.new.stage devices.new room.new }
     {
-        match self.stage {
-            Stage::Operation => self.take_head(devices, bytes, room),
-            Stage::BusId => Ok(self.take_bus_id(devices, bytes, room)),
-            Stage::Command(place) => self.take_header(devices, place, bytes, room),
-            Stage::Data(place, submit) => Ok(self.take_submit(
+        match self.answer(devices, bytes, room) {
+            Ok(answer) => Ok(answer.length),
+            Err(fault) => Err(fault),
+        }
+    }
+
+    /// As [`take`](Self::take), with the status of the answer beside its length.
+    ///
+    /// # Errors
+    /// As [`take`](Self::take).
+    pub fn answer(
+        &mut self,
+        devices: &mut [ExportedDevice],
+        bytes: &[u8],
+        room: &mut [u8],
+    ) -> Result<Answer, ExportFault>
+        requires few { length devices.old ≤ MAX_DEVICES }
+        requires wanted { length bytes.now ≡ bytes_wanted self.old.stage }
+        requires room { MAX_ANSWER ≤ length room.old }
+        ensures taken { Takes self.old.stage devices.old bytes.now room.old (length_of result) self.new.stage
+            devices.new room.new }
+        ensures status { IfOk result (λ answer. answer.status ≡ status_at_data devices.old self.old.stage) }
+    {
+        let length = match self.stage {
+            Stage::Operation => self.take_head(devices, bytes, room)?,
+            Stage::BusId => self.take_bus_id(devices, bytes, room),
+            Stage::Command(place) => self.take_header(devices, place, bytes, room)?,
+            Stage::Data(place, submit) => return Ok(self.take_submit(
                 devices, place, &submit, bytes, room,
             )),
-            Stage::Over => Ok(0),
-        }
+            Stage::Over => 0,
+        };
+        Ok(Answer {
+            length,
+            status: None,
+        })
     }
 
     /// Asks the device that it has for a report, and gives how many bytes of the answer stand at the front of the room. 0: no submit
@@ -197,7 +228,7 @@ impl Connection {
         requires room { MAX_ANSWER ≤ length room.old }
         ensures { TakesHead devices.now bytes.now room.old result self.new.stage devices.now room.new }
     {
-        let mut head = [0; 8];
+        let mut head = [0; HEAD];
         head.copy_from_slice(bytes);
         self.stage = Stage::Over;
         match decode_operation(&head) {
@@ -222,7 +253,7 @@ impl Connection {
         requires room { MAX_ANSWER ≤ length room.old }
         ensures { IsLeft (after_bus_id devices.old bytes.now) room.old result self.new.stage devices.new room.new }
     {
-        let mut id = [0; 32];
+        let mut id = [0; BUS_ID];
         id.copy_from_slice(bytes);
         match named_place(&id) {
             Some(place) if place < devices.len() => self.import(devices, place, room),
@@ -304,7 +335,7 @@ impl Connection {
                 self.stage = Stage::Data(place, *submit);
                 0
             }
-            Command::Submit(submit) => self.take_submit(devices, place, submit, &[], room),
+            Command::Submit(submit) => self.take_submit(devices, place, submit, &[], room).length,
             Command::Unlink(unlink) => self.take_unlink(devices, place, unlink, room),
         }
     }
@@ -317,14 +348,19 @@ impl Connection {
         submit: &Submit,
         sent: &[u8],
         room: &mut [u8],
-    ) -> usize
+    ) -> Answer
         requires sent { length sent.now ≡ data_length submit.now.direction submit.now.length }
         requires room { MAX_ANSWER ≤ length room.old }
-        ensures { IsLeft (after_submit devices.old place submit.now sent.now) room.old result self.new.stage devices.new room.new }
+        ensures left { IsLeft (after_submit devices.old place submit.now sent.now) room.old result.length self.new.stage
+            devices.new room.new }
+        ensures status { result.status ≡ status_at submit.now (slice_get devices.old place) }
     {
         if place >= devices.len() {
             self.stage = Stage::Over;
-            return 0;
+            return Answer {
+                length: 0,
+                status: None,
+            };
         }
         self.stage = Stage::Command(place);
         devices[place].submit(submit, sent, room)

@@ -17,6 +17,21 @@ pub const MAX_DEVICES: usize = 7;
 /// The number of their bus.
 pub const BUS: u32 = 1;
 
+/// In bytes, the head of an operation, and of the reply to one.
+pub(crate) const HEAD: usize = 8;
+
+/// In bytes, the description of a device.
+const DESCRIPTION: usize = 312;
+
+/// In bytes, a device in a list: its description, and its interface.
+const LISTED: usize = DESCRIPTION + 4;
+
+/// In bytes, the longest list: its head, how many devices there are, and these.
+const MAX_LIST: usize = HEAD + 4 + MAX_DEVICES * LISTED;
+
+/// In bytes, the reply to a request for a device that the host gets.
+const IMPORT_REPLY: usize = HEAD + DESCRIPTION;
+
 /// Text, then zeros.
 fn text_field<const N: usize>(text: &[u8]) -> [u8; N]
     requires { length text.now ≤ N }
@@ -70,7 +85,7 @@ fn interface(boot: Boot) -> [u8; 4]
 }
 
 /// The description of the device at a place, as bytes.
-fn described(place: usize, device: &ExportedDevice) -> ArrayVec<u8, 312>
+fn described(place: usize, device: &ExportedDevice) -> ArrayVec<u8, DESCRIPTION>
     requires { place < MAX_DEVICES }
     ensures { result.items ≡ description_bytes (description place device.now) }
 {
@@ -78,7 +93,7 @@ fn described(place: usize, device: &ExportedDevice) -> ArrayVec<u8, 312>
 }
 
 /// Appends the device at a place to a list.
-fn add_listed(bytes: &mut ArrayVec<u8, 2_224>, place: usize, device: &ExportedDevice)
+fn add_listed(bytes: &mut ArrayVec<u8, MAX_LIST>, place: usize, device: &ExportedDevice)
     requires place { place < MAX_DEVICES }
     requires room { length bytes.old.items + 316 ≤ 2224 }
     ensures bytes { bytes.new.items ≡ bytes.old.items ++ listed_bytes place device.now }
@@ -91,7 +106,7 @@ fn add_listed(bytes: &mut ArrayVec<u8, 2_224>, place: usize, device: &ExportedDe
 }
 
 /// The reply to a request for the list of devices.
-pub(crate) fn list(devices: &[ExportedDevice]) -> ArrayVec<u8, 2_224>
+pub(crate) fn list(devices: &[ExportedDevice]) -> ArrayVec<u8, MAX_LIST>
     requires { length devices.now ≤ MAX_DEVICES }
     ensures { result.items ≡ list_bytes devices.now }
 {
@@ -107,7 +122,7 @@ pub(crate) fn list(devices: &[ExportedDevice]) -> ArrayVec<u8, 2_224>
 }
 
 /// The reply to a request for a device that the host gets.
-pub(crate) fn import_reply(place: usize, device: &ExportedDevice) -> ArrayVec<u8, 320>
+pub(crate) fn import_reply(place: usize, device: &ExportedDevice) -> ArrayVec<u8, IMPORT_REPLY>
     requires { place < MAX_DEVICES }
     ensures { result.items ≡ import_bytes place device.now }
 {

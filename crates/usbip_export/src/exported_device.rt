@@ -8,20 +8,22 @@ ghost use Rattle.hid_snapshots.specs.Snapshots.{Changes};
 ghost use Rattle.hid_gadget.specs.Gadgets.{FindsControl, MakesGadget, halted_gadget};
 ghost use Rattle.hid_gadget.specs.Rooms.{with_front};
 ghost use Rattle.usbip.specs.Messages.{data_length, reply_bytes};
-ghost use Rattle.usbip_export.specs.ExportedDevices.{answer_of_report, answer_to_submit, answer_to_unlink, control_data, control_reply, core_after_control, device_after_end, device_after_import, device_after_report, device_after_submit, device_after_unlink, fits_setup, refused_reply, reply_at_report, reply_at_submit, report_data, submit_data};
+ghost use Rattle.usbip_export.specs.ExportedDevices.{answer_of_report, answer_to_submit, answer_to_unlink, control_data, control_reply, core_after_control, device_after_end, device_after_import, device_after_report, device_after_submit, device_after_unlink, fits_setup, refused_reply, reply_at_report, reply_at_submit, report_data, status_of_reply, submit_data};
 
+use crate::answer::Answer;
 use hid_gadget::{Change, ChangeFault, Config, Control, DeviceFault, Gadget, Poll, Setup};
 use hid_layout::{ControlId, ReportKind, Usage};
 use std::alloc::Global;
 use usbip::{
-    Direction, HEADER, PendingSubmits, Reply, Status, Submit, SubmitReply, Unlink, encode_reply,
+    Direction, HEADER, MAX_DATA, PendingSubmits, Reply, Status, Submit, SubmitReply, Unlink,
+    encode_reply,
 };
 
 /// In bytes, the room for the data of one reply: as many as wLength can say.
-pub const MAX_ROOM: usize = 65_535;
+pub const MAX_ROOM: usize = MAX_DATA as usize;
 
 /// In bytes, the longest answer: a header, and the data after it.
-pub const MAX_ANSWER: usize = 65_583;
+pub const MAX_ANSWER: usize = HEADER + MAX_ROOM;
 
 /// A device that is exported.
 #[derive(Drop)]
@@ -180,24 +182,31 @@ impl ExportedDevice {
 }
 
 impl ExportedDevice {
-    /// Takes a submit with its data, and gives how many bytes of an answer stand at the front of the room; 0 where it waits for a
-    /// report.
-    pub(crate) fn submit(&mut self, submit: &Submit, sent: &[u8], room: &mut [u8]) -> usize
+    /// Takes a submit with its data, and gives the answer that stands at the front of the room; none where it waits for a report.
+    pub(crate) fn submit(&mut self, submit: &Submit, sent: &[u8], room: &mut [u8]) -> Answer
         requires sent { length sent.now ≡ data_length submit.now.direction submit.now.length }
         requires room { MAX_ANSWER ≤ length room.old }
         ensures device { self.new ≡ device_after_submit self.old submit.now sent.now }
-        ensures count { result ≡ length (answer_to_submit self.old submit.now) }
+        ensures count { result.length ≡ length (answer_to_submit self.old submit.now) }
+        ensures status { result.status ≡ status_of_reply (reply_at_submit self.old submit.now) }
         ensures room { room.new ≡ with_front (answer_to_submit self.old submit.now) room.old }
     {
         match self.carry_out(submit, sent, &mut room[HEADER..]) {
             Some(reply) => {
                 put_header(&Reply::Submit(reply), room);
-                match submit.direction {
+                let length = match submit.direction {
                     Direction::Out => HEADER,
                     Direction::In => HEADER + reply.length as usize,
+                };
+                Answer {
+                    length,
+                    status: Some(reply.status),
                 }
             }
-            None => 0,
+            None => Answer {
+                length: 0,
+                status: None,
+            },
         }
     }
 

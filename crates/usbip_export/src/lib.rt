@@ -31,12 +31,14 @@
 //! ```
 #![tactic(auto)]
 
+mod answer;
 mod connection;
 mod description;
 mod exported_device;
 mod fault;
 pub mod laws;
 
+pub use answer::Answer;
 pub use connection::{Connection, Stage};
 pub use description::{BUS, MAX_DEVICES};
 pub use exported_device::{ExportedDevice, MAX_ANSWER, MAX_ROOM};

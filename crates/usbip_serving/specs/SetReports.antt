@@ -1,5 +1,5 @@
 -- Which report a host sets (HID 1.11, 7.2.2; USB/IP).
-use Rattle.std.specs.Prelude.{◌≡◌, ℕ, ◌==◌, ◌&&◌, Bool, true, false, if◌then◌else◌, List, slice_get, Option, Some, None, Result, Ok, Err}
+use Rattle.std.specs.Prelude.{ℕ, ◌==◌, ◌&&◌, Bool, true, false, if◌then◌else◌, List, slice_get, Option, Some, None, Result, Ok, Err}
 use Rattle.usb_control.specs.SetupBytes.{setup_of}
 use Rattle.hid_requests.specs.declared.request_kinds.RequestKind.{RequestKind}
 use Rattle.hid_requests.specs.declared.request_kinds.RequestKind.TheVariants as asked
@@ -49,6 +49,11 @@ set_at place s (Some d) = if takes_effect d.gadget s then named_report place s e
 abbrev pub report_set : List ExportedDevice → Stage → Option SetReport
 report_set ds (Data place s) = set_at place s (slice_get ds place)
 report_set ds _ = None
+
+-- the report that is awaited, where the reply to its submit has this status: that it is done
+abbrev pub set_by : Option SetReport → Option Status → Option SetReport
+set_by awaited None = None
+set_by awaited (Some status) = if is_done status then awaited else None
 
 -- how many bytes of an answer there are, of what came of bytes
 abbrev pub count_of : Result Taken ExportFault → Result ℕ ExportFault

@@ -1,15 +1,15 @@
--- Why a message of a USB/IP host is refused, in words (our choice).
+-- The words for each message of a host that is refused (our choice: docs/USBIP.md).
 use Rattle.std.specs.Prelude.{ℕ, List, codes}
 use Rattle.usbip.specs.declared.fault.UsbipFault.{UsbipFault}
 use Rattle.usbip.specs.declared.fault.UsbipFault.TheVariants.{BadVersion, UnknownOperation, UnknownCommand, BadDirection, TooLong}
 use Rattle.usbip_export.specs.declared.fault.ExportFault.{ExportFault}
 use Rattle.usbip_export.specs.declared.fault.ExportFault.TheVariants.{Message, OtherDevice}
 
--- why bytes of a host are no message: N1 to N5
+-- why bytes are no message: N1 to N5
 abbrev pub message_words : UsbipFault → List ℕ
 message_words BadVersion = codes "another version of USB/IP than 1.1.1"
-message_words UnknownOperation = codes "no request for a device or for the list of devices"
-message_words UnknownCommand = codes "no submit and no unlink"
+message_words UnknownOperation = codes "an unknown operation"
+message_words UnknownCommand = codes "an unknown command"
 message_words BadDirection = codes "no direction of a submit"
 message_words TooLong = codes "a submit of over 65535 bytes"
 

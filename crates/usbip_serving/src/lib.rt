@@ -16,8 +16,9 @@
 //! The rule to know: **an action comes once the host asks for a report and none is due**, so all that happened before it was taken.
 //! None is lost in another, and none is merged with another, however many come in a row.
 //!
-//! The promise: what a turn does, when it does it, and which change is refused, is the clause of [`Serving::turn`]; what comes of bytes,
-//! and which report they set (`taken` and `told` on [`Serving::take`]); that frames pass by the clock (`passed` on [`Serving::pass`]).
+//! The promise: what a turn does, when it does it, and which change is refused, is the clause of [`Serving::turn`]. What comes of
+//! bytes, and which report they set, are `taken` and `told` on [`Serving::take`]; that frames pass by the clock is `devices` on
+//! [`Serving::pass`].
 //! ```text
 //!   let mut serving = Serving::new();
 //!   serving.wants();                                             // 8

@@ -7,7 +7,7 @@ ghost use Rattle.usbip_serving.specs.SetReports.{count_of, report_set};
 ghost use Rattle.usbip_serving.specs.Turns.{Turns, after_frames, asks, changed_if, device_at, device_if, devices_after_action, due_after, frames_over, move_of, refusal_at, refusal_of, with_change, with_halt, with_reset};
 
 use crate::action::{Action, Turn};
-use crate::set_report::{Taken, awaited_report, says_done};
+use crate::set_report::{Taken, awaited_report, set_by};
 use usbip_export::{Change, ChangeFault, Connection, ExportFault, ExportedDevice, Stage};
 
 /// The most frames that pass at once: an idle time has at most 1,020 ms (HID 1.11, 7.2.4), so that more of them change nothing.
@@ -107,12 +107,11 @@ impl Serving {
         ensures clock { self.new ≡ record self.old { connection = self.new.connection } }
     {
         let awaited = awaited_report(&self.connection.stage());
-        let length = self.connection.take(devices, bytes, room)?;
-        let set = match awaited {
-            Some(report) if says_done(&room[..length]) => Some(report),
-            _ => None,
-        };
-        Ok(Taken { length, set })
+        let answer = self.connection.answer(devices, bytes, room)?;
+        Ok(Taken {
+            length: answer.length,
+            set: set_by(awaited, &answer),
+        })
     }
 
     /// Lets the frames pass that are over by the clock, at the device that the host has.

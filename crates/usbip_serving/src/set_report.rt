@@ -1,13 +1,12 @@
 //! Which report a host sets.
-ghost use Rattle.std.specs.Prelude.{◌≡◌, ◌≤◌, [], length, take, false};
-ghost use Rattle.usbip.specs.Messages.{status_of, word_at};
-ghost use Rattle.usbip_serving.specs.SetReports.{awaited_report, is_done, named_report};
+ghost use Rattle.std.specs.Prelude.{◌≡◌};
+ghost use Rattle.usbip_serving.specs.SetReports.{awaited_report, named_report, set_by};
 
 use hid_layout::ReportKind;
 use hid_requests::{RequestKind, request_kind};
 use usb_control::Setup;
-use usbip::{HEADER, Reply, Status, Submit, decode_reply};
-use usbip_export::Stage;
+use usbip::{Status, Submit};
+use usbip_export::{Answer, Stage};
 
 /// A report that a host set: SET_REPORT took effect (HID 1.11, 7.2.2).
 #[derive(Clone, Copy, Debug, PartialEq, Eq)]
@@ -50,19 +49,12 @@ pub(crate) fn awaited_report(stage: &Stage) -> Option<SetReport>
     }
 }
 
-/// Whether an answer begins with a reply that says that its submit is done.
-pub(crate) fn says_done(answer: &[u8]) -> bool
-    ensures empty { answer.now ≡ [] → result ≡ false }
-    ensures done { 48 ≤ length answer.now → word_at (take 48 answer.now) 0 ≡ 3
-        → result ≡ is_done (status_of (word_at (take 48 answer.now) 20)) }
+/// The report that an answer says was set, where this one is awaited: its submit is done.
+pub(crate) fn set_by(awaited: Option<SetReport>, answer: &Answer) -> Option<SetReport>
+    ensures { result ≡ set_by awaited answer.now.status }
 {
-    if answer.len() < HEADER {
-        return false;
-    }
-    let mut header = [0; HEADER];
-    header.copy_from_slice(&answer[..HEADER]);
-    match decode_reply(&header) {
-        Ok(Reply::Submit(reply)) => reply.status == Status::Success,
-        Ok(Reply::Unlink(_)) | Err(_) => false,
+    match answer.status {
+        Some(Status::Success) => awaited,
+        _ => None,
     }
 }

@@ -5,14 +5,14 @@ ghost use Rattle.usbip_serving.specs.Words.{export_words, message_words};
 use usbip::UsbipFault;
 use usbip_export::ExportFault;
 
-/// Why bytes of a host are no message, in words: N1 to N5.
+/// Why bytes are no message, in words: N1 to N5.
 fn message_words(fault: UsbipFault) -> &'static str
     ensures { result.now ≡ message_words fault }
 {
     match fault {
         UsbipFault::BadVersion => "another version of USB/IP than 1.1.1",
-        UsbipFault::UnknownOperation => "no request for a device or for the list of devices",
-        UsbipFault::UnknownCommand => "no submit and no unlink",
+        UsbipFault::UnknownOperation => "an unknown operation",
+        UsbipFault::UnknownCommand => "an unknown command",
         UsbipFault::BadDirection => "no direction of a submit",
         UsbipFault::TooLong => "a submit of over 65535 bytes",
     }
