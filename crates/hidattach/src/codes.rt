@@ -19,8 +19,8 @@ These end it, with exit status 1:
   H10: the device descriptor can't be read
   H11: the configuration can't be read
   N1: another version of USB/IP than 1.1.1
-  N2: no reply to the request for the device
-  N3: no reply to a submit
+  N2: an unknown operation
+  N3: an unknown command
 and these with exit status 3:
   A7: out of memory
   A11: the connection can't be read or written

@@ -52,7 +52,7 @@ struct Run<'a> {
     answer: Timer,
     incoming: Timer,
     outgoing: Timer,
-    /// Of each interface, by its place, the transfers that failed in a row.
+    /// Of each interface, by its place, the transfers that failed since one was done.
     rows: Vec<Option<FailedRow>>,
     /// Whether the server takes nothing any more.
     is_shut: bool,
@@ -312,7 +312,7 @@ impl Run<'_> {
         u64::from(self.asked.seconds).saturating_mul(1000)
     }
 
-    /// Counts an answer for a report. The first failure of a row is reported, and a row that takes too long ends the session.
+    /// Counts an answer for a report. The first failure of a burst is reported, and failures without an end end the session.
     fn count_answer(
         &mut self,
         rt: &HostRuntime,

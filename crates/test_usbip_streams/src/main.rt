@@ -1,8 +1,9 @@
 //! Plays random and changed streams of USB/IP to both ends, in one process: what a host might send to `usbip_serving`, with three
-//! devices, and what a server might send to `usbip_session`, with up to three interfaces.
+//! devices, what a server might send to `usbip_session`, with up to three interfaces, and when transfers of an interface fail.
 //! ```text
 //!   host 1 2000          2000 streams of hosts by seed 1        -->  host 1: 2000 streams, refused by N1 N2 .., 0 wrong
 //!   server 1 2000        2000 streams of servers by seed 1      -->  server 1: 2000 streams, refused by A1 A2 .., 0 wrong
+//!   failures 1 2000      2000 streams of answers by seed 1      -->  failures 1: 2000 streams, refused by A9, 0 wrong
 //! ```
 //! A second reading of the protocol, `ledger.rt` and `heard.rt`, says what each message must lead to: which are refused; that each
 //! submit is answered once or waits still, and each unlink once; lengths and statuses; that the end frees the device, and releases
@@ -15,6 +16,7 @@
 mod answering;
 mod attached;
 mod dice;
+mod failures;
 mod heard;
 mod host_stream;
 mod ledger;
@@ -25,6 +27,7 @@ mod tally;
 
 use attached::Attached;
 use dice::Dice;
+use failures::Failures;
 use heard::Heard;
 use ledger::Ledger;
 use served::Served;
@@ -38,10 +41,19 @@ use tally::Tally;
 /// A line can't be read, or memory or standard output failed.
 const OUTSIDE: u8 = 2;
 
-/// What is played: which end sends the streams, by which seed, and how many.
+/// Whose streams are played.
+#[derive(Clone, Copy)]
+enum Sender {
+    Host,
+    Server,
+    /// An interface whose transfers fail.
+    Failures,
+}
+
+/// What is played: whose streams, by which seed, and how many.
 #[derive(Clone, Copy)]
 struct Asked {
-    is_host: bool,
+    sender: Sender,
     seed: u64,
     count: u64,
 }
@@ -78,13 +90,14 @@ fn main(rt: HostRuntime) -> ExitCode {
 fn read_line(line: &str) -> Option<Asked> {
     let (sender, rest) = line.split_once(' ')?;
     let (seed, count) = rest.split_once(' ')?;
-    let is_host = match sender {
-        "host" => true,
-        "server" => false,
+    let sender = match sender {
+        "host" => Sender::Host,
+        "server" => Sender::Server,
+        "failures" => Sender::Failures,
         _ => return None,
     };
     Some(Asked {
-        is_host,
+        sender,
         seed: seed.parse().ok()?,
         count: count.parse().ok()?,
     })
@@ -94,12 +107,11 @@ fn read_line(line: &str) -> Option<Asked> {
 fn play_line(rt: &HostRuntime, asked: &Asked) -> Result<bool, Stop> {
     let alloc = rt.alloc();
     let mut tally = Tally::new(alloc);
-    let wrong = if asked.is_host {
-        play_hosts(rt, alloc, asked, &mut tally)?
-    } else {
-        play_servers(rt, alloc, asked, &mut tally)?
+    let (sender, wrong) = match asked.sender {
+        Sender::Host => ("host", play_hosts(rt, alloc, asked, &mut tally)?),
+        Sender::Server => ("server", play_servers(rt, alloc, asked, &mut tally)?),
+        Sender::Failures => ("failures", play_failures(alloc, asked, &mut tally)?),
     };
-    let sender = if asked.is_host { "host" } else { "server" };
     let Asked { seed, count, .. } = *asked;
     let codes = tally.codes()?;
     let is_printed = match &wrong {
@@ -180,6 +192,27 @@ fn play_servers(
         ..
     } = attached.heard();
     tell_counts(rt, &[("messages", *messages), ("events", *events)], tally);
+    Ok(None)
+}
+
+/// Plays streams of answers to a row of failures. Gives the first that is wrong.
+fn play_failures(alloc: Global, asked: &Asked, tally: &mut Tally) -> Result<Option<Wrong>, Stop> {
+    let mut failures = Failures::new(alloc);
+    for stream in 0..asked.count {
+        let mut dice = Dice::new(asked.seed, stream);
+        match failures.play(&mut dice, tally) {
+            Ok(()) => {}
+            Err(Stop::Memory) => return Err(Stop::Memory),
+            Err(Stop::Wrong(cause)) => {
+                let bytes = hex_of(alloc, failures.answers())?;
+                return Ok(Some(Wrong {
+                    stream,
+                    cause,
+                    bytes,
+                }));
+            }
+        }
+    }
     Ok(None)
 }
 

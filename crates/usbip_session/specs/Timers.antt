@@ -1,5 +1,5 @@
 -- How long something is awaited, and how long transfers fail (our choice: docs/USBIP.md).
-use Rattle.std.specs.Prelude.{ℕ, ◌+◌, ◌-◌, ◌==◌, Bool, true, false, nat_lt, if◌then◌else◌, Option, Some, None, unwrap_or}
+use Rattle.std.specs.Prelude.{ℕ, ◌+◌, ◌-◌, ◌==◌, ◌||◌, min, Bool, true, false, nat_le, nat_lt, if◌then◌else◌, Option, Some, None, unwrap_or}
 use Rattle.hid_driver.specs.declared.fault.DriverFault.TheVariants.{Failed}
 use Rattle.usbip_session.specs.declared.notice.Notice.{Notice}
 use Rattle.usbip_session.specs.declared.notice.Notice.TheVariants.{Report}
@@ -15,23 +15,28 @@ abbrev pub is_late : Option ℕ → ℕ → ℕ → Bool
 is_late None now limit = false
 is_late (Some since) now limit = nat_lt limit (now - since)
 
--- the row with a failure at this time: one that comes over a second after the last one begins a row of its own
+-- a row that begins with a failure at this time
+abbrev pub row_from : ℕ → FailedRow
+row_from now = record { first = now; last = now; bursts = 1 }
+
+-- a row with a failure at this time: one that comes over a second after the last one begins a burst. 16 are counted at most.
 abbrev pub row_with : ℕ → Option FailedRow → FailedRow
-row_with now None = record { first = now; last = now }
+row_with now None = row_from now
 row_with now (Some row) =
-    if nat_lt 1000 (now - row.last) then record { first = now; last = now } else record { first = row.first; last = now }
+    if nat_lt 1000 (now - row.last) then record { first = now; last = now; bursts = min (row.bursts + 1) 16 }
+    else record row { last = now }
 
 -- The row of failures of an interface after an answer, which is one of them or not. A transfer that is done ends it.
 abbrev pub row_after : Bool → ℕ → Option FailedRow → Option FailedRow
 row_after false now row = None
 row_after true now row = Some (row_with now row)
 
--- Transfers failed in a row for longer than a limit.
+-- Transfers fail without an end: for longer than a limit in a burst, or in 16 bursts. Example: 16 failures, two seconds apart
 abbrev pub is_endless : Option FailedRow → ℕ → Bool
 is_endless None limit = false
-is_endless (Some row) limit = nat_lt limit (row.last - row.first)
+is_endless (Some row) limit = nat_lt limit (row.last - row.first) || nat_le 16 row.bursts
 
--- What is reported of an answer that makes this row of that one: that the transfer failed, where a row begins.
+-- What is reported of an answer that makes this row of that one: that the transfer failed, where a burst begins.
 abbrev pub notice_of_row : ℕ → Option FailedRow → Option FailedRow → Option Notice
 notice_of_row place before None = None
 notice_of_row place None (Some after) = Some (Report place Failed)

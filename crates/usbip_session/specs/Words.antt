@@ -12,11 +12,11 @@ use Rattle.usbip.specs.declared.fault.UsbipFault.TheVariants as messages
 use Rattle.usbip_import.specs.declared.fault.ImportFault.{ImportFault}
 use Rattle.usbip_import.specs.declared.fault.ImportFault.TheVariants.{Message, Refused, Busy, NoDevice, UnknownNumber, TooLong, Gone, Memory}
 
--- why bytes are no message
+-- why bytes are no message: N1 to N5
 abbrev pub message_words : UsbipFault → List ℕ
 message_words messages.BadVersion = codes "another version of USB/IP than 1.1.1"
-message_words messages.UnknownOperation = codes "no reply to the request for the device"
-message_words messages.UnknownCommand = codes "no reply to a submit"
+message_words messages.UnknownOperation = codes "an unknown operation"
+message_words messages.UnknownCommand = codes "an unknown command"
 message_words messages.BadDirection = codes "no direction of a submit"
 message_words messages.TooLong = codes "a submit of over 65535 bytes"
 

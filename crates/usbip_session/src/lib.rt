@@ -15,10 +15,11 @@
 //! The promise, whatever the server sends: a message is taken where its last byte comes, once, as [`Import`] takes it
 //! ([`Session::take`]). [`Session::end_after`] and [`Session::end_of_stream`] say what ends the session, and [`Session::release`]
 //! releases what is held then. A [`Timer`] is late where an answer, or the rest of a message, takes longer than a limit, and a
-//! [`FailedRow`] says how long transfers have failed.
+//! [`FailedRow`] says whether transfers fail without an end: failures that go on end the session ([`laws::failures_end`]).
 #![tactic(auto)]
 
 mod end;
+pub mod laws;
 mod notice;
 mod session;
 mod timer;
@@ -27,6 +28,6 @@ mod words;
 pub use end::End;
 pub use notice::Notice;
 pub use session::{Laid, Session};
-pub use timer::{FailedRow, Timer, is_endless, is_late, notice_of_row, row_after};
+pub use timer::{FailedRow, MAX_BURSTS, Timer, is_endless, is_late, notice_of_row, row_after};
 pub use usbip_import::{Import, ImportFault, Told};
 pub use words::{cause_words, driver_words, import_words};

@@ -1,6 +1,6 @@
 //! How long something is awaited, and how long transfers fail.
 ghost use Rattle.std.specs.Prelude.{◌≡◌};
-ghost use Rattle.usbip_session.specs.Timers.{is_endless, is_late, notice_of_row, row_after, row_with, since_after};
+ghost use Rattle.usbip_session.specs.Timers.{is_endless, is_late, notice_of_row, row_after, row_from, row_with, since_after};
 
 use crate::notice::Notice;
 use hid_driver::DriverFault;
@@ -35,13 +35,32 @@ pub fn is_late(timer: &Timer, now: u64, limit: u64) -> bool
     }
 }
 
-/// Transfers for reports of one interface that failed, one after another, at most a second apart.
+/// How many bursts of failures end a session (our choice).
+pub const MAX_BURSTS: u32 = 16;
+
+/// In milliseconds, how far apart two failures of a burst are at most (our choice: Linux retries as long before it resets a device).
+const BURST_GAP: u64 = 1000;
+
+/// Transfers for reports of one interface that failed, with none between them that was done. Those at most a second apart are a burst.
 #[derive(Clone, Copy, Debug, PartialEq, Eq)]
 pub struct FailedRow {
-    /// When the first one was answered, in milliseconds of the program's clock.
+    /// When the first one of the last burst was answered, in milliseconds of the program's clock.
     pub first: u64,
     /// When the last one was.
     pub last: u64,
+    /// How many bursts there are, up to [`MAX_BURSTS`].
+    pub bursts: u32,
+}
+
+/// A row that begins with a failure at this time.
+fn row_from(now: u64) -> FailedRow
+    ensures { result ≡ row_from now }
+{
+    FailedRow {
+        first: now,
+        last: now,
+        bursts: 1,
+    }
 }
 
 /// The row with a failure at this time.
@@ -49,19 +68,21 @@ fn row_with(now: u64, row: Option<FailedRow>) -> FailedRow
     ensures { result ≡ row_with now row }
 {
     match row {
-        Some(row) if now.saturating_sub(row.last) <= 1000 => FailedRow {
-            first: row.first,
-            last: now,
-        },
-        _ => FailedRow {
+        None => row_from(now),
+        Some(row) if now.saturating_sub(row.last) > BURST_GAP => FailedRow {
             first: now,
             last: now,
+            bursts: row.bursts.saturating_add(1).min(MAX_BURSTS),
+        },
+        Some(row) => FailedRow {
+            first: row.first,
+            last: now,
+            bursts: row.bursts,
         },
     }
 }
 
-/// The row of failures of an interface after an answer at this time, which is one of them or not. Failures over a second apart are
-/// no row: the device had nothing to send meanwhile.
+/// The row of failures of an interface after an answer at this time, which is one of them or not. A transfer that is done ends it.
 pub fn row_after(failed: bool, now: u64, row: Option<FailedRow>) -> Option<FailedRow>
     ensures { result ≡ row_after failed now row }
 {
@@ -72,17 +93,17 @@ pub fn row_after(failed: bool, now: u64, row: Option<FailedRow>) -> Option<Faile
     }
 }
 
-/// Whether transfers failed in a row for longer than a limit, in milliseconds.
+/// Whether transfers fail without an end: for longer than a limit in a burst, in milliseconds, or in [`MAX_BURSTS`] bursts.
 pub fn is_endless(row: Option<FailedRow>, limit: u64) -> bool
     ensures { result ≡ is_endless row limit }
 {
     match row {
-        Some(row) => row.last.saturating_sub(row.first) > limit,
+        Some(row) => row.last.saturating_sub(row.first) > limit || row.bursts >= MAX_BURSTS,
         None => false,
     }
 }
 
-/// What is reported of an answer that makes the row `after` of the row `before`: the first failure of a row.
+/// What is reported of an answer that makes the row `after` of the row `before`: the first failure of a burst.
 pub fn notice_of_row(
     interface: usize,
     before: Option<FailedRow>,

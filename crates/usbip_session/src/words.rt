@@ -7,14 +7,14 @@ use hid_notation::layout_words;
 use usbip::UsbipFault;
 use usbip_import::ImportFault;
 
-/// Why bytes are no message.
+/// Why bytes are no message, in words: N1 to N5.
 fn message_words(fault: UsbipFault) -> &'static str
     ensures { result.now ≡ message_words fault }
 {
     match fault {
         UsbipFault::BadVersion => "another version of USB/IP than 1.1.1",
-        UsbipFault::UnknownOperation => "no reply to the request for the device",
-        UsbipFault::UnknownCommand => "no reply to a submit",
+        UsbipFault::UnknownOperation => "an unknown operation",
+        UsbipFault::UnknownCommand => "an unknown command",
         UsbipFault::BadDirection => "no direction of a submit",
         UsbipFault::TooLong => "a submit of over 65535 bytes",
     }
