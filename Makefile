@@ -149,6 +149,7 @@ examples: $(HIDRUN) $(HIDPLAY) $(HIDMAP) $(HIDLAB) $(HIDSERVE) $(HIDATTACH) $(BE
 	tools/check/manual $(HIDRUN) $(HIDPLAY) $(HIDMAP) $(HIDLAB) $(HIDSERVE) $(HIDATTACH)
 	tools/check/serve $(HIDSERVE)
 	tools/check/attach $(HIDATTACH)
+	tools/check/attach $(HIDATTACH) --speed 5000
 	tools/check/failures $(HIDRUN) $(HIDMAP)
 	tools/check/examples $(HIDRUN) $(HIDPLAY) $(HIDMAP) $(HIDLAB)
 	tools/check/rows $(HIDRUN)
@@ -192,6 +193,7 @@ compare-linux: $(HIDPLAY) $(HIDSERVE) $(HIDATTACH)  ## compares hidplay with Lin
 	tools/compare/qemu $(HIDPLAY)
 	tools/compare/captures $(HIDPLAY)
 	tools/compare/usbip bin/hidserve bin/hidattach $(HIDPLAY) --self-test
+	tools/compare/usbip bin/hidserve bin/hidattach $(HIDPLAY)
 
 # Runs each example script on the proved program, and each test of calls that take memory, with each of its allocations
 # refused in turn: half a minute. It needs a C compiler, and the test programs that `rt ci` or `rt test` made from the current

@@ -17,14 +17,14 @@
 #include <linux/input.h>
 #include <linux/usbdevice_fs.h>
 #include <poll.h>
+#include <sched.h>
 #include <stdio.h>
 #include <stdlib.h>
 #include <string.h>
 #include <sys/ioctl.h>
-#include <sys/resource.h>
 #include <unistd.h>
 
-enum { NODES = 64, ROOM = 4096, TOLD = 1 << 22, TURN = 20, PATIENCE = 5000 };
+enum { NODES = 64, EVENTS = 64, ROOM = 8192, TOLD = 1 << 22, TURN = 20, PATIENCE = 5000 };
 
 static int nodes[NODES];
 
@@ -54,17 +54,31 @@ static int bytes_of(char **words, int count, unsigned char *into)
 
 #define TELL(...) (kept += snprintf(told + kept, TOLD - kept, __VA_ARGS__))
 
+/* Whether a node is there, and is a USB device's. The node isn't opened for that: to close it takes Linux 20 ms and more, in which
+ * nothing is read. */
+static int is_usb(int number)
+{
+    char path[96];
+    unsigned bus = 0;
+    snprintf(path, sizeof path, "/sys/class/input/event%d/device/id/bustype", number);
+    FILE *file = fopen(path, "r");
+    if (!file) return 0;
+    int is_read = fscanf(file, "%x", &bus) == 1;
+    fclose(file);
+    return is_read && bus == BUS_USB;
+}
+
 /* Opens a node of a USB device that appeared, for this program alone. */
 static void open_node(int number)
 {
     char path[64], name[256] = "";
-    struct input_id id;
     unsigned never[2] = {0, 0};
     struct input_event event = {.type = EV_SYN, .code = SYN_REPORT};
+    if (!is_usb(number)) return;
     snprintf(path, sizeof path, "/dev/input/event%d", number);
     int node = open(path, O_RDWR | O_NONBLOCK);
     if (node < 0) return;
-    if (ioctl(node, EVIOCGID, &id) || id.bustype != BUS_USB || ioctl(node, EVIOCGRAB, 1)) { close(node); return; }
+    if (ioctl(node, EVIOCGRAB, 1)) { close(node); return; }
     if (!ioctl(node, EVIOCSREP, never) && write(node, &event, sizeof event) < 0) perror("auto-repeat");
     while (read(node, &event, sizeof event) == sizeof event) {}
     ioctl(node, EVIOCGNAME(sizeof name - 1), name);
@@ -72,17 +86,19 @@ static void open_node(int number)
     nodes[number] = node;
 }
 
-/* Tells the events of a node; closes it where its device is gone. */
+/* Tells the events of a node, as many as its buffer has at a time; closes it where its device is gone. */
 static void tell_events(int number)
 {
-    struct input_event event;
+    struct input_event events[EVENTS];
     ssize_t size;
-    while ((size = read(nodes[number], &event, sizeof event)) == sizeof event) {
-        int is_told = event.type == EV_SYN ? event.code == SYN_DROPPED : event.type <= EV_ABS;
-        long long time = event.time.tv_sec * 1000000LL + event.time.tv_usec;
-        if (is_told) TELL("%d %d %d %d %lld\n", number, event.type, event.code, event.value, time);
-    }
-    if (size < 0 && errno == ENODEV) {
+    while (kept < TOLD - ROOM && (size = read(nodes[number], events, sizeof events)) > 0)
+        for (size_t i = 0; i < size / sizeof *events; i++) {
+            struct input_event *event = events + i;
+            int is_told = event->type == EV_SYN ? event->code == SYN_DROPPED : event->type <= EV_ABS;
+            long long time = event->time.tv_sec * 1000000LL + event->time.tv_usec;
+            if (is_told) TELL("%d %d %d %d %lld\n", number, event->type, event->code, event->value, time);
+        }
+    if (kept < TOLD - ROOM && size < 0 && errno == ENODEV) {
         TELL("gone %d\n", number);
         close(nodes[number]);
         nodes[number] = -1;
@@ -96,12 +112,14 @@ static void write_told(void)
     if (done > 0) memmove(told, told + done, kept -= done);
 }
 
-/* Looks for nodes where no event came for a while. It goes ahead of all else, so that it reads events before their buffer is full. */
+/* Looks for nodes where no event came for a while. It goes ahead of all else, so that it reads events before their buffer is full:
+ * Linux keeps 64 of a keyboard, some 21 of its reports. */
 static void watch(void)
 {
     struct pollfd waits[NODES + 1];
+    struct sched_param first = {.sched_priority = 50};
     fcntl(STDOUT_FILENO, F_SETFL, O_NONBLOCK);
-    setpriority(PRIO_PROCESS, 0, -20);
+    if (sched_setscheduler(0, SCHED_FIFO, &first)) perror("priority");
     for (int i = 0; i < NODES; i++) nodes[i] = -1;
     while (kept < TOLD - ROOM) {
         for (int i = 0; i < NODES; i++) waits[i] = (struct pollfd){nodes[i], POLLIN, 0};

@@ -11,7 +11,7 @@ import time
 
 from qemu_inputs import KEYS, MOTIONS, PLACES
 from usbip_guest import PORT, Failed, folder, shown, until
-from usbip_served import MOUSE, WAIT
+from usbip_served import MOUSE, PATIENCE, WAIT
 
 KBD, POINTER, TABLET, GADGET = "QEMU USB Keyboard", "QEMU USB Mouse", "QEMU USB Tablet", "gadget"
 # A keyboard of a hundred keys at a time, with LEDs.
@@ -25,6 +25,11 @@ FUNCTION = ("cd /sys/kernel/config/usb_gadget/g; f=functions/hid.%s; mkdir $f; e
 ROLL_OVER = ("sendkey a-b-c-d-e-f-g", "down 07:04, down 07:05, down 07:06, down 07:07, down 07:08, down 07:09, up 07:09, up 07:08, up 07:07, "
              "up 07:06, up 07:05, up 07:04")
 SILENCE = "2"  # seconds, after which an answer is too late
+# Faults that are planted in what hidattach printed: an input, its events, and those that stand there instead. Some have no fault.
+PLANTED = [("mouse_button 1", "down 09:01", None), ("mouse_button 0", "up 09:01", ""),
+           ("mouse_move 10 -5", "motion 01:30 10, motion 01:31 -5", "motion 01:30 10, motion 01:31 -6"),
+           ("mouse_button 2", "down 09:02", "down 09:02, down 09:02"), ("mouse_button 0", "up 09:02", "up 09:01"),
+           ("mouse_move 7 0", "motion 01:30 7", None)]
 # hidattach's status where usbip-host closes the connection, and words of its last line.
 GIVEN_UP = 0, "closed"
 # The places of the gadget's interfaces among those that hidattach reads.
@@ -57,18 +62,19 @@ def listen(guest):
 class Printed:
     """A file in which a program prints events, as TIME DEVICE EVENT."""
 
-    def __init__(self, read, patience=60):
-        self.read, self.patience, self.taken = read, patience, 0
+    def __init__(self, read):
+        self.read, self.taken = read, 0
 
-    def expect(self, text, device=0):
-        """The next events are these of a device, and no more come."""
+    def expect(self, text, device=0, spoil=lambda have: have):
+        """The next events are these of a device, and no more come. `spoil` plants a fault in those that came."""
         want = ["%d %s" % (device, event) for event in text.split(", ") if event]
-        end = time.monotonic() + self.patience
+        end = time.monotonic() + PATIENCE
         while len(self.events()) < len(want) and time.monotonic() < end:
             time.sleep(0.05)
         time.sleep(WAIT)
         have = self.events()
         self.taken += len(have)
+        have = spoil(have)
         if have != want:
             raise Failed("it prints %s, and has to print %s" % (have, want))
 
@@ -81,9 +87,8 @@ class Attached(Printed):
 
     def __init__(self, bench, name, busid, *options):
         place = folder(bench.work, name)
-        super().__init__(lambda: bench.spoil_events("".join(line + "\n" for line in shown(place / "events"))).splitlines(), bench.patience)
+        super().__init__(lambda: shown(place / "events"))
         self.leds, self.errors = place / "leds", place / "errors"
-        self.leds.touch()
         words = " ".join(["'%s'" % bench.hidattach, *options, "--output", str(place / "events"), "--leds", str(self.leds), busid])
         run = place / "run"
         run.write_text("#!/bin/sh\nexec %s\n" % words)
@@ -221,6 +226,19 @@ def live(bench):
     summary, count = guest.run("cat /tmp/refused"), sum(len(events.split(", ")) for _, events in KEYS) + 2
     if ended != "status 0\n" or not summary.endswith(", events %d, refused 0\n" % count):
         raise Failed("hidplay ends with %sand tells %s, which has to be %d events" % (ended, summary, count))
+
+
+def planted(bench):
+    """Whether the fault of each line of PLANTED is listed, of the mouse's events that hidattach printed."""
+    with attached(bench, "planted-mouse", POINTER) as it:
+        bench.guest.qmp.point_with("mouse")
+        for line, events, spoiled in PLANTED:
+            bench.guest.qmp.do(line)
+            try:
+                it.expect(events, spoil=lambda have, text=spoiled: have if text is None else ["0 " + event for event in text.split(", ") if event])
+                yield line, spoiled, False
+            except Failed:
+                yield line, spoiled, True
 
 
 SCENES = [keyboard, mouse, tablet, gadget, refused, unplugged]

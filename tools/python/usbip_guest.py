@@ -47,6 +47,10 @@ class Failed(Exception):
     """Something isn't as it has to be; the text says what."""
 
 
+class Starved(Exception):
+    """The guest's reader of evdev came too late, and Linux dropped events before it did (SYN_DROPPED): nothing is known of the programs."""
+
+
 def free_port():
     with socket.socket() as taken:
         taken.bind(("127.0.0.1", 0))

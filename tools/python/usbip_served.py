@@ -8,7 +8,7 @@ import contextlib
 import subprocess
 import time
 
-from usbip_guest import HOST, Failed, folder, free_port, shown, until
+from usbip_guest import HOST, Failed, Starved, folder, free_port, shown, until
 
 KEYBOARD = ("keyboard 05 01 09 06 A1 01 05 07 19 E0 29 E7 15 00 25 01 75 01 95 08 81 02 95 01 75 08 81 01 95 05 75 01 05 08 19 01 29 05 91 02 "
             "95 01 75 03 91 01 95 06 75 08 15 00 25 65 05 07 19 00 29 65 81 00 C0")
@@ -38,23 +38,43 @@ NAMES |= {(1, 42): "KEY_LEFTSHIFT", (1, 0x110): "BTN_LEFT", (1, 0x111): "BTN_RIG
           (3, 0x39): "TRACKING_ID", (0, 3): "SYN_DROPPED"}
 CAPS_LOCK, NUM_LOCK = 1, 0  # LED_CAPSL and LED_NUML
 BEGIN = "frame 2000"
+PATIENCE = 60  # seconds, in which an event has to come
 WAIT = 0.4  # seconds, in which nothing more may come
+# Faults that are planted in a script: a part of it, its events, and what the script says in place of that; the last part has no fault.
+# Between them F12 is pressed, so that each part is known by its place.
+PLANTED = [("press 1 07:06, release 1 07:06", "KEY_C 1, KEY_C 0", "press 1 07:06"),
+           ("press 1 07:07, release 1 07:07", "KEY_D 1, KEY_D 0", "press 1 07:07, release 1 07:07, press 1 07:07, release 1 07:07"),
+           ("press 1 07:08, press 1 07:09", "KEY_E 1, KEY_F 1", "press 1 07:09, press 1 07:08"),
+           ("move 1 01:30 5", "REL_X 5", "move 1 01:30 6"),
+           ("press 1 09:01, release 1 09:01", "BTN_LEFT 1, BTN_LEFT 0", "press 1 09:02, release 1 09:02"),
+           ("press 1 07:0A, release 1 07:0A", "KEY_G 1, KEY_G 0", None)]
+BETWEEN, BETWEEN_EVENTS = ["press 1 07:45", "release 1 07:45"], ["KEY_F12 1", "KEY_F12 0"]
 
 
 def told(lines):
-    """The events of what the guest tells, as `KEY_A 1`, in the order of their times."""
+    """The events of what the guest tells, as `KEY_A 1`, in the order of their times. Where Linux dropped some, as Starved."""
     events = [list(map(int, line.split())) for line in lines if line[0].isdigit()]
-    return ["%s %d" % (NAMES.get((kind, code), "%d:%d" % (kind, code)), value)
-            for _, kind, code, value, _ in sorted(events, key=lambda event: event[4])]
+    names = ["%s %d" % (NAMES.get((kind, code), "%d:%d" % (kind, code)), value)
+             for _, kind, code, value, _ in sorted(events, key=lambda event: event[4])]
+    if "SYN_DROPPED 0" in names:
+        raise Starved("SYN_DROPPED after %d events" % names.index("SYN_DROPPED 0"))
+    return names
+
+
+def compare(have, want):
+    """Events are as they have to be."""
+    if have != want:
+        at = next((n for n, pair in enumerate(zip(have, want)) if pair[0] != pair[1]), min(len(have), len(want)))
+        raise Failed("event %d of %d: evdev tells %s, and the script says %s" % (at + 1, len(want), have[at:at + 8], want[at:at + 8]))
 
 
 class Served:
     """A device that is served, and imported by attach."""
 
     def __init__(self, bench, name, script):
-        self.guest, self.place, self.patience = bench.guest, folder(bench.work, name), bench.patience
+        self.guest, self.place = bench.guest, folder(bench.work, name)
         self.script = self.place / "script"
-        self.script.write_text(bench.spoil(name, script))
+        self.script.write_text(script)
         self.listens, self.began, self.taken, self.imports = free_port(), 0, 0, 0
         run = self.place / "run"
         run.write_text("#!/bin/sh\n'%s' '%s'\necho status $? >&2\n" % (bench.hidserve, self.script))
@@ -98,16 +118,14 @@ class Served:
     def expect(self, text):
         """The next events are these, and no more come."""
         want = [] if not text else text.split(", ") if isinstance(text, str) else text
-        end = time.monotonic() + self.patience + len(want) / 20
+        end = time.monotonic() + PATIENCE + len(want) / 20
         have = self.events()
         while len(have) < len(want) and time.monotonic() < end:
             time.sleep(0.05)
             have = self.events()
         time.sleep(WAIT)
         have, self.taken = self.events(), self.guest.place()
-        if have != want:
-            at = next((n for n, pair in enumerate(zip(have, want)) if pair[0] != pair[1]), min(len(have), len(want)))
-            raise Failed("event %d of %d: evdev tells %s, and the script says %s" % (at + 1, len(want), have[at:at + 8], want[at:at + 8]))
+        compare(have, want)
 
     def events(self):
         return told(self.guest.watched(self.taken))
@@ -331,6 +349,31 @@ def many(bench):
     lines = ["%s 1 07:%02X" % (word, usage) for usage in usages for word in ("press", "release")]
     with served(bench, "many", device(KEYBOARD, *lines)) as it:
         it.expect(["KEY_%s %d" % (USAGES[usage], value) for usage in usages for value in (1, 0)])
+
+
+def parts_of(events):
+    """Events in parts, between which F12 is pressed."""
+    parts = [[]]
+    for event in events:
+        if event == BETWEEN_EVENTS[1]:
+            parts.append([])
+        elif event != BETWEEN_EVENTS[0]:
+            parts[-1].append(event)
+    return parts[:-1]
+
+
+def planted(bench):
+    """Whether the fault of each part of PLANTED is listed, in one script."""
+    lines = [line for said, _, spoiled in PLANTED for line in [*(spoiled or said).split(", "), *BETWEEN]]
+    with served(bench, "planted", device(NUMBERED, *lines)) as it:
+        until(lambda: len(parts_of(it.events())) == len(PLANTED), "end of the script: evdev tells %s" % it.events(), PATIENCE)
+        parts = parts_of(it.events())
+    for have, (said, want, spoiled) in zip(parts, PLANTED):
+        try:
+            compare(have, want.split(", "))
+            yield said, spoiled, False
+        except Failed:
+            yield said, spoiled, True
 
 
 SCENES = [listed, keyboard, leds, halted, reset, unbound, detached, interrupted, both, mouse, touch, numbered, long, many]
