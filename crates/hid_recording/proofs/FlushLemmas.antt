@@ -124,11 +124,11 @@ passed_text : (passed : Bool) (session : Session) (why : Why) (text : List ℕ) 
 passed_text true session why text cause e = not_accepted text _ cause _ e
 passed_text false session why text cause e = no_dropped_text session why text cause e
 
-no_gathered_text : (session : Session) (bytes : Option (List ℕ)) (content : Option Content) (text : List ℕ)
+no_gathered_text : (session : Session) (bytes : Result (List ℕ) Why) (content : Option Content) (text : List ℕ)
     (cause : Cause) → ended_with text cause ≡ outcome_of_dump_bytes session bytes content → text ≡ []
 no_gathered_text session bytes None text cause e = passed_text session.gathered.is_dropped session refusals.Syntax text cause e
-no_gathered_text session None (Some content) text cause e = no_dropped_text session refusals.BadHex text cause e
-no_gathered_text session (Some bytes) (Some content) text cause e =
+no_gathered_text session (Err why) (Some content) text cause e = no_dropped_text session why text cause e
+no_gathered_text session (Ok bytes) (Some content) text cause e =
     room_text (nat_lt 16384 (length session.gathered.bytes + length bytes)) session _ refusals.DumpTooLong text cause e
 
 no_chunk_text : (session : Session) (time chunk text : List ℕ) (cause : Cause) (member : PlayedDevice)

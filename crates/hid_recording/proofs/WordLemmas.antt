@@ -1,12 +1,11 @@
 -- Times are ASCII, and the bytes of words are those of each, joined.
-use Rattle.std.proofs.Common.{◌≡◌, ℕ, ◌+◌, ◌<◌, ◌≤◌, Bool, true, false, cond, List, [], ◌∷◌, ◌++◌, length, get_or, map, drop, add-one, append_assoc, append-nil, drop-cons, refl, sym, ap, ◌∙◌, arith, Option, None, Some, Result, Ok, Err, Bor, inl, inr}
-use Rattle.std.specs.Prelude.{MatchResult, ◌&&◌, is_ok}
+use Rattle.std.proofs.Common.{◌≡◌, ℕ, ◌+◌, ◌<◌, ◌≤◌, Bool, true, false, cond, List, [], ◌∷◌, ◌++◌, ◌-◌, length, get_or, take, drop, take_all, append_assoc, append-nil, length-append, refl, sym, ap, ◌∙◌, arith, Option, None, Some, Result, Ok, Err, Bor, inl, inr, nat_eq, ⊎_elim}
+use Rattle.std.specs.Prelude.{MatchResult, ◌&&◌, is_ok, is_some, ok_or}
 use Rattle.std.specs.Option.{option_map, option_and_then}
 use Rattle.std.specs.List.{list_all, flat_map}
-use Rattle.std.proofs.lemmas.List.{drop_all}
-use Rattle.hex.specs.Hex.{decode_of}
+use Rattle.hex.specs.Hex.{decode_of, hex_digit_value}
 use Rattle.hex.specs.declared.error.FromHexError.{FromHexError}
-use Rattle.hid_text.specs.Words.{hex_of, pair_of}
+use Rattle.hid_text.specs.Words.{is_blank, words_of, hex_of, byte_from, pair_of}
 use Rattle.hid_text.proofs.WordLemmas.{pair_alone}
 use Rattle.hid_recording.specs.declared.fault.Cause.{Cause}
 use Rattle.hid_recording.specs.declared.fault.Cause.TheVariants.{Refused, LineTooLong, Read, Write, Memory, TooManyReads, Unended}
@@ -15,8 +14,9 @@ use Rattle.std.proofs.lemmas.Str.{IsUtf8-from_ascii}
 use Rattle.std.proofs.lemmas.Str.Ascii.{IsAscii-from_reads}
 use Rattle.std.specs.Result.{result_ok, result_unwrap_or}
 use Rattle.std.proofs.lemmas.List.Folds.{list_all_at}
-use Rattle.std.proofs.lemmas.Bool.{or_cases, and_parts, leb-true, eqb-true, cond-true}
-use Rattle.hid_recording.specs.Words.{IsNoBytes, is_time_byte, is_time, time_of}
+use Rattle.std.proofs.lemmas.Bool.{cases_Bool, or_cases, and_parts, leb-true, eqb-true, cond-true}
+use Rattle.hid_recording.specs.declared.fault.Refusal.TheVariants.{BadHex}
+use Rattle.hid_recording.specs.Words.{IsNone, IsNoHex, BeginsWithPair, ends_word, bytes_before, bad_byte_from, bad_byte, bytes_of, is_time_byte, is_time, time_of}
 
 small : (b : ℕ) → is_time_byte b ≡ true → b < 128
 small b e = elim (or_cases _ _ e) [
@@ -44,6 +44,10 @@ with_word (Ok bytes) true more = refl
 with_word (Ok bytes) false more = refl
 with_word (Err cause) all more = refl
 
+nothing_before : (more : Option (List ℕ)) → more ≡ before [] more
+nothing_before None = refl
+nothing_before (Some m) = refl
+
 -- what a word and others encode
 hex_first : (word : List ℕ) (words : List (List ℕ)) → hex_of (word ∷ words) ≡ option_and_then (λ bytes. before bytes (hex_of words)) (result_ok (decode_of word))
 unfolding hex_of
@@ -53,33 +57,59 @@ before_before : (a b : List ℕ) (more : Option (List ℕ)) → before a (before
 before_before a b None = refl
 before_before a b (Some m) = ap (λ l. Some l) (sym (append_assoc a b m))
 
-first_left : (words : List (Bor (List ℕ))) (i : ℕ) (d : Bor (List ℕ)) → i < length words
-    → map (λ w. w.now) (drop i words) ≡ (get_or words i d).now ∷ map (λ w. w.now) (drop (i + 1) words)
-first_left words i d below = ap (map (λ w. w.now)) (drop-cons words i d below) ∙ rw add-one refl
+-- the place of what isn't hex, behind a word that is
+behind_whole : (r : Result (List ℕ) FromHexError) (word more : List ℕ) (behind : ℕ) → result_ok r ≡ Some more → bad_byte_from r word behind ≡ length more + behind
+behind_whole (Ok bytes) word more behind e = let same : bytes ≡ more = cc in rw same refl
+behind_whole (Err cause) word more behind e = absurd (cc)
+
+in_broken : (r : Result (List ℕ) FromHexError) (word : List ℕ) (behind : ℕ) → result_ok r ≡ None → bad_byte_from r word behind ≡ bytes_before word
+in_broken (Ok bytes) word behind e = absurd (cc)
+in_broken (Err cause) word behind e = refl
+
+-- what words say: their bytes are these and those of the words that are left, and so is the place of what isn't hex
+abbrev pub IsReadTo : List (List ℕ) → List ℕ → List (List ℕ) → Type 0
+IsReadTo words bytes left = (hex_of words ≡ before bytes (hex_of left)) × (bad_byte words ≡ length bytes + bad_byte left)
+
+-- nothing is read yet
+pub none_read : (words : List (List ℕ)) → IsReadTo words [] words
+none_read words = (nothing_before (hex_of words), omega arith)
 
 -- one word more is read
-pub hex_more : (all : Option (List ℕ)) (words : List (Bor (List ℕ))) (i : ℕ) (d : Bor (List ℕ)) (bytes more next : List ℕ) → i < length words
-    → all ≡ before bytes (hex_of (map (λ w. w.now) (drop i words))) → result_ok (decode_of (get_or words i d).now) ≡ Some more → next ≡ bytes ++ more
-    → all ≡ before next (hex_of (map (λ w. w.now) (drop (i + 1) words)))
-hex_more all words i d bytes more next below is one grows =
-    let rest = hex_of (map (λ (w : Bor (List ℕ)). w.now) (drop (i + 1) words)) in
-    is ∙ ap (λ l. before bytes (hex_of l)) (first_left words i d below)
-    ∙ ap (before bytes) (hex_first (get_or words i d).now (map (λ w. w.now) (drop (i + 1) words)) ∙ ap (option_and_then (λ b. before b rest)) one)
-    ∙ before_before bytes more rest ∙ ap (λ l. before l rest) (sym grows)
-
--- one word isn't hex
-pub hex_none : (all : Option (List ℕ)) (words : List (Bor (List ℕ))) (i : ℕ) (d : Bor (List ℕ)) (bytes : List ℕ) → i < length words
-    → all ≡ before bytes (hex_of (map (λ w. w.now) (drop i words))) → result_ok (decode_of (get_or words i d).now) ≡ None → all ≡ None
-hex_none all words i d bytes below is none =
-    let rest = hex_of (map (λ (w : Bor (List ℕ)). w.now) (drop (i + 1) words)) in
-    is ∙ ap (λ l. before bytes (hex_of l)) (first_left words i d below)
-    ∙ ap (before bytes) (hex_first (get_or words i d).now (map (λ w. w.now) (drop (i + 1) words)) ∙ ap (option_and_then (λ b. before b rest)) none)
+pub hex_more : (words left others : List (List ℕ)) (word bytes more next : List ℕ) → IsReadTo words bytes left → left ≡ word ∷ others
+    → result_ok (decode_of word) ≡ Some more → next ≡ bytes ++ more → IsReadTo words next others
+unfolding bad_byte
+hex_more words left others word bytes more next read first one grows = (
+  read.0 ∙ ap (λ l. before bytes (hex_of l)) first
+      ∙ ap (before bytes) (hex_first word others ∙ ap (option_and_then (λ b. before b (hex_of others))) one)
+      ∙ before_before bytes more (hex_of others) ∙ ap (λ l. before l (hex_of others)) (sym grows),
+  omega (
+    arith,
+    read.1,
+    ap bad_byte first,
+    behind_whole (decode_of word) word more (bad_byte others) one,
+    ap length grows,
+    length-append bytes more,
+  ),
+)
 
 -- all words are read
-pub hex_whole : (all : Option (List ℕ)) (words : List (Bor (List ℕ))) (i : ℕ) (bytes : List ℕ) → length words ≤ i
-    → all ≡ before bytes (hex_of (map (λ w. w.now) (drop i words))) → all ≡ Some bytes
+pub hex_whole : (words left : List (List ℕ)) (bytes : List ℕ) → IsReadTo words bytes left → left ≡ [] → bytes_of words ≡ Ok bytes
 unfolding hex_of
-hex_whole all words i bytes ended is = is ∙ ap (λ l. before bytes (hex_of (map (λ w. w.now) l))) (drop_all i words ended) ∙ ap (λ l. Some l) (append-nil bytes)
+hex_whole words left bytes read none =
+    let all : hex_of words ≡ Some bytes = read.0 ∙ ap (λ l. before bytes (hex_of l)) none ∙ ap (λ l. Some l) (append-nil bytes) in
+    ap (λ o. ok_or o (BadHex (bad_byte words))) all
+
+-- one word isn't hex
+hex_none : (words left others : List (List ℕ)) (word bytes : List ℕ) → IsReadTo words bytes left → left ≡ word ∷ others
+    → result_ok (decode_of word) ≡ None → bytes_of words ≡ Err (BadHex (length bytes + bytes_before word))
+unfolding bad_byte
+hex_none words left others word bytes read first none =
+    let all : hex_of words ≡ None =
+    read.0 ∙ ap (λ l. before bytes (hex_of l)) first
+    ∙ ap (before bytes) (hex_first word others ∙ ap (option_and_then (λ b. before b (hex_of others))) none) in
+    let place : bad_byte words ≡ length bytes + bytes_before word =
+    read.1 ∙ ap (λ l. length bytes + bad_byte l) first ∙ ap (λ n. length bytes + n) (in_broken (decode_of word) word (bad_byte others) none) in
+    ap (λ o. ok_or o (BadHex (bad_byte words))) all ∙ ap (λ n. Err (BadHex n)) place
 
 -- a word of two bytes
 pub pair_read : (word : List ℕ) (byte : Option ℕ) → 2 ≤ length word → length word < 3 → byte ≡ pair_of (get_or word 0 0) (get_or word 1 0) → result_ok (decode_of word) ≡ option_map (λ b. b ∷ []) byte
@@ -88,15 +118,84 @@ pair_read (high ∷ []) byte some few is = absurd (omega arith)
 pair_read (high ∷ low ∷ []) byte some few is = pair_alone high low ∙ ap (option_map (λ b. b ∷ [])) (sym is)
 pair_read (high ∷ low ∷ more ∷ word) byte some few is = absurd (omega arith)
 
+-- two bytes that are no pair of digits
+pub bad_pair : (word : List ℕ) (byte : Option ℕ) → 2 ≤ length word → byte ≡ pair_of (get_or word 0 0) (get_or word 1 0) → is_some byte ≡ false → bytes_before word ≡ 0
+unfolding bytes_before
+bad_pair [] byte some is none = absurd (omega arith)
+bad_pair (high ∷ []) byte some is none = absurd (omega arith)
+bad_pair (high ∷ low ∷ rest) byte some is none = rw (← is) (rw none refl)
+
+-- a pair of digits
+pub good_pair : (word : List ℕ) (byte : Option ℕ) → 2 ≤ length word → byte ≡ pair_of (get_or word 0 0) (get_or word 1 0) → is_some byte ≡ true
+    → bytes_before word ≡ bytes_before (take (length word - 2) (drop 2 word)) + 1
+unfolding bytes_before
+good_pair [] byte some is found = absurd (omega arith)
+good_pair (high ∷ []) byte some is found = absurd (omega arith)
+good_pair (high ∷ low ∷ rest) byte some is found =
+    let left : rest ≡ take (length (high ∷ low ∷ rest) - 2) rest = sym (take_all (length (high ∷ low ∷ rest) - 2) rest (omega arith)) in
+    rw (← is) (rw found (ap (λ l. bytes_before l + 1) left))
+
+-- no pair is left
+pub no_pair : (word : List ℕ) → length word < 2 → bytes_before word ≡ 0
+unfolding bytes_before
+no_pair [] few = refl
+no_pair (byte ∷ []) few = refl
+no_pair (high ∷ low ∷ rest) few = absurd (omega arith)
+
+-- a blank is no digit
+no_low : (high : Option ℕ) → byte_from high None ≡ None
+no_low None = refl
+no_low (Some high) = refl
+
+blank_high : (high low : ℕ) → is_blank high ≡ true → pair_of high low ≡ None
+blank_high high low blank = ⊎_elim
+    (λ (space : nat_eq high 32 ≡ true). rw (eqb-true high 32 space) refl)
+    (λ (other : nat_eq high 32 ≡ false). let tab : nat_eq high 9 ≡ true = rw other at blank in rw (eqb-true high 9 tab) refl)
+    (cases_Bool (nat_eq high 32))
+
+blank_low : (high low : ℕ) → is_blank low ≡ true → pair_of high low ≡ None
+blank_low high low blank = ⊎_elim
+    (λ (space : nat_eq low 32 ≡ true). rw (eqb-true low 32 space) (no_low (hex_digit_value high)))
+    (λ (other : nat_eq low 32 ≡ false). let tab : nat_eq low 9 ≡ true = rw other at blank in rw (eqb-true low 9 tab) (no_low (hex_digit_value high)))
+    (cases_Bool (nat_eq low 32))
+
+-- what isn't so where there is no byte, isn't so where there is one
+not_so : (so : Bool) (found : Option ℕ) (byte : ℕ) → (so ≡ true → found ≡ None) → found ≡ Some byte → so ≡ false
+not_so true found byte none some = let nothing : found ≡ None = none refl in absurd (cc)
+not_so false found byte none some = refl
+
+pair_between : (high low : ℕ) (rest : List ℕ) → is_blank high ≡ false → is_blank low ≡ false → ends_word rest ≡ true
+    → words_of (32 ∷ high ∷ low ∷ rest) ≡ (high ∷ low ∷ []) ∷ words_of rest
+pair_between high low [] first second ended = rw (first, second) refl
+pair_between high low (next ∷ rest) first second ended = rw (first, second, ended) refl
+
+-- a text begins with a space and two digits
+pub pair_first : (text : List ℕ) (byte : ℕ) → 3 ≤ length text → get_or text 0 0 ≡ 32 → ends_word (take (length text - 3) (drop 3 text)) ≡ true
+    → pair_of (get_or text 1 0) (get_or text 2 0) ≡ Some byte → BeginsWithPair (words_of text) byte (words_of (take (length text - 3) (drop 3 text)))
+pair_first [] byte some space ended pair = absurd (omega arith)
+pair_first (a ∷ []) byte some space ended pair = absurd (omega arith)
+pair_first (a ∷ high ∷ []) byte some space ended pair = absurd (omega arith)
+pair_first (a ∷ high ∷ low ∷ rest) byte some space ended pair =
+    let left : take (length (a ∷ high ∷ low ∷ rest) - 3) rest ≡ rest = take_all (length (a ∷ high ∷ low ∷ rest) - 3) rest (omega arith) in
+    let first = not_so (is_blank high) (pair_of high low) byte (blank_high high low) pair in
+    let second = not_so (is_blank low) (pair_of high low) byte (blank_low high low) pair in (
+      high ∷ low ∷ [],
+      ap (λ b. words_of (b ∷ high ∷ low ∷ rest)) space ∙ pair_between high low rest first second (rw left at ended) ∙ ap (λ l. (high ∷ low ∷ []) ∷ words_of l) (sym left),
+      pair_alone high low ∙ ap (option_map (λ b. b ∷ [])) pair,
+    )
+
 -- why one word has no bytes is why all have none
-pub no_bytes : (cause : Cause) (encoded all : Option (List ℕ)) → (encoded ≡ None → all ≡ None) → IsNoBytes cause encoded → IsNoBytes cause all
-no_bytes Memory encoded all none h = h
-no_bytes (Refused refusal) encoded all none h = (h.0, none h.1)
-no_bytes LineTooLong encoded all none h = (h.0, none h.1)
-no_bytes Read encoded all none h = (h.0, none h.1)
-no_bytes Write encoded all none h = (h.0, none h.1)
-no_bytes TooManyReads encoded all none h = (h.0, none h.1)
-no_bytes Unended encoded all none h = (h.0, none h.1)
+pub no_bytes : (cause : Cause) (words left others : List (List ℕ)) (word bytes : List ℕ) → IsReadTo words bytes left → left ≡ word ∷ others
+    → IsNoHex cause (length bytes) word → IsNone cause (bytes_of words)
+no_bytes Memory words left others word bytes read first h = h
+no_bytes (Refused refusal) words left others word bytes read first h =
+    let same : BadHex (length bytes + bytes_before word) ≡ refusal = let e = h.0 in cc in
+    hex_none words left others word bytes read first h.1 ∙ ap (λ r. Err r) same
+no_bytes LineTooLong words left others word bytes read first h = let e = h.0 in absurd (cc)
+no_bytes Read words left others word bytes read first h = let e = h.0 in absurd (cc)
+no_bytes Write words left others word bytes read first h = let e = h.0 in absurd (cc)
+no_bytes TooManyReads words left others word bytes read first h = let e = h.0 in absurd (cc)
+no_bytes Unended words left others word bytes read first h = let e = h.0 in absurd (cc)
 
 -- a time, once its bytes are read as text
 pub time_read : {E : Type 0} (word : List ℕ) (r : Result (Bor (List ℕ)) E) (o : Option (Bor (List ℕ))) (P : E → Type 0) → is_time word ≡ true

@@ -126,6 +126,6 @@ refusal_members counted place words =
 unfoldable pub refusal_tokens : Counted → ℕ → List ℕ → List Token
 refusal_tokens counted place words = object (refusal_members counted place words)
 
--- a line of JSON: the text of these tokens. Example: {"line":1,"refused":"R4: the count isn't that of the bytes"}
+-- a line of JSON: the text of these tokens. Example: {"line":1,"refused":"R4: the count says 14, there are 13 bytes"}
 abbrev pub json_text : List Token → List ℕ
 json_text tokens = print tokens ++ 10 ∷ []

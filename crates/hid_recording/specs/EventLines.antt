@@ -1,11 +1,14 @@
 -- Events of a recording as they are printed (our choice: docs/RECORDINGS.md).
 use Rattle.std.specs.Prelude.{ℕ, Bool, List, [], ◌∷◌, ◌++◌, if◌then◌else◌, Option, None, Some}
+use Rattle.std.specs.Fmt.{decimal, signed_decimal}
 use Rattle.std.specs.List.{flat_map}
 use Rattle.hid_report_descriptor.specs.declared.usage.Usage.{Usage}
 use Rattle.hid_layout.specs.Layout.{Contents}
+use Rattle.hid_layout.specs.declared.control.ControlId.{ControlId}
 use Rattle.hid_snapshots.specs.declared.event.Event.{Event}
+use Rattle.hid_snapshots.specs.declared.event.Event.TheVariants.{Value, Motion, Dropped}
 use Rattle.hid_names.specs.Names.{Name, name_of, name_text}
-use Rattle.hid_text.specs.EventText.{event_text, placed_event_text}
+use Rattle.hid_text.specs.EventText.{control_text, event_words, placed_words}
 use Rattle.hid_recording.specs.declared.options.Options.{Options}
 use Rattle.hid_recording.specs.EventJson.{usage_in, event_tokens, json_text}
 
@@ -18,9 +21,24 @@ after_space (Some name) = 32 ∷ name_text name
 abbrev pub name_words : Usage → List ℕ
 name_words usage = after_space (name_of usage.page usage.id)
 
--- an event, with its control after the usage if places are asked for
+-- a control after a space, if places are asked for
+abbrev pub place_words : Bool → ControlId → List ℕ
+place_words places control = if places then 32 ∷ control_text control else []
+
+-- the number of an event after a space, where it has one
+abbrev pub amount_words : Event → List ℕ
+amount_words (Value control usage value) = 32 ∷ signed_decimal value
+amount_words (Motion control usage by) = 32 ∷ signed_decimal by
+amount_words (Dropped control usage by) = 32 ∷ signed_decimal by
+amount_words _ = []
+
+-- what happened, with the control after the usage if places are asked for
+abbrev pub shown_words : Bool → Event → List ℕ
+shown_words places event = if places then placed_words event else event_words event
+
+-- an event, after the number of its device
 abbrev pub shown_event : Bool → ℕ → Event → List ℕ
-shown_event places device event = if places then placed_event_text device event else event_text device event
+shown_event places device event = decimal device ++ shown_words places event
 
 -- an event as a line for people: TIME D EVENT, with --places its control, and with --names the name of its usage
 abbrev pub plain_line : List ℕ → ℕ → Options → Event → List ℕ

@@ -50,10 +50,10 @@ act_of_number n act = if nat_lt n 16 then act ∷ [] else []
 abbrev pub acts_of_content : List ℕ → Content → List Act
 acts_of_content payload contents.Nothing = []
 acts_of_content payload (contents.Descriptor n) = act_of_number n (Descriptor n payload)
-acts_of_content payload contents.TruncatedDescriptor = RefusedFrame refusals.BadCount ∷ []
+acts_of_content payload contents.TruncatedDescriptor = RefusedFrame refusals.Truncated ∷ []
 acts_of_content payload contents.TooManyInterfaces = RefusedFrame refusals.TooManyDevices ∷ []
 acts_of_content payload (contents.Report n) = act_of_number n (Report n payload)
-acts_of_content payload (contents.TruncatedReport n) = RefusedFrame refusals.BadCount ∷ []
+acts_of_content payload (contents.TruncatedReport n) = RefusedFrame refusals.Truncated ∷ []
 acts_of_content payload contents.Undescribed = []
 acts_of_content payload contents.Unknown = []
 acts_of_content payload (contents.InterfaceDisconnected n) = act_of_number n (Disconnection n)

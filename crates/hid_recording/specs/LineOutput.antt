@@ -311,12 +311,11 @@ abbrev pub outcome_of_stray_bytes : Session → Outcome
 outcome_of_stray_bytes session =
     if session.gathered.is_dropped then success [] session else outcome_of_dropped_dump session refusals.Syntax
 
--- bytes of a dump that is open, which has 4,096 at most
-abbrev pub outcome_of_dump_bytes : Session → Option (List ℕ) → Option Content → Outcome
+-- bytes of a dump that is open, which has 16,384 at most
+abbrev pub outcome_of_dump_bytes : Session → Result (List ℕ) Refusal → Option Content → Outcome
 outcome_of_dump_bytes session bytes None = outcome_of_stray_bytes session
-outcome_of_dump_bytes session None (Some content) =
-    outcome_of_dropped_dump session refusals.BadHex
-outcome_of_dump_bytes session (Some bytes) (Some content) =
+outcome_of_dump_bytes session (Err refusal) (Some content) = outcome_of_dropped_dump session refusal
+outcome_of_dump_bytes session (Ok bytes) (Some content) =
     if nat_lt 16384 (length session.gathered.bytes + length bytes)
     then outcome_of_dropped_dump session refusals.DumpTooLong else success []
     (with_dump_bytes session bytes)

@@ -72,10 +72,10 @@ abbrev pub stray_bytes_allocate : Session → Bool
 stray_bytes_allocate session = if session.gathered.is_dropped then false else refusal_allocates session
 
 -- bytes of a dump take memory unless they are refused, or no dump is open
-abbrev pub dump_bytes_allocate : Session → Option (List ℕ) → Option Content → Bool
+abbrev pub dump_bytes_allocate : Session → Result (List ℕ) Refusal → Option Content → Bool
 dump_bytes_allocate session bytes None = stray_bytes_allocate session
-dump_bytes_allocate session None (Some content) = refusal_allocates session
-dump_bytes_allocate session (Some bytes) (Some content) =
+dump_bytes_allocate session (Err refusal) (Some content) = refusal_allocates session
+dump_bytes_allocate session (Ok bytes) (Some content) =
     if nat_lt 16384 (length session.gathered.bytes + length bytes) then refusal_allocates session else true
 
 -- whether chunks of a device are joined: there is one, of which no part of a report may be missing
@@ -108,7 +108,7 @@ abbrev pub has_colon : List ℕ → Bool
 has_colon [] = false
 has_colon (first ∷ rest) = first == 58
 
--- a line takes memory for its words: after a space, a digit, or a letter and a colon; a remark has none
+-- a line may take memory for its bytes: after a space, a digit, or a letter and a colon; a remark has none
 abbrev pub has_words : List ℕ → Bool
 has_words [] = false
 has_words (first ∷ rest) = not (first == 35) && (first == 32 || is_digit first || has_colon rest)
@@ -126,7 +126,7 @@ record_allocates session (Ok (Begins address content time)) =
 record_allocates session (Ok (Bytes bytes)) = dump_bytes_allocate session bytes session.gathered.content
 record_allocates session (Err refusal) = refusal_allocates session
 
--- a line that isn't too long takes memory for its words, and for what it says
+-- a line that isn't too long takes memory for its bytes, and for what it says
 abbrev pub short_line_allocates : Session → List ℕ → Bool
 short_line_allocates session line = has_words line || record_allocates session (record_of line)
 

@@ -1,22 +1,21 @@
 -- What a line of a recording says (our choice: docs/RECORDINGS.md; the letters are those of hid-recorder).
-use Rattle.std.specs.Prelude.{⊤, ◌≡◌, ℕ, ◌==◌, Bool, ◌&&◌, ◌||◌, nat_le, List, [], ◌∷◌, length, if◌then◌else◌, Option, None, Some, Result, Ok, Err, MatchResult}
+use Rattle.std.specs.Prelude.{◌≡◌, ℕ, ◌==◌, Bool, ◌&&◌, ◌||◌, nat_le, List, [], ◌∷◌, length, if◌then◌else◌, Option, None, Some, option_and_then, ok_or, Result, Ok, Err, MatchResult}
+use Rattle.std.specs.Global.{Vec}
 use Rattle.std.specs.List.{slice_split}
-use Rattle.std.specs.Option.{option_map}
-use Rattle.hid_text.specs.Words.{Word, words_of, hex_of}
+use Rattle.hid_text.specs.Words.{Word, words_of}
 use Rattle.hid_recording.specs.declared.dump.Address.{Address}
 use Rattle.hid_recording.specs.declared.dump.Content.{Content}
 use Rattle.hid_recording.specs.declared.dump.Content.TheVariants as contents
 use Rattle.hid_recording.specs.declared.fault.Cause.{Cause}
-use Rattle.hid_recording.specs.declared.fault.Cause.TheVariants.{Refused, LineTooLong, Read, Write, Memory, TooManyReads, Unended}
 use Rattle.hid_recording.specs.declared.fault.Refusal.{Refusal}
-use Rattle.hid_recording.specs.declared.fault.Refusal.TheVariants.{Syntax, BadHex, BadCount, BadDevice, BadTime}
+use Rattle.hid_recording.specs.declared.fault.Refusal.TheVariants.{Syntax, NoCount, BadCount, BadDevice, BadTime}
 use Rattle.hid_recording.specs.declared.record.Record.{Record}
 use Rattle.hid_recording.specs.declared.record.Record.TheVariants as records
-use Rattle.hid_recording.specs.Words.{is_count, device_of_word, time_of, is_colon, address_of, content_of}
+use Rattle.hid_recording.specs.Words.{IsNone, bytes_of, decimal_of, device_of_word, time_of, is_colon, address_of, content_of}
 
 -- what a line says: nothing, or nothing but the end of a dump; which device the next lines are of; its report
 -- descriptor, or why the bytes of one can't be read, with the interface that it is of, if it is a dump; a report and
--- when it came; that a dump begins; or bytes of one, if each word is hex
+-- when it came; that a dump begins; or bytes of one, or the first that isn't hex
 pub data LineMeaning : Type 0 where
   Nothing : LineMeaning
   Blank : LineMeaning
@@ -25,7 +24,12 @@ pub data LineMeaning : Type 0 where
   Unread : Option Address → Refusal → LineMeaning
   Report : List ℕ → List ℕ → LineMeaning
   Begins : Address → Content → List ℕ → LineMeaning
-  Bytes : Option (List ℕ) → LineMeaning
+  Bytes : Result (List ℕ) Refusal → LineMeaning
+
+-- the bytes that were read, or why there are none
+abbrev pub items_of : Result (Vec ℕ) Refusal → Result (List ℕ) Refusal
+items_of (Ok bytes) = Ok bytes.items
+items_of (Err refusal) = Err refusal
 
 -- what a record says
 abbrev pub meaning_of_record : Record → LineMeaning
@@ -36,16 +40,31 @@ meaning_of_record (records.Descriptor bytes) = Descriptor bytes.items
 meaning_of_record (records.Unread interface refusal) = Unread interface refusal
 meaning_of_record (records.Report time bytes) = Report time.now bytes.items
 meaning_of_record (records.Begins address content time) = Begins address content time.now
-meaning_of_record (records.Bytes bytes) = Bytes (option_map (λ b. b.items) bytes)
+meaning_of_record (records.Bytes bytes) = Bytes (items_of bytes)
 
--- bytes where they are as many as the count says, or why they aren't
-abbrev pub bytes_if_counted : Word → Option (List ℕ) → Result (List ℕ) Refusal
-bytes_if_counted count None = Err BadHex
-bytes_if_counted count (Some bytes) = if is_count count (length bytes) then Ok bytes else Err BadCount
+-- the word of a text that has no other
+unfoldable pub only_word : List Word → Option Word
+only_word (word ∷ []) = Some word
+only_word _ = None
 
--- the bytes that words encode, if they are as many as a word counts
+-- why a count, if there is one, isn't that of the bytes that were found: both numbers
+abbrev pub miscount : Option ℕ → ℕ → Option Refusal
+miscount None found = Some NoCount
+miscount (Some said) found = if said == found then None else Some (BadCount said found)
+
+-- bytes, where nothing is against them
+abbrev pub unless_refused : Option Refusal → List ℕ → Result (List ℕ) Refusal
+unless_refused None bytes = Ok bytes
+unless_refused (Some refusal) bytes = Err refusal
+
+-- the bytes that were read, where they are as many as a word counts
+abbrev pub bytes_if_counted : Word → Result (List ℕ) Refusal → Result (List ℕ) Refusal
+bytes_if_counted count (Ok bytes) = unless_refused (miscount (decimal_of count) (length bytes)) bytes
+bytes_if_counted count (Err refusal) = Err refusal
+
+-- the bytes that words encode, if they are as many as a word counts. Example: 2 05 is R4
 abbrev pub counted_bytes : Word → List Word → Result (List ℕ) Refusal
-counted_bytes count hex = bytes_if_counted count (hex_of hex)
+counted_bytes count hex = bytes_if_counted count (bytes_of hex)
 
 -- what is said of the bytes that were read, or why there are none
 abbrev pub map_bytes : (List ℕ → LineMeaning) → Result (List ℕ) Refusal → Result LineMeaning Refusal
@@ -59,8 +78,7 @@ device_or_refusal (Some device) = Ok (Device device)
 
 -- what the words after `D:` say: DEVICE
 abbrev pub device_record : List Word → Result LineMeaning Refusal
-device_record (word ∷ []) = device_or_refusal (device_of_word word)
-device_record _ = Err BadDevice
+device_record words = device_or_refusal (option_and_then device_of_word (only_word words))
 
 -- the bytes of a descriptor, or why there are none
 abbrev pub descriptor_or_unread : Result (List ℕ) Refusal → LineMeaning
@@ -70,7 +88,7 @@ descriptor_or_unread (Err refusal) = Unread None refusal
 -- what the words after `R:` say: COUNT HEX
 abbrev pub descriptor_record : List Word → LineMeaning
 descriptor_record (count ∷ hex) = descriptor_or_unread (counted_bytes count hex)
-descriptor_record [] = Unread None BadCount
+descriptor_record [] = Unread None NoCount
 
 -- what came at a time; BadTime where there is no time
 abbrev pub report_at_time : Option (List ℕ) → Word → List Word → Result LineMeaning Refusal
@@ -80,7 +98,7 @@ report_at_time (Some time) count hex = map_bytes (Report time) (counted_bytes co
 -- what the words after `E:` say: TIME COUNT HEX
 abbrev pub report_record : List Word → Result LineMeaning Refusal
 report_record (time ∷ count ∷ hex) = report_at_time (time_of time) count hex
-report_record _ = Err BadCount
+report_record _ = Err NoCount
 
 -- what the words after a letter say: N, P and I name a device, D numbers it, R has its descriptor, E a report
 unfoldable pub words_record : ℕ → List Word → Result LineMeaning Refusal
@@ -98,17 +116,16 @@ letter_record letter (colon ∷ rest) = if colon == 58 then words_record letter 
 
 -- what the words after a space say: HEX, of a dump
 abbrev pub dump_record : List Word → Result LineMeaning Refusal
-dump_record hex = Ok (Bytes (hex_of hex))
+dump_record hex = Ok (Bytes (bytes_of hex))
 
--- a time; BadTime where there is none
-abbrev pub time_or_refusal : Option (List ℕ) → Result (List ℕ) Refusal
-time_or_refusal None = Err BadTime
-time_or_refusal (Some time) = Ok time
+-- the time that a word says, if there is one: Syntax where there is no word, BadTime where it is no time
+abbrev pub time_or_refusal : Option Word → Result (List ℕ) Refusal
+time_or_refusal None = Err Syntax
+time_or_refusal (Some word) = ok_or (time_of word) BadTime
 
 -- the words after the address in the head of a dump: TIME, and nothing more
 abbrev pub time_record : List Word → Result (List ℕ) Refusal
-time_record (time ∷ []) = time_or_refusal (time_of time)
-time_record _ = Err Syntax
+time_record words = time_or_refusal (only_word words)
 
 -- a dump of an interface, or why it doesn't begin: then a descriptor can't be read
 abbrev pub dump_begin : Address → Content → Result (List ℕ) Refusal → Result LineMeaning Refusal
@@ -148,16 +165,6 @@ record_of (first ∷ rest) =
     else if first == 32 then dump_record (words_of rest)
     else if is_digit first then header_record (words_of (first ∷ rest))
     else letter_record first rest
-
--- why nothing was read: out of memory, or the one refusal
-abbrev pub IsNone : {X : Type 0} → Cause → Result X Refusal → Type 0
-IsNone Memory meant = ⊤
-IsNone (Refused refusal) meant = meant ≡ Err refusal
-IsNone LineTooLong meant = ⊥
-IsNone Read meant = ⊥
-IsNone Write meant = ⊥
-IsNone TooManyReads meant = ⊥
-IsNone Unended meant = ⊥
 
 -- what was read is what was meant
 abbrev pub ReadsRecord : Result Record Cause → Result LineMeaning Refusal → Type 0

@@ -9,7 +9,7 @@ use Rattle.hid_recording.specs.EventJson.{counted_word, refusal_tokens, json_tex
 use Rattle.hid_recording.specs.declared.fault.Refusal.{Refusal}
 use Rattle.hid_recording.specs.declared.counted.Counted.{Counted}
 use Rattle.hid_recording.specs.declared.options.Options.{Options}
-use Rattle.hid_recording.specs.declared.fault.Refusal.TheVariants.{Syntax, BadHex, BadCount, BadDevice, BadTime, NoLayout, Unended, DumpTooLong, TooManyDevices, PartMissing, Layout, Report}
+use Rattle.hid_recording.specs.declared.fault.Refusal.TheVariants.{Syntax, BadHex, NoCount, BadCount, Truncated, BadDevice, BadTime, NoLayout, Unended, DumpTooLong, TooManyDevices, PartMissing, Layout, Report}
 use Rattle.hid_recording.specs.declared.fault.Cause.{Cause}
 use Rattle.hid_recording.specs.declared.fault.Cause.TheVariants as causes
 
@@ -21,8 +21,11 @@ report_words UnknownReport = codes "the device has no such Input report"
 -- a refusal as its code, and words
 abbrev pub refusal_text : Refusal → List ℕ
 refusal_text Syntax = codes "R1: no line of a recording"
-refusal_text BadHex = codes "R3: a byte isn't two hex digits"
-refusal_text BadCount = codes "R4: the count isn't that of the bytes"
+refusal_text (BadHex at) = codes "R3 at " ++ (decimal at ++ codes ": a byte isn't two hex digits")
+refusal_text NoCount = codes "R4: the count is missing, or no number"
+refusal_text (BadCount said found) =
+    codes "R4: the count says " ++ (decimal said ++ (codes ", there are " ++ (decimal found ++ codes " bytes")))
+refusal_text Truncated = codes "R4: the frame was cut off when it was captured"
 refusal_text BadDevice = codes "R5: the device isn't a number from 0 to 15"
 refusal_text BadTime = codes "R6: the time isn't digits and points"
 refusal_text NoLayout = codes "R7: the device has no descriptor"
@@ -44,7 +47,7 @@ cause_text causes.TooManyReads = codes "R11: the end didn't come in 100000000000
 cause_text causes.Unended = codes "R12: no empty line ends the last dump"
 
 -- The line of a refusal: line N: CODE: WORDS, of a capture frame N: CODE: WORDS, or with --json an object. Example: line 1: R4: the
--- count isn't that of the bytes
+-- count says 14, there are 13 bytes
 abbrev pub refusal_line : Options → Counted → ℕ → Refusal → List ℕ
 refusal_line options counted place refusal =
     if options.json then json_text (refusal_tokens counted place (refusal_text refusal))

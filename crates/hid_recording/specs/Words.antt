@@ -1,39 +1,80 @@
 -- What the words of a recording's lines say (our choice: docs/RECORDINGS.md).
-use Rattle.std.specs.Prelude.{⊤, ◌≡◌, ℕ, ◌==◌, ◌-◌, ◌^◌, Bool, false, ◌&&◌, ◌||◌, nat_le, List, ◌++◌, min, if◌then◌else◌, Option, None, Some, Result, Ok, Err, codes}
+use Rattle.std.specs.Borrow.{Bor}
+use Rattle.std.specs.Prelude.{⊤, ◌≡◌, ℕ, ◌+◌, ◌==◌, ◌-◌, ◌^◌, Bool, true, ◌&&◌, ◌||◌, nat_le, List, [], ◌∷◌, ◌++◌, length, min, if◌then◌else◌, Option, None, Some, is_some, ok_or, Result, Ok, Err, codes}
 use Rattle.std.specs.List.{list_all}
 use Rattle.std.specs.Option.{option_map}
+use Rattle.std.specs.Result.{result_ok}
 use Rattle.std.specs.Str.{bytes_eq}
-use Rattle.hid_text.specs.Words.{Word}
+use Rattle.hex.specs.Hex.{decode_of}
+use Rattle.hex.specs.declared.error.FromHexError.{FromHexError}
+use Rattle.hid_text.specs.Words.{Word, is_blank, words_of, hex_of, pair_of}
 use Rattle.hid_text.specs.Numbers.{number_of}
 use Rattle.hid_recording.specs.declared.dump.Address.{Address}
 use Rattle.hid_recording.specs.declared.dump.Content.{Content}
 use Rattle.hid_recording.specs.declared.dump.Content.TheVariants as contents
 use Rattle.hid_recording.specs.declared.fault.Cause.{Cause}
-use Rattle.hid_recording.specs.declared.fault.Cause.TheVariants.{Refused, Memory}
+use Rattle.hid_recording.specs.declared.fault.Cause.TheVariants.{Refused, LineTooLong, Read, Write, Memory, TooManyReads, Unended}
+use Rattle.hid_recording.specs.declared.fault.Refusal.{Refusal}
 use Rattle.hid_recording.specs.declared.fault.Refusal.TheVariants.{BadHex}
 
--- why no bytes were read: out of memory, or a word that isn't pairs of hex digits
-abbrev pub IsNoBytes : Cause → Option (List ℕ) → Type 0
-IsNoBytes Memory encoded = ⊤
-IsNoBytes cause encoded = (cause ≡ Refused BadHex) × (encoded ≡ None)
+-- how many bytes of a word stand before the first that isn't two hex digits, or before its end
+unfoldable pub bytes_before : Word → ℕ
+bytes_before (high ∷ low ∷ rest) = if is_some (pair_of high low) then bytes_before rest + 1 else 0
+bytes_before _ = 0
+
+-- how many bytes stand before the first that isn't two hex digits: all of a word that is whole, and some of one that isn't
+abbrev pub bad_byte_from : Result (List ℕ) FromHexError → Word → ℕ → ℕ
+bad_byte_from (Ok bytes) word behind = length bytes + behind
+bad_byte_from (Err cause) word behind = bytes_before word
+
+-- how many bytes of words stand before the first that isn't two hex digits. Example: of 05 010g it is 2
+unfoldable pub bad_byte : List Word → ℕ
+bad_byte [] = 0
+bad_byte (word ∷ words) = bad_byte_from (decode_of word) word (bad_byte words)
+
+-- the bytes that words of hex encode, or the first that isn't two digits
+abbrev pub bytes_of : List Word → Result (List ℕ) Refusal
+bytes_of words = ok_or (hex_of words) (BadHex (bad_byte words))
+
+-- why nothing was read: out of memory, or the one refusal
+abbrev pub IsNone : {X : Type 0} → Cause → Result X Refusal → Type 0
+IsNone Memory meant = ⊤
+IsNone (Refused refusal) meant = meant ≡ Err refusal
+IsNone LineTooLong meant = ⊥
+IsNone Read meant = ⊥
+IsNone Write meant = ⊥
+IsNone TooManyReads meant = ⊥
+IsNone Unended meant = ⊥
+
+-- why a word has no bytes, after so many bytes: out of memory, or it isn't pairs of hex digits
+abbrev pub IsNoHex : Cause → ℕ → Word → Type 0
+IsNoHex Memory count word = ⊤
+IsNoHex cause count word = (cause ≡ Refused (BadHex (count + bytes_before word))) × (result_ok (decode_of word) ≡ None)
+
+-- a text ends, or a blank comes: a word before it is at its end
+abbrev pub ends_word : List ℕ → Bool
+ends_word [] = true
+ends_word (next ∷ rest) = is_blank next
+
+-- words begin with two hex digits that encode a byte, before others
+abbrev pub BeginsWithPair : List Word → ℕ → List Word → Type 0
+BeginsWithPair words byte others = (word : Word) × (words ≡ word ∷ others) × (result_ok (decode_of word) ≡ Some (byte ∷ []))
 
 -- bytes grew by those that a word encodes; or why they didn't
-abbrev pub AddsBytes : List ℕ → List ℕ → Option (List ℕ) → Result (Unit {0}) Cause → Type 0
-AddsBytes old new encoded (Ok _) = (more : List ℕ) × (encoded ≡ Some more) × (new ≡ old ++ more)
-AddsBytes old new encoded (Err cause) = IsNoBytes cause encoded
+abbrev pub AddsBytes : List ℕ → List ℕ → Word → Result (Unit {0}) Cause → Type 0
+AddsBytes old new word (Ok _) = (more : List ℕ) × (result_ok (decode_of word) ≡ Some more) × (new ≡ old ++ more)
+AddsBytes old new word (Err cause) = IsNoHex cause (length old) word
+
+-- bytes grew by those that the first of some words encodes, before others; there is no word; or why they didn't
+abbrev pub AddsFirst : List ℕ → List ℕ → List Word → Result (Option (Bor (List ℕ))) Cause → Type 0
+AddsFirst old new words (Ok None) = (words ≡ []) × (new ≡ old)
+AddsFirst old new words (Ok (Some text)) =
+    (word : Word) × (more : List ℕ) × (words ≡ word ∷ words_of text.now) × (result_ok (decode_of word) ≡ Some more) × (new ≡ old ++ more)
+AddsFirst old new words (Err cause) = (word : Word) × (others : List Word) × (words ≡ word ∷ others) × IsNoHex cause (length old) word
 
 -- the number that decimal digits encode, 2 to the 64 less 1 at most
 abbrev pub decimal_of : Word → Option ℕ
 decimal_of word = option_map (λ n. min n (2 ^ 64 - 1)) (number_of 10 word)
-
--- whether a number that there is, is this count
-abbrev pub is_so_many : Option ℕ → ℕ → Bool
-is_so_many None count = false
-is_so_many (Some n) count = n == count
-
--- whether a word is this count
-abbrev pub is_count : Word → ℕ → Bool
-is_count word count = is_so_many (decimal_of word) count
 
 -- a number, if it is a device's; none where there is no number or a greater one
 abbrev pub in_devices : Option ℕ → Option ℕ

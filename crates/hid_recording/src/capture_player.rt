@@ -64,7 +64,7 @@ fn act_of_content<'a>(content: Content, payload: &'a [u8]) -> Option<Act<'a>>
             device_of(interface).map(|device| Act::Disconnection { device })
         }
         Content::TruncatedDescriptor | Content::TruncatedReport { .. } => {
-            Some(Act::RefusedFrame(Refusal::BadCount))
+            Some(Act::RefusedFrame(Refusal::Truncated))
         }
         Content::TooManyInterfaces => Some(Act::RefusedFrame(Refusal::TooManyDevices)),
         Content::Nothing

@@ -30,7 +30,7 @@ pub fn usage_in(event: &Event) -> Usage
 }
 
 /// The control that an event is of.
-fn control_in(event: &Event) -> ControlId
+pub fn control_in(event: &Event) -> ControlId
     ensures { result ≡ control_in event.now }
 {
     match event {

@@ -1,13 +1,15 @@
 //! Events of a report, as they are printed.
 
-ghost use Rattle.std.specs.Prelude.{◌≡◌, ◌++◌, ◌∷◌, OnOk, string_bytes};
-ghost use Rattle.hid_recording.specs.EventLines.{name_words, shown_event, plain_line, event_line, event_lines};
+ghost use Rattle.std.specs.Prelude.{◌≡◌, ◌++◌, ◌∷◌, [], OnOk, string_bytes};
+ghost use Rattle.std.specs.Fmt.{signed_decimal};
+ghost use Rattle.hid_recording.specs.EventJson.{event_word};
+ghost use Rattle.hid_recording.specs.EventLines.{name_words, place_words, amount_words, shown_words, shown_event, plain_line, event_line, event_lines};
 
-use super::event_json::{print_json, usage_in};
+use super::event_json::{control_in, print_json, usage_in};
 use super::options::Options;
-use hid_layout::{Layout, Usage};
+use hid_layout::{ControlId, Layout, Usage};
 use hid_names::usage_name;
-use hid_text::{EventText, PlacedEventText};
+use hid_notation::{print_number, print_signed, print_usage};
 use hid_usages::Event;
 use std::alloc::{AllocError, Global};
 
@@ -30,25 +32,71 @@ fn print_name(text: &mut String, usage: Usage) -> Result<(), AllocError>
     }
 }
 
+/// What happened, as a word between spaces.
+fn spaced_word(event: &Event) -> &'static str
+    ensures { result.now ≡ 32 ∷ event_word event.now ++ 32 ∷ [] }
+{
+    match event {
+        Event::Down { .. } => " down ",
+        Event::Up { .. } => " up ",
+        Event::Value { .. } => " value ",
+        Event::Null { .. } => " null ",
+        Event::Motion { .. } => " motion ",
+        Event::Dropped { .. } => " dropped ",
+    }
+}
+
+/// Adds a control after a space, if places are asked for: ` @2.0`.
+fn print_place(text: &mut String, places: bool, control: ControlId) -> Result<(), AllocError>
+    ensures { OnOk result (string_bytes text.new ≡ string_bytes text.old ++ place_words places control) }
+{
+    if !places {
+        return Ok(());
+    }
+    text.push_str(" @")?;
+    print_number(text, control.item as u64)?;
+    text.push('.')?;
+    print_number(text, control.index as u64)
+}
+
+/// Adds a number after a space.
+fn print_after_space(text: &mut String, number: i64) -> Result<(), AllocError>
+    ensures { OnOk result (string_bytes text.new ≡ string_bytes text.old ++ 32 ∷ signed_decimal number) }
+{
+    text.push(' ')?;
+    print_signed(text, number)
+}
+
+/// Adds the number of an event after a space, if it has one.
+fn print_amount(text: &mut String, event: &Event) -> Result<(), AllocError>
+    ensures { OnOk result (string_bytes text.new ≡ string_bytes text.old ++ amount_words event.now) }
+{
+    match event {
+        Event::Value { value, .. } => print_after_space(text, *value),
+        Event::Motion { by, .. } | Event::Dropped { by, .. } => print_after_space(text, *by),
+        Event::Down { .. } | Event::Up { .. } | Event::Null { .. } => Ok(()),
+    }
+}
+
+/// Adds what happened, after the number of the device. A formatter takes many times as long.
+fn print_event_words(text: &mut String, places: bool, event: &Event) -> Result<(), AllocError>
+    ensures { OnOk result (string_bytes text.new ≡ string_bytes text.old ++ shown_words places event.now) }
+{
+    text.push_str(spaced_word(event))?;
+    print_usage(text, usage_in(event))?;
+    print_place(text, places, control_in(event))?;
+    print_amount(text, event)
+}
+
 /// Adds when an event is, and the event, with its control if places are asked for.
 fn print_shown(text: &mut String, source: &Source<'_>, event: &Event) -> Result<(), AllocError>
     ensures { OnOk result (string_bytes text.new ≡ string_bytes text.old ++ source.now.time.now
         ++ 32 ∷ shown_event source.now.options.places source.now.device event.now) }
 {
-    let Source { time, device, .. } = *source;
-    if source.options.places {
-        let shown = PlacedEventText {
-            dev: device,
-            event: *event,
-        };
-        write!(text, "{time} {shown}")
-    } else {
-        let shown = EventText {
-            dev: device,
-            event: *event,
-        };
-        write!(text, "{time} {shown}")
-    }
+    text.push_str(source.time)?;
+    text.push(' ')?;
+    print_number(text, u64::from(source.device))?;
+    print_event_words(text, source.options.places, event)
 }
 
 /// Adds an event as a line for people.

@@ -13,10 +13,14 @@ use thiserror::Error;
 pub enum Refusal {
     /// R1: no line of a recording.
     Syntax,
-    /// R3: a word that should be a byte isn't two hex digits.
-    BadHex,
-    /// R4: the count isn't that of the bytes; of a frame fewer bytes were captured than it had.
-    BadCount,
+    /// R3: a byte isn't two hex digits; this many bytes of its line stand before it.
+    BadHex { at: usize },
+    /// R4: the count is missing, or no number.
+    NoCount,
+    /// R4: the count isn't the number of bytes that are there.
+    BadCount { said: u64, found: usize },
+    /// R4: of a frame fewer bytes were captured than it had.
+    Truncated,
     /// R5: the device isn't a number from 0 to 15.
     BadDevice,
     /// R6: the time isn't digits and points.

@@ -24,8 +24,14 @@ impl fmt::Display for Refusal {
     fn fmt<W: fmt::Write>(&self, f: &mut fmt::Formatter<W>) -> fmt::Result {
         let text = match self {
             Refusal::Syntax => "R1: no line of a recording",
-            Refusal::BadHex => "R3: a byte isn't two hex digits",
-            Refusal::BadCount => "R4: the count isn't that of the bytes",
+            Refusal::BadHex { at } => {
+                return write!(f, "R3 at {at}: a byte isn't two hex digits");
+            }
+            Refusal::NoCount => "R4: the count is missing, or no number",
+            Refusal::BadCount { said, found } => {
+                return write!(f, "R4: the count says {said}, there are {found} bytes");
+            }
+            Refusal::Truncated => "R4: the frame was cut off when it was captured",
             Refusal::BadDevice => "R5: the device isn't a number from 0 to 15",
             Refusal::BadTime => "R6: the time isn't digits and points",
             Refusal::NoLayout => "R7: the device has no descriptor",

@@ -10,7 +10,7 @@
 //!   R: 52 05 01 09 02 A1 01 .. C0              its report descriptor
 //!   E: 000000.010000 4 01 05 00 00             000000.010000 0 down 09:01
 //!                                              000000.010000 0 motion 01:30 5
-//!   E: 000000.020000 4 01                      line 5: R4: the count isn't that of the bytes
+//!   E: 000000.020000 4 01 00                   line 5: R4: the count says 4, there are 2 bytes
 //!
 //!   001:003:000:STREAM      1263214174.456     a dump of usbhid-dump, of the interface that came first
 //!    01 05 00 00                               its bytes

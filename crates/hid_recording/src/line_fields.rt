@@ -1,26 +1,50 @@
 //! What a word says by itself: bytes, a count, a device, a time, whose dump it is.
 
-ghost use Rattle.std.specs.Prelude.{◌≡◌, ◌<◌, Some, IfOk, MatchResult, map};
+ghost use Rattle.std.specs.Prelude.{◌≡◌, ◌+◌, ◌*◌, ◌<◌, ◌≤◌, Some, Ok, IfOk, IfSome, MatchResult, length, map};
 ghost use Rattle.std.specs.List.{slice_split};
 ghost use Rattle.std.specs.Option.{option_map};
-ghost use Rattle.std.specs.Result.{result_ok};
-ghost use Rattle.hex.specs.Hex.{decode_of};
-ghost use Rattle.hid_text.specs.Words.{hex_of};
+ghost use Rattle.hid_text.specs.Words.{words_of};
 ghost use Rattle.hid_recording.specs.declared.line_fields.TheConstants.{MAX_DEVICES};
-ghost use Rattle.hid_recording.specs.Words.{AddsBytes, IsNoBytes, is_count, in_devices, device_of_word, is_time, time_of, is_colon, address_of, content_of};
+ghost use Rattle.hid_recording.specs.Words.{AddsBytes, AddsFirst, BeginsWithPair, IsNone, ends_word, bytes_before, bytes_of, decimal_of, in_devices, device_of_word, is_time, time_of, is_colon, address_of, content_of};
 
 use super::dump::{Address, Content};
 use super::fault::{Cause, Refusal};
 use hex::FromHexError;
-use hid_text::{hex_pair, read_number};
+use hid_text::{first_word, hex_pair, read_number};
 use std::alloc::{AllocError, Global};
 
 /// How many devices a recording has room for (our choice).
 pub const MAX_DEVICES: usize = 16;
 
+/// How many bytes of a word stand before the first that isn't two hex digits, or before its end.
+fn bytes_before(word: &[u8]) -> usize
+    ensures value { result ≡ bytes_before word.now }
+    ensures room { 2 * result ≤ length word.now }
+{
+    let mut count = 0;
+    let mut rest = word;
+    while let [high, low, more @ ..] = rest {
+        if hex_pair(*high, *low).is_none() {
+            return count;
+        }
+        count += 1;
+        rest = more;
+    }
+    count
+}
+
+/// Why a word after these bytes isn't pairs of hex digits.
+fn bad_hex(bytes: &[u8], word: &[u8]) -> Refusal
+    ensures { result ≡ Refusal.BadHex (length bytes.now + bytes_before word.now) }
+{
+    Refusal::BadHex {
+        at: bytes.len() + bytes_before(word),
+    }
+}
+
 /// Adds the bytes that a word of more or fewer than two digits encodes.
 fn add_decoded(alloc: Global, bytes: &mut Vec<u8>, word: &[u8]) -> Result<(), Cause>
-    ensures { AddsBytes bytes.old.items bytes.new.items (result_ok (decode_of word.now)) result }
+    ensures { AddsBytes bytes.old.items bytes.new.items word.now result }
 {
     match hex::decode(alloc, word) {
         Ok(more) => {
@@ -34,19 +58,19 @@ fn add_decoded(alloc: Global, bytes: &mut Vec<u8>, word: &[u8]) -> Result<(), Ca
             FromHexError::InvalidHexCharacter { .. }
             | FromHexError::OddLength
             | FromHexError::InvalidStringLength,
-        ) => Err(Cause::Refused(Refusal::BadHex)),
+        ) => Err(Cause::Refused(bad_hex(bytes, word))),
     }
 }
 
 /// Adds the bytes that a word encodes: two hex digits for each.
 fn add_word(alloc: Global, bytes: &mut Vec<u8>, word: &[u8]) -> Result<(), Cause>
-    ensures { AddsBytes bytes.old.items bytes.new.items (result_ok (decode_of word.now)) result }
+    ensures { AddsBytes bytes.old.items bytes.new.items word.now result }
 {
     let [high, low] = word else {
         return add_decoded(alloc, bytes, word);
     };
     match hex_pair(*high, *low) {
-        None => Err(Cause::Refused(Refusal::BadHex)),
+        None => Err(Cause::Refused(bad_hex(bytes, word))),
         Some(byte) => {
             if bytes.push(byte).is_err() {
                 return Err(Cause::Memory);
@@ -56,33 +80,81 @@ fn add_word(alloc: Global, bytes: &mut Vec<u8>, word: &[u8]) -> Result<(), Cause
     }
 }
 
-/// The bytes that words of hex encode, joined: two digits for each.
+/// Whether a text has no byte, or begins with a space or a tab.
+fn ends_word(text: &[u8]) -> bool
+    ensures { result ≡ ends_word text.now }
+{
+    match text {
+        [] => true,
+        [next, ..] => *next == b' ' || *next == b'\t',
+    }
+}
+
+/// The byte of two hex digits between blanks, the first of them a space, and what stands after the digits. It takes a fraction
+/// of the time of [`first_word`]; most words of a recording are such.
+fn next_pair(text: &[u8]) -> Option<(u8, &[u8])>
+    ensures pair { IfSome result (λ found. BeginsWithPair (words_of text.now) found.0 (words_of found.1.now)) }
+    ensures room { IfSome result (λ found. length found.1.now < length text.now) }
+{
+    let [b' ', high, low, more @ ..] = text else {
+        return None;
+    };
+    if !ends_word(more) {
+        return None;
+    }
+    let byte = hex_pair(*high, *low)?;
+    Some((byte, more))
+}
+
+/// Adds the bytes that the first word of a text encodes. Returns what stands after it, or none where there is no word.
+fn add_first<'a>(
+    alloc: Global,
+    bytes: &mut Vec<u8>,
+    text: &'a [u8],
+) -> Result<Option<&'a [u8]>, Cause>
+    ensures added { AddsFirst bytes.old.items bytes.new.items (words_of text.now) result }
+    ensures room { IfOk result (λ left. IfSome left (λ more. length more.now < length text.now)) }
+{
+    if let Some((byte, more)) = next_pair(text) {
+        return match bytes.push(byte) {
+            Ok(()) => Ok(Some(more)),
+            Err(_) => Err(Cause::Memory),
+        };
+    }
+    let Some((word, more)) = first_word(text) else {
+        return Ok(None);
+    };
+    match add_word(alloc, bytes, word) {
+        Ok(()) => Ok(Some(more)),
+        Err(cause) => Err(cause),
+    }
+}
+
+/// The bytes that the words of a text encode in hex, joined: two digits for each.
 ///
 /// # Errors
-/// R3 if a word isn't pairs of hex digits, R10 if memory runs out for the bytes of the words before it.
-pub fn read_bytes(alloc: Global, words: &[&[u8]]) -> Result<Vec<u8>, Cause>
+/// R3 at the first byte that isn't two digits, R10 if memory runs out for the bytes before it.
+pub fn read_bytes(alloc: Global, text: &[u8]) -> Result<Vec<u8>, Cause>
     ensures { MatchResult result
-        (λ bytes. hex_of (map (λ word. word.now) words.now) ≡ Some bytes.items)
-        (λ cause. IsNoBytes cause (hex_of (map (λ word. word.now) words.now))) }
+        (λ bytes. bytes_of (words_of text.now) ≡ Ok bytes.items)
+        (λ cause. IsNone cause (bytes_of (words_of text.now))) }
 {
     let mut bytes = Vec::new(alloc);
-    for word in words {
-        match add_word(alloc, &mut bytes, word) {
-            Ok(()) => {}
+    let mut rest = text;
+    loop {
+        match add_first(alloc, &mut bytes, rest) {
+            Ok(Some(more)) => rest = more,
+            Ok(None) => return Ok(bytes),
             Err(cause) => return Err(cause),
         }
     }
-    Ok(bytes)
 }
 
-/// Whether a word is this count, in decimal digits.
-pub fn is_count(word: &[u8], count: usize) -> bool
-    ensures { result ≡ is_count word.now count }
+/// The count that a word says, in decimal digits.
+pub fn read_count(word: &[u8]) -> Option<u64>
+    ensures { result ≡ decimal_of word.now }
 {
-    match read_number(10, word) {
-        Some(number) => number == count as u64,
-        None => false,
-    }
+    read_number(10, word)
 }
 
 /// The number of a device.

@@ -4,7 +4,7 @@ ghost use Rattle.std.specs.Prelude.{◌≡◌, ◌≢◌, ◌++◌, [], ◌∷�
 ghost use Rattle.std.specs.Option.{option_map};
 ghost use Rattle.hid_report_descriptor.specs.Real.{Explains};
 ghost use Rattle.hid_recording.specs.Session.{at_first, at_time, with_options};
-ghost use Rattle.hid_recording.specs.Records.{record_of};
+ghost use Rattle.hid_recording.specs.Records.{record_of, items_of};
 ghost use Rattle.hid_recording.specs.LineOutput.{layout_shown, described_text, LineGives, LineBegins, MeaningGives, DescriptorGives, DescriptionGives, DumpEndGives, with_device, outcome_of_device, session_refusal_line, with_refusal, outcome_of_refusal, DescriptorIsRefused, named_text_back, without_named, with_dropped_dump, dropped_dump_text, outcome_of_dropped_dump, described_by, with_interface, outcome_of_unread_descriptor, outcome_of_dump_head, outcome_of_dump_bytes, outcome_of_stray_bytes, with_line_counted, chunk_outcome, stream_outcome, report_outcome};
 ghost use Rattle.hid_recording.specs.Words.{time_of};
 ghost use Rattle.hid_recording.specs.Player.{summary_of};
@@ -430,18 +430,19 @@ impl Player {
     }
 
     /// Takes bytes of the dump that is open.
-    fn gather(&mut self, bytes: Option<Vec<u8>>) -> Result<(), Cause>
+    fn gather(&mut self, bytes: Result<Vec<u8>, Refusal>) -> Result<(), Cause>
         ensures outcome { Gathers (λ o. o ≡ outcome_of_dump_bytes (session_of self.old)
-            (option_map (λ some. some.items) bytes) self.old.dump.content) result
+            (items_of bytes) self.old.dump.content) result
             (string_bytes self.new.text) (session_of self.new) }
         ensures memory { RunsOutIf (dump_bytes_allocate (session_of self.old)
-            (option_map (λ some. some.items) bytes) self.old.dump.content) result }
+            (items_of bytes) self.old.dump.content) result }
     {
         if self.dump.content.is_none() {
             return self.gather_none();
         }
-        let Some(bytes) = bytes else {
-            return self.drop_dump(Refusal::BadHex);
+        let bytes = match bytes {
+            Ok(bytes) => bytes,
+            Err(unread) => return self.drop_dump(unread),
         };
         if self.dump.bytes.len().saturating_add(bytes.len()) > MAX_DUMP {
             return self.drop_dump(Refusal::DumpTooLong);

@@ -1,16 +1,19 @@
 //! What a line of a recording says.
 
 ghost use Rattle.std.specs.Prelude.{◌≡◌, ◌≢◌, Ok, Err, IfErr, MatchResult, map};
-ghost use Rattle.hid_recording.specs.Records.{record_of, words_record, device_record, descriptor_record, report_record, counted_bytes, dump_record, header_record, begins_at, dump_begin, time_record, ReadsRecord, IsNone};
+ghost use Rattle.hid_text.specs.Words.{words_of};
+ghost use Rattle.std.specs.Option.{option_map};
+ghost use Rattle.hid_recording.specs.Words.{IsNone, decimal_of};
+ghost use Rattle.hid_recording.specs.Records.{record_of, words_record, device_record, descriptor_record, report_record, counted_bytes, miscount, only_word, dump_record, header_record, begins_at, dump_begin, time_record, ReadsRecord};
 ghost use Rattle.hid_recording.specs.MemoryUse.{RunsOutIf, has_words};
 
 use super::dump::{Address, Content};
 use super::fault::{Cause, Refusal};
 use super::line_fields::{
-    DeviceNumber, is_count, parts_of_word, read_address, read_bytes, read_content, read_device,
+    DeviceNumber, parts_of_word, read_address, read_bytes, read_content, read_count, read_device,
     read_time,
 };
-use hid_text::words_of_line;
+use hid_text::first_word;
 use std::alloc::Global;
 
 /// What a line says.
@@ -40,8 +43,8 @@ pub enum Record<'a> {
         content: Content,
         time: &'a str,
     },
-    /// A space and HEX: bytes of a dump; none where a word is no byte.
-    Bytes(Option<Vec<u8>>),
+    /// A space and HEX: bytes of a dump, or why there are none.
+    Bytes(Result<Vec<u8>, Refusal>),
 }
 
 /// Reads one line, without its end.
@@ -57,42 +60,45 @@ pub fn read_record(alloc: Global, line: &[u8]) -> Result<Record<'_>, Cause>
     match line {
         [] => Ok(Record::Blank),
         [b'#', ..] => Ok(Record::Nothing),
-        [b' ', rest @ ..] => {
-            let words = words_of_line(alloc, rest)?;
-            read_dumped(alloc, words.as_slice())
-        }
-        [b'0'..=b'9', ..] => {
-            let words = words_of_line(alloc, line)?;
-            read_header(alloc, words.as_slice())
-        }
-        [letter, b':', rest @ ..] => {
-            let words = words_of_line(alloc, rest)?;
-            read_words(alloc, *letter, words.as_slice())
-        }
+        [b' ', rest @ ..] => read_dumped(alloc, rest),
+        [b'0'..=b'9', ..] => read_header(alloc, line),
+        [letter, b':', rest @ ..] => read_words(alloc, *letter, rest),
         _ => Err(Cause::Refused(Refusal::Syntax)),
     }
 }
 
 /// Reads the words after the letter.
 #[tactic(auto, unfolding(crate::specs::Records::words_record))]
-fn read_words<'a>(alloc: Global, letter: u8, words: &[&'a [u8]]) -> Result<Record<'a>, Cause>
-    ensures { ReadsRecord result (words_record letter (map (λ word. word.now) words.now)) }
+fn read_words(alloc: Global, letter: u8, text: &[u8]) -> Result<Record<'_>, Cause>
+    ensures { ReadsRecord result (words_record letter (words_of text.now)) }
 {
     match letter {
         b'N' | b'P' | b'I' => Ok(Record::Nothing),
-        b'D' => read_selection(words),
-        b'R' => read_descriptor(alloc, words),
-        b'E' => read_report(alloc, words),
+        b'D' => read_selection(text),
+        b'R' => read_descriptor(alloc, text),
+        b'E' => read_report(alloc, text),
         _ => Err(Cause::Refused(Refusal::Syntax)),
     }
 }
 
+/// The word of a text that has no other.
+#[tactic(auto, unfolding(crate::specs::Records::only_word))]
+fn only_word(text: &[u8]) -> Option<&[u8]>
+    ensures { option_map (λ word. word.now) result ≡ only_word (words_of text.now) }
+{
+    let (word, more) = first_word(text)?;
+    match first_word(more) {
+        Some(_) => None,
+        None => Some(word),
+    }
+}
+
 /// Reads the words after `D:`, which are `DEVICE`.
-fn read_selection<'a>(words: &[&'a [u8]]) -> Result<Record<'a>, Cause>
-    ensures read { ReadsRecord result (device_record (map (λ word. word.now) words.now)) }
+fn read_selection(text: &[u8]) -> Result<Record<'_>, Cause>
+    ensures read { ReadsRecord result (device_record (words_of text.now)) }
     ensures refusal { IfErr result (λ cause. cause ≢ Cause.Memory) }
 {
-    let [word] = words else {
+    let Some(word) = only_word(text) else {
         return Err(Cause::Refused(Refusal::BadDevice));
     };
     match read_device(word) {
@@ -101,27 +107,38 @@ fn read_selection<'a>(words: &[&'a [u8]]) -> Result<Record<'a>, Cause>
     }
 }
 
-/// Reads the bytes that words encode, if they are as many as the count says.
-fn read_counted(alloc: Global, count: &[u8], words: &[&[u8]]) -> Result<Vec<u8>, Cause>
-    ensures { MatchResult result
-        (λ bytes. counted_bytes count.now (map (λ word. word.now) words.now) ≡ Ok bytes.items)
-        (λ cause. IsNone cause (counted_bytes count.now (map (λ word. word.now) words.now))) }
+/// Why so many bytes aren't as many as a word counts, if they aren't.
+fn miscount(count: &[u8], found: usize) -> Option<Refusal>
+    ensures { result ≡ miscount (decimal_of count.now) found }
 {
-    let bytes = read_bytes(alloc, words)?;
-    if !is_count(count, bytes.len()) {
-        return Err(Cause::Refused(Refusal::BadCount));
+    match read_count(count) {
+        None => Some(Refusal::NoCount),
+        Some(said) if said == found as u64 => None,
+        Some(said) => Some(Refusal::BadCount { said, found }),
     }
-    Ok(bytes)
+}
+
+/// Reads the bytes that the words of a text encode, if they are as many as the count says.
+fn read_counted(alloc: Global, count: &[u8], text: &[u8]) -> Result<Vec<u8>, Cause>
+    ensures { MatchResult result
+        (λ bytes. counted_bytes count.now (words_of text.now) ≡ Ok bytes.items)
+        (λ cause. IsNone cause (counted_bytes count.now (words_of text.now))) }
+{
+    let bytes = read_bytes(alloc, text)?;
+    match miscount(count, bytes.len()) {
+        None => Ok(bytes),
+        Some(refusal) => Err(Cause::Refused(refusal)),
+    }
 }
 
 /// Reads the words after `R:`, which are `COUNT HEX`.
-fn read_descriptor<'a>(alloc: Global, words: &[&'a [u8]]) -> Result<Record<'a>, Cause>
-    ensures { ReadsRecord result (Ok (descriptor_record (map (λ word. word.now) words.now))) }
+fn read_descriptor(alloc: Global, text: &[u8]) -> Result<Record<'_>, Cause>
+    ensures { ReadsRecord result (Ok (descriptor_record (words_of text.now))) }
 {
-    let [count, hex @ ..] = words else {
+    let Some((count, hex)) = first_word(text) else {
         return Ok(Record::Unread {
             interface: None,
-            refusal: Refusal::BadCount,
+            refusal: Refusal::NoCount,
         });
     };
     match read_counted(alloc, count, hex) {
@@ -135,11 +152,14 @@ fn read_descriptor<'a>(alloc: Global, words: &[&'a [u8]]) -> Result<Record<'a>, 
 }
 
 /// Reads the words after `E:`, which are `TIME COUNT HEX`.
-fn read_report<'a>(alloc: Global, words: &[&'a [u8]]) -> Result<Record<'a>, Cause>
-    ensures { ReadsRecord result (report_record (map (λ word. word.now) words.now)) }
+fn read_report(alloc: Global, text: &[u8]) -> Result<Record<'_>, Cause>
+    ensures { ReadsRecord result (report_record (words_of text.now)) }
 {
-    let [time, count, hex @ ..] = words else {
-        return Err(Cause::Refused(Refusal::BadCount));
+    let Some((time, behind)) = first_word(text) else {
+        return Err(Cause::Refused(Refusal::NoCount));
+    };
+    let Some((count, hex)) = first_word(behind) else {
+        return Err(Cause::Refused(Refusal::NoCount));
     };
     let Some(time) = read_time(time) else {
         return Err(Cause::Refused(Refusal::BadTime));
@@ -149,21 +169,21 @@ fn read_report<'a>(alloc: Global, words: &[&'a [u8]]) -> Result<Record<'a>, Caus
 }
 
 /// Reads the words after a space, which are bytes of a dump.
-fn read_dumped<'a>(alloc: Global, words: &[&'a [u8]]) -> Result<Record<'a>, Cause>
-    ensures { ReadsRecord result (dump_record (map (λ word. word.now) words.now)) }
+fn read_dumped(alloc: Global, text: &[u8]) -> Result<Record<'_>, Cause>
+    ensures { ReadsRecord result (dump_record (words_of text.now)) }
 {
-    match read_bytes(alloc, words) {
-        Ok(bytes) => Ok(Record::Bytes(Some(bytes))),
-        Err(Cause::Memory) => Err(Cause::Memory),
-        Err(_) => Ok(Record::Bytes(None)),
+    match read_bytes(alloc, text) {
+        Ok(bytes) => Ok(Record::Bytes(Ok(bytes))),
+        Err(Cause::Refused(refusal)) => Ok(Record::Bytes(Err(refusal))),
+        Err(cause) => Err(cause),
     }
 }
 
 /// Reads the head of a dump, `BUS:DEVICE:INTERFACE:CONTENT TIME`.
-fn read_header<'a>(alloc: Global, words: &[&'a [u8]]) -> Result<Record<'a>, Cause>
-    ensures { ReadsRecord result (header_record (map (λ word. word.now) words.now)) }
+fn read_header(alloc: Global, text: &[u8]) -> Result<Record<'_>, Cause>
+    ensures { ReadsRecord result (header_record (words_of text.now)) }
 {
-    let [address, time @ ..] = words else {
+    let Some((address, time)) = first_word(text) else {
         return Err(Cause::Refused(Refusal::Syntax));
     };
     let parts = parts_of_word(alloc, address)?;
@@ -171,9 +191,9 @@ fn read_header<'a>(alloc: Global, words: &[&'a [u8]]) -> Result<Record<'a>, Caus
 }
 
 /// Reads the head of a dump from the parts of its address and the words after it.
-fn read_begin<'a>(parts: &[&[u8]], time: &[&'a [u8]]) -> Result<Record<'a>, Cause>
+fn read_begin<'a>(parts: &[&[u8]], time: &'a [u8]) -> Result<Record<'a>, Cause>
     ensures read { ReadsRecord result (begins_at (map (λ part. part.now) parts.now)
-        (time_record (map (λ word. word.now) time.now))) }
+        (time_record (words_of time.now))) }
     ensures refusal { IfErr result (λ cause. cause ≢ Cause.Memory) }
 {
     let [bus, device, interface, content] = parts else {
@@ -196,12 +216,12 @@ fn read_begin<'a>(parts: &[&[u8]], time: &[&'a [u8]]) -> Result<Record<'a>, Caus
 }
 
 /// Reads the words after the address in the head of a dump, which are `TIME`.
-fn read_begin_time<'a>(words: &[&'a [u8]]) -> Result<&'a str, Refusal>
+fn read_begin_time(text: &[u8]) -> Result<&str, Refusal>
     ensures { MatchResult result
-        (λ time. time_record (map (λ word. word.now) words.now) ≡ Ok time.now)
-        (λ refusal. time_record (map (λ word. word.now) words.now) ≡ Err refusal) }
+        (λ time. time_record (words_of text.now) ≡ Ok time.now)
+        (λ refusal. time_record (words_of text.now) ≡ Err refusal) }
 {
-    let [time] = words else {
+    let Some(time) = only_word(text) else {
         return Err(Refusal::Syntax);
     };
     match read_time(time) {

@@ -5,13 +5,13 @@
 //!   # a remark, or an empty line
 //! ```
 
-ghost use Rattle.std.specs.Prelude.{◌≡◌, [], map, IfOk};
+ghost use Rattle.std.specs.Prelude.{◌≡◌, [], IfOk};
 ghost use Rattle.hid_text.specs.Words.{words_of};
 ghost use Rattle.std.specs.Str.Lines.{strip_carriage_return};
 ghost use Rattle.hidattach.specs.OutputLines.{Added, LineTaken, ReadsLine, interface_line, is_remark, line_of_words, place_of_word, report_line};
 
 use hid_recording::{Cause, read_bytes};
-use hid_text::{read_number, split_line, words_of_line};
+use hid_text::{first_word, read_number, split_line};
 use std::alloc::Global;
 
 /// The longest line: a report of 16,384 bytes has some 49,200 characters.
@@ -40,15 +40,15 @@ pub enum LineFault {
     Memory,
 }
 
-/// The bytes of words in hex, for an interface.
+/// The bytes of a text's words in hex, for an interface.
 fn read_report(
     alloc: Global,
     interface: Option<usize>,
-    words: &[&[u8]],
+    text: &[u8],
 ) -> Result<OutputLine, LineFault>
-    ensures { ReadsLine result (report_line interface (map (λ word. word.now) words.now)) }
+    ensures { ReadsLine result (report_line interface (words_of text.now)) }
 {
-    match read_bytes(alloc, words) {
+    match read_bytes(alloc, text) {
         Ok(bytes) => Ok(OutputLine::Bytes { interface, bytes }),
         Err(Cause::Memory) => Err(LineFault::Memory),
         Err(_) => Err(LineFault::Unread),
@@ -73,10 +73,10 @@ fn is_remark(word: &[u8]) -> bool
 }
 
 /// What the words after `interface` say: its place, and the bytes.
-fn read_interface(alloc: Global, words: &[&[u8]]) -> Result<OutputLine, LineFault>
-    ensures { ReadsLine result (interface_line (map (λ word. word.now) words.now)) }
+fn read_interface(alloc: Global, text: &[u8]) -> Result<OutputLine, LineFault>
+    ensures { ReadsLine result (interface_line (words_of text.now)) }
 {
-    let [number, report @ ..] = words else {
+    let Some((number, report)) = first_word(text) else {
         return Err(LineFault::Unread);
     };
     match read_place(number) {
@@ -85,20 +85,20 @@ fn read_interface(alloc: Global, words: &[&[u8]]) -> Result<OutputLine, LineFaul
     }
 }
 
-/// What the words of a line say.
-fn read_words(alloc: Global, words: &[&[u8]]) -> Result<OutputLine, LineFault>
-    ensures { ReadsLine result (line_of_words (map (λ word. word.now) words.now)) }
+/// What the words of a text say.
+fn read_words(alloc: Global, text: &[u8]) -> Result<OutputLine, LineFault>
+    ensures { ReadsLine result (line_of_words (words_of text.now)) }
 {
-    let [first, rest @ ..] = words else {
+    let Some((first, rest)) = first_word(text) else {
         return Ok(OutputLine::Nothing);
     };
     if is_remark(first) {
         return Ok(OutputLine::Nothing);
     }
-    if *first == b"interface".as_slice() {
+    if first == b"interface".as_slice() {
         read_interface(alloc, rest)
     } else {
-        read_report(alloc, None, words)
+        read_report(alloc, None, text)
     }
 }
 
@@ -119,12 +119,7 @@ fn without_return(line: &[u8]) -> &[u8]
 pub fn read_line(alloc: Global, line: &[u8]) -> Result<OutputLine, LineFault>
     ensures { ReadsLine result (line_of_words (words_of (strip_carriage_return line.now))) }
 {
-    let Ok(words) = words_of_line(alloc, without_return(line)) else {
-        return Err(LineFault::Memory);
-    };
-    let read = read_words(alloc, &words);
-    drop(words);
-    read
+    read_words(alloc, without_return(line))
 }
 
 /// The lines of a file that may grow: what came of it, and isn't read yet.

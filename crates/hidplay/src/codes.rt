@@ -1,11 +1,17 @@
-//! The codes of refusals, as `--help` prints them.
+//! What `--help` prints below the options: what files are, and the codes of refusals.
 
-/// Each code with its words.
+/// What a file may be, and each code with its words.
 #[rattlefmt::skip]
-pub const CODES: &str = "Refusals are reported in place, with their line, and the rest goes on:
+pub const CODES: &str = "A file is text of hid-recorder or usbhid-dump, a capture (pcap, pcapng), a live
+device (/dev/hidraw0) or a report descriptor in any form; without one, standard
+input is read.
+
+Refusals are reported in place, with their line, and the rest goes on:
   R1: no line of a recording
   R3: a byte isn't two hex digits
-  R4: the count isn't that of the bytes
+  R4: the count is missing, or no number
+  R4: the count says N, there are M bytes
+  R4: the frame was cut off when it was captured
   R5: the device isn't a number from 0 to 15
   R6: the time isn't digits and points
   R7: the device has no descriptor

@@ -1,19 +1,24 @@
-use Rattle.std.proofs.Common.{[], arith, ℕ, List, Bor}
-use Rattle.hid_recording.proofs.WordLemmas.{hex_more, hex_none, hex_whole, no_bytes}
+use Rattle.std.proofs.Common.{sym, ap, ◌∙◌}
+use Rattle.std.specs.Prelude.{Ok}
+use Rattle.hid_text.specs.Words.{words_of}
+use Rattle.hid_recording.proofs.WordLemmas.{none_read, hex_more, hex_whole, no_bytes}
 use Rattle.hid_recording.proofs.line_fields.read_bytes.Goals as goal
+
+pub loop-more-init : goal.loop-more-init
+loop-more-init c = rw c.new-bytes.ensures.items (none_read (words_of c.args.text.now))
+
+pub loop-more-preserved : goal.loop-more-preserved
+loop-more-preserved c =
+    let added = rw c.in-Ok-Some.field-0-is at c.in-Ok-Some.ensures.added in
+    hex_more (words_of c.args.text.now) (words_of c.loop-more.rest.now) (words_of c.in-Ok-Some.more.now) added.0 c.loop-more.bytes.items added.1
+    c.add_first.new.bytes.items c.loop-more.invariant added.2 added.3 added.4
+
+pub returns-in-Ok-None : goal.returns-in-Ok-None
+returns-in-Ok-None c =
+    let added = rw c.in-Ok-None.field-0-is at c.in-Ok-None.ensures.added in
+    hex_whole (words_of c.args.text.now) (words_of c.loop-more.rest.now) c.loop-more.bytes.items c.loop-more.invariant added.0 ∙ ap (λ l. Ok l) (sym added.1)
 
 pub returns-in-Err : goal.returns-in-Err
 returns-in-Err c =
-    let blank : Bor (List ℕ) = record { ref_ptr = (0, 0); now = [] } in
-    no_bytes c.in-Err.cause _ _
-    (λ none. hex_none _ c.args.words.now c.loop-word.word-index blank c.loop-word.bytes.items (omega arith) c.loop-word.invariant none)
-    c.in-Err.ensures
-
-pub loop-word-preserved : goal.loop-word-preserved
-loop-word-preserved c =
-    let blank : Bor (List ℕ) = record { ref_ptr = (0, 0); now = [] } in
-    hex_more _ c.args.words.now c.loop-word.word-index blank c.loop-word.bytes.items c.in-Ok.ensures.0 c.add_word.new.bytes.items (omega arith)
-    c.loop-word.invariant c.in-Ok.ensures.1 c.in-Ok.ensures.2
-
-pub returns : goal.returns
-returns c = hex_whole _ c.args.words.now c.loop-word.word-index c.loop-word.bytes.items (omega arith) c.loop-word.invariant
+    let added = c.in-Err.ensures.added in
+    no_bytes c.in-Err.cause (words_of c.args.text.now) (words_of c.loop-more.rest.now) added.1 added.0 c.loop-more.bytes.items c.loop-more.invariant added.2 added.3

@@ -1,9 +1,11 @@
-use Rattle.std.proofs.Common.{◌≡◌, map, drop}
-use Rattle.hid_text.specs.Words.{hex_of}
-use Rattle.hid_recording.proofs.WordLemmas.{before}
+use Rattle.std.proofs.Common.{length}
+use Rattle.hid_text.specs.Words.{words_of}
+use Rattle.hid_recording.proofs.WordLemmas.{IsReadTo}
 use Rattle.hid_recording.proofs.line_fields.read_bytes.Given as goal
 
--- what all words encode is the bytes so far, and what the rest encode
-abbrev pub invariant-loop-word : goal.invariant-loop-word
-invariant-loop-word l =
-    hex_of (map (λ word. word.now) l.words) ≡ before l.bytes.items (hex_of (map (λ word. word.now) (drop l.word-index l.words)))
+-- the bytes so far are those before the words that are left
+abbrev pub invariant-loop-more : goal.invariant-loop-more
+invariant-loop-more l = IsReadTo (words_of l.text) l.bytes.items (words_of l.rest)
+
+abbrev pub decreases-loop-more : goal.decreases-loop-more
+decreases-loop-more l = length l.rest
