@@ -17,15 +17,16 @@ use clap::error::ErrorKind;
 use hid_script::{Cause, Options, ScriptFault, Summary, run};
 use status::{OUTSIDE, WRONG_USAGE, exit_of};
 use std::env;
-use std::io::BufWriter;
+use std::io::{self, BufWriter};
 use std::process::ExitCode;
 
 const USAGE: &str = "usage: hidrun [--layout] [--trace]";
 
 fn main(rt: HostRuntime) -> ExitCode {
     let alloc = rt.alloc();
-    let Ok(args) = env::args(&rt) else {
-        return ExitCode::from(OUTSIDE);
+    let args = match env::args(&rt) {
+        Ok(args) => args,
+        Err(error) => return ExitCode::from(print_no_words(&rt, error.kind())),
     };
     let words: Result<Vec<String>, _> = args.collect(alloc);
     let Ok(words) = words else {
@@ -34,6 +35,16 @@ fn main(rt: HostRuntime) -> ExitCode {
     match options_of(alloc, words.as_slice()) {
         Ok(options) => run_script(&rt, options),
         Err(error) => ExitCode::from(print_bad_words(&rt, &error)),
+    }
+}
+
+/// Why the words of the command line can't be read: memory, or one isn't UTF-8.
+fn print_no_words(rt: &HostRuntime, kind: io::ErrorKind) -> u8 {
+    if kind == io::ErrorKind::InvalidData {
+        let _ = eprintln!(rt; "hidrun: a word of the command line isn't UTF-8");
+        WRONG_USAGE
+    } else {
+        OUTSIDE
     }
 }
 
