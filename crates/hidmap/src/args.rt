@@ -39,7 +39,7 @@ fn width<'a>(alloc: Global) -> Result<Arg<'a>, AllocError> {
         .long("width")
         .value_name("N")
         .value_parser(value_parser!(u16))
-        .help("Draw characters for a terminal of N columns (COLUMNS, else 80)")
+        .help("Draw characters for N columns (COLUMNS, else 80)")
         .conflicts_with("svg")
 }
 
@@ -53,7 +53,7 @@ fn drawing<'a>(alloc: Global) -> Result<Command<'a>, AllocError> {
     let svg = svg(alloc)?;
     Command::new(alloc, "hidmap")
         .version("0.2.0")
-        .about("Draws where each field stands in the reports of a USB HID device, as an HTML page")
+        .about("Draws where each field stands in the reports of a USB HID device, as HTML")
         .after_help(CODES)
         .arg(svg)
 }

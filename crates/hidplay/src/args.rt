@@ -42,9 +42,7 @@ fn files<'a>(alloc: Global) -> Arg<'a> {
     Arg::new(alloc, "FILE")
         .action(ArgAction::Append)
         .num_args(0..)
-        .help(
-            "Text of hid-recorder or usbhid-dump, a capture (pcap, pcapng), a live device (/dev/hidraw0), or a report descriptor; - and no FILE are standard input",
-        )
+        .help("Recordings, captures, devices or descriptors; - is standard input")
 }
 
 /// The option `--json`.
@@ -63,7 +61,7 @@ fn text<'a>(alloc: Global) -> Result<Arg<'a>, AllocError> {
     flag(
         alloc,
         "text",
-        "Take each file for text, whatever its first byte is",
+        "Take each file for text, whatever it begins with",
     )
     .conflicts_with("binary")?
     .conflicts_with("live")
@@ -74,7 +72,7 @@ fn live<'a>(alloc: Global) -> Result<Arg<'a>, AllocError> {
     flag(
         alloc,
         "live",
-        "Take each file for a live device: each read of it is a report",
+        "Take each file for a device: a read is a report",
     )
     .conflicts_with("binary")
 }
@@ -84,7 +82,7 @@ fn sysfs<'a>(alloc: Global) -> Arg<'a> {
     Arg::new(alloc, "sysfs")
         .long("sysfs")
         .value_name("FOLDER")
-        .help("Where report descriptors of live devices are; without it /sys/class/hidraw")
+        .help("Use FOLDER in place of /sys/class/hidraw")
 }
 
 /// The option `--descriptor FILE`.
@@ -92,9 +90,7 @@ fn descriptor<'a>(alloc: Global) -> Arg<'a> {
     Arg::new(alloc, "descriptor")
         .long("descriptor")
         .value_name("FILE")
-        .help(
-            "The report descriptor of a capture's devices that have none in it, or of a live device",
-        )
+        .help("Use FILE's descriptor where a device has none")
 }
 
 /// The option `--endpoint BUS.DEV.EP`.
@@ -102,9 +98,7 @@ fn endpoint<'a>(alloc: Global) -> Result<Arg<'a>, AllocError> {
     Arg::new(alloc, "endpoint")
         .long("endpoint")
         .value_name("BUS.DEV.EP")
-        .help(
-            "The endpoint whose device has that descriptor, as 1.4.1; without it each HID interface has it that has none",
-        )
+        .help("Use it for the device of this endpoint, as 1.4.1")
         .requires_arg("descriptor")
 }
 
@@ -148,7 +142,7 @@ fn printing<'a>(alloc: Global) -> Result<Command<'a>, AllocError> {
         Ok(flag(
             alloc,
             "places",
-            "Print which control each event is of, as @ITEM.INDEX",
+            "Print the control of each event, as @ITEM.INDEX",
         )),
     );
     add(
