@@ -1,2 +1,8 @@
-mod HexLemmas
+mod DecimalLemmas
+mod DumpLemmas
+mod FormLemmas
+mod NumberLemmas
+mod RecordLemmas
 mod Vectors
+mod WayLemmas
+mod WordLemmas

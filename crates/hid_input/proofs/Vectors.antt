@@ -1,25 +1,152 @@
--- Values worked out by hand: the texts are ASCII.
+-- Values worked out by hand.
 use Rattle.std.proofs.Common.{◌≡◌, [], ◌∷◌, refl, Some, None, true, false}
-use Rattle.hid_input.specs.Hex.{words_of, bytes_of, is_spelled, first_word, is_offset}
+use Rattle.std.specs.Prelude.{codes}
+use Rattle.hid_input.specs.declared.words.WordForm.TheVariants.{Pair, Run, Swapped, Octal, Decimal, Signed}
+use Rattle.hid_input.specs.Numbers.{number_of}
+use Rattle.hid_input.specs.Hex.{spelled_bytes, is_spelled, first_word, is_offset}
+use Rattle.hid_input.specs.Dump.{dump_of, dumps_of, dumps_in, line_below, row_bytes, words_row, enclosed_bytes, parted_bytes, shown_bytes, cells_bytes}
 
--- "05 a1" and "05:A1"
-with_a_blank : bytes_of (words_of (0x30 ∷ 0x35 ∷ 0x20 ∷ 0x61 ∷ 0x31 ∷ [])) ≡ Some (0x05 ∷ 0xA1 ∷ [])
-unfolding bytes_of
+with_a_blank : spelled_bytes (codes "05 a1") ≡ Some (0x05 ∷ 0xA1 ∷ [])
+unfolding spelled_bytes
 with_a_blank = refl
 
-with_a_colon : bytes_of (words_of (0x30 ∷ 0x35 ∷ 0x3A ∷ 0x41 ∷ 0x31 ∷ [])) ≡ Some (0x05 ∷ 0xA1 ∷ [])
-unfolding bytes_of
+with_a_colon : spelled_bytes (codes "05:A1") ≡ Some (0x05 ∷ 0xA1 ∷ [])
+unfolding spelled_bytes
 with_a_colon = refl
 
--- "0501" may be one word of two bytes, in either order
-a_longer_word : bytes_of (words_of (0x30 ∷ 0x35 ∷ 0x30 ∷ 0x31 ∷ [])) ≡ None
-unfolding bytes_of
-a_longer_word = refl
+-- one digit, and marks of three kinds
+marked : spelled_bytes (codes "0x5, xA1 09h 02") ≡ Some (0x05 ∷ 0xA1 ∷ 0x09 ∷ 0x02 ∷ [])
+unfolding spelled_bytes
+marked = refl
 
--- " 00: 05": its first word is an offset
-an_offset : is_offset (first_word (0x20 ∷ 0x30 ∷ 0x30 ∷ 0x3A ∷ 0x20 ∷ 0x30 ∷ 0x35 ∷ [])) ≡ true
+escaped : spelled_bytes (codes "\\x05\\xA1") ≡ Some (0x05 ∷ 0xA1 ∷ [])
+unfolding spelled_bytes
+escaped = refl
+
+-- three digits are no byte
+too_long : spelled_bytes (codes "0x05 0x012") ≡ None
+unfolding spelled_bytes
+too_long = refl
+
+-- a run of two bytes alone, as xxd -p writes it
+a_bare_run : spelled_bytes (codes "0501") ≡ Some (0x05 ∷ 0x01 ∷ [])
+unfolding spelled_bytes
+a_bare_run = refl
+
+-- a blank in front of it, as od -A n -t x2 writes a word of two bytes, whose order isn't known
+a_word_of_od : spelled_bytes (codes " 0501") ≡ None
+unfolding spelled_bytes
+a_word_of_od = refl
+
+-- two of them
+two_words : spelled_bytes (codes "0501 0902") ≡ None
+unfolding spelled_bytes
+two_words = refl
+
+-- nine bytes in a run, which is longer than a word of od
+a_run : spelled_bytes (codes " 0501090205010902c0") ≡ Some (0x05 ∷ 0x01 ∷ 0x09 ∷ 0x02 ∷ 0x05 ∷ 0x01 ∷ 0x09 ∷ 0x02 ∷ 0xC0 ∷ [])
+unfolding spelled_bytes
+a_run = refl
+
+an_offset : is_offset (first_word (codes " 00: 05")) ≡ true
 an_offset = refl
 
--- "7e-45 0" is no hex
-a_number : is_spelled (0x37 ∷ 0x65 ∷ 0x2D ∷ 0x34 ∷ 0x35 ∷ 0x20 ∷ 0x30 ∷ []) ≡ false
+a_number : is_spelled (codes "7e-45 0") ≡ false
 a_number = refl
+
+-- What tools print of 05 01 09 25 (xxd of 2022, bsdmainutils' hexdump, od of coreutils 9): their lines.
+
+-- xxd: two bytes a word, and characters behind two blanks
+by_xxd : dump_of 16 (codes "00000000: 0501 0925                                ...%" ∷ []) Run ≡ Some (0x05 ∷ 0x01 ∷ 0x09 ∷ 0x25 ∷ [])
+unfolding dump_of line_below row_bytes words_row enclosed_bytes parted_bytes shown_bytes cells_bytes number_of
+by_xxd = refl
+
+-- words of two bytes are no pairs
+by_xxd_in_pairs : dump_of 16 (codes "00000000: 0501 0925                                ...%" ∷ []) Pair ≡ None
+unfolding dump_of line_below row_bytes words_row enclosed_bytes parted_bytes shown_bytes cells_bytes number_of
+by_xxd_in_pairs = refl
+
+-- xxd -e: the last byte of a word first
+by_xxd_swapped : dump_of 16 (codes "00000000: 25090105                             ...%" ∷ []) Swapped ≡ Some (0x05 ∷ 0x01 ∷ 0x09 ∷ 0x25 ∷ [])
+unfolding dump_of line_below row_bytes words_row enclosed_bytes parted_bytes shown_bytes cells_bytes number_of
+by_xxd_swapped = refl
+
+-- in the other order the characters are others
+by_xxd_unswapped : dump_of 16 (codes "00000000: 25090105                             ...%" ∷ []) Run ≡ None
+unfolding dump_of line_below row_bytes words_row enclosed_bytes parted_bytes shown_bytes cells_bytes number_of
+by_xxd_unswapped = refl
+
+-- hexdump -C
+by_hexdump : dump_of 16 (codes "00000000  05 01 09 25                                       |...%|" ∷ codes "00000004" ∷ codes "" ∷ []) Pair ≡ Some (0x05 ∷ 0x01 ∷ 0x09 ∷ 0x25 ∷ [])
+unfolding dump_of line_below row_bytes words_row enclosed_bytes parted_bytes shown_bytes cells_bytes number_of
+by_hexdump = refl
+
+-- od -A x -t x1z
+by_od_in_hex : dump_of 16 (codes "000000 05 01 09 25                                      >...%<" ∷ codes "000004" ∷ codes "" ∷ []) Pair ≡ Some (0x05 ∷ 0x01 ∷ 0x09 ∷ 0x25 ∷ [])
+unfolding dump_of line_below row_bytes words_row enclosed_bytes parted_bytes shown_bytes cells_bytes number_of
+by_od_in_hex = refl
+
+-- od -A o -t o1
+by_od_in_octal : dump_of 8 (codes "0000000 005 001 011 045" ∷ codes "0000004" ∷ []) Octal ≡ Some (0x05 ∷ 0x01 ∷ 0x09 ∷ 0x25 ∷ [])
+unfolding dump_of line_below row_bytes words_row enclosed_bytes parted_bytes shown_bytes cells_bytes number_of
+by_od_in_octal = refl
+
+-- od -A d -t u1
+by_od_in_decimal : dump_of 10 (codes "0000000   5   1   9  37" ∷ codes "0000004" ∷ []) Decimal ≡ Some (0x05 ∷ 0x01 ∷ 0x09 ∷ 0x25 ∷ [])
+unfolding dump_of line_below row_bytes words_row enclosed_bytes parted_bytes shown_bytes cells_bytes number_of
+by_od_in_decimal = refl
+
+-- od -A d -t d1
+by_od_with_signs : dump_of 10 (codes "0000000    5    1 -107    1" ∷ codes "0000004" ∷ []) Signed ≡ Some (0x05 ∷ 0x01 ∷ 0x95 ∷ 0x01 ∷ [])
+unfolding dump_of line_below row_bytes words_row enclosed_bytes parted_bytes shown_bytes cells_bytes number_of
+by_od_with_signs = refl
+
+-- Wireshark, without characters
+by_wireshark : dump_of 16 (codes "0000   05 01 09 25" ∷ []) Pair ≡ Some (0x05 ∷ 0x01 ∷ 0x09 ∷ 0x25 ∷ [])
+unfolding dump_of line_below row_bytes words_row enclosed_bytes parted_bytes shown_bytes cells_bytes number_of
+by_wireshark = refl
+
+-- characters that are not those of the bytes
+with_other_characters : dump_of 16 (codes "00000000  05 01 09 25  |...u|" ∷ []) Pair ≡ None
+unfolding dump_of line_below row_bytes words_row enclosed_bytes parted_bytes shown_bytes cells_bytes number_of
+with_other_characters = refl
+
+-- od -A x -t x1 -w2: the offset of each row counts the bytes in front of it
+an_offset_that_counts : dump_of 16 (codes "000000 05 01" ∷ codes "000002 09 02" ∷ codes "000004" ∷ []) Pair ≡ Some (0x05 ∷ 0x01 ∷ 0x09 ∷ 0x02 ∷ [])
+unfolding dump_of line_below row_bytes words_row enclosed_bytes parted_bytes shown_bytes cells_bytes number_of
+an_offset_that_counts = refl
+
+-- an offset that counts one byte too many
+an_offset_that_does_not : dump_of 16 (codes "000000 05 01" ∷ codes "000003 09 02" ∷ []) Pair ≡ None
+unfolding dump_of line_below row_bytes words_row enclosed_bytes parted_bytes shown_bytes cells_bytes number_of
+an_offset_that_does_not = refl
+
+-- six rows of two bytes by od -A x -t x1 -w2, which writes * for five
+six_rows : dump_of 16 (codes "000000 05 01" ∷ codes "*" ∷ codes "00000c" ∷ []) Pair ≡ Some (0x05 ∷ 0x01 ∷ 0x05 ∷ 0x01 ∷ 0x05 ∷ 0x01 ∷ 0x05 ∷ 0x01 ∷ 0x05 ∷ 0x01 ∷ 0x05 ∷ 0x01 ∷ [])
+unfolding dump_of line_below row_bytes words_row enclosed_bytes parted_bytes shown_bytes cells_bytes number_of
+six_rows = refl
+
+-- ten rows by od -A o
+ten_rows : dump_of 8 (codes "0000000 05 01" ∷ codes "*" ∷ codes "0000024" ∷ []) Pair ≡ Some (0x05 ∷ 0x01 ∷ 0x05 ∷ 0x01 ∷ 0x05 ∷ 0x01 ∷ 0x05 ∷ 0x01 ∷ 0x05 ∷ 0x01 ∷ 0x05 ∷ 0x01 ∷ 0x05 ∷ 0x01 ∷ 0x05 ∷ 0x01 ∷ 0x05 ∷ 0x01 ∷ 0x05 ∷ 0x01 ∷ [])
+unfolding dump_of line_below row_bytes words_row enclosed_bytes parted_bytes shown_bytes cells_bytes number_of
+ten_rows = refl
+
+-- twelve rows by od -A d, whose offset 0000024 is decimal
+in_decimal : dump_of 10 (codes "0000000 05 01" ∷ codes "*" ∷ codes "0000024" ∷ []) Pair ≡ Some (0x05 ∷ 0x01 ∷ 0x05 ∷ 0x01 ∷ 0x05 ∷ 0x01 ∷ 0x05 ∷ 0x01 ∷ 0x05 ∷ 0x01 ∷ 0x05 ∷ 0x01 ∷ 0x05 ∷ 0x01 ∷ 0x05 ∷ 0x01 ∷ 0x05 ∷ 0x01 ∷ 0x05 ∷ 0x01 ∷ 0x05 ∷ 0x01 ∷ 0x05 ∷ 0x01 ∷ [])
+unfolding dump_of line_below row_bytes words_row enclosed_bytes parted_bytes shown_bytes cells_bytes number_of
+in_decimal = refl
+
+-- no offset ends the rows
+a_star_at_the_end : dump_of 16 (codes "000000 05 01" ∷ codes "*" ∷ []) Pair ≡ None
+unfolding dump_of line_below row_bytes words_row enclosed_bytes parted_bytes shown_bytes cells_bytes number_of
+a_star_at_the_end = refl
+
+-- no row is above it
+a_star_in_front : dump_of 16 (codes "*" ∷ codes "000002" ∷ []) Pair ≡ None
+unfolding dump_of line_below row_bytes words_row enclosed_bytes parted_bytes shown_bytes cells_bytes number_of
+a_star_in_front = refl
+
+-- the first word is two zeros: an offset of hex, in front of two bytes; no other way reads it
+a_short_offset : dumps_of (codes "00 05 01") ≡ (0x05 ∷ 0x01 ∷ []) ∷ []
+unfolding dumps_of dumps_in dump_of line_below row_bytes words_row enclosed_bytes parted_bytes shown_bytes cells_bytes number_of
+a_short_offset = refl

@@ -1,5 +1,5 @@
 -- Why a file has no descriptor, of the whole text or of a line of it (our choice: docs/PICTURES.md).
-use Rattle.std.specs.Prelude.{◌≡◌, ◌⊎◌, ℕ, List, ◌++◌, None, Some, codes}
+use Rattle.std.specs.Prelude.{◌≡◌, ◌⊎◌, ℕ, List, [], ◌++◌, Option, None, Some, codes}
 use Rattle.std.specs.Fmt.{decimal}
 use Rattle.hid_input.specs.declared.fault.InputCause.{InputCause}
 use Rattle.hid_input.specs.declared.fault.InputCause.TheVariants.{BadHex, BadCount, BadArray, BadEscape, SeveralStrings, WordOrder, Offset, Dump, BadItem, TwoWays, Utf16, NoDescriptor, Memory}
@@ -13,11 +13,11 @@ of_text cause = record { line = None; cause = cause }
 abbrev pub of_line : ℕ → InputCause → InputFault
 of_line line cause = record { line = Some line; cause = cause }
 
--- why hex is refused: memory ran out, or it can be read in another way too, which gives other bytes
+-- why hex or a dump is refused: memory ran out, or it can be read in another way too, which gives other bytes
 abbrev pub IsOfHex : InputFault → Type 0
 IsOfHex fault = (fault ≡ of_text Memory) ⊎ (fault ≡ of_text TwoWays)
 
--- why no descriptor is read, in words
+-- the cause of a fault, in words
 abbrev pub cause_text : InputCause → List ℕ
 cause_text BadHex = codes "a byte isn't two hex digits"
 cause_text (BadCount said found) =
@@ -33,3 +33,12 @@ cause_text TwoWays = codes "it can be read in two ways, which give different byt
 cause_text Utf16 = codes "text of UTF-16: write it as UTF-8"
 cause_text NoDescriptor = codes "text without a descriptor: an R: line, hex, an array of C, or what xxd, hexdump -C, od, Wireshark, lsusb -v or usbhid-dump print is expected"
 cause_text Memory = codes "out of memory"
+
+-- the line of a fault in words, or nothing where the whole text is meant
+abbrev pub line_text : Option ℕ → List ℕ
+line_text None = []
+line_text (Some line) = codes "line " ++ (decimal line ++ codes ": ")
+
+-- a fault in words: its line, if one is meant, and its cause
+abbrev pub fault_text : InputFault → List ℕ
+fault_text fault = line_text fault.line ++ cause_text fault.cause

@@ -1,38 +1,60 @@
--- Hex: pairs of digits with separators between them (our choice: docs/PICTURES.md).
-use Rattle.std.specs.Prelude.{◌≡◌, ℕ, ◌==◌, ◌-◌, ◌+◌, ◌*◌, Bool, true, false, not, ◌&&◌, ◌||◌, nat_le, nat_lt, List, [], ◌∷◌, length, slice_index, map, take, drop, is_some, if◌then◌else◌, Option, None, Some}
-use Rattle.std.specs.List.{filter, slice_split, list_all, list_any, prefix_len, position}
-use Rattle.std.specs.Char.{digit_value, is_ascii_whitespace, is_ascii_hexdigit}
+-- Hex: bytes of two digits, with separators between them or without (our choice: docs/PICTURES.md).
+use Rattle.std.specs.Prelude.{ℕ, ◌==◌, ◌-◌, Bool, not, ◌&&◌, ◌||◌, nat_le, nat_lt, List, [], length, slice_index, slice_index_or, take, if◌then◌else◌, Option, None, Some}
+use Rattle.std.specs.List.{slice_split, list_all, list_any, position}
+use Rattle.std.specs.Option.{option_or}
+use Rattle.std.specs.Char.{is_ascii_whitespace, is_ascii_hexdigit}
+use Rattle.hid_input.specs.declared.words.WordForm.TheVariants.{Byte, Run}
+use Rattle.hid_input.specs.Numbers.{without_space}
+use Rattle.hid_input.specs.Words.{words_by, all_bytes, word_bytes, is_x, is_h}
 
--- what parts pairs: white space, or one of , - : ; and \
+-- what parts words: white space, or one of , - : ; and \
 abbrev pub is_separator : ℕ → Bool
 is_separator byte = is_ascii_whitespace byte || ((byte == 44) || ((byte == 59) || ((byte == 58) || ((byte == 45) || (byte == 92)))))
 
 -- the words of a text: what stands between separators
 abbrev pub words_of : List ℕ → List (List ℕ)
-words_of text = filter (λ word. not (length word == 0)) (slice_split is_separator text)
+words_of text = words_by is_separator text
 
--- the byte that a pair of hex digits of either case encodes
-abbrev pub byte_of_pair : List ℕ → Option ℕ
-byte_of_pair (high ∷ low ∷ []) =
-    if nat_lt (digit_value high) 16 && nat_lt (digit_value low) 16
-    then Some (digit_value high * 16 + digit_value low) else None
-byte_of_pair _ = None
+-- the end of a line
+abbrev pub is_newline : ℕ → Bool
+is_newline byte = byte == 10
 
--- the byte of a pair that has one
-abbrev pub byte_in : Option ℕ → ℕ
-byte_in None = 0
-byte_in (Some byte) = byte
+-- the lines of a text
+abbrev pub lines_of : List ℕ → List (List ℕ)
+lines_of text = slice_split is_newline text
 
--- the bytes that words encode, one each, if each is a pair
-unfoldable pub bytes_of : List (List ℕ) → Option (List ℕ)
-bytes_of words =
-    if list_all (λ word. is_some (byte_of_pair word)) words
-    then Some (map (λ word. byte_in (byte_of_pair word)) words) else None
+-- a line has one word at most
+abbrev pub is_one_word : List ℕ → Bool
+is_one_word line = nat_le (length (words_of line)) 1
+
+-- a run of more digits than a word of od -t x8 has
+abbrev pub is_long : List ℕ → Bool
+is_long word = nat_lt 16 (length word)
+
+-- each word but the last is such a run, and the only one is
+abbrev pub are_long : List (List ℕ) → Bool
+are_long words =
+    nat_le 1 (length words) && (is_long (slice_index_or words 0 []) && list_all is_long (take (length words - 1) words))
+
+-- a text is one word of digits with nothing in front of it: od writes a blank in front of a word
+abbrev pub is_bare : List ℕ → List (List ℕ) → Bool
+is_bare text words = (length words == 1) && (nat_le 1 (length text) && is_ascii_hexdigit (slice_index text 0))
+
+-- each line is a run of digits, as xxd -p writes them
+abbrev pub are_runs : List ℕ → Bool
+are_runs text = (are_long (words_of text) || is_bare text (words_of text)) && list_all is_one_word (lines_of text)
+
+-- the bytes of runs of digits
+abbrev pub runs_bytes : List ℕ → Option (List ℕ)
+runs_bytes text = if are_runs text then all_bytes (word_bytes Run) (words_of text) else None
+
+-- the bytes of hex: each word is one byte in any spelling, or each line is a run of digits
+unfoldable pub spelled_bytes : List ℕ → Option (List ℕ)
+spelled_bytes text = option_or (all_bytes (word_bytes Byte) (words_of text)) (runs_bytes text)
 
 -- a byte that hex may have in any spelling: a hex digit, a separator, or one of x, X, h and H
 abbrev pub is_spelled_byte : ℕ → Bool
-is_spelled_byte byte =
-    is_ascii_hexdigit byte || (is_separator byte || ((byte == 120) || ((byte == 88) || ((byte == 104) || (byte == 72)))))
+is_spelled_byte byte = is_ascii_hexdigit byte || (is_separator byte || (is_x byte || is_h byte))
 
 -- text of hex alone: with a digit, and without a dash beside a blank, as in numbers such as 7e-45
 abbrev pub is_spelled : List ℕ → Bool
@@ -51,14 +73,10 @@ before_space text = in_front (position is_ascii_whitespace text) text
 
 -- the first word of a text, up to white space
 abbrev pub first_word : List ℕ → List ℕ
-first_word text = before_space (drop (prefix_len is_ascii_whitespace text) text)
+first_word text = before_space (without_space text)
 
 -- a word that is an offset by its looks: hex digits and a colon, or four zeros or more
 abbrev pub is_offset : List ℕ → Bool
 is_offset word =
     (nat_le 1 (length word) && ((slice_index word (length word - 1) == 58) && list_all is_ascii_hexdigit (take (length word - 1) word)))
     || (nat_le 4 (length word) && list_all (λ byte. byte == 48) word)
-
--- a text is the hex of these bytes: it has a pair for each, has nothing else but separators, and begins with no offset
-abbrev pub IsHex : List ℕ → List ℕ → Type 0
-IsHex text bytes = (is_spelled text ≡ true) × (is_offset (first_word text) ≡ false) × (bytes_of (words_of text) ≡ Some bytes)

@@ -1,4 +1,10 @@
+pub mod Decimal
+pub mod Dump
 pub mod Faults
+pub mod Forms
 pub mod Hex
+pub mod Numbers
 pub mod Readings
+pub mod Recorded
 pub mod Text
+pub mod Words

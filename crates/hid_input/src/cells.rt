@@ -1,164 +1,143 @@
-//! The bytes of a line of a dump, as its cells are written.
+//! The bytes of a row of a dump, as its cells are written.
 
-use crate::columns::{Columns, are_characters_of, enclosed, is_blank, parted};
-use crate::digits::{add_pairs, byte_of, number_of, pair_of};
+ghost use Rattle.std.specs.Prelude.{◌≡◌, ◌<◌, IfOk, map};
+ghost use Rattle.std.specs.Option.{option_map};
+ghost use Rattle.hid_input.specs.Words.{words_by, all_bytes, word_bytes};
+ghost use Rattle.hid_input.specs.Dump.{is_blank, cells_bytes, shown_bytes, enclosed_bytes, parted_bytes, words_row, pieces, row_bytes};
+
+use crate::columns::{front_of, gap_place, has_characters, is_blank, place_of};
+use crate::parts::trimmed_text;
+use crate::words::{WordForm, read_words};
 use std::alloc::{AllocError, Global};
 
-/// How the bytes of a dump are written.
-#[derive(Clone, Copy, Debug, PartialEq, Eq)]
-pub enum Cells {
-    /// Two hex digits: `hexdump -C`, `od -t x1`, Wireshark.
-    Pairs,
-    /// Words of several bytes in their order, with characters at the right: xxd.
-    Words,
-    /// Words of several bytes, the last one first, with characters at the right: `xxd -e`, `od -t x2z`.
-    Swapped,
-    /// Three octal digits: `od -t o1`.
-    Octal,
-    /// Decimal numbers in four columns: `od -t u1`.
-    Decimal,
-    /// Decimal numbers with a sign, in five columns: `od -t d1`.
-    Signed,
+/// The words of a row.
+fn words_at_blanks(alloc: Global, cells: &[u8]) -> Result<Vec<&[u8]>, AllocError>
+    ensures { IfOk result (λ words. map (λ word. word.now) words.items ≡ words_by is_blank cells.now) }
+{
+    cells
+        .split(|byte| is_blank(*byte))
+        .filter(|word| !word.is_empty())
+        .collect(alloc)
 }
 
-/// The ways in which cells are written.
-pub const WAYS: [Cells; 6] = [
-    Cells::Pairs,
-    Cells::Words,
-    Cells::Swapped,
-    Cells::Octal,
-    Cells::Decimal,
-    Cells::Signed,
-];
-
-/// The bytes of words with two hex digits each; none where another word stands.
-fn read_pairs(alloc: Global, cells: &[u8]) -> Result<Option<Vec<u8>>, AllocError> {
-    let mut bytes = Vec::new(alloc);
-    for word in cells.split(|byte| is_blank(*byte)) {
-        if word.is_empty() {
-            continue;
-        }
-        let Some(byte) = pair_of(word) else {
-            return Ok(None);
-        };
-        bytes.push(byte)?;
-    }
-    Ok(Some(bytes))
+/// The bytes of words at blanks; none where another word stands.
+#[tactic(auto, unfolding(crate::specs::Dump::cells_bytes))]
+fn read_cells(alloc: Global, cells: &[u8], form: WordForm) -> Result<Option<Vec<u8>>, AllocError>
+    ensures { IfOk result (λ read. option_map (λ bytes. bytes.items) read ≡ cells_bytes form cells.now) }
+{
+    let words = words_at_blanks(alloc, cells)?;
+    read_words(alloc, words.as_slice(), form)
 }
 
-/// Adds the bytes of a word of hex digits, the last one first; false where it is none.
-fn add_swapped(bytes: &mut Vec<u8>, word: &[u8]) -> Result<bool, AllocError> {
-    if word.len() % 2 != 0 {
-        return Ok(false);
-    }
-    for pair in word.chunks(2).rev() {
-        let Some(byte) = pair_of(pair) else {
-            return Ok(false);
-        };
-        bytes.push(byte)?;
-    }
-    Ok(true)
-}
-
-/// The bytes of words of several bytes; none where another word stands.
-fn read_words(
+/// The bytes of cells, if the characters at the right are theirs.
+#[tactic(auto, unfolding(crate::specs::Dump::shown_bytes))]
+fn read_shown(
     alloc: Global,
     cells: &[u8],
-    is_swapped: bool,
-) -> Result<Option<Vec<u8>>, AllocError> {
-    let mut bytes = Vec::new(alloc);
-    for word in cells.split(|byte| is_blank(*byte)) {
-        let is_read = if is_swapped {
-            add_swapped(&mut bytes, word)?
-        } else {
-            add_pairs(&mut bytes, word)?
-        };
-        if !is_read {
-            return Ok(None);
-        }
-    }
-    Ok(Some(bytes))
-}
-
-/// The cells of the columns, if their characters are those of the bytes. Words of several bytes need characters.
-fn read_columns(
-    alloc: Global,
-    columns: Columns<'_>,
-    cells: Cells,
-) -> Result<Option<Vec<u8>>, AllocError> {
-    let read = match cells {
-        Cells::Words => read_words(alloc, columns.cells, false)?,
-        Cells::Swapped => read_words(alloc, columns.cells, true)?,
-        _ => read_pairs(alloc, columns.cells)?,
-    };
-    let Some(bytes) = read else {
+    right: &[u8],
+    form: WordForm,
+) -> Result<Option<Vec<u8>>, AllocError>
+    ensures { IfOk result (λ read. option_map (λ bytes. bytes.items) read ≡ shown_bytes form cells.now right.now) }
+{
+    let Some(bytes) = read_cells(alloc, cells, form)? else {
         return Ok(None);
     };
-    let is_shown = match columns.right {
-        Some(right) => are_characters_of(right, bytes.as_slice()),
-        None => cells == Cells::Pairs,
+    if has_characters(alloc, bytes.as_slice(), right)? {
+        Ok(Some(bytes))
+    } else {
+        Ok(None)
+    }
+}
+
+/// The bytes of a row whose characters stand between two others at its end: `|..|` of `hexdump -C`, `>..<` of `od -t x1z`.
+#[tactic(auto, unfolding(crate::specs::Dump::enclosed_bytes))]
+fn read_enclosed(
+    alloc: Global,
+    row: &[u8],
+    opening: u8,
+    closing: u8,
+    form: WordForm,
+) -> Result<Option<Vec<u8>>, AllocError>
+    ensures { IfOk result (λ read. option_map (λ bytes. bytes.items) read ≡ enclosed_bytes form opening closing row.now) }
+{
+    let Some(front) = front_of(row, closing) else {
+        return Ok(None);
     };
-    Ok(if is_shown { Some(bytes) } else { None })
+    let Some(place) = place_of(front, opening) else {
+        return Ok(None);
+    };
+    read_shown(alloc, &front[..place], &front[place + 1..], form)
 }
 
-/// The bytes of a line with characters at the right or none, in the first way in which it can be read.
-fn read_shown(alloc: Global, rest: &[u8], cells: Cells) -> Result<Option<Vec<u8>>, AllocError> {
-    let rest = rest.trim_ascii();
-    for (open, close) in [(b'|', b'|'), (b'>', b'<')] {
-        if let Some(columns) = enclosed(rest, open, close) {
-            if let Some(bytes) = read_columns(alloc, columns, cells)? {
-                return Ok(Some(bytes));
-            }
-        }
-    }
-    read_columns(alloc, parted(rest), cells)
-}
-
-/// The byte of a cell with a decimal number at its right: od writes no zero in front of other digits.
-fn decimal_byte(cell: &[u8]) -> Option<u8> {
-    match cell.trim_ascii_start() {
-        [b'-', digits @ ..] => match number_of(digits, 10)? {
-            number @ 1..=128 => Some((256 - number) as u8),
-            _ => None,
-        },
-        [b'0', _, ..] => None,
-        word => byte_of(word, 10),
+/// The bytes of a row with two blanks in front of its characters, or of pairs without characters. Words of several bytes need
+/// characters.
+#[tactic(auto, unfolding(crate::specs::Dump::parted_bytes))]
+fn read_parted(alloc: Global, row: &[u8], form: WordForm) -> Result<Option<Vec<u8>>, AllocError>
+    ensures { IfOk result (λ read. option_map (λ bytes. bytes.items) read ≡ parted_bytes form row.now) }
+{
+    match (gap_place(row), form) {
+        (Some(place), _) => read_shown(alloc, &row[..place], &row[place..], form),
+        (None, WordForm::Pair) => read_cells(alloc, row, form),
+        (None, _) => Ok(None),
     }
 }
 
-/// The byte of a cell: a blank and three octal digits, or a decimal number.
-fn cell_byte(cell: &[u8], cells: Cells) -> Option<u8> {
-    match cells {
-        Cells::Octal => match cell {
-            [b' ', digits @ ..] if digits.len() == 3 => byte_of(digits, 8),
-            _ => None,
-        },
-        Cells::Decimal if cell.len() == 4 => decimal_byte(cell),
-        Cells::Signed if cell.len() == 5 => decimal_byte(cell),
-        _ => None,
+/// The bytes of a row of words, in the first way in which it can be read.
+#[tactic(auto, unfolding(crate::specs::Dump::words_row))]
+fn read_words_row(alloc: Global, row: &[u8], form: WordForm) -> Result<Option<Vec<u8>>, AllocError>
+    ensures { IfOk result (λ read. option_map (λ bytes. bytes.items) read ≡ words_row form row.now) }
+{
+    if let Some(bytes) = read_enclosed(alloc, row, b'|', b'|', form)? {
+        return Ok(Some(bytes));
     }
+    if let Some(bytes) = read_enclosed(alloc, row, b'>', b'<', form)? {
+        return Ok(Some(bytes));
+    }
+    read_parted(alloc, row, form)
 }
 
-/// The bytes of a line of cells that are all as wide; none where another cell stands.
-fn read_even(alloc: Global, rest: &[u8], cells: Cells) -> Result<Option<Vec<u8>>, AllocError> {
-    let width = if cells == Cells::Signed { 5 } else { 4 };
-    let mut bytes = Vec::new(alloc);
-    for cell in rest.trim_ascii_end().chunks(width) {
-        let Some(byte) = cell_byte(cell, cells) else {
-            return Ok(None);
-        };
-        bytes.push(byte)?;
+/// The cells of a row, which are all as wide; the last one may be narrower.
+fn pieces_of(alloc: Global, row: &[u8], width: usize) -> Result<Vec<&[u8]>, AllocError>
+    requires { 0 < width }
+    ensures { IfOk result (λ cells. map (λ cell. cell.now) cells.items ≡ pieces width row.now) }
+{
+    let mut cells = Vec::new(alloc);
+    let mut rest = row;
+    while !rest.is_empty() {
+        let (cell, more) = rest.split_at(width.min(rest.len()));
+        cells.push(cell)?;
+        rest = more;
     }
-    Ok(Some(bytes))
+    Ok(cells)
 }
 
-/// The bytes of a line after its offset, written in this way; none where it isn't.
+/// The bytes of a row of cells that are all as wide; none where another cell stands.
+fn read_pieces(
+    alloc: Global,
+    row: &[u8],
+    width: usize,
+    form: WordForm,
+) -> Result<Option<Vec<u8>>, AllocError>
+    requires { 0 < width }
+    ensures { IfOk result (λ read. option_map (λ bytes. bytes.items) read ≡ all_bytes (word_bytes form) (pieces width row.now)) }
+{
+    let cells = pieces_of(alloc, row, width)?;
+    read_words(alloc, cells.as_slice(), form)
+}
+
+/// The bytes of a row after its offset, written in this form; none where it isn't.
 ///
 /// # Errors
 /// Out of memory.
-pub fn read_cells(alloc: Global, rest: &[u8], cells: Cells) -> Result<Option<Vec<u8>>, AllocError> {
-    match cells {
-        Cells::Pairs | Cells::Words | Cells::Swapped => read_shown(alloc, rest, cells),
-        Cells::Octal | Cells::Decimal | Cells::Signed => read_even(alloc, rest, cells),
+#[tactic(auto, unfolding(crate::specs::Dump::row_bytes))]
+pub fn read_row(alloc: Global, rest: &[u8], form: WordForm) -> Result<Option<Vec<u8>>, AllocError>
+    ensures { IfOk result (λ read. option_map (λ bytes. bytes.items) read ≡ row_bytes form rest.now) }
+{
+    match form {
+        WordForm::Octal | WordForm::Decimal => read_pieces(alloc, rest, 4, form),
+        WordForm::Signed => read_pieces(alloc, rest, 5, form),
+        WordForm::Byte | WordForm::Pair | WordForm::Run | WordForm::Swapped | WordForm::Number => {
+            read_words_row(alloc, trimmed_text(rest), form)
+        }
     }
 }

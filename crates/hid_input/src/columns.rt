@@ -1,24 +1,27 @@
 //! The columns of a line of a dump: its offset, its bytes, and their characters at the right.
 
-use crate::digits::number_of;
+ghost use Rattle.std.specs.Prelude.{◌≡◌, ◌<◌, ◌-◌, ◌==◌, length, map, IfOk, IfSome, drop};
+ghost use Rattle.std.specs.List.{position, zip};
+ghost use Rattle.std.specs.Option.{option_copied};
+ghost use Rattle.hid_input.specs.Hex.{in_front};
+ghost use Rattle.hid_input.specs.Dump.{is_blank, is_offset_length, ends_offset, offset_word, offset_of, from_place, behind_offset, character_of, has_characters, front_of, place_of, is_gap, gap_place};
 
-/// What stands after an offset.
-#[derive(Clone, Copy)]
-pub struct Columns<'a> {
-    /// The words of the bytes.
-    pub cells: &'a [u8],
-    /// The characters at the right, where there are some.
-    pub right: Option<&'a [u8]>,
-}
+use crate::digits::number_of;
+use crate::parts::trimmed_text;
+use std::alloc::{AllocError, Global};
 
 /// Whether a byte is a blank or a tab.
-pub fn is_blank(byte: u8) -> bool {
+pub fn is_blank(byte: u8) -> bool
+    ensures { result ≡ is_blank byte }
+{
     matches!(byte, b' ' | b'\t')
 }
 
 /// Whether a tool writes offsets of this base with so many digits: od seven octal or decimal ones, `xxd -d` eight decimal ones.
 /// Hex offsets have two digits or more: Wireshark's four, those of `od -A x` six, of xxd and `hexdump -C` eight.
-fn is_offset_length(digits: usize, base: u32) -> bool {
+fn is_offset_length(digits: usize, base: u32) -> bool
+    ensures { result ≡ is_offset_length base digits }
+{
     match base {
         8 => digits == 7,
         10 => digits == 7 || digits == 8,
@@ -26,81 +29,117 @@ fn is_offset_length(digits: usize, base: u32) -> bool {
     }
 }
 
-/// The offset in this base, and what stands after it and its colon.
-pub fn offset_of(line: &[u8], base: u32) -> Option<(u64, &[u8])> {
-    let end = match line.iter().position(|byte| !byte.is_ascii_alphanumeric()) {
-        Some(end) => end,
-        None => line.len(),
-    };
-    if !is_offset_length(end, base) {
-        return None;
-    }
-    let offset = number_of(&line[..end], base)?;
-    match &line[end..] {
-        [b':', rest @ ..] => Some((offset, rest)),
-        [] => Some((offset, &[])),
-        [first, ..] if is_blank(*first) => Some((offset, &line[end..])),
-        _ => None,
+/// Where the offset in front of a line ends.
+fn offset_end(line: &[u8]) -> Option<usize>
+    ensures place { result ≡ position ends_offset line.now }
+    ensures bound { IfSome result (λ place. place < length line.now) }
+{
+    line.iter().position(|byte| !byte.is_ascii_alphanumeric())
+}
+
+/// The word in front of a line that may be its offset.
+fn offset_word(line: &[u8]) -> &[u8]
+    ensures { result.now ≡ offset_word line.now }
+{
+    match offset_end(line) {
+        Some(end) => &line[..end],
+        None => line,
     }
 }
 
-/// The columns where a character opens those at the right, and another one at the end of the line closes them: `|..|` of
-/// `hexdump -C`, `>..<` of `od -t x1z`.
-pub fn enclosed(rest: &[u8], open: u8, close: u8) -> Option<Columns<'_>> {
-    let (last, front) = rest.split_last()?;
-    if *last != close {
-        return None;
-    }
-    let place = front.iter().position(|byte| *byte == open)?;
-    Some(Columns {
-        cells: &front[..place],
-        right: Some(&front[place + 1..]),
-    })
-}
-
-/// The columns where two blanks stand before those at the right, as xxd and Wireshark print them.
-pub fn parted(rest: &[u8]) -> Columns<'_> {
-    let cells = rest.trim_ascii();
-    let place = cells.windows(2).position(
-        |pair| matches!(pair, [a, b] if is_blank(*a) && is_blank(*b)),
-    );
-    match place {
-        Some(place) if place <= cells.len() => Columns {
-            cells: &cells[..place],
-            right: Some(&cells[place..]),
-        },
-        _ => Columns { cells, right: None },
+/// What stands after that word.
+fn behind_word(line: &[u8]) -> &[u8]
+    ensures { result.now ≡ from_place (position ends_offset line.now) line.now }
+{
+    match offset_end(line) {
+        Some(end) => &line[end..],
+        None => &[],
     }
 }
 
-/// Whether a character at the right is that of a byte: itself from 20 to 7E (in hex), else a point.
-fn is_character_of(character: u8, byte: u8) -> bool {
-    if b' ' <= byte && byte <= b'~' {
-        character == byte
+/// The offset in front of a line, in this base.
+pub fn offset_of(line: &[u8], base: u32) -> Option<u64>
+    ensures { result ≡ offset_of base line.now }
+{
+    let word = offset_word(line);
+    if is_offset_length(word.len(), base) {
+        number_of(word, base)
     } else {
-        character == b'.'
+        None
     }
+}
+
+/// What stands after an offset: after a colon, or from a blank on.
+pub fn behind_offset(line: &[u8]) -> Option<&[u8]>
+    ensures { option_copied result ≡ behind_offset line.now }
+{
+    let rest = behind_word(line);
+    if rest.is_empty() || is_blank(rest[0]) {
+        Some(rest)
+    } else if rest[0] == b':' {
+        Some(&rest[1..])
+    } else {
+        None
+    }
+}
+
+/// What stands in front of a character that closes a row; none where another one does.
+pub fn front_of(row: &[u8], closing: u8) -> Option<&[u8]>
+    ensures { option_copied result ≡ front_of closing row.now }
+{
+    if row.len() >= 1 && row[row.len() - 1] == closing {
+        Some(&row[..row.len() - 1])
+    } else {
+        None
+    }
+}
+
+/// Where a character stands first.
+pub fn place_of(row: &[u8], opening: u8) -> Option<usize>
+    ensures place { result ≡ place_of opening row.now }
+    ensures bound { IfSome result (λ place. place < length row.now) }
+{
+    row.iter().position(|byte| *byte == opening)
+}
+
+/// Where two blanks stand first, as xxd and Wireshark print them in front of characters.
+pub fn gap_place(row: &[u8]) -> Option<usize>
+    ensures place { result ≡ gap_place row.now }
+    ensures bound { IfSome result (λ place. place < length row.now) }
+{
+    if row.is_empty() {
+        return None;
+    }
+    row.iter()
+        .zip(row[1..].iter())
+        .position(|(one, next)| is_blank(*one) && is_blank(*next))
+}
+
+/// The character of a byte: itself from 20 to 7E (in hex), else a point.
+fn character_of(byte: u8) -> u8
+    ensures { result ≡ character_of byte }
+{
+    if b' ' <= byte && byte <= b'~' {
+        byte
+    } else {
+        b'.'
+    }
+}
+
+/// The characters of bytes.
+fn characters_of(alloc: Global, bytes: &[u8]) -> Result<Vec<u8>, AllocError>
+    ensures { IfOk result (λ shown. shown.items ≡ map character_of bytes.now) }
+{
+    bytes.iter().map(|byte| character_of(*byte)).collect(alloc)
 }
 
 /// Whether the characters at the right are those of the bytes; blanks at both ends may be missing.
-pub fn are_characters_of(right: &[u8], bytes: &[u8]) -> bool {
-    let right = right.trim_ascii();
-    let shown = trimmed_blanks(bytes);
-    right.len() == shown.len()
-        && right
-            .iter()
-            .zip(shown)
-            .all(|(character, byte)| is_character_of(*character, *byte))
-}
-
-/// The bytes without those at both ends that are printed as blanks.
-fn trimmed_blanks(bytes: &[u8]) -> &[u8] {
-    let Some(first) = bytes.iter().position(|byte| *byte != b' ') else {
-        return &[];
-    };
-    let rest = &bytes[first..];
-    match rest.iter().rposition(|byte| *byte != b' ') {
-        Some(last) if last < rest.len() => &rest[..last + 1],
-        _ => rest,
-    }
+///
+/// # Errors
+/// Out of memory.
+pub fn has_characters(alloc: Global, bytes: &[u8], right: &[u8]) -> Result<bool, AllocError>
+    ensures { IfOk result (λ has. has ≡ has_characters bytes.now right.now) }
+{
+    let shown = characters_of(alloc, bytes)?;
+    Ok(trimmed_text(right) == trimmed_text(shown.as_slice()))
 }

@@ -1,47 +1,78 @@
 //! Bytes in decimal numbers: with commas, or in columns, as `od -A n -t u1` prints them.
 
+ghost use Rattle.std.specs.Prelude.{◌≡◌, ◌++◌, OnOk, IfOk, IfErr, map};
+ghost use Rattle.std.specs.Option.{option_map, option_to_list};
+ghost use Rattle.hid_input.specs.Faults.{of_text};
+ghost use Rattle.hid_input.specs.Decimal.{has_wide_gap, has_narrow_gap, may_be_decimal, decimal_bytes};
+
 use crate::columns::is_blank;
-use crate::digits::byte_of;
-use crate::spelled::is_separator;
+use crate::fault::{InputCause, InputFault};
+use crate::spelled::{has_byte, words_of};
+use crate::words::{WordForm, read_words};
 use std::alloc::{AllocError, Global};
 
 /// Whether two blanks or more stand in front of a word.
-fn has_wide_gap(text: &[u8]) -> bool {
-    text.windows(3).any(
-        |three| matches!(three, [a, b, c] if is_blank(*a) && is_blank(*b) && !c.is_ascii_whitespace()),
-    )
+fn has_wide_gap(text: &[u8]) -> bool
+    ensures { result ≡ has_wide_gap text.now }
+{
+    if text.len() < 2 {
+        return false;
+    }
+    text.iter().zip(text[1..].iter()).zip(text[2..].iter()).any(|((one, next), last)| {
+        is_blank(*one) && is_blank(*next) && !last.is_ascii_whitespace()
+    })
 }
 
 /// Whether one blank stands between two words.
-fn has_narrow_gap(text: &[u8]) -> bool {
-    text.windows(3).any(|three| {
-        matches!(three, [a, b, c] if !a.is_ascii_whitespace() && is_blank(*b) && !c.is_ascii_whitespace())
+fn has_narrow_gap(text: &[u8]) -> bool
+    ensures { result ≡ has_narrow_gap text.now }
+{
+    if text.len() < 2 {
+        return false;
+    }
+    text.iter().zip(text[1..].iter()).zip(text[2..].iter()).any(|((one, next), last)| {
+        !one.is_ascii_whitespace() && is_blank(*next) && !last.is_ascii_whitespace()
     })
 }
 
 /// Whether a text may be of decimal numbers: it has commas or semicolons, or its words are in columns. Words with one blank
 /// between them are taken as hex, as people write it.
-fn may_be_decimal(text: &[u8]) -> bool {
-    text.contains(&b',') || text.contains(&b';') || (has_wide_gap(text) && !has_narrow_gap(text))
+fn may_be_decimal(text: &[u8]) -> bool
+    ensures { result ≡ may_be_decimal text.now }
+{
+    has_byte(text, b',') || has_byte(text, b';') || (has_wide_gap(text) && !has_narrow_gap(text))
 }
 
 /// The bytes of decimal numbers, where a text may be of such and has nothing else.
-///
-/// # Errors
-/// Out of memory.
-pub fn read_decimal(alloc: Global, text: &[u8]) -> Result<Option<Vec<u8>>, AllocError> {
+#[tactic(auto, unfolding(crate::specs::Decimal::decimal_bytes))]
+fn read_decimal(alloc: Global, text: &[u8]) -> Result<Option<Vec<u8>>, AllocError>
+    ensures { IfOk result (λ read. option_map (λ bytes. bytes.items) read ≡ decimal_bytes text.now) }
+{
     if !may_be_decimal(text) {
         return Ok(None);
     }
-    let mut bytes = Vec::new(alloc);
-    for word in text.split(|byte| is_separator(*byte)) {
-        if word.is_empty() {
-            continue;
+    let words = words_of(alloc, text)?;
+    read_words(alloc, words.as_slice(), WordForm::Number)
+}
+
+/// Adds what a text is in decimal numbers, where it may be of such and has nothing else.
+///
+/// # Errors
+/// Out of memory.
+pub fn add_decimal(
+    alloc: Global,
+    text: &[u8],
+    readings: &mut Vec<Vec<u8>>,
+) -> Result<(), InputFault>
+    ensures added { OnOk result (map (λ reading. reading.items) readings.new.items
+        ≡ map (λ reading. reading.items) readings.old.items ++ option_to_list (decimal_bytes text.now)) }
+    ensures memory { IfErr result (λ fault. fault ≡ of_text InputCause.Memory) }
+{
+    match read_decimal(alloc, text)? {
+        Some(bytes) => {
+            readings.push(bytes).map_err(AllocError::from)?;
+            Ok(())
         }
-        let Some(byte) = byte_of(word, 10) else {
-            return Ok(None);
-        };
-        bytes.push(byte)?;
+        None => Ok(()),
     }
-    Ok(Some(bytes))
 }

@@ -1,20 +1,28 @@
-//! Words of digits, and the numbers that they encode.
+//! Words of digits, and the numbers and bytes that they encode.
 
-ghost use Rattle.std.specs.Prelude.{◌≡◌};
-ghost use Rattle.hid_input.specs.Hex.{byte_of_pair};
+ghost use Rattle.std.specs.Prelude.{◌≡◌, if◌then◌else◌};
+ghost use Rattle.std.specs.Char.{digit_value};
+ghost use Rattle.hid_input.specs.Numbers.{is_digit_of, number_of, as_byte, byte_in_base, octal_byte, negated_byte, decimal_byte, column_byte};
+ghost use Rattle.hid_input.specs.Words.{byte_of_pair};
 
-use std::alloc::AllocError;
+use crate::parts::without_space;
 
 /// The value of a digit, where it is one in this base.
-pub fn digit_of(byte: u8, base: u32) -> Option<u32> {
+pub fn digit_of(byte: u8, base: u32) -> Option<u32>
+    ensures { result ≡ (if is_digit_of base byte then Some (digit_value byte) else None) }
+{
     if base > 36 || base < 2 {
         return None;
     }
     char::from(byte).to_digit(base)
 }
 
-/// The number that digits encode; none where there is no digit, or another character.
-pub fn number_of(word: &[u8], base: u32) -> Option<u64> {
+/// The number that digits encode, or the greatest of 64 bits where it is over that; none where there is no digit, or another
+/// character.
+#[tactic(auto, unfolding(crate::specs::Numbers::number_of))]
+pub fn number_of(word: &[u8], base: u32) -> Option<u64>
+    ensures { result ≡ number_of base word.now }
+{
     if word.is_empty() {
         return None;
     }
@@ -28,12 +36,22 @@ pub fn number_of(word: &[u8], base: u32) -> Option<u64> {
     Some(number)
 }
 
-/// The byte that digits encode.
-pub fn byte_of(word: &[u8], base: u32) -> Option<u8> {
-    match number_of(word, base)? {
-        number @ 0..=255 => Some(number as u8),
-        _ => None,
+/// A number that is a byte.
+fn as_byte(number: u64) -> Option<u8>
+    ensures { result ≡ as_byte number }
+{
+    if number <= 255 {
+        Some(number as u8)
+    } else {
+        None
     }
+}
+
+/// The byte that digits encode.
+pub fn byte_of(word: &[u8], base: u32) -> Option<u8>
+    ensures { result ≡ byte_in_base base word.now }
+{
+    as_byte(number_of(word, base)?)
 }
 
 /// The byte that two hex digits encode.
@@ -48,16 +66,48 @@ pub fn pair_of(word: &[u8]) -> Option<u8>
     Some((high * 16 + low) as u8)
 }
 
-/// Adds the bytes of a word of hex digits, two for each, the first one first; false where it is none.
-///
-/// # Errors
-/// Out of memory.
-pub fn add_pairs(bytes: &mut Vec<u8>, word: &[u8]) -> Result<bool, AllocError> {
-    for pair in word.chunks(2) {
-        let Some(byte) = pair_of(pair) else {
-            return Ok(false);
-        };
-        bytes.push(byte)?;
+/// The byte of a cell of `od -t o1`: a blank and three octal digits.
+pub fn octal_byte(cell: &[u8]) -> Option<u8>
+    ensures { result ≡ octal_byte cell.now }
+{
+    if cell.len() == 4 && cell[0] == b' ' {
+        byte_of(&cell[1..], 8)
+    } else {
+        None
     }
-    Ok(true)
+}
+
+/// The byte of a number below zero, in two's complement, without its sign.
+fn negated_byte(number: u64) -> Option<u8>
+    ensures { result ≡ negated_byte number }
+{
+    if 1 <= number && number <= 128 {
+        Some((256 - number) as u8)
+    } else {
+        None
+    }
+}
+
+/// The byte of a decimal number, perhaps with a sign: od writes no zero in front of other digits.
+fn decimal_byte(word: &[u8]) -> Option<u8>
+    ensures { result ≡ decimal_byte word.now }
+{
+    if word.len() >= 1 && word[0] == b'-' {
+        negated_byte(number_of(&word[1..], 10)?)
+    } else if word.len() >= 2 && word[0] == b'0' {
+        None
+    } else {
+        byte_of(word, 10)
+    }
+}
+
+/// The byte of a cell of this width with a decimal number at its right.
+pub fn column_byte(cell: &[u8], width: usize) -> Option<u8>
+    ensures { result ≡ column_byte width cell.now }
+{
+    if cell.len() == width {
+        decimal_byte(without_space(cell))
+    } else {
+        None
+    }
 }

@@ -112,6 +112,11 @@ impl fmt::Display for InputCause {
 }
 
 impl fmt::Display for InputFault {
+    ghost use Rattle.std.specs.Prelude.{Some};
+    ghost use Rattle.hid_input.specs.Faults.{fault_text};
+
+    ghost output = { λ fault. Some (fault_text fault) };
+
     fn fmt<W: fmt::Write>(&self, f: &mut fmt::Formatter<W>) -> fmt::Result {
         let cause = self.cause;
         match self.line {

@@ -10,8 +10,9 @@
 //! The rule to know: a first column is an offset if it counts the bytes so far, and characters at the right are those of the
 //! bytes of their line. Dumps and hex are read in each way in which they can be, and where two ways differ the text is refused.
 //!
-//! The promise: bytes that aren't text are the descriptor, byte for byte (on [`descriptor_in`]), and a dump or hex has the bytes
-//! that all its readings give, or none (`bytes` and `differ` on `agreed`). What a reading gives is tested.
+//! The promise: what is read of a dump, of hex, and of what hid-recorder and usbhid-dump print is what their definitions say, and
+//! what they encode is read (`text`, `alone`, `complete` and `one_way` on [`descriptor_in`]). Bytes that aren't text are the
+//! descriptor, byte for byte. What is read of lsusb and of C is tested.
 #![tactic(auto)]
 
 mod cells;
@@ -29,6 +30,7 @@ mod recorded;
 mod spelled;
 mod strings;
 mod ways;
+mod words;
 
 pub use fault::{InputCause, InputFault};
 pub use file_name::FileName;

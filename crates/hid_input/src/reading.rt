@@ -3,12 +3,16 @@
 ghost use Rattle.std.specs.Prelude.{◌≡◌, ℕ, ◌==◌, ◌-◌, ◌&&◌, nat_le, false, true, List, length, slice_index, take, Some, IfOk, IfErr, Err};
 ghost use Rattle.std.specs.List.{list_all};
 ghost use Rattle.std.specs.Char.{is_ascii_hexdigit};
-ghost use Rattle.hid_input.specs.Hex.{words_of, bytes_of, is_offset, IsHex};
+ghost use Rattle.hid_input.specs.Hex.{lines_of, spelled_bytes, first_word, is_offset, is_spelled};
+ghost use Rattle.hid_input.specs.Dump.{IsDump, HasNoOthers};
+ghost use Rattle.hid_input.specs.Decimal.{IsOnlyHex};
+ghost use Rattle.hid_input.specs.Recorded.{has_recorded, recorded_bytes, has_dumped, dumped_hex, ordered_bytes};
+ghost use Rattle.hid_input.specs.Forms.{form_of, Encodes, IsAlone, IsFaultOf, IsMemoryOf};
 ghost use Rattle.hid_input.specs.Faults.{of_text, IsOfHex};
 ghost use Rattle.hid_input.specs.Text.{is_space, is_text_byte, has_printed, is_text, is_utf16, without_mark};
 
 use crate::code::{has_array, read_array};
-use crate::decimal::read_decimal;
+use crate::decimal::add_decimal;
 use crate::fault::{InputCause, InputFault};
 use crate::items::{has_items, read_items};
 use crate::parts::{first_word, line_number};
@@ -16,7 +20,7 @@ use crate::recorded::{has_record, has_recorded, read_dumped, read_recorded};
 use crate::spelled::{is_spelled, read_spelled};
 use crate::strings::{has_string, read_string};
 use crate::ways::{add_dumps, agreed, are_all};
-use std::alloc::{AllocError, Global};
+use std::alloc::Global;
 
 /// Whether a byte is a blank, a tab, or an end of a line or of a page.
 fn is_space(byte: u8) -> bool
@@ -137,7 +141,12 @@ fn dump_cause(text: &[u8], number: u64) -> InputCause {
 }
 
 /// The bytes of a dump: in each way in which the text can be read they are the same.
-fn read_offset_dump(alloc: Global, text: &[u8]) -> Result<Vec<u8>, InputFault> {
+fn read_offset_dump(alloc: Global, text: &[u8]) -> Result<Vec<u8>, InputFault>
+    ensures dump { IfOk result (λ read. IsDump text.now read.items × HasNoOthers text.now read.items) }
+    ensures read { (bytes : List ℕ) → IsDump text.now bytes → HasNoOthers text.now bytes
+        → IfErr result (λ fault. fault ≡ of_text InputCause.Memory) }
+    ensures faults { (bytes : List ℕ) → IsDump text.now bytes → IfErr result IsOfHex }
+{
     let mut readings = Vec::new(alloc);
     let reached = add_dumps(alloc, text, &mut readings)?;
     match agreed(readings)? {
@@ -149,14 +158,15 @@ fn read_offset_dump(alloc: Global, text: &[u8]) -> Result<Vec<u8>, InputFault> {
 /// The bytes of hex, which may be decimal, and of which a first column may count the bytes: in each way in which the text can be
 /// read they are the same.
 fn read_hex(alloc: Global, text: &[u8]) -> Result<Vec<u8>, InputFault>
-    ensures pairs { (bytes : List ℕ) → bytes_of (words_of text.now) ≡ Some bytes → IfOk result (λ read. read.items ≡ bytes) }
-    ensures faults { (bytes : List ℕ) → bytes_of (words_of text.now) ≡ Some bytes → IfErr result IsOfHex }
+    ensures spelled { IfOk result (λ read. spelled_bytes text.now ≡ Some read.items) }
+    ensures faults { (bytes : List ℕ) → spelled_bytes text.now ≡ Some bytes → IfErr result IsOfHex }
+    ensures others { IfOk result (λ read. IsOnlyHex text.now read.items) }
+    ensures read { (bytes : List ℕ) → spelled_bytes text.now ≡ Some bytes → IsOnlyHex text.now bytes
+        → IfErr result (λ fault. fault ≡ of_text InputCause.Memory) }
 {
     let spelled = read_spelled(alloc, text)?;
     let mut others = Vec::new(alloc);
-    if let Some(decimal) = read_decimal(alloc, text)? {
-        others.push(decimal).map_err(AllocError::from)?;
-    }
+    add_decimal(alloc, text, &mut others)?;
     let _reached = add_dumps(alloc, text, &mut others)?;
     if !are_all(others.as_slice(), spelled.as_slice()) {
         return Err(InputFault::of_text(InputCause::TwoWays));
@@ -166,8 +176,35 @@ fn read_hex(alloc: Global, text: &[u8]) -> Result<Vec<u8>, InputFault>
 
 /// The descriptor in text.
 fn descriptor_in_text(alloc: Global, text: &[u8]) -> Result<Vec<u8>, InputFault>
-    ensures hex { (bytes : List ℕ) → IsHex text.now bytes → IfOk result (λ read. read.items ≡ bytes) }
-    ensures faults { (bytes : List ℕ) → IsHex text.now bytes → IfErr result IsOfHex }
+    // A dump.
+    ensures dump { is_offset (first_word text.now) ≡ true
+        → IfOk result (λ read. IsDump text.now read.items × HasNoOthers text.now read.items) }
+    ensures dump_read { (bytes : List ℕ) → is_offset (first_word text.now) ≡ true → IsDump text.now bytes
+        → HasNoOthers text.now bytes → IfErr result (λ fault. fault ≡ of_text InputCause.Memory) }
+    ensures dump_faults { (bytes : List ℕ) → is_offset (first_word text.now) ≡ true → IsDump text.now bytes
+        → IfErr result IsOfHex }
+
+    // Hex.
+    ensures hex { is_offset (first_word text.now) ≡ false → is_spelled text.now ≡ true
+        → IfOk result (λ read. (spelled_bytes text.now ≡ Some read.items) × IsOnlyHex text.now read.items) }
+    ensures hex_read { (bytes : List ℕ) → is_offset (first_word text.now) ≡ false → is_spelled text.now ≡ true
+        → spelled_bytes text.now ≡ Some bytes → IsOnlyHex text.now bytes
+        → IfErr result (λ fault. fault ≡ of_text InputCause.Memory) }
+    ensures hex_faults { (bytes : List ℕ) → is_offset (first_word text.now) ≡ false → is_spelled text.now ≡ true
+        → spelled_bytes text.now ≡ Some bytes → IfErr result IsOfHex }
+
+    // What hid-recorder and usbhid-dump print.
+    ensures recorded { is_offset (first_word text.now) ≡ false → is_spelled text.now ≡ false → has_recorded text.now ≡ true
+        → IfOk result (λ read. recorded_bytes (lines_of text.now) ≡ Some read.items) }
+    ensures recorded_faults { (bytes : List ℕ) → is_offset (first_word text.now) ≡ false → is_spelled text.now ≡ false
+        → has_recorded text.now ≡ true → recorded_bytes (lines_of text.now) ≡ Some bytes
+        → IfErr result (λ fault. fault.cause ≡ InputCause.Memory) }
+    ensures dumped { is_offset (first_word text.now) ≡ false → is_spelled text.now ≡ false → has_recorded text.now ≡ false
+        → has_dumped text.now ≡ true → IfOk result (λ read. ordered_bytes (dumped_hex (lines_of text.now)) ≡ Some read.items) }
+    ensures dumped_faults { (bytes : List ℕ) → is_offset (first_word text.now) ≡ false → is_spelled text.now ≡ false
+        → has_recorded text.now ≡ false → has_dumped text.now ≡ true
+        → ordered_bytes (dumped_hex (lines_of text.now)) ≡ Some bytes
+        → IfErr result (λ fault. fault.cause ≡ InputCause.Memory) }
 {
     if is_offset(first_word(text)) {
         return read_offset_dump(alloc, text);
@@ -200,15 +237,26 @@ fn descriptor_in_text(alloc: Global, text: &[u8]) -> Result<Vec<u8>, InputFault>
 /// # Errors
 /// An [`InputFault`]: what is wrong with the form that is found, or that there is none.
 pub fn descriptor_in(alloc: Global, bytes: &[u8]) -> Result<Vec<u8>, InputFault>
+    // Text: what its form encodes, in each way in which it can be read.
+    ensures text { is_text (without_mark bytes.now) ≡ true
+        → IfOk result (λ read. Encodes (without_mark bytes.now) read.items (form_of (without_mark bytes.now))) }
+    ensures alone { is_text (without_mark bytes.now) ≡ true
+        → IfOk result (λ read. IsAlone (without_mark bytes.now) read.items (form_of (without_mark bytes.now))) }
+
+    // Text that encodes bytes is refused for memory alone, or since it can be read in another way too.
+    ensures complete { (whole : List ℕ) → is_utf16 bytes.now ≡ false → is_text (without_mark bytes.now) ≡ true
+        → Encodes (without_mark bytes.now) whole (form_of (without_mark bytes.now))
+        → IfErr result (λ fault. IsFaultOf fault (form_of (without_mark bytes.now))) }
+    ensures one_way { (whole : List ℕ) → is_utf16 bytes.now ≡ false → is_text (without_mark bytes.now) ≡ true
+        → Encodes (without_mark bytes.now) whole (form_of (without_mark bytes.now))
+        → IsAlone (without_mark bytes.now) whole (form_of (without_mark bytes.now))
+        → IfErr result (λ fault. IsMemoryOf fault (form_of (without_mark bytes.now))) }
+
+    // Other bytes.
     ensures binary { is_text (without_mark bytes.now) ≡ false → IfOk result (λ read. read.items ≡ bytes.now) }
-    ensures hex { (hex : List ℕ) → is_text (without_mark bytes.now) ≡ true → IsHex (without_mark bytes.now) hex
-        → IfOk result (λ read. read.items ≡ hex) }
-    // Such hex is refused for memory alone, or since it can be read in another way too.
-    ensures complete { (hex : List ℕ) → is_utf16 bytes.now ≡ false → is_text (without_mark bytes.now) ≡ true
-        → IsHex (without_mark bytes.now) hex → IfErr result IsOfHex }
-    ensures utf16 { is_utf16 bytes.now ≡ true → result ≡ Err (of_text InputCause.Utf16) }
     ensures memory { is_utf16 bytes.now ≡ false → is_text (without_mark bytes.now) ≡ false
         → IfErr result (λ fault. fault ≡ of_text InputCause.Memory) }
+    ensures utf16 { is_utf16 bytes.now ≡ true → result ≡ Err (of_text InputCause.Utf16) }
 {
     if is_utf16(bytes) {
         return Err(InputFault::of_text(InputCause::Utf16));

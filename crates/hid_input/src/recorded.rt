@@ -1,14 +1,32 @@
 //! Descriptors in what hid-recorder and usbhid-dump print.
 
-use crate::digits::{add_pairs, number_of};
+ghost use Rattle.std.specs.Prelude.{◌≡◌, [], ℕ, List, Some, IfOk, IfErr, MatchOption, map, true};
+ghost use Rattle.std.specs.List.{slice_split};
+ghost use Rattle.std.specs.Option.{option_map, option_copied};
+ghost use Rattle.std.specs.Char.{is_ascii_whitespace};
+ghost use Rattle.hid_input.specs.Words.{all_bytes, word_bytes};
+ghost use Rattle.hid_input.specs.Hex.{lines_of};
+ghost use Rattle.hid_input.specs.Recorded.{ordered_bytes, after_letter, count_of, bytes_behind, counted_bytes, recorded_bytes, has_recorded, is_heading, hex_below, dumped_hex, has_dumped};
+
+use crate::digits::number_of;
 use crate::fault::{InputCause, InputFault};
-use crate::parts::{first_word, line_number};
+use crate::parts::{
+    before_space, first_word, from_space, line_number, lines_of, trimmed_text, without_space,
+};
 use crate::spelled::{is_spelled, read_spelled};
+use crate::words::{WordForm, read_words};
 use std::alloc::{AllocError, Global};
 
 /// What stands after the `R:` of a line.
-fn after_letter(line: &[u8]) -> Option<&[u8]> {
-    line.trim_ascii_start().strip_prefix(b"R:")
+fn after_letter(line: &[u8]) -> Option<&[u8]>
+    ensures { option_copied result ≡ after_letter line.now }
+{
+    let text = without_space(line);
+    if text.len() >= 2 && text[0] == b'R' && text[1] == b':' {
+        Some(&text[2..])
+    } else {
+        None
+    }
 }
 
 /// Whether a line is one of a recording: `D:`, `E:`, `I:`, `N:`, `P:` or `R:`, or the head of a dump of usbhid-dump.
@@ -38,37 +56,54 @@ pub fn begins_recording(text: &[u8]) -> bool {
 }
 
 /// Whether a line of hid-recorder has a descriptor.
-pub fn has_recorded(text: &[u8]) -> bool {
+pub fn has_recorded(text: &[u8]) -> bool
+    ensures { result ≡ has_recorded text.now }
+{
     text.split(|byte| *byte == b'\n')
         .any(|line| after_letter(line).is_some())
 }
 
+/// The words of hex, some of which may be empty.
+fn words_at_space(alloc: Global, hex: &[u8]) -> Result<Vec<&[u8]>, AllocError>
+    ensures { IfOk result (λ words. map (λ word. word.now) words.items ≡ slice_split is_ascii_whitespace hex.now) }
+{
+    hex.split(|byte| byte.is_ascii_whitespace()).collect(alloc)
+}
+
 /// The bytes of words of hex digits, two for each, in their order; none where another word stands.
-fn read_runs(alloc: Global, hex: &[u8]) -> Result<Option<Vec<u8>>, AllocError> {
-    let mut bytes = Vec::new(alloc);
-    for word in hex.split(|byte| byte.is_ascii_whitespace()) {
-        if !add_pairs(&mut bytes, word)? {
-            return Ok(None);
-        }
-    }
-    Ok(Some(bytes))
+fn read_runs(alloc: Global, hex: &[u8]) -> Result<Option<Vec<u8>>, AllocError>
+    ensures { IfOk result (λ read. option_map (λ bytes. bytes.items) read ≡ all_bytes (word_bytes WordForm.Run) (slice_split is_ascii_whitespace hex.now)) }
+{
+    let words = words_at_space(alloc, hex)?;
+    read_words(alloc, words.as_slice(), WordForm::Run)
 }
 
 /// The bytes of hex in a line whose tool writes them in their order: words of digits, or another spelling.
-fn read_digits(alloc: Global, hex: &[u8]) -> Result<Vec<u8>, InputFault> {
+#[tactic(auto, unfolding(crate::specs::Recorded::ordered_bytes))]
+fn read_digits(alloc: Global, hex: &[u8]) -> Result<Vec<u8>, InputFault>
+    ensures bytes { IfOk result (λ read. ordered_bytes hex.now ≡ Some read.items) }
+    ensures faults { (bytes : List ℕ) → ordered_bytes hex.now ≡ Some bytes → IfErr result (λ fault. fault.cause ≡ InputCause.Memory) }
+{
     match read_runs(alloc, hex)? {
         Some(bytes) => Ok(bytes),
         None => read_spelled(alloc, hex),
     }
 }
 
-/// The bytes of `COUNT HEX`, if they are so many.
-fn read_counted(alloc: Global, counted: &[u8]) -> Result<Vec<u8>, InputFault> {
-    let counted = counted.trim_ascii();
-    let count = first_word(counted);
-    let said = number_of(count, 10).unwrap_or(0);
-    let hex = counted.strip_prefix(count).unwrap_or(counted);
-    let bytes = read_digits(alloc, hex)?;
+/// The number of a count, or 0 where it is none.
+fn count_of(count: &[u8]) -> u64
+    ensures { result ≡ count_of count.now }
+{
+    number_of(count, 10).unwrap_or(0)
+}
+
+/// The bytes of `COUNT HEX` without white space at its ends, if they are so many.
+fn read_behind(alloc: Global, text: &[u8]) -> Result<Vec<u8>, InputFault>
+    ensures bytes { IfOk result (λ read. bytes_behind text.now ≡ Some read.items) }
+    ensures faults { (bytes : List ℕ) → bytes_behind text.now ≡ Some bytes → IfErr result (λ fault. fault.cause ≡ InputCause.Memory) }
+{
+    let said = count_of(before_space(text));
+    let bytes = read_digits(alloc, from_space(text))?;
     let found = bytes.len() as u64;
     if found != said {
         return Err(InputFault::of_text(InputCause::BadCount { said, found }));
@@ -76,50 +111,108 @@ fn read_counted(alloc: Global, counted: &[u8]) -> Result<Vec<u8>, InputFault> {
     Ok(bytes)
 }
 
-/// The descriptor of the first line that begins with `R:`: `COUNT HEX`.
-///
-/// # Errors
-/// [`InputCause::BadCount`], what [`read_spelled`] refuses, with the line; [`InputCause::NoDescriptor`] where there is none.
-pub fn read_recorded(alloc: Global, text: &[u8]) -> Result<Vec<u8>, InputFault> {
-    for (before, line) in text.split(|byte| *byte == b'\n').enumerate() {
+/// The bytes of `COUNT HEX`, if they are so many.
+#[tactic(auto, unfolding(crate::specs::Recorded::counted_bytes))]
+fn read_counted(alloc: Global, counted: &[u8]) -> Result<Vec<u8>, InputFault>
+    ensures bytes { IfOk result (λ read. counted_bytes counted.now ≡ Some read.items) }
+    ensures faults { (bytes : List ℕ) → counted_bytes counted.now ≡ Some bytes → IfErr result (λ fault. fault.cause ≡ InputCause.Memory) }
+{
+    read_behind(alloc, trimmed_text(counted))
+}
+
+/// The bytes of `COUNT HEX` in the line with this number.
+fn read_line(alloc: Global, counted: &[u8], number: u64) -> Result<Vec<u8>, InputFault>
+    ensures bytes { IfOk result (λ read. counted_bytes counted.now ≡ Some read.items) }
+    ensures faults { (bytes : List ℕ) → counted_bytes counted.now ≡ Some bytes → IfErr result (λ fault. fault.cause ≡ InputCause.Memory) }
+{
+    match read_counted(alloc, counted) {
+        Ok(bytes) => Ok(bytes),
+        Err(fault) => Err(InputFault::of_line(number, fault.cause)),
+    }
+}
+
+/// The descriptor of the first of the lines that begins with `R:`: `COUNT HEX`.
+fn read_first(alloc: Global, lines: &[&[u8]]) -> Result<Vec<u8>, InputFault>
+    ensures bytes { IfOk result (λ read. recorded_bytes (map (λ line. line.now) lines.now) ≡ Some read.items) }
+    ensures faults { (bytes : List ℕ) → recorded_bytes (map (λ line. line.now) lines.now) ≡ Some bytes
+        → IfErr result (λ fault. fault.cause ≡ InputCause.Memory) }
+{
+    for (before, line) in lines.iter().enumerate() {
         if let Some(counted) = after_letter(line) {
-            return match read_counted(alloc, counted) {
-                Ok(bytes) => Ok(bytes),
-                Err(fault) => Err(InputFault::of_line(line_number(before), fault.cause)),
-            };
+            return read_line(alloc, counted, line_number(before));
         }
     }
     Err(InputFault::of_text(InputCause::NoDescriptor))
 }
 
+/// The descriptor of the first line that begins with `R:`: `COUNT HEX`.
+///
+/// # Errors
+/// [`InputCause::BadCount`], what [`read_spelled`] refuses, with the line; [`InputCause::NoDescriptor`] where there is none.
+pub fn read_recorded(alloc: Global, text: &[u8]) -> Result<Vec<u8>, InputFault>
+    ensures bytes { IfOk result (λ read. recorded_bytes (lines_of text.now) ≡ Some read.items) }
+    ensures faults { (bytes : List ℕ) → recorded_bytes (lines_of text.now) ≡ Some bytes
+        → IfErr result (λ fault. fault.cause ≡ InputCause.Memory) }
+{
+    let lines = lines_of(alloc, text)?;
+    read_first(alloc, lines.as_slice())
+}
+
 /// Whether a line is one that usbhid-dump prints in front of a descriptor.
-fn is_heading(line: &[u8]) -> bool {
+fn is_heading(line: &[u8]) -> bool
+    ensures { result ≡ is_heading line.now }
+{
     line.split(|byte| byte.is_ascii_whitespace() || *byte == b':')
         .any(|word| word == b"DESCRIPTOR".as_slice())
 }
 
-/// The lines of hex after the first heading of usbhid-dump that has some, where there is one.
+/// The lines of hex with which lines begin, each with its end.
+fn hex_below(alloc: Global, lines: &[&[u8]]) -> Result<Vec<u8>, AllocError>
+    ensures { IfOk result (λ hex. hex.items ≡ hex_below (map (λ line. line.now) lines.now)) }
+{
+    let mut hex = Vec::new(alloc);
+    for line in lines {
+        if !is_spelled(line) {
+            return Ok(hex);
+        }
+        hex.extend_from_slice(line)?;
+        hex.push(b'\n')?;
+    }
+    Ok(hex)
+}
+
+/// The lines of hex below the first heading of usbhid-dump that has some.
+fn dumped_hex(alloc: Global, lines: &[&[u8]]) -> Result<Vec<u8>, AllocError>
+    ensures { IfOk result (λ hex. hex.items ≡ dumped_hex (map (λ line. line.now) lines.now)) }
+{
+    for (before, line) in lines.iter().enumerate() {
+        if is_heading(line) {
+            let hex = hex_below(alloc, &lines[before + 1..])?;
+            if hex.len() != 0 {
+                return Ok(hex);
+            }
+        }
+    }
+    Ok(Vec::new(alloc))
+}
+
+/// The bytes of the lines of hex after the first heading of usbhid-dump that has some, where there is one.
 ///
 /// # Errors
 /// What [`read_spelled`] refuses; [`InputCause::Memory`].
-pub fn read_dumped(alloc: Global, text: &[u8]) -> Result<Option<Vec<u8>>, InputFault> {
-    let mut digits: Vec<u8> = Vec::new(alloc);
-    let mut is_after_heading = false;
-    for line in text.split(|byte| *byte == b'\n') {
-        if is_after_heading && is_spelled(line) {
-            digits.extend_from_slice(line)?;
-            digits.push(b'\n').map_err(AllocError::from)?;
-        } else if digits.is_empty() {
-            is_after_heading = is_heading(line);
-        } else {
-            break;
-        }
-    }
-    if digits.is_empty() {
+pub fn read_dumped(alloc: Global, text: &[u8]) -> Result<Option<Vec<u8>>, InputFault>
+    ensures bytes { IfOk result (λ read. MatchOption read (dumped_hex (lines_of text.now) ≡ [])
+        (λ bytes. (has_dumped text.now ≡ true) × (ordered_bytes (dumped_hex (lines_of text.now)) ≡ Some bytes.items))) }
+    ensures faults { (bytes : List ℕ) → ordered_bytes (dumped_hex (lines_of text.now)) ≡ Some bytes
+        → IfErr result (λ fault. fault.cause ≡ InputCause.Memory) }
+{
+    let lines = lines_of(alloc, text)?;
+    let hex = dumped_hex(alloc, lines.as_slice())?;
+    if hex.len() == 0 {
         return Ok(None);
     }
     // A line of the digits has another number in the text.
-    match read_digits(alloc, digits.as_slice()) {
+    match read_digits(alloc, hex.as_slice()) {
         Ok(bytes) => Ok(Some(bytes)),
         Err(fault) => Err(InputFault::of_text(fault.cause)),
     }

@@ -5,11 +5,11 @@ ghost use Rattle.hid_input.specs.Faults.{of_text};
 ghost use Rattle.std.specs.List.{list_any, list_all};
 ghost use Rattle.std.specs.Option.{option_map};
 ghost use Rattle.std.specs.Char.{is_ascii_hexdigit};
-ghost use Rattle.hid_input.specs.Hex.{is_separator, words_of, bytes_of, is_spelled_byte, is_spelled};
+ghost use Rattle.hid_input.specs.Hex.{is_separator, words_of, lines_of, is_one_word, is_long, are_long, is_bare, are_runs, runs_bytes, spelled_bytes, is_spelled_byte, is_spelled};
 
-use crate::digits::{add_pairs, byte_of, pair_of};
 use crate::fault::{InputCause, InputFault};
 use crate::parts::line_number;
+use crate::words::{WordForm, byte_in, is_h, is_x, read_words};
 use std::alloc::{AllocError, Global};
 
 /// The most digits of a word of `od -t x8`. A run of more digits than this has its bytes in their order.
@@ -20,26 +20,6 @@ pub fn is_separator(byte: u8) -> bool
     ensures { result ≡ is_separator byte }
 {
     byte.is_ascii_whitespace() || matches!(byte, b',' | b';' | b':' | b'-' | b'\\')
-}
-
-/// The digits after `0x` or `x`, or before `h`.
-fn marked_digits(word: &[u8]) -> Option<&[u8]> {
-    match word {
-        [b'0', b'x' | b'X', digits @ ..] | [b'x' | b'X', digits @ ..] => Some(digits),
-        [digits @ .., b'h' | b'H'] => Some(digits),
-        _ => None,
-    }
-}
-
-/// The byte of a word: two hex digits, or one or two that are marked as hex.
-fn byte_in(word: &[u8]) -> Option<u8> {
-    if let Some(byte) = pair_of(word) {
-        return Some(byte);
-    }
-    match marked_digits(word)? {
-        digits @ ([_] | [_, _]) => byte_of(digits, 16),
-        _ => None,
-    }
 }
 
 /// Whether a word is hex digits, two for each byte.
@@ -63,53 +43,57 @@ fn check_words(text: &[u8]) -> Result<(), InputFault> {
     Ok(())
 }
 
-/// Whether each word is one byte.
-fn are_bytes(text: &[u8]) -> bool {
-    text.split(|byte| is_separator(*byte))
-        .all(|word| word.is_empty() || byte_in(word).is_some())
-}
-
 /// Whether a line has one word at most.
-fn is_one_word(line: &[u8]) -> bool {
+fn is_one_word(line: &[u8]) -> bool
+    ensures { result ≡ is_one_word line.now }
+{
     line.split(|byte| is_separator(*byte))
         .filter(|word| !word.is_empty())
         .count()
         <= 1
 }
 
-/// Whether there is a run of more digits than a word of od has, and each word but the last is one.
-fn are_long(text: &[u8]) -> bool {
-    let mut has_long = false;
-    let mut is_last = false;
-    for word in text.split(|byte| is_separator(*byte)) {
-        if word.is_empty() {
-            continue;
-        }
-        if is_last {
-            return false;
-        }
-        is_last = word.len() <= LONGEST_WORD;
-        has_long = has_long || !is_last;
-    }
-    has_long
+/// Whether each line has one word at most.
+fn are_one_word_lines(text: &[u8]) -> bool
+    ensures { result ≡ list_all is_one_word (lines_of text.now) }
+{
+    text.split(|byte| *byte == b'\n').all(is_one_word)
 }
 
-/// Whether each line is a run of digits.
-fn are_runs(text: &[u8]) -> bool {
-    are_long(text) && text.split(|byte| *byte == b'\n').all(is_one_word)
+/// Whether a run has more digits than a word of od.
+fn is_long(word: &[u8]) -> bool
+    ensures { result ≡ is_long word.now }
+{
+    word.len() > LONGEST_WORD
 }
 
-/// Adds the bytes of a word: one byte, or a run of digits.
-fn add_word(bytes: &mut Vec<u8>, word: &[u8]) -> Result<(), InputFault> {
-    if let Some(byte) = byte_in(word) {
-        bytes.push(byte).map_err(AllocError::from)?;
-        return Ok(());
-    }
-    if add_pairs(bytes, word)? {
-        Ok(())
-    } else {
-        Err(InputFault::of_text(InputCause::BadHex))
-    }
+/// Whether each word is a run of more digits than a word of od has.
+fn are_all_long(words: &[&[u8]]) -> bool
+    ensures { result ≡ list_all is_long (map (λ word. word.now) words.now) }
+{
+    words.iter().all(|word| is_long(word))
+}
+
+/// Whether each word but the last is a run of more digits than a word of od has, and the only one is.
+fn are_long(words: &[&[u8]]) -> bool
+    ensures { result ≡ are_long (map (λ word. word.now) words.now) }
+{
+    words.len() >= 1 && is_long(words[0]) && are_all_long(&words[..words.len() - 1])
+}
+
+/// Whether a text is one word of digits with nothing in front of it: od writes a blank in front of a word.
+fn is_bare(text: &[u8], words: &[&[u8]]) -> bool
+    ensures { result ≡ is_bare text.now (map (λ word. word.now) words.now) }
+{
+    words.len() == 1 && text.len() >= 1 && text[0].is_ascii_hexdigit()
+}
+
+/// Whether each line is a run of digits, as `xxd -p` writes them.
+fn are_runs(text: &[u8], words: &[&[u8]]) -> bool
+    requires { map (λ word. word.now) words.now ≡ words_of text.now }
+    ensures { result ≡ are_runs text.now }
+{
+    (are_long(words) || is_bare(text, words)) && are_one_word_lines(text)
 }
 
 /// Why nothing says what the first word of a line is, where it is longer than a byte: an offset that doesn't count, or a word of
@@ -142,7 +126,7 @@ fn unknown_word(text: &[u8]) -> InputFault {
 ///
 /// # Errors
 /// Out of memory.
-fn words_of(alloc: Global, text: &[u8]) -> Result<Vec<&[u8]>, AllocError>
+pub fn words_of(alloc: Global, text: &[u8]) -> Result<Vec<&[u8]>, AllocError>
     ensures { IfOk result (λ words. map (λ word. word.now) words.items ≡ words_of text.now) }
 {
     text.split(|byte| is_separator(*byte))
@@ -150,31 +134,19 @@ fn words_of(alloc: Global, text: &[u8]) -> Result<Vec<&[u8]>, AllocError>
         .collect(alloc)
 }
 
-/// The bytes of pairs; none where another word stands.
+/// The bytes of runs of digits; none where a line isn't one.
 ///
 /// # Errors
 /// Out of memory.
-#[tactic(auto, unfolding(crate::specs::Hex::bytes_of))]
-fn read_pairs(alloc: Global, words: &[&[u8]]) -> Result<Option<Vec<u8>>, AllocError>
-    ensures { IfOk result (λ read. option_map (λ bytes. bytes.items) read ≡ bytes_of (map (λ word. word.now) words.now)) }
+fn read_runs(alloc: Global, text: &[u8], words: &[&[u8]]) -> Result<Option<Vec<u8>>, AllocError>
+    requires { map (λ word. word.now) words.now ≡ words_of text.now }
+    ensures { IfOk result (λ read. option_map (λ bytes. bytes.items) read ≡ runs_bytes text.now) }
 {
-    let mut bytes = Vec::new(alloc);
-    for word in words {
-        match pair_of(word) {
-            None => return Ok(None),
-            Some(byte) => bytes.push(byte)?,
-        }
+    if are_runs(text, words) {
+        read_words(alloc, words, WordForm::Run)
+    } else {
+        Ok(None)
     }
-    Ok(Some(bytes))
-}
-
-/// The bytes of words in any spelling.
-fn read_words(alloc: Global, words: &[&[u8]]) -> Result<Vec<u8>, InputFault> {
-    let mut bytes = Vec::new(alloc);
-    for word in words {
-        add_word(&mut bytes, word)?;
-    }
-    Ok(bytes)
 }
 
 /// The bytes of hex in any spelling: each word a byte, or each line a run of digits.
@@ -182,25 +154,28 @@ fn read_words(alloc: Global, words: &[&[u8]]) -> Result<Vec<u8>, InputFault> {
 /// # Errors
 /// [`InputCause::BadHex`] where a word isn't hex; [`InputCause::Offset`] and [`InputCause::WordOrder`] where longer words stand
 /// beside others; [`InputCause::Memory`].
+#[tactic(auto, unfolding(crate::specs::Hex::spelled_bytes))]
 pub fn read_spelled(alloc: Global, text: &[u8]) -> Result<Vec<u8>, InputFault>
-    ensures pairs { (bytes : List ℕ) → bytes_of (words_of text.now) ≡ Some bytes → IfOk result (λ read. read.items ≡ bytes) }
-    ensures faults { (bytes : List ℕ) → bytes_of (words_of text.now) ≡ Some bytes
+    ensures bytes { IfOk result (λ read. spelled_bytes text.now ≡ Some read.items) }
+    ensures faults { (bytes : List ℕ) → spelled_bytes text.now ≡ Some bytes
         → IfErr result (λ fault. fault ≡ of_text InputCause.Memory) }
 {
     let words = words_of(alloc, text)?;
-    match read_pairs(alloc, words.as_slice())? {
+    if let Some(bytes) = read_words(alloc, words.as_slice(), WordForm::Byte)? {
+        return Ok(bytes);
+    }
+    match read_runs(alloc, text, words.as_slice())? {
         Some(bytes) => Ok(bytes),
-        None => read_others(alloc, text, words.as_slice()),
+        None => Err(spelling_fault(text)),
     }
 }
 
-/// The bytes of words that aren't all pairs.
-fn read_others(alloc: Global, text: &[u8], words: &[&[u8]]) -> Result<Vec<u8>, InputFault> {
-    check_words(text)?;
-    if !are_bytes(text) && !are_runs(text) {
-        return Err(unknown_word(text));
+/// Why text isn't hex: the first line with a word that isn't, or the first one that begins with a longer word.
+fn spelling_fault(text: &[u8]) -> InputFault {
+    match check_words(text) {
+        Err(fault) => fault,
+        Ok(()) => unknown_word(text),
     }
-    read_words(alloc, words)
 }
 
 /// Whether a text has a hex digit.
@@ -211,7 +186,7 @@ fn has_digit(text: &[u8]) -> bool
 }
 
 /// Whether a text has this byte.
-fn has_byte(text: &[u8], wanted: u8) -> bool
+pub fn has_byte(text: &[u8], wanted: u8) -> bool
     ensures { result ≡ list_any (λ byte. byte == wanted) text.now }
 {
     text.iter().any(|byte| *byte == wanted)
@@ -221,7 +196,7 @@ fn has_byte(text: &[u8], wanted: u8) -> bool
 fn is_spelled_byte(byte: u8) -> bool
     ensures { result ≡ is_spelled_byte byte }
 {
-    byte.is_ascii_hexdigit() || is_separator(byte) || matches!(byte, b'x' | b'X' | b'h' | b'H')
+    byte.is_ascii_hexdigit() || is_separator(byte) || is_x(byte) || is_h(byte)
 }
 
 /// Whether each byte may stand in hex.

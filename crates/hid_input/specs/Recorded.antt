@@ -1,0 +1,78 @@
+-- Descriptors in what hid-recorder and usbhid-dump print (our choice: docs/PICTURES.md).
+use Rattle.std.specs.Prelude.{ℕ, ◌==◌, Bool, not, ◌&&◌, ◌||◌, nat_le, List, [], ◌∷◌, ◌++◌, length, slice_index, drop, is_some, if◌then◌else◌, Option, None, Some, codes}
+use Rattle.std.specs.List.{slice_split, list_any, position}
+use Rattle.std.specs.Str.{bytes_eq}
+use Rattle.std.specs.Option.{option_or, unwrap_or}
+use Rattle.std.specs.Char.{is_ascii_whitespace}
+use Rattle.hid_input.specs.declared.words.WordForm.TheVariants.{Run}
+use Rattle.hid_input.specs.Numbers.{number_of, without_space}
+use Rattle.hid_input.specs.Words.{all_bytes, word_bytes}
+use Rattle.hid_input.specs.Hex.{lines_of, spelled_bytes, is_spelled, before_space}
+use Rattle.hid_input.specs.Dump.{trimmed_text, from_place}
+
+-- the bytes of hex whose tool writes them in their order: runs of digits, or another spelling
+unfoldable pub ordered_bytes : List ℕ → Option (List ℕ)
+ordered_bytes hex = option_or (all_bytes (word_bytes Run) (slice_split is_ascii_whitespace hex)) (spelled_bytes hex)
+
+-- what stands after the letter R and a colon with which a line begins
+abbrev pub behind_letter : List ℕ → Option (List ℕ)
+behind_letter text =
+    if nat_le 2 (length text) && ((slice_index text 0 == 82) && (slice_index text 1 == 58)) then Some (drop 2 text) else None
+
+abbrev pub after_letter : List ℕ → Option (List ℕ)
+after_letter line = behind_letter (without_space line)
+
+-- the number of a count, or 0 where it is none
+abbrev pub count_of : List ℕ → ℕ
+count_of count = unwrap_or (number_of 10 count) 0
+
+-- bytes, if there are so many
+abbrev pub if_counted : ℕ → Option (List ℕ) → Option (List ℕ)
+if_counted said None = None
+if_counted said (Some bytes) = if length bytes == said then Some bytes else None
+
+-- the bytes of a count and hex
+abbrev pub bytes_behind : List ℕ → Option (List ℕ)
+bytes_behind text = if_counted (count_of (before_space text)) (ordered_bytes (from_place (position is_ascii_whitespace text) text))
+
+unfoldable pub counted_bytes : List ℕ → Option (List ℕ)
+counted_bytes counted = bytes_behind (trimmed_text counted)
+
+-- the bytes of a line R:, or those of the lines below another line
+abbrev pub recorded_here : Option (List ℕ) → Option (List ℕ) → Option (List ℕ)
+recorded_here None below = below
+recorded_here (Some counted) below = counted_bytes counted
+
+-- the bytes of the first line R: of hid-recorder
+abbrev pub recorded_bytes : List (List ℕ) → Option (List ℕ)
+recorded_bytes [] = None
+recorded_bytes (line ∷ lines) = recorded_here (after_letter line) (recorded_bytes lines)
+
+-- some line of a text is one
+abbrev pub has_recorded : List ℕ → Bool
+has_recorded text = list_any (λ line. is_some (after_letter line)) (lines_of text)
+
+-- a heading of usbhid-dump: one of its words, between white space and colons, is DESCRIPTOR
+abbrev pub ends_word : ℕ → Bool
+ends_word byte = is_ascii_whitespace byte || (byte == 58)
+
+abbrev pub is_descriptor_word : List ℕ → Bool
+is_descriptor_word word = bytes_eq word (codes "DESCRIPTOR")
+
+abbrev pub is_heading : List ℕ → Bool
+is_heading line = list_any is_descriptor_word (slice_split ends_word line)
+
+-- the lines of hex with which lines begin, each with its end
+abbrev pub hex_below : List (List ℕ) → List ℕ
+hex_below [] = []
+hex_below (line ∷ lines) = if is_spelled line then line ++ (10 ∷ hex_below lines) else []
+
+-- the lines of hex below the first heading that has some
+abbrev pub dumped_hex : List (List ℕ) → List ℕ
+dumped_hex [] = []
+dumped_hex (line ∷ lines) =
+    if is_heading line && not (length (hex_below lines) == 0) then hex_below lines else dumped_hex lines
+
+-- a text has such lines
+abbrev pub has_dumped : List ℕ → Bool
+has_dumped text = not (length (dumped_hex (lines_of text)) == 0)

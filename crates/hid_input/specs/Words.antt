@@ -1,0 +1,78 @@
+-- Words and cells of digits, and the bytes that they encode (our choice: docs/PICTURES.md).
+use Rattle.std.specs.Prelude.{◌≡◌, ℕ, ◌==◌, ◌-◌, ◌+◌, ◌*◌, Bool, not, ◌&&◌, ◌||◌, nat_le, nat_lt, List, [], ◌∷◌, ◌++◌, length, slice_index, take, drop, reverse, if◌then◌else◌, Option, None, Some}
+use Rattle.std.specs.List.{filter, slice_split}
+use Rattle.std.specs.Option.{option_map, option_or, option_and_then}
+use Rattle.std.specs.Char.{digit_value}
+use Rattle.hid_input.specs.declared.words.WordForm.{WordForm}
+use Rattle.hid_input.specs.declared.words.WordForm.TheVariants.{Byte, Pair, Run, Swapped, Octal, Decimal, Signed, Number}
+use Rattle.hid_input.specs.Numbers.{byte_in_base, octal_byte, column_byte}
+
+-- the words of a text: what stands between the bytes that part them
+abbrev pub words_by : (ℕ → Bool) → List ℕ → List (List ℕ)
+words_by parts text = filter (λ word. not (length word == 0)) (slice_split parts text)
+
+-- the bytes of both, one after the other, if both have some
+abbrev pub both : Option (List ℕ) → Option (List ℕ) → Option (List ℕ)
+both None more = None
+both (Some here) None = None
+both (Some here) (Some more) = Some (here ++ more)
+
+-- the bytes of all words, one after the other, if each has some
+abbrev pub all_bytes : (List ℕ → Option (List ℕ)) → List (List ℕ) → Option (List ℕ)
+all_bytes bytes_of [] = Some []
+all_bytes bytes_of (word ∷ words) = both (bytes_of word) (all_bytes bytes_of words)
+
+-- the bytes of a word are added, if it has some
+abbrev pub IsAdded : List ℕ → Option (List ℕ) → Bool → List ℕ → Type 0
+IsAdded before more is_read after = both (Some before) more ≡ (if is_read then Some after else None)
+
+-- one byte alone
+abbrev pub single_byte : Option ℕ → Option (List ℕ)
+single_byte byte = option_map (λ one. one ∷ []) byte
+
+-- the byte that a pair of hex digits of either case encodes
+abbrev pub byte_of_pair : List ℕ → Option ℕ
+byte_of_pair (high ∷ low ∷ []) =
+    if nat_lt (digit_value high) 16 && nat_lt (digit_value low) 16
+    then Some (digit_value high * 16 + digit_value low) else None
+byte_of_pair _ = None
+
+-- the byte that one or two hex digits encode
+abbrev pub byte_of_digits : List ℕ → Option ℕ
+byte_of_digits (one ∷ []) = if nat_lt (digit_value one) 16 then Some (digit_value one) else None
+byte_of_digits digits = byte_of_pair digits
+
+-- x or X; h or H
+abbrev pub is_x : ℕ → Bool
+is_x byte = (byte == 120) || (byte == 88)
+
+abbrev pub is_h : ℕ → Bool
+is_h byte = (byte == 104) || (byte == 72)
+
+-- the digits of a word that is marked as hex: after 0x or x, or in front of h
+abbrev pub marked_digits : List ℕ → Option (List ℕ)
+marked_digits word =
+    if nat_le 2 (length word) && ((slice_index word 0 == 48) && is_x (slice_index word 1)) then Some (drop 2 word)
+    else (if nat_le 1 (length word) && is_x (slice_index word 0) then Some (drop 1 word)
+    else (if nat_le 1 (length word) && is_h (slice_index word (length word - 1)) then Some (take (length word - 1) word) else None))
+
+-- the byte of a word: a pair of digits, or one or two that are marked, as 0x5, x05 and 05h
+abbrev pub byte_of_word : List ℕ → Option ℕ
+byte_of_word word = option_or (byte_of_pair word) (option_and_then byte_of_digits (marked_digits word))
+
+-- the bytes of a run of digits, two for each byte
+abbrev pub run_bytes : List ℕ → Option (List ℕ)
+run_bytes [] = Some []
+run_bytes (digit ∷ []) = None
+run_bytes (high ∷ low ∷ more) = both (single_byte (byte_of_pair (high ∷ low ∷ []))) (run_bytes more)
+
+-- the bytes of a word of this form
+abbrev pub word_bytes : WordForm → List ℕ → Option (List ℕ)
+word_bytes Byte word = single_byte (byte_of_word word)
+word_bytes Pair word = single_byte (byte_of_pair word)
+word_bytes Run word = run_bytes word
+word_bytes Swapped word = option_map reverse (run_bytes word)
+word_bytes Octal word = single_byte (octal_byte word)
+word_bytes Decimal word = single_byte (column_byte 4 word)
+word_bytes Signed word = single_byte (column_byte 5 word)
+word_bytes Number word = single_byte (byte_in_base 10 word)

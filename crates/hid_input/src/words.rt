@@ -1,0 +1,173 @@
+//! Words and cells of digits, and the bytes that they encode.
+
+ghost use Rattle.std.specs.Prelude.{◌≡◌, IfOk, map, reverse};
+ghost use Rattle.std.specs.Option.{option_map, option_copied};
+ghost use Rattle.hid_input.specs.Words.{all_bytes, IsAdded, single_byte, byte_of_digits, is_x, is_h, marked_digits, byte_of_word, run_bytes, word_bytes};
+
+use crate::digits::{byte_of, column_byte, octal_byte, pair_of};
+use std::alloc::{AllocError, Global};
+
+/// How a word or a cell is written.
+#[derive(Clone, Copy, Debug, PartialEq, Eq)]
+pub enum WordForm {
+    /// One byte: two digits, or one or two that are marked as hex: `0x5`, `x05`, `05h`.
+    Byte,
+    /// One byte: two digits.
+    Pair,
+    /// Bytes of two digits each, the first one first.
+    Run,
+    /// Bytes of two digits each, the last one first.
+    Swapped,
+    /// One byte: a blank and three octal digits.
+    Octal,
+    /// One byte: a decimal number in four columns.
+    Decimal,
+    /// One byte: a decimal number in five columns, perhaps with a sign.
+    Signed,
+    /// One byte: a decimal number.
+    Number,
+}
+
+/// Whether a byte is `x` of either case.
+pub fn is_x(byte: u8) -> bool
+    ensures { result ≡ is_x byte }
+{
+    matches!(byte, b'x' | b'X')
+}
+
+/// Whether a byte is `h` of either case.
+pub fn is_h(byte: u8) -> bool
+    ensures { result ≡ is_h byte }
+{
+    matches!(byte, b'h' | b'H')
+}
+
+/// The digits after `0x` or `x`, or before `h`.
+fn marked_digits(word: &[u8]) -> Option<&[u8]>
+    ensures { option_copied result ≡ marked_digits word.now }
+{
+    if word.len() >= 2 && word[0] == b'0' && is_x(word[1]) {
+        Some(&word[2..])
+    } else if word.len() >= 1 && is_x(word[0]) {
+        Some(&word[1..])
+    } else if word.len() >= 1 && is_h(word[word.len() - 1]) {
+        Some(&word[..word.len() - 1])
+    } else {
+        None
+    }
+}
+
+/// The byte that one or two hex digits encode.
+fn byte_of_digits(digits: &[u8]) -> Option<u8>
+    ensures { result ≡ byte_of_digits digits.now }
+{
+    match digits {
+        [digit] => Some(char::from(*digit).to_digit(16)? as u8),
+        _ => pair_of(digits),
+    }
+}
+
+/// The byte of a word: two hex digits, or one or two that are marked as hex.
+pub fn byte_in(word: &[u8]) -> Option<u8>
+    ensures { result ≡ byte_of_word word.now }
+{
+    match pair_of(word) {
+        Some(byte) => Some(byte),
+        None => byte_of_digits(marked_digits(word)?),
+    }
+}
+
+/// Adds a byte; false where there is none.
+///
+/// # Errors
+/// Out of memory.
+fn add_byte(bytes: &mut Vec<u8>, byte: Option<u8>) -> Result<bool, AllocError>
+    ensures { IfOk result (λ is_read. IsAdded bytes.old.items (single_byte byte) is_read bytes.new.items) }
+{
+    match byte {
+        Some(byte) => {
+            bytes.push(byte)?;
+            Ok(true)
+        }
+        None => Ok(false),
+    }
+}
+
+/// Adds the bytes of a run of digits, two for each, the first one first; false where it is none.
+///
+/// # Errors
+/// Out of memory.
+fn add_run(bytes: &mut Vec<u8>, run: &[u8]) -> Result<bool, AllocError>
+    ensures { IfOk result (λ is_read. IsAdded bytes.old.items (run_bytes run.now) is_read bytes.new.items) }
+{
+    let mut rest = run;
+    while rest.len() >= 2 {
+        let (pair, more) = rest.split_at(2);
+        match pair_of(pair) {
+            Some(byte) => bytes.push(byte)?,
+            None => return Ok(false),
+        }
+        rest = more;
+    }
+    Ok(rest.is_empty())
+}
+
+/// Adds the bytes of a run of digits, the last one first; false where it is none.
+///
+/// # Errors
+/// Out of memory.
+fn add_swapped(alloc: Global, bytes: &mut Vec<u8>, run: &[u8]) -> Result<bool, AllocError>
+    ensures { IfOk result (λ is_read. IsAdded bytes.old.items (option_map reverse (run_bytes run.now)) is_read bytes.new.items) }
+{
+    let mut swapped = Vec::new(alloc);
+    if !add_run(&mut swapped, run)? {
+        return Ok(false);
+    }
+    swapped.reverse();
+    bytes.extend_from_slice(swapped.as_slice())?;
+    Ok(true)
+}
+
+/// Adds the bytes of a word; false where it has none.
+///
+/// # Errors
+/// Out of memory.
+fn add_word(
+    alloc: Global,
+    bytes: &mut Vec<u8>,
+    word: &[u8],
+    form: WordForm,
+) -> Result<bool, AllocError>
+    ensures { IfOk result (λ is_read. IsAdded bytes.old.items (word_bytes form word.now) is_read bytes.new.items) }
+{
+    match form {
+        WordForm::Byte => add_byte(bytes, byte_in(word)),
+        WordForm::Pair => add_byte(bytes, pair_of(word)),
+        WordForm::Run => add_run(bytes, word),
+        WordForm::Swapped => add_swapped(alloc, bytes, word),
+        WordForm::Octal => add_byte(bytes, octal_byte(word)),
+        WordForm::Decimal => add_byte(bytes, column_byte(word, 4)),
+        WordForm::Signed => add_byte(bytes, column_byte(word, 5)),
+        WordForm::Number => add_byte(bytes, byte_of(word, 10)),
+    }
+}
+
+/// The bytes of words of this form, one after the other; none where a word has none.
+///
+/// # Errors
+/// Out of memory.
+pub fn read_words(
+    alloc: Global,
+    words: &[&[u8]],
+    form: WordForm,
+) -> Result<Option<Vec<u8>>, AllocError>
+    ensures { IfOk result (λ read. option_map (λ bytes. bytes.items) read ≡ all_bytes (word_bytes form) (map (λ word. word.now) words.now)) }
+{
+    let mut bytes = Vec::new(alloc);
+    for word in words {
+        if !add_word(alloc, &mut bytes, word, form)? {
+            return Ok(None);
+        }
+    }
+    Ok(Some(bytes))
+}
