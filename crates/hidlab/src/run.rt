@@ -4,8 +4,8 @@ use super::progress::Progress;
 use super::source::{LabSource, LineEnd, name_beside};
 use hid_input::{InputCause, InputFault, descriptor_in};
 use hid_script::Cause;
-use lab_lines::{Added, Body, LabLine, MAX_REPEATS, Unread, diagnose, read_lab_line};
-use lab_session::{Bench, LabCause, cause_words};
+use lab_lines::{Added, Body, MAX_REPEATS, Unread, diagnose, read_lab_line};
+use lab_session::{Asked, Bench, LabCause, cause_words};
 use std::alloc::{AllocError, Global};
 use std::fs;
 use std::io::{self, BufReader, Read, Write};
@@ -35,8 +35,12 @@ impl From<AllocError> for Trouble {
     }
 }
 
-/// What is wrong with a word, and what was expected there.
-fn unread_trouble(alloc: Global, unread: Unread<'_>) -> Trouble {
+/// Which word of a line is wrong (X1), and what was expected there.
+fn syntax_trouble(alloc: Global, line: &[u8]) -> Trouble {
+    let unread = match read_lab_line(line) {
+        Err(unread) => unread,
+        Ok(_) => diagnose(line),
+    };
     match unread {
         Unread::TooLong => Trouble::from(LabCause::Script(Cause::LineTooLong)),
         Unread::Word(word, expected) => match String::from_utf8_lossy(alloc, word) {
@@ -68,18 +72,21 @@ fn unmet_trouble(alloc: Global, bench: &Bench) -> Trouble {
     }
 }
 
+/// The words of a cause, with the control that the line meant if one is known.
+fn cause_trouble(alloc: Global, bench: &Bench, cause: LabCause) -> Trouble {
+    let words = cause_words(cause, bench.control());
+    Trouble {
+        cause,
+        words: format!(in alloc; "{words}").ok(),
+    }
+}
+
 /// Why the bench refuses a line.
 fn bench_trouble(alloc: Global, bench: &Bench, line: &[u8], cause: LabCause) -> Trouble {
     match cause {
-        LabCause::Script(Cause::Syntax) => unread_trouble(alloc, diagnose(line)),
+        LabCause::Script(Cause::Syntax) => syntax_trouble(alloc, line),
         LabCause::Unmet => unmet_trouble(alloc, bench),
-        _ => {
-            let words = cause_words(cause, bench.control());
-            Trouble {
-                cause,
-                words: format!(in alloc; "{words}").ok(),
-            }
-        }
+        _ => cause_trouble(alloc, bench, cause),
     }
 }
 
@@ -231,6 +238,30 @@ fn read_descriptor(rt: &HostRuntime, path: &str) -> Result<Vec<u8>, Trouble> {
     }
 }
 
+/// Gives what the line of the last source asks for: the lines that come next, or a device.
+fn give<W: Write>(
+    rt: &HostRuntime,
+    sources: &mut Vec<LabSource>,
+    bench: &mut Bench,
+    asked: Asked<'_>,
+    writer: &mut W,
+) -> Result<(), Trouble> {
+    let alloc = rt.alloc();
+    match asked {
+        Asked::End => Err(Trouble::from(LabCause::Unpaired)),
+        Asked::Repeat { count } => Ok(open_body(alloc, sources, count, writer)?),
+        Asked::Include(name) => include(rt, sources, name),
+        Asked::Device { start, boot, name } => {
+            let path = path_of(alloc, sources.as_slice(), name)?;
+            let descriptor = read_descriptor(rt, path.as_str())?;
+            match bench.attach(start, boot, descriptor.as_slice(), writer) {
+                Ok(()) => Ok(()),
+                Err(cause) => Err(cause_trouble(alloc, bench, cause)),
+            }
+        }
+    }
+}
+
 /// Reads a line and carries it out. Whether there was one.
 fn run_line<W: Write>(
     rt: &HostRuntime,
@@ -239,31 +270,14 @@ fn run_line<W: Write>(
     line: &mut Vec<u8>,
     writer: &mut W,
 ) -> Result<bool, Trouble> {
-    let alloc = rt.alloc();
     if !take_line(sources, line, writer)? {
         return Ok(false);
     }
     let line = line.as_slice();
-    let said = match read_lab_line(line) {
-        Ok(said) => said,
-        Err(unread) => return Err(unread_trouble(alloc, unread)),
-    };
-    match said {
-        LabLine::End => return Err(Trouble::from(LabCause::Unpaired)),
-        LabLine::Repeat { count } => open_body(alloc, sources, count, writer)?,
-        LabLine::Include(name) => include(rt, sources, name)?,
-        LabLine::DeviceFile { start, boot, name } => {
-            let path = path_of(alloc, sources.as_slice(), name)?;
-            let descriptor = read_descriptor(rt, path.as_str())?;
-            if let Err(cause) = bench.attach(start, boot, descriptor.as_slice(), writer) {
-                return Err(bench_trouble(alloc, bench, line, cause));
-            }
-        }
-        _ => {
-            if let Err(cause) = bench.carry_out(&said, writer) {
-                return Err(bench_trouble(alloc, bench, line, cause));
-            }
-        }
+    match bench.line(line, writer) {
+        Ok(None) => {}
+        Ok(Some(asked)) => give(rt, sources, bench, asked, writer)?,
+        Err(cause) => return Err(bench_trouble(rt.alloc(), bench, line, cause)),
     }
     Ok(true)
 }

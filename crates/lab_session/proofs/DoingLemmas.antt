@@ -1,10 +1,11 @@
 -- What a bench did, one thing after the other.
-use Rattle.std.proofs.Common.{◌≡◌, Bool, true, false, ◌≢◌, ℕ, ◌+◌, ◌<◌, add-one, zero, suc, List, [], ◌∷◌, ◌++◌, refl, sym, ap, ◌∙◌, subst, append-nil, append_assoc, Option, None, Some, Result, Ok, Err, OnOk}
+use Rattle.std.proofs.Common.{◌≡◌, Bool, true, false, ◌≢◌, ℕ, ◌+◌, ◌<◌, add-one, zero, suc, List, [], ◌∷◌, ◌++◌, refl, sym, ap, ◌∙◌, subst, Option, None, Some, Result, Ok, Err, OnOk, IsErrAnd, inl, inr, ⊎_elim, nat_eq}
+use Rattle.std.proofs.lemmas.Bool.{cases_Bool, eqb-true, eqb-false}
 use Rattle.std.specs.Io.KnownBytes.{Appends}
 use Rattle.std.proofs.KnownBytes.{Appends-nil, Appends-trans}
+use Rattle.std.specs.Prelude.{map}
 use Rattle.usb_transact.specs.declared.transaction.Fate.{Fate}
 use Rattle.usb_transact.specs.declared.transaction.Fate.TheVariants.{Clean}
-use Rattle.hid_bus.specs.declared.step.Step.{Step}
 use Rattle.hid_bus.specs.declared.step.Step.TheVariants as step
 use Rattle.hid_text.specs.declared.line.Line.{Line}
 use Rattle.hid_text.specs.declared.line.Line.TheVariants as line
@@ -22,9 +23,19 @@ use Rattle.hid_text.specs.declared.fault.LineFault.{LineFault}
 use Rattle.hid_text.specs.Line.{meaning_of}
 use Rattle.lab_session.specs.declared.bench.Bench.{Bench}
 use Rattle.lab_session.specs.Bench.{Does, moment_of}
-use Rattle.lab_session.specs.Lines.{Moment, DoesNothing, DoesPart, Often, PollsOnce, Polls, ScriptLineDoes, Settles, Then, Tries, has_nothing}
+use Rattle.hid_layout.specs.declared.control.ControlId.{ControlId}
+use Rattle.hid_text.specs.Words.{Word, hex_of}
+use Rattle.lab_lines.specs.declared.keys.Key.{Key}
+use Rattle.lab_lines.specs.ControlNames.{Named}
+use Rattle.lab_lines.specs.Keys.{key_of}
+use Rattle.lab_lines.specs.Typing.{characters_of}
+use Rattle.lab_session.specs.Lines.{Moment, ClicksKey, ClicksKeys, DoesBytes, DoesNamed, DoesNothing, DoesPart, DrawsOne, LineDoes, NamesControl, Often, PollsOnce, Polls, ScriptLineDoes, Settles, ShortLineDoes, Then, Tries, Types, has_nothing}
+use Rattle.hid_text.specs.declared.short.ShortLine.{ShortLine}
+use Rattle.lab_lines.specs.LabLines.{Said}
+use Rattle.lab_lines.specs.LabLines as lab
+use Rattle.lab_session.specs.Scripts.{IsUndrawn, script_said}
 use Rattle.lab_session.specs.Parts.{Part, PartPrints, Says}
-use Rattle.lab_session.specs.Chances.{chance_at, chance_after, fate_by}
+use Rattle.lab_session.specs.Chances.{Chance, chance_at, chance_after, fate_by}
 use Rattle.lab_session.proofs.PrintedLemmas.{part_done}
 use Rattle.lab_session.specs.Printed.{IsPlain, PrintsPart, WritesText, is_styled}
 
@@ -80,7 +91,7 @@ ok_so (Ok x) P Q f h = f h
 ok_so (Err e) P Q f h = tt
 
 -- a text that was kept in a place that was empty
-kept_text : (kept text written : List ℕ) → kept ≡ [] → Appends (Some kept) (Some text) written → text ≡ written
+pub kept_text : (kept text written : List ℕ) → kept ≡ [] → Appends (Some kept) (Some text) written → text ≡ written
 kept_text kept text written none h = h ∙ ap (λ l. l ++ written) none
 
 -- a part was carried out, and its text was printed
@@ -175,6 +186,11 @@ often_more Doing n a b c u v w h k =
     let both = does_then (Often n Doing) Doing a b c u v w h k in
     rw add-one (record { parts = both.parts; text = both.text; done = both.done; options = both.options; written = both.written })
 
+-- one thing as often as it was to be done
+pub all_often : (n count : ℕ) (Doing : Moment → List Part → List ℕ → Moment → Type 0) (a b : Bench) (u v : Option (List ℕ)) → n ≡ count
+    → Does (Often n Doing) a b u v → Does (Often count Doing) a b u v
+all_often n count Doing a b u v same h = subst (λ m. Does (Often m Doing) a b u v) same h
+
 -- a poll, whatever the answer is
 pub polled_some : (dev : ℕ) (said : Fate) (idle : Bool) (a b : Bench) (u v : Option (List ℕ))
     → Does (PollsOnce dev said idle) a b u v → Does (Polls dev said) a b u v
@@ -231,7 +247,7 @@ did_once what a b kept text shown u v part (Ok x) none same h k is stays options
     }
 
 -- a line that was carried out says something
-said_of_meaning : (session next : Session) (text bytes : List ℕ) (meaning : Result Line LineFault) → meaning_of bytes ≡ meaning
+pub said_of_meaning : (session next : Session) (text bytes : List ℕ) (meaning : Result Line LineFault) → meaning_of bytes ≡ meaning
     → MeaningPrints session meaning (success text next)
     → (said : Line) × (meaning_of bytes ≡ Ok said) × CarriesOut session said (success text next)
 said_of_meaning session next text bytes (Ok said) is h = (said, is, h)
@@ -256,3 +272,99 @@ did_script bytes a b kept text shown u v part (Ok x) none same h k is stays opti
       options = options;
       written = λ plain. subst (Appends u v) (same ∙ kept_text kept text told.0 none told.1) (part_done u v shown part is (k plain.style));
     }
+
+-- ---- typed keys
+
+-- nothing is left to type
+pub typed_none : (dev : ℕ) (rest : List ℕ) (a : Bench) (u : Option (List ℕ)) → characters_of rest ≡ [] → Does (Types dev rest) a a u u
+typed_none dev rest a u none =
+    let idle = does_nothing a u in
+    record { parts = idle.parts; text = idle.text; done = ([], ap (map key_of) none, idle.done); options = idle.options; written = idle.written }
+
+-- a key was clicked, and then those that were still to come
+pub typed_more : (dev character : ℕ) (key : Key) (rest more : List ℕ) (a b c : Bench) (u v w : Option (List ℕ))
+    → characters_of rest ≡ character ∷ characters_of more → key_of character ≡ Some key
+    → Does (ClicksKey dev key) a b u v → Does (Types dev more) b c v w → Does (Types dev rest) a c u w
+typed_more dev character key rest more a b c u v w is typed h k =
+    let keys = k.done.0 in
+    let behind : Does (ClicksKeys dev keys) b c v w = record { parts = k.parts; text = k.text; done = k.done.2; options = k.options; written = k.written } in
+    let both = does_then (ClicksKey dev key) (ClicksKeys dev keys) a b c u v w h behind in
+    let all : map key_of (characters_of rest) ≡ map (λ (x : Key). Some x) (key ∷ keys) =
+    ap (map key_of) is ∙ ap (λ o. o ∷ map key_of (characters_of more)) typed ∙ ap (λ l. Some key ∷ l) k.done.1 in
+    record { parts = both.parts; text = both.text; done = (key ∷ keys, all, both.done); options = both.options; written = both.written }
+
+-- ---- what lines say
+
+-- what was done with the bytes of a line
+pub does_bytes : {C D : Type 0} (r : Result C D) (part : List ℕ → Part) (words : List Word) (bytes : List ℕ) (a b : Bench) (u v : Option (List ℕ)) → hex_of words ≡ Some bytes
+    → OnOk r (Does (DoesPart (part bytes)) a b u v) → OnOk r (Does (DoesBytes part words) a b u v)
+does_bytes r part words bytes a b u v is h = ok_does_so r (DoesPart (part bytes)) (DoesBytes part words) a b u v (λ parts text k. (bytes, is, k)) h
+
+-- what was done with the control that a line names
+pub does_named : {C D : Type 0} (r : Result C D) (dev : ℕ) (named : Named) (control : ControlId) (Doing : ControlId → Moment → List Part → List ℕ → Moment → Type 0) (a b : Bench) (u v : Option (List ℕ))
+    → NamesControl (session_of a.interpreter).members dev named control
+    → OnOk r (Does (Doing control) a b u v) → OnOk r (Does (DoesNamed dev named Doing) a b u v)
+does_named r dev named control Doing a b u v is h = ok_does_so r (Doing control) (DoesNamed dev named Doing) a b u v (λ parts text k. (control, is, k)) h
+
+-- nothing was done at a moment that stays
+pub same_moment : (a b : Bench) (u : Option (List ℕ)) → moment_of b ≡ moment_of a → b.options ≡ a.options → Does DoesNothing a b u u
+same_moment a b u same options = record {
+  parts = [];
+  text = [];
+  done = (refl, refl, ap (λ (m : Moment). m.session) same, λ dev. ap (λ (m : Moment). m.chance dev) same);
+  options = options;
+  written = λ plain. Appends-nil u;
+}
+
+-- a line that says nothing prints nothing
+pub nothing_said : (session : Session) → CarriesOut session line.Nothing (success [] session)
+unfolding LineOutcomeOnce times
+nothing_said session = one_more 0 (LineOutcomeOnce line.Nothing) session session session [] [] (no_times (LineOutcomeOnce line.Nothing) session) refl
+
+-- ---- where nothing is drawn
+
+-- the text of a try was kept
+pub step_told : (dev : ℕ) (said fate : Fate) (chance : Option Chance) (kept text shown written : List ℕ) (session next : Session)
+    → fate ≡ fate_by chance said → chance ≡ None → kept ≡ [] → Appends (Some kept) (Some text) written → shown ≡ text
+    → StepPrints (step.Control dev fate) session (success written next) → StepPrints (step.Control dev said) session (success shown next)
+step_told dev said fate chance kept text shown written session next is none empty grew same h =
+    subst (λ f. StepPrints (step.Control dev f) session (success shown next)) (is ∙ ap (λ c. fate_by c said) none)
+    (subst (λ t. StepPrints (step.Control dev fate) session (success t next)) (sym (same ∙ kept_text kept text written empty grew)) h)
+
+-- what a result is whose cause is known
+pub err_is : {A B : Type 0} (r : Result A B) (e : B) → IsErrAnd r (λ x. x ≡ e) → r ≡ Err e
+err_is (Ok x) e h = absurd h
+err_is (Err x) e h = ap (λ y. Err y) h
+
+drawn_none : (dev : ℕ) (said : Fate) (before after : Moment) → DrawsOne dev said before after → IsUndrawn before → IsUndrawn after
+drawn_none dev said before after h none = λ other. ⊎_elim
+    (λ (same : nat_eq other dev ≡ true). rw (eqb-true other dev same) (h.0 ∙ ap (λ c. chance_after c said) (none dev)))
+    (λ (apart : nat_eq other dev ≡ false). h.1 other (eqb-false other dev apart) ∙ none other)
+    (cases_Bool (nat_eq other dev))
+
+often_none : (Doing : Moment → List Part → List ℕ → Moment → Type 0) → ((before after : Moment) (parts : List Part) (text : List ℕ) → Doing before parts text after → IsUndrawn before → IsUndrawn after)
+    → (n : ℕ) (before after : Moment) (parts : List Part) (text : List ℕ) → Often n Doing before parts text after → IsUndrawn before → IsUndrawn after
+often_none Doing one zero before after parts text h none = λ dev. h.3 dev ∙ none dev
+often_none Doing one (suc n) before after parts text h none =
+    one h.middle after h.next_parts h.next_text h.next (often_none Doing one n before h.middle h.first_parts h.first_text h.first none)
+
+part_none : (part : Part) (before after : Moment) (parts : List Part) (text : List ℕ) → DoesPart part before parts text after → IsUndrawn before → IsUndrawn after
+part_none part before after parts text h none = λ dev. h.2 dev ∙ none dev
+
+short_none : (said : ShortLine) (before after : Moment) (parts : List Part) (text : List ℕ) → ShortLineDoes said before parts text after → IsUndrawn before → IsUndrawn after
+unfolding ShortLineDoes
+short_none (short.Poll dev fate count) before after parts text (inl h) none = part_none _ before after parts text h.1 none
+short_none (short.Poll dev fate count) before after parts text (inr h) none =
+    often_none (Polls dev fate) (λ b a p t k. drawn_none dev fate b a k.1.drawn) count before after parts text h none
+short_none (short.Control dev fate count) before after parts text h none =
+    often_none (Tries dev fate) (λ b a p t k. drawn_none dev fate b a k.drawn) count before after parts text h none
+short_none said before after parts text h none = part_none _ before after parts text h none
+
+-- a line of hidrun draws no fates where none are drawn
+pub stays_undrawn : (given : Option ℕ) (said : Said) (meaning : Result Line LineFault) (before after : Moment) (parts : List Part) (text : List ℕ)
+    → script_said said ≡ Some meaning → LineDoes given said before parts text after → IsUndrawn before → IsUndrawn after
+unfolding LineDoes
+stays_undrawn given lab.Nothing meaning before after parts text is h none = λ dev. h.3 dev ∙ none dev
+stays_undrawn given (lab.Script bytes) meaning before after parts text is h none = part_none _ before after parts text h.2 none
+stays_undrawn given (lab.Short said) meaning before after parts text is h none = short_none said before after parts text h none
+stays_undrawn given said meaning before after parts text is h none = absurd (cc)

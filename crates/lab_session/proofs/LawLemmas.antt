@@ -16,7 +16,7 @@ use Rattle.hid_requests.specs.declared.boot.Boot.{Boot}
 use Rattle.hid_bus.specs.declared.start.Start.{Start}
 use Rattle.hid_text.specs.Words.{Word}
 use Rattle.hid_text.specs.declared.line.Line.{Line}
-use Rattle.hid_script.specs.Session.{Session, Outcome, success, at_first, Repeats}
+use Rattle.hid_script.specs.Session.{Session, success, at_first, Repeats}
 use Rattle.hid_script.specs.LineOutput.{CarriesOut, LineOutcomeOnce, times}
 use Rattle.hid_script.specs.Printing.{ScriptActs}
 use Rattle.hid_script.proofs.RepeatLemmas.{no_times, one_more}

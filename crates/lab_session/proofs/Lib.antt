@@ -1,3 +1,7 @@
 pub mod DoingLemmas
 pub mod LawLemmas
 pub mod PrintedLemmas
+pub mod RunLemmas
+pub mod ScriptLineLemmas
+pub mod Vectors
+pub mod WordLemmas

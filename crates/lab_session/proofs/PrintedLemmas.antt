@@ -1,5 +1,5 @@
 -- What is written of a part whose text is kept first.
-use Rattle.std.proofs.Common.{◌≡◌, ℕ, List, [], ◌++◌, refl, sym, ap, ◌∙◌, subst, inl, inr, arith, append-nil, append_assoc, Option, None, Some, Result, Ok, Err, OnOk, IfErr, IsErrAnd}
+use Rattle.std.proofs.Common.{◌≡◌, ℕ, List, [], ◌++◌, refl, sym, ap, ◌∙◌, subst, inl, inr, arith, append-nil, append_assoc, Option, Some, Result, Ok, Err, OnOk, IfErr}
 use Rattle.std.specs.Io.KnownBytes.{Appends}
 use Rattle.std.proofs.KnownBytes.{Appends-nil, Appends-trans}
 use Rattle.hid_bus.specs.declared.step.Step.{Step}
@@ -10,9 +10,9 @@ use Rattle.hid_script.specs.declared.fault.Cause.{Cause}
 use Rattle.hid_script.specs.declared.fault.Cause.TheVariants as causes
 use Rattle.hid_script.specs.Session.{Session, Outcome, success}
 use Rattle.hid_script.specs.Steps.{StepPrints}
-use Rattle.hid_script.specs.LineOutput.{Begins, BeginsMeant, CarriesOut, LineBegins, LineOutcomeOnce, LinePrints, MeaningPrints, times}
-use Rattle.hid_script.specs.Runs.{Ending, RefusedLine, OutOfMemory, PartlyWritten, NotRun, ending_of, EndsAs, Ends}
-use Rattle.hid_script.specs.Place.{AppendsOnce, AppendsOutput, IsBegun, OnceEndsAs, Writes}
+use Rattle.hid_script.specs.LineOutput.{BeginsMeant, MeaningPrints, times}
+use Rattle.hid_script.specs.Runs.{Ending, RefusedLine, OutOfMemory, PartlyWritten, NotRun, ending_of, EndsAs}
+use Rattle.hid_script.specs.Place.{AppendsOnce, AppendsOutput, Writes}
 use Rattle.hid_script.proofs.FlushLemmas.{meant_begins, no_step_text}
 use Rattle.hid_script.proofs.PlaceLemmas.{begins_meant}
 use Rattle.lab_session.specs.Printed.{PrintsPart, WritesText, end_after, kept_cause}
@@ -130,3 +130,13 @@ step_printed old new text x session next (Ok u) h k = (text, k, h)
 step_printed old new text x session next (Err causes.Memory) h k = ([], k, inl refl)
 step_printed old new text x session next (Err causes.Write) h k = (k.0, k.2, (text, inr (next, h), k.1))
 step_printed old new text x session next (Err cause) h k = absurd k
+
+-- the text of a step was written, and then nothing more, whether memory ran out or not
+pub step_output : (old mid new : Option (List ℕ)) (text : List ℕ) (x : Step) (session next : Session) (r : Result (Unit {0}) Cause)
+    → StepPrints x session (success text next) → Appends old mid text → Appends mid new [] → IfErr r (λ cause. cause ≡ causes.Memory)
+    → AppendsOnce old new (StepPrints x session) r next
+unfolding ending_of
+step_output old mid new text x session next (Ok u) h k l m = (text, subst (Appends old new) (append-nil text) (Appends-trans old mid new text [] k l), h)
+step_output old mid new text x session next (Err cause) h k l m =
+    subst (λ c. AppendsOnce old new (StepPrints x session) (Err c) next) (sym m)
+    (text, subst (Appends old new) (append-nil text) (Appends-trans old mid new text [] k l), inr (next, h))

@@ -1,7 +1,9 @@
 -- What an expectation of the bench takes, and what it keeps of the line that came in its place (our choice: docs/LAB.md).
-use Rattle.std.specs.Prelude.{◌≡◌, ℕ, true, false, List, [], ◌∷◌, ◌++◌, if◌then◌else◌, Result, Ok, Err, codes}
+use Rattle.std.specs.Prelude.{◌≡◌, ℕ, true, false, List, [], if◌then◌else◌, Result, Ok, Err, codes}
 use Rattle.lab_expectations.specs.declared.transcript.Transcript.{Transcript}
 use Rattle.lab_expectations.specs.Expectations.{Answer, Came, Instead, NoLine, TooMuch, Met, answer_at, answer_none, first_required, is_expected_at, is_none_at, outcome, parts_of, waits}
+use Rattle.lab_lines.specs.declared.lab_line.LabLine.{LabLine}
+use Rattle.lab_lines.specs.declared.lab_line.LabLine.TheVariants as said
 use Rattle.lab_session.specs.declared.fault.LabCause.{LabCause}
 use Rattle.lab_session.specs.declared.fault.LabCause.TheVariants.{Unmet}
 
@@ -29,3 +31,9 @@ abbrev pub ExpectsNone : Transcript → Transcript → List ℕ → Result (Unit
 ExpectsNone old new came (Ok _) = (is_none_at old ≡ true) × (waits new ≡ [])
 ExpectsNone old new came (Err cause) =
     (is_none_at old ≡ false) × (new ≡ old) × (cause ≡ Unmet → came ≡ came_words (answer_to_none old))
+
+-- what comes of a line that expects something: it is met, or it isn't
+abbrev pub LineExpects : LabLine → Transcript → Transcript → List ℕ → Result (Unit {0}) LabCause → Type 0
+LineExpects (said.Expect expected) old new came result = Expects expected.now old new came result
+LineExpects said.ExpectNone old new came result = ExpectsNone old new came result
+LineExpects _ old new came result = Unit {0}

@@ -1,8 +1,13 @@
 -- Laws of what the lines of the bench are, which hold whatever runs them (our choice: docs/LAB.md).
-use Rattle.std.specs.Prelude.{ℕ, List, [], Option}
+use Rattle.std.specs.Prelude.{◌≡◌, ℕ, List, [], All, Option, Result, Ok, Err}
 use Rattle.hid_layout.specs.declared.control.ControlId.{ControlId}
+use Rattle.hid_text.specs.declared.line.Line.{Line}
 use Rattle.hid_text.specs.declared.short.ShortLine.{ShortLine}
+use Rattle.hid_text.specs.Line.{meaning_of}
+use Rattle.hid_script.specs.declared.fault.ScriptFault.{ScriptFault}
 use Rattle.hid_script.specs.declared.options.Options.{Options}
+use Rattle.hid_script.specs.declared.summary.Summary.{Summary}
+use Rattle.hid_script.specs.Runs.{RefusedLine, RunsTo, ending_of}
 use Rattle.hid_script.specs.Session.{Session, at_first}
 use Rattle.hid_script.specs.Printing.{PrintsHistories}
 use Rattle.lab_lines.specs.declared.keys.Key.{Key}
@@ -10,6 +15,7 @@ use Rattle.lab_lines.specs.LabLines.{Said}
 use Rattle.lab_session.specs.Acts.{AllAct}
 use Rattle.lab_session.specs.Lines.{Moment, Clicks, ClicksKeys, ShortLineDoes, LineDoes}
 use Rattle.lab_session.specs.Parts.{Part, AllCarry}
+use Rattle.lab_session.specs.Scripts.{IsScripts}
 
 -- what is done is what its parts do, one after the other
 abbrev pub IsItsParts : (Moment → List Part → List ℕ → Moment → Type 0) → Type 0
@@ -36,3 +42,25 @@ LinesAreParts = (given : Option ℕ) (said : Said) → IsItsParts (LineDoes give
 abbrev pub PartsPrintLives : Type 0
 PartsPrintLives = (options : Options) (parts : List Part) (text : List ℕ) (last : Session)
     → AllCarry (at_first options) parts text last → PrintsHistories (AllAct [] parts) text last.members
+
+-- ---- runs of scripts
+
+-- a run ended by itself: all its lines were carried out, or one is refused
+abbrev pub EndsByItself : Result Summary ScriptFault → Type 0
+EndsByItself (Ok summary) = Unit {0}
+EndsByItself (Err fault) = ending_of fault.cause ≡ RefusedLine
+
+-- Runs of the same lines that ended by themselves wrote the same and answered the same.
+abbrev pub RunsAreOne : Type 0
+RunsAreOne = (session : Session) (script : List (List ℕ)) (before : ℕ) (written other : List ℕ) (result end : Result Summary ScriptFault)
+    → RunsTo session script before written result → RunsTo session script before other end → EndsByItself result → EndsByItself end
+    → (written ≡ other) × (result ≡ end)
+
+-- a line that hidrun reads is no new one
+abbrev pub LinesOfScripts : Type 0
+LinesOfScripts = (line : List ℕ) (said : Line) → meaning_of line ≡ Ok said → IsScripts line
+
+-- no line is new of a script that hidrun carries out to its end
+abbrev pub ScriptsThatEndWell : Type 0
+ScriptsThatEndWell = (session : Session) (script : List (List ℕ)) (before : ℕ) (written : List ℕ) (summary : Summary)
+    → RunsTo session script before written (Ok summary) → All IsScripts script

@@ -1,4 +1,5 @@
 pub mod Acts
+pub mod Asking
 pub mod Bench
 pub mod Chances
 pub mod Expecting
@@ -6,3 +7,4 @@ pub mod Laws
 pub mod Lines
 pub mod Parts
 pub mod Printed
+pub mod Scripts

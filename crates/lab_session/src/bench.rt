@@ -1,16 +1,22 @@
 //! The bench between two lines, and how a line is carried out.
 
 ghost use Rattle.std.specs.Prelude.{◌≡◌, ◌||◌, ℕ, List, Option, None, IfOk, OnOk, is_some};
+ghost use Rattle.std.specs.Option.{option_map};
 ghost use Rattle.hid_text.specs.declared.change_kind.ChangeKind.TheVariants.{Press, Release};
+ghost use Rattle.hid_bus.specs.declared.step.Step.TheVariants as Taking;
 ghost use Rattle.hid_text.specs.declared.line.Line.TheVariants as Lines;
+ghost use Rattle.hid_text.specs.declared.short.ShortLine.TheVariants as Shorts;
+ghost use Rattle.hid_text.specs.Words.{words_of};
 ghost use Rattle.hid_script.specs.LineOutput.{Begins, CarriesOut, LineBegins, LineOutcomeOnce, LinePrints, times};
-ghost use Rattle.hid_script.specs.Place.{AppendsOutput};
+ghost use Rattle.hid_script.specs.Place.{AppendsOnce, AppendsOutput};
 ghost use Rattle.lab_expectations.specs.Expectations.{answer_of};
-ghost use Rattle.lab_session.specs.Expecting.{Expects, ExpectsNone, came_words};
+ghost use Rattle.lab_session.specs.Asking.{asked_said};
+ghost use Rattle.lab_session.specs.Expecting.{Expects, ExpectsNone, LineExpects, came_words};
 ghost use Rattle.lab_session.specs.Lines.{has_nothing};
-ghost use Rattle.lab_session.specs.Parts.{Says, Changes, Attaches};
+ghost use Rattle.lab_session.specs.Parts.{Says, Changes, LaysOut, ShowsValues, Attaches};
 ghost use Rattle.lab_session.specs.Printed.{IsPlain, is_styled, kept_cause};
 
+use super::asked::{Asked, asked_of, unread_cause};
 use super::counts::Counts;
 use super::draws::Draws;
 use super::fault::LabCause;
@@ -25,7 +31,9 @@ use hid_snapshots::ChangeFault;
 use hid_stack::{Rig, StackFault, Start, Step, Told};
 use hid_text::{ChangeKind, ShortLine};
 use lab_expectations::Expectation;
-use lab_lines::{ControlName, Key, LEFT_SHIFT, LabLine, TypedText, find_control, key_of, read_hex};
+use lab_lines::{
+    ControlName, Key, LEFT_SHIFT, LabLine, TypedText, find_control, key_of, read_hex, read_lab_line,
+};
 use std::alloc::{AllocError, Global};
 use usb_control::Progress;
 use usb_transact::{Fate, Took};
@@ -110,17 +118,27 @@ fn kind_of_usage(rig: &Rig, dev: u8, usage: Usage) -> Option<(Usage, ControlKind
 
 impl Bench {
     ghost use Rattle.hid_script.specs.Interpreter.{session_of};
-    ghost use Rattle.lab_session.specs.Bench.{Does, moment_of};
+    ghost use Rattle.hid_script.specs.Session.{Repeats, at_first};
+    ghost use Rattle.hid_script.specs.Steps.{StepPrints};
+    ghost use Rattle.hid_text.specs.Line.{meaning_of};
+    ghost use Rattle.lab_session.specs.Bench.{Does, DoesLine, moment_of};
+    ghost use Rattle.lab_session.specs.Scripts.{IsScripts, IsUndrawn, PrintsAs, PrintsSaid, end_of};
     ghost use Rattle.lab_session.specs.Chances.{chance_at};
     ghost use Rattle.hid_stack.specs.Attaching.{Finds};
-    ghost use Rattle.lab_session.specs.Lines.{Clicks, ClicksKey, ClicksShifted, DoesPart, Loses, NamesControl, Often, PollLineDoes, Polls, PollsOnce, ScriptLineDoes, Settles, SettlesChange, ShortLineDoes, Tries, seed_by};
+    ghost use Rattle.lab_session.specs.Lines.{Clicks, ClicksKey, ClicksShifted, DoesBytes, DoesPart, LineDoes, Loses, NamesControl, Often, PollLineDoes, Polls, PollsOnce, ScriptLineDoes, Settles, SettlesChange, ShortLineDoes, Tries, Types, seed_by};
     ghost use Rattle.lab_lines.specs.ControlNames.{named_of};
+    ghost use Rattle.lab_lines.specs.LabLines.{said_of};
 
     /// A bench without devices.
     ///
     /// # Errors
     /// X7.
-    pub fn new(alloc: Global, options: LabOptions) -> Result<Bench, LabCause> {
+    pub fn new(alloc: Global, options: LabOptions) -> Result<Bench, LabCause>
+        ensures options { IfOk result (λ bench. bench.options ≡ options) }
+        ensures session { IfOk result (λ bench. session_of bench.interpreter
+            ≡ at_first (record { layout = options.layout; trace = options.trace })) }
+        ensures undrawn { IfOk result (λ bench. IsUndrawn (moment_of bench)) }
+    {
         let printed = Options {
             layout: options.layout,
             trace: options.trace,
@@ -143,8 +161,15 @@ impl Bench {
     /// What was counted.
     pub fn counts(&self) -> Counts {
         let mut counts = self.counts;
-        counts.events = self.interpreter.events();
+        counts.events = self.events();
         counts
+    }
+
+    /// How many events were delivered.
+    pub fn events(&self) -> u64
+        ensures { result ≡ (session_of self.now.interpreter).events }
+    {
+        self.interpreter.events()
     }
 
     /// The control of the last change that was refused, if it is known.
@@ -157,15 +182,45 @@ impl Bench {
         self.came.as_slice()
     }
 
-    /// Carries out a line. Of `repeat`, `end`, `include` and a descriptor in a file nothing: who reads the lines does that.
+    /// Reads a line, without its end, and carries it out. What a line asks for that the bench doesn't have, other lines or a file,
+    /// is given back.
+    ///
+    /// # Errors
+    /// X1 or X2 where no line of the bench stands there; else why it is not carried out. What it printed before stands.
+    pub fn line<'a, W: Sink>(
+        &mut self,
+        line: &'a [u8],
+        writer: &mut W,
+    ) -> Result<Option<Asked<'a>>, LabCause>
+        ensures does { IfOk result (λ asked. DoesLine line.now (option_map asked_said asked) self.old
+            self.new (W.contents writer.old) (W.contents writer.new)) }
+        ensures prints { IsPlain self.old.options → IsUndrawn (moment_of self.old) → IsScripts line.now
+            → PrintsAs (W.contents writer.old) (W.contents writer.new) (meaning_of line.now)
+            (session_of self.old.interpreter) (end_of result) (session_of self.new.interpreter) }
+    {
+        match read_lab_line(line) {
+            Ok(said) => {
+                self.carry_out(&said, writer)?;
+                Ok(asked_of(said))
+            }
+            Err(unread) => Err(LabCause::Script(unread_cause(unread))),
+        }
+    }
+
+    /// Carries out a line. Of `repeat`, `end`, `include` and a descriptor in a file nothing: who gives the lines does that.
     ///
     /// # Errors
     /// Why the line is not carried out; what it printed before stands.
-    pub fn carry_out<W: Sink>(
-        &mut self,
-        line: &LabLine<'_>,
-        writer: &mut W,
-    ) -> Result<(), LabCause> {
+    #[tactic(auto, unfolding(crate::specs::Lines::LineDoes))]
+    pub fn carry_out<W: Sink>(&mut self, line: &LabLine<'_>, writer: &mut W) -> Result<(), LabCause>
+        ensures does { OnOk result (Does (LineDoes self.old.options.seed (said_of line.now))
+            self.old self.new (W.contents writer.old) (W.contents writer.new)) }
+        ensures prints { IsPlain self.old.options → IsUndrawn (moment_of self.old)
+            → PrintsSaid (W.contents writer.old) (W.contents writer.new) (said_of line.now)
+            (session_of self.old.interpreter) result (session_of self.new.interpreter) }
+        ensures expects { LineExpects line.now self.old.printer.transcript
+            self.new.printer.transcript self.new.came.items result }
+    {
         match *line {
             LabLine::Nothing
             | LabLine::Repeat { .. }
@@ -175,8 +230,8 @@ impl Bench {
             LabLine::Script(text) => Ok(self.script_line(text, writer)?),
             LabLine::Short(short) => Ok(self.short_line(&short, writer)?),
             LabLine::Wait { count } => Ok(self.short_part(&ShortLine::Frame { count }, writer)?),
-            LabLine::Layout(hex) => Ok(self.lay_out(hex, writer)?),
-            LabLine::Values(hex) => Ok(self.print_values(hex, writer)?),
+            LabLine::Layout(hex) => Ok(self.lay_out_hex(hex, writer)?),
+            LabLine::Values(hex) => Ok(self.print_values_hex(hex, writer)?),
             LabLine::Device { start, boot, hex } => Ok(self.attach_hex(start, boot, hex, writer)?),
             LabLine::Change {
                 dev,
@@ -238,25 +293,45 @@ impl Bench {
     }
 
     /// `layout HEX`, of any length.
-    fn lay_out<W: Sink>(&mut self, hex: &[u8], writer: &mut W) -> Result<(), Cause> {
-        let Some(bytes) = read_hex(self.alloc, hex)? else {
-            return Err(Cause::BadHex);
-        };
+    fn lay_out_hex<W: Sink>(&mut self, hex: &[u8], writer: &mut W) -> Result<(), Cause>
+        ensures does { OnOk result (Does (DoesBytes LaysOut (words_of hex.now)) self.old self.new
+            (W.contents writer.old) (W.contents writer.new)) }
+    {
+        match read_hex(self.alloc, hex)? {
+            Some(bytes) => self.lay_out(bytes.as_slice(), writer),
+            None => Err(Cause::BadHex),
+        }
+    }
+
+    /// Lays a descriptor out.
+    fn lay_out<W: Sink>(&mut self, descriptor: &[u8], writer: &mut W) -> Result<(), Cause>
+        ensures does { OnOk result (Does (DoesPart (LaysOut descriptor.now)) self.old self.new
+            (W.contents writer.old) (W.contents writer.new)) }
+    {
         self.text.clear();
-        let part = self.interpreter.lay_out(bytes.as_slice(), &mut self.text);
+        let part = self.interpreter.lay_out(descriptor, &mut self.text);
         self.printer
             .print_part(&self.options, part, self.text.as_slice(), &[], writer)
     }
 
     /// `values HEX`, of any length.
-    fn print_values<W: Sink>(&mut self, hex: &[u8], writer: &mut W) -> Result<(), Cause> {
-        let Some(bytes) = read_hex(self.alloc, hex)? else {
-            return Err(Cause::BadHex);
-        };
+    fn print_values_hex<W: Sink>(&mut self, hex: &[u8], writer: &mut W) -> Result<(), Cause>
+        ensures does { OnOk result (Does (DoesBytes ShowsValues (words_of hex.now)) self.old
+            self.new (W.contents writer.old) (W.contents writer.new)) }
+    {
+        match read_hex(self.alloc, hex)? {
+            Some(bytes) => self.print_values(bytes.as_slice(), writer),
+            None => Err(Cause::BadHex),
+        }
+    }
+
+    /// Prints the values of a report.
+    fn print_values<W: Sink>(&mut self, report: &[u8], writer: &mut W) -> Result<(), Cause>
+        ensures does { OnOk result (Does (DoesPart (ShowsValues report.now)) self.old self.new
+            (W.contents writer.old) (W.contents writer.new)) }
+    {
         self.text.clear();
-        let part = self
-            .interpreter
-            .print_values_of(bytes.as_slice(), &mut self.text);
+        let part = self.interpreter.print_values_of(report, &mut self.text);
         self.printer
             .print_part(&self.options, part, self.text.as_slice(), &[], writer)
     }
@@ -268,7 +343,10 @@ impl Bench {
         boot: Boot,
         hex: &[u8],
         writer: &mut W,
-    ) -> Result<(), Cause> {
+    ) -> Result<(), Cause>
+        ensures does { OnOk result (Does (DoesBytes (Attaches start boot) (words_of hex.now)) self.old
+            self.new (W.contents writer.old) (W.contents writer.new)) }
+    {
         match read_hex(self.alloc, hex)? {
             Some(bytes) => self.attach_device(start, boot, bytes.as_slice(), writer),
             None => Err(Cause::BadHex),
@@ -314,6 +392,11 @@ impl Bench {
     /// A short line of a script, with the fates that are drawn.
     #[tactic(auto, unfolding(crate::specs::Lines::ShortLineDoes))]
     fn short_line<W: Sink>(&mut self, short: &ShortLine, writer: &mut W) -> Result<(), Cause>
+        ensures prints { IsPlain self.old.options → IsUndrawn (moment_of self.old)
+            → AppendsOutput (W.contents writer.old) (W.contents writer.new)
+            (CarriesOut (session_of self.old.interpreter) (Lines.Step short.now))
+            (Begins (times (Lines.Step short.now)) (LineOutcomeOnce (Lines.Step short.now))
+            (session_of self.old.interpreter)) result (session_of self.new.interpreter) }
         ensures does { OnOk result (Does (ShortLineDoes short.now) self.old self.new
             (W.contents writer.old) (W.contents writer.new)) }
     {
@@ -355,6 +438,12 @@ impl Bench {
         count: u16,
         writer: &mut W,
     ) -> Result<(), Cause>
+        ensures prints { IsPlain self.old.options → chance_at self.old.draws dev ≡ None
+            → AppendsOutput (W.contents writer.old) (W.contents writer.new)
+            (CarriesOut (session_of self.old.interpreter) (Lines.Step (Shorts.Poll dev fate count)))
+            (Begins (times (Lines.Step (Shorts.Poll dev fate count)))
+            (LineOutcomeOnce (Lines.Step (Shorts.Poll dev fate count)))
+            (session_of self.old.interpreter)) result (session_of self.new.interpreter) }
         ensures does { OnOk result (Does (PollLineDoes dev fate count) self.old self.new
             (W.contents writer.old) (W.contents writer.new)) }
     {
@@ -412,6 +501,11 @@ impl Bench {
         count: u16,
         writer: &mut W,
     ) -> Result<(), Cause>
+        ensures prints { IsPlain self.old.options → chance_at self.old.draws dev ≡ None
+            → AppendsOutput (W.contents writer.old) (W.contents writer.new)
+            (Repeats count (StepPrints (Taking.Control dev fate)) (session_of self.old.interpreter))
+            (Begins count (StepPrints (Taking.Control dev fate)) (session_of self.old.interpreter))
+            result (session_of self.new.interpreter) }
         ensures does { OnOk result (Does (Often count (Tries dev fate)) self.old self.new
             (W.contents writer.old) (W.contents writer.new)) }
     {
@@ -423,6 +517,10 @@ impl Bench {
 
     /// Makes a try of the transfer that runs, and prints the Output report that it set.
     fn try_once<W: Sink>(&mut self, dev: u8, said: Fate, writer: &mut W) -> Result<(), Cause>
+        ensures prints { IsPlain self.old.options → chance_at self.old.draws dev ≡ None
+            → AppendsOnce (W.contents writer.old) (W.contents writer.new)
+            (StepPrints (Taking.Control dev said) (session_of self.old.interpreter)) result
+            (session_of self.new.interpreter) }
         ensures does { OnOk result (Does (Tries dev said) self.old self.new
             (W.contents writer.old) (W.contents writer.new)) }
     {
@@ -584,12 +682,12 @@ impl Bench {
         dev: u8,
         text: TypedText<'_>,
         writer: &mut W,
-    ) -> Result<(), LabCause> {
+    ) -> Result<(), LabCause>
+        ensures does { OnOk result (Does (Types dev text.entry.rest.now) self.old self.new
+            (W.contents writer.old) (W.contents writer.new)) }
+    {
         let mut text = text;
-        for _ in 0..text.len() {
-            let Some(character) = text.next_character() else {
-                return Ok(());
-            };
+        while let Some(character) = text.next_character() {
             let Some(key) = key_of(character) else {
                 return Err(LabCause::Script(Cause::Syntax));
             };

@@ -1,5 +1,7 @@
 //! Why the bench ends early.
 
+ghost use Rattle.std.specs.Prelude.{◌≡◌};
+
 use hid_script::Cause;
 use std::alloc::AllocError;
 use std::fmt;
@@ -24,12 +26,21 @@ pub enum LabCause {
 }
 
 impl From<Cause> for LabCause {
+    ghost use Rattle.lab_session.specs.declared.fault.LabCause.TheVariants.{Script};
+
+    ghost from_gives = { λ cause result. result ≡ Script cause };
+
     fn from(cause: Cause) -> LabCause {
         LabCause::Script(cause)
     }
 }
 
 impl From<AllocError> for LabCause {
+    ghost use Rattle.hid_script.specs.declared.fault.Cause.TheVariants.{Memory};
+    ghost use Rattle.lab_session.specs.declared.fault.LabCause.TheVariants.{Script};
+
+    ghost from_gives = { λ _ cause. cause ≡ Script Memory };
+
     fn from(_error: AllocError) -> LabCause {
         LabCause::Script(Cause::Memory)
     }

@@ -1,6 +1,8 @@
 //! Laws of the definitions that the contracts of the bench cite.
 
-ghost use Rattle.lab_session.specs.Laws.{ClicksAreParts, KeysAreParts, ShortLinesAreParts, LinesAreParts, PartsPrintLives};
+ghost use Rattle.lab_session.specs.Laws.{ClicksAreParts, KeysAreParts, ShortLinesAreParts, LinesAreParts, LinesOfScripts, PartsPrintLives, RunsAreOne, ScriptsThatEndWell};
+
+use hid_script::laws::one_outcome;
 
 /// Each new line is a list of parts: what it does and prints is what the parts do and print, one after the other. A short line
 /// of a script is too, whatever is drawn of its polls and tries.
@@ -16,3 +18,18 @@ pub fn lines_are_parts()
 pub fn histories_are_printed()
     ensures { PartsPrintLives }
 {}
+
+/// A script that `hidrun` carries out to its end is one that the bench carries out as there, whatever stands in it: each of its
+/// lines says the same to the bench ([`run_text`](super::run_text)).
+pub fn scripts_are_no_news()
+    ensures lines { LinesOfScripts }
+    ensures scripts { ScriptsThatEndWell }
+{}
+
+/// Two runs of the same lines, by `hidrun` or by the bench, write the same and end the same, unless memory, the reader or the writer
+/// ended one of them.
+pub fn runs_are_one()
+    ensures { RunsAreOne }
+{
+    one_outcome();
+}

@@ -8,11 +8,12 @@
 //! The rule to know: nothing here takes a step of the bus by itself. A new line is a list of parts, each a line of a script or the
 //! change of one control by its place, and each part is carried out by `hid_script`.
 //!
-//! The promise: polls, tries, clicks and losses do and print what their parts do and print, one after the other, by the clauses of
-//! [`Interpreter`](hid_script::Interpreter). An expectation changes neither. That [`Bench::carry_out`] does of each line what it says
-//! is no clause yet: rows try it.
+//! The promise: a line does and prints what its parts do and print, one after the other, by the clauses of
+//! [`Interpreter`](hid_script::Interpreter) (`does` of [`Bench::carry_out`]). An expectation changes neither. A script of `hidrun` is
+//! carried out as there (`script` of [`run_text`]).
 #![tactic(auto)]
 
+mod asked;
 mod bench;
 mod counts;
 mod draws;
@@ -21,11 +22,14 @@ pub mod laws;
 mod options;
 mod outputs;
 mod printer;
+mod runs;
 mod shown;
 mod words;
 
+pub use asked::Asked;
 pub use bench::Bench;
 pub use counts::Counts;
 pub use fault::LabCause;
 pub use options::LabOptions;
+pub use runs::{LabFault, Ran, run_text};
 pub use words::{CauseWords, cause_words};

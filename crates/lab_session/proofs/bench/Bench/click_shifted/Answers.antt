@@ -1,5 +1,4 @@
 use Rattle.hid_text.specs.declared.change_kind.ChangeKind.TheVariants.{Press, Release}
-use Rattle.lab_session.specs.Bench.{Does}
 use Rattle.lab_session.specs.Lines.{Clicks, SettlesChange, Then}
 use Rattle.lab_session.proofs.DoingLemmas.{ok_then}
 use Rattle.lab_session.proofs.bench.Bench.click_shifted.Goals as goal

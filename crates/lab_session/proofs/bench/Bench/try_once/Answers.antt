@@ -1,13 +1,52 @@
-use Rattle.std.proofs.Common.{◌++◌, [], refl, subst, append-nil}
+use Rattle.std.proofs.Common.{◌≡◌, ◌∙◌, [], refl, sym, ap, subst, inr, append-nil, Some, Err}
 use Rattle.std.specs.Io.KnownBytes.{Appends}
 use Rattle.std.proofs.KnownBytes.{Appends-trans}
-use Rattle.lab_session.proofs.DoingLemmas.{did_try, however}
+use Rattle.hid_bus.specs.declared.step.Step.TheVariants.{Control}
+use Rattle.lab_session.proofs.DoingLemmas.{did_try, err_is, however, step_told}
+use Rattle.lab_session.proofs.PrintedLemmas.{step_ended, step_output, step_printed}
+use Rattle.hid_script.specs.Interpreter.{session_of}
+use Rattle.hid_script.specs.Place.{AppendsOnce}
+use Rattle.hid_script.specs.Runs.{ending_of}
+use Rattle.hid_script.specs.Steps.{StepPrints}
+use Rattle.lab_session.specs.Chances.{fate_by}
+use Rattle.lab_session.specs.Printed.{kept_cause}
 use Rattle.lab_session.proofs.bench.Bench.try_once.Goals as goal
+
+pub returns-in-Err-clause-prints : goal.returns-in-Err-clause-prints
+returns-in-Err-clause-prints g c = λ plain none.
+    let W = g.W.Sink.contents c.args.writer.now in
+    let S = session_of c.args.self.now.interpreter in
+    let next = session_of c.take_step.new.self in
+    let same : c.next_fate-fate.result ≡ c.args.said = c.next_fate-fate.ensures.fate ∙ ap (λ x. fate_by x c.args.said) none in
+    subst (λ e. AppendsOnce W W (StepPrints (Control c.args.dev c.args.said) S) (Err e) next) (sym c.kept_cause.ensures)
+    (subst (λ f. AppendsOnce W W (StepPrints (Control c.args.dev f) S) (Err (kept_cause c.in-Err.cause)) next) same
+    (step_ended (Some c.clear.new.self.items) W (Control c.args.dev c.next_fate-fate.result) S next (Some c.take_step.new.writer.items) c.in-Err.cause c.in-Err.ensures.prints))
+
+pub returns-in_err-print-clause-prints : goal.returns-in_err-print-clause-prints
+returns-in_err-print-clause-prints g c = λ plain none.
+    let told = c.in-Ok.ensures.prints in
+    subst (λ r. AppendsOnce (g.W.Sink.contents c.args.writer.now) (g.W.Sink.contents c.print.new.writer) (StepPrints (Control c.args.dev c.args.said) (session_of c.args.self.now.interpreter)) r (session_of c.take_step.new.self))
+    (sym (err_is c.from_residual.result _ c.from_residual.ensures.1))
+    (step_printed _ _ c.as_slice.result.now (Control c.args.dev c.args.said) _ _ (Err c.in_err-print.field-0.0)
+    (step_told c.args.dev c.args.said c.next_fate-fate.result _ c.clear.new.self.items c.take_step.new.writer.items c.as_slice.result.now told.0 _ _ c.next_fate-fate.ensures.fate none c.clear.ensures.items told.1 c.as_slice.ensures.value told.2)
+    (c.in_err-print.ensures plain.style))
+
+pub returns-in-Err-take_effect-clause-prints : goal.returns-in-Err-take_effect-clause-prints
+unfolding ending_of
+returns-in-Err-take_effect-clause-prints g c = λ plain none.
+    let told = c.in-Ok.ensures.prints in (
+      c.as_slice.result.now,
+      c.in_ok-print.ensures plain.style,
+      inr (_, step_told c.args.dev c.args.said c.next_fate-fate.result _ c.clear.new.self.items c.take_step.new.writer.items c.as_slice.result.now told.0 _ _ c.next_fate-fate.ensures.fate none c.clear.ensures.items told.1 c.as_slice.ensures.value told.2),
+    )
 
 pub returns-in-Ok-Some : goal.returns-in-Ok-Some
 returns-in-Ok-Some g c =
     let told = c.in-Ok.ensures.prints in
     record {
+      prints = λ plain none. step_output _ _ _ c.as_slice.result.now (Control c.args.dev c.args.said) _ _ c.print_output.result
+          (step_told c.args.dev c.args.said c.next_fate-fate.result _ c.clear.new.self.items c.take_step.new.writer.items c.as_slice.result.now told.0 _ _ c.next_fate-fate.ensures.fate none c.clear.ensures.items told.1 c.as_slice.ensures.value told.2)
+          (c.in_ok-print.ensures plain.style) (c.print_output.ensures.quiet plain.trace) (c.print_output.ensures.memory plain.trace);
       does = however c.print_output.result _ (did_try c.args.dev c.args.said c.next_fate-fate.result c.args.self.now _ c.clear.new.self.items c.take_step.new.writer.items c.as_slice.result.now told.0 _ _ c.next_fate-fate.ensures.fate c.clear.ensures.items told.1 c.as_slice.ensures.value told.2
           (λ plain. subst (Appends (g.W.Sink.contents c.args.writer.now) (g.W.Sink.contents c.print_output.new.writer)) (append-nil c.as_slice.result.now)
           (Appends-trans (g.W.Sink.contents c.args.writer.now) (g.W.Sink.contents c.print.new.writer) (g.W.Sink.contents c.print_output.new.writer) c.as_slice.result.now [] (c.in_ok-print.ensures plain.style) (c.print_output.ensures.quiet plain.trace)))
@@ -17,4 +56,11 @@ returns-in-Ok-Some g c =
 pub returns-in-Ok-None : goal.returns-in-Ok-None
 returns-in-Ok-None g c =
     let told = c.in-Ok.ensures.prints in
-    record { does = did_try c.args.dev c.args.said c.next_fate-fate.result c.args.self.now _ c.clear.new.self.items c.take_step.new.writer.items c.as_slice.result.now told.0 _ _ c.next_fate-fate.ensures.fate c.clear.ensures.items told.1 c.as_slice.ensures.value told.2 (λ plain. c.in_ok-print.ensures plain.style) c.next_fate-fate.ensures.its c.next_fate-fate.ensures.others refl }
+    record {
+      prints = λ plain none. (
+        c.as_slice.result.now,
+        c.in_ok-print.ensures plain.style,
+        step_told c.args.dev c.args.said c.next_fate-fate.result _ c.clear.new.self.items c.take_step.new.writer.items c.as_slice.result.now told.0 _ _ c.next_fate-fate.ensures.fate none c.clear.ensures.items told.1 c.as_slice.ensures.value told.2,
+      );
+      does = did_try c.args.dev c.args.said c.next_fate-fate.result c.args.self.now _ c.clear.new.self.items c.take_step.new.writer.items c.as_slice.result.now told.0 _ _ c.next_fate-fate.ensures.fate c.clear.ensures.items told.1 c.as_slice.ensures.value told.2 (λ plain. c.in_ok-print.ensures plain.style) c.next_fate-fate.ensures.its c.next_fate-fate.ensures.others refl;
+    }

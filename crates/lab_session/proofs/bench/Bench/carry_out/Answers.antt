@@ -1,0 +1,66 @@
+use Rattle.std.proofs.Common.{◌≡◌, ◌⊎◌, inl, inr, refl, sym, subst, ℕ, List, [], Option, Ok, Err, OnOk, Bor}
+use Rattle.hid_requests.specs.declared.boot.Boot.{Boot}
+use Rattle.hid_bus.specs.declared.start.Start.{Start}
+use Rattle.hid_script.specs.Session.{Session}
+use Rattle.lab_lines.specs.declared.lab_line.LabLine.{LabLine}
+use Rattle.lab_lines.specs.declared.lab_line.LabLine.TheVariants as said
+use Rattle.lab_session.specs.declared.bench.Bench.{Bench}
+use Rattle.std.proofs.KnownBytes.{Appends-nil}
+use Rattle.hid_script.specs.Interpreter.{session_of}
+use Rattle.hid_script.specs.LineOutput.{LineBegins, LinePrints}
+use Rattle.lab_lines.specs.LabLines.{said_of}
+use Rattle.lab_session.specs.Bench.{Does}
+use Rattle.lab_session.specs.Lines.{LineDoes}
+use Rattle.lab_session.specs.Scripts.{PrintsSaid}
+use Rattle.lab_session.proofs.DoingLemmas.{does_nothing, err_is, however, nothing_said, same_moment}
+use Rattle.lab_session.proofs.bench.Bench.carry_out.Goals as goal
+
+-- a line of which who gives the lines does what there is to do
+abbrev IsIdle : LabLine → Type 0
+IsIdle l = (l ≡ said.Nothing) ⊎ (((count : ℕ) × (l ≡ said.Repeat count)) ⊎ ((l ≡ said.End) ⊎ (((name : Bor (List ℕ)) × (l ≡ said.Include name))
+    ⊎ ((start : Start) × (boot : Boot) × (name : Bor (List ℕ)) × (l ≡ said.DeviceFile start boot name)))))
+
+idle_does : (given : Option ℕ) (a : Bench) (u : Option (List ℕ)) (l : LabLine) → IsIdle l → Does (LineDoes given (said_of l)) a a u u
+unfolding LineDoes
+idle_does given a u l (inl e) = subst (λ x. Does (LineDoes given (said_of x)) a a u u) (sym e) (does_nothing a u)
+idle_does given a u l (inr (inl e)) = subst (λ x. Does (LineDoes given (said_of x)) a a u u) (sym e.1) (does_nothing a u)
+idle_does given a u l (inr (inr (inl e))) = subst (λ x. Does (LineDoes given (said_of x)) a a u u) (sym e) (does_nothing a u)
+idle_does given a u l (inr (inr (inr (inl e)))) = subst (λ x. Does (LineDoes given (said_of x)) a a u u) (sym e.1) (does_nothing a u)
+idle_does given a u l (inr (inr (inr (inr e)))) = subst (λ x. Does (LineDoes given (said_of x)) a a u u) (sym e.3) (does_nothing a u)
+
+idle_prints : (u : Option (List ℕ)) (session : Session) (l : LabLine) → IsIdle l → PrintsSaid u u (said_of l) session (Ok tt) session
+idle_prints u session l (inl e) = subst (λ x. PrintsSaid u u (said_of x) session (Ok tt) session) (sym e) (Ok tt, refl, ([], Appends-nil u, nothing_said session))
+idle_prints u session l (inr (inl e)) = subst (λ x. PrintsSaid u u (said_of x) session (Ok tt) session) (sym e.1) tt
+idle_prints u session l (inr (inr (inl e))) = subst (λ x. PrintsSaid u u (said_of x) session (Ok tt) session) (sym e) tt
+idle_prints u session l (inr (inr (inr (inl e)))) = subst (λ x. PrintsSaid u u (said_of x) session (Ok tt) session) (sym e.1) tt
+idle_prints u session l (inr (inr (inr (inr e)))) = subst (λ x. PrintsSaid u u (said_of x) session (Ok tt) session) (sym e.3) tt
+
+pub returns-in-Nothing-clause-does : goal.returns-in-Nothing-clause-does
+returns-in-Nothing-clause-does g c = idle_does c.args.self.now.options.seed c.args.self.now (g.W.Sink.contents c.args.writer.now) c.args.line.now c.in-Nothing.is
+
+pub returns-in-Nothing-clause-prints : goal.returns-in-Nothing-clause-prints
+returns-in-Nothing-clause-prints g c = λ plain undrawn. idle_prints (g.W.Sink.contents c.args.writer.now) (session_of c.args.self.now.interpreter) c.args.line.now c.in-Nothing.is
+
+pub returns-in_err-script_line-in-Script-clause-prints : goal.returns-in_err-script_line-in-Script-clause-prints
+unfolding LinePrints LineBegins
+returns-in_err-script_line-in-Script-clause-prints g c = λ plain undrawn.
+    subst (λ l. PrintsSaid (g.W.Sink.contents c.args.writer.now) (g.W.Sink.contents c.script_line.new.writer) (said_of l) (session_of c.args.self.now.interpreter) c.from_residual.result (session_of c.script_line.new.self.interpreter))
+    (sym c.in-Script.is) (Err c.in_err-script_line-in-Script.field-0.0, err_is c.from_residual.result _ c.from_residual.ensures.1, c.in_err-script_line-in-Script.ensures.prints plain)
+
+pub returns-in_ok-script_line-in-Script-clause-prints : goal.returns-in_ok-script_line-in-Script-clause-prints
+unfolding LinePrints LineBegins
+returns-in_ok-script_line-in-Script-clause-prints g c = λ plain undrawn.
+    subst (λ l. PrintsSaid (g.W.Sink.contents c.args.writer.now) (g.W.Sink.contents c.script_line.new.writer) (said_of l) (session_of c.args.self.now.interpreter) (Ok tt) (session_of c.script_line.new.self.interpreter))
+    (sym c.in-Script.is) (Ok tt, refl, c.in_ok-script_line-in-Script.ensures.prints plain)
+
+pub returns-in-Expect-clause-does : goal.returns-in-Expect-clause-does
+unfolding LineDoes
+returns-in-Expect-clause-does g c =
+    subst (λ l. OnOk c.expect.result (Does (LineDoes c.args.self.now.options.seed (said_of l)) c.args.self.now c.expect.new.self (g.W.Sink.contents c.args.writer.now) (g.W.Sink.contents c.args.writer.now)))
+    (sym c.in-Expect.is) (however c.expect.result _ (same_moment c.args.self.now c.expect.new.self (g.W.Sink.contents c.args.writer.now) c.expect.ensures.moment c.expect.ensures.options))
+
+pub returns-in-ExpectNone-clause-does : goal.returns-in-ExpectNone-clause-does
+unfolding LineDoes
+returns-in-ExpectNone-clause-does g c =
+    subst (λ l. OnOk c.expect_none.result (Does (LineDoes c.args.self.now.options.seed (said_of l)) c.args.self.now c.expect_none.new.self (g.W.Sink.contents c.args.writer.now) (g.W.Sink.contents c.args.writer.now)))
+    (sym c.in-ExpectNone.is) (however c.expect_none.result _ (same_moment c.args.self.now c.expect_none.new.self (g.W.Sink.contents c.args.writer.now) c.expect_none.ensures.moment c.expect_none.ensures.options))

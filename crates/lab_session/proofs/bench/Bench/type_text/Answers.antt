@@ -1,0 +1,14 @@
+use Rattle.std.proofs.Common.{sym}
+use Rattle.lab_session.proofs.DoingLemmas.{typed_more, typed_none}
+use Rattle.lab_session.proofs.bench.Bench.type_text.Goals as goal
+
+pub loop-character-preserved : goal.loop-character-preserved
+loop-character-preserved g c = λ after w h.
+    c.loop-character.invariant after w
+    (typed_more c.args.dev c.in-Some.character c.in-Some-key_of.key c.loop-character.text.rest.now c.next_character.new.self.rest.now c.loop-character.self c.click_key.new.self after _ _ w c.in-Some.ensures.next (sym c.in-Some-key_of.ensures) c.in_ok-click_key.ensures.does h)
+
+pub returns : goal.returns
+returns g c = record {
+  does = c.loop-character.invariant c.loop-character.self (g.W.Sink.contents c.loop-character.writer)
+      (typed_none c.args.dev c.loop-character.text.rest.now c.loop-character.self (g.W.Sink.contents c.loop-character.writer) c.in_default.ensures.next);
+}
