@@ -5,6 +5,7 @@ pub mod Chances
 pub mod Expecting
 pub mod Laws
 pub mod Lines
+pub mod Outputs
 pub mod Parts
 pub mod Printed
 pub mod Scripts

@@ -1,7 +1,11 @@
 //! Output reports that a host sets, as they take effect.
 
+ghost use Rattle.std.specs.Prelude.{◌≡◌, ◌==◌, IfOk, IfSome};
+ghost use Rattle.lab_session.specs.Outputs.{IsAwaited, after_id, output_text};
+
 use arrayvec::ArrayVec;
 use hid_layout::ReportKind;
+use hid_notation::print_bytes;
 use hid_stack::{Request, Rig};
 use hid_text::{Line, first_word, read_line};
 use std::alloc::{AllocError, Global};
@@ -49,9 +53,23 @@ fn pending_output(rig: &Rig, line: &Line) -> Option<PendingOutput> {
     })
 }
 
+/// The bytes after the ID byte, where reports have IDs.
+fn after_id(id: u8, bytes: &[u8]) -> &[u8]
+    ensures { result.now ≡ after_id id bytes.now }
+{
+    match bytes {
+        [_, more @ ..] if id > 0 => more,
+        _ => bytes,
+    }
+}
+
 impl PendingOutput {
+    ghost use Rattle.std.specs.Prelude.{string_bytes};
+
     /// Whether it is of this device.
-    fn is_of(&self, dev: u8) -> bool {
+    fn is_of(&self, dev: u8) -> bool
+        ensures { result ≡ (self.now.dev == dev) }
+    {
         self.dev == dev
     }
 
@@ -65,18 +83,13 @@ impl PendingOutput {
     ///
     /// # Errors
     /// Out of memory.
-    fn text(&self, alloc: Global) -> Result<String, AllocError> {
+    fn text(&self, alloc: Global) -> Result<String, AllocError>
+        ensures { IfOk result (λ text. string_bytes text
+            ≡ output_text self.now.dev self.now.id self.now.bytes.items) }
+    {
         let PendingOutput { dev, id, .. } = self;
         let mut text = format!(in alloc; "{dev} output {id}")?;
-        let bytes = self.bytes.as_slice();
-        let bytes = match bytes {
-            [_, more @ ..] if *id > 0 => more,
-            _ => bytes,
-        };
-        for byte in bytes {
-            let byte = *byte;
-            write!(text, " {byte:02X}")?;
-        }
+        print_bytes(&mut text, after_id(*id, self.bytes.as_slice()))?;
         text.push_str("\n")?;
         Ok(text)
     }
@@ -97,6 +110,8 @@ fn begins_request(line: &[u8]) -> bool {
 }
 
 impl Outputs {
+    ghost use Rattle.std.specs.Prelude.{string_bytes};
+
     /// None is to be set.
     pub fn new() -> Self {
         Outputs { pending: None }
@@ -121,7 +136,10 @@ impl Outputs {
         rig: &Rig,
         dev: u8,
         is_done: bool,
-    ) -> Result<Option<String>, AllocError> {
+    ) -> Result<Option<String>, AllocError>
+        ensures { IfOk result (λ told. IfSome told
+            (λ text. IsAwaited self.old.pending dev (string_bytes text))) }
+    {
         let text = match &self.pending {
             Some(pending) if pending.is_of(dev) && pending.took_effect(rig, is_done) => {
                 pending.text(alloc)?
