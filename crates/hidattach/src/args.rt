@@ -19,7 +19,7 @@ pub struct CliArgs<'a> {
     pub output: &'a str,
     /// The file of Output reports, if there is one.
     pub leds: Option<&'a str>,
-    /// In seconds, how long an answer may take.
+    /// In seconds, how long an answer may take: at least 1.
     pub seconds: u16,
 }
 
@@ -133,10 +133,10 @@ fn read_seconds(alloc: Global, word: Option<&str>) -> Result<u16, Error> {
         return Ok(SECONDS);
     };
     match word.parse() {
-        Ok(seconds) => Ok(seconds),
-        Err(_) => Err(command(alloc)?.error(
+        Ok(seconds) if seconds > 0 => Ok(seconds),
+        _ => Err(command(alloc)?.error(
             ErrorKind::ValueValidation,
-            "--seconds is a number from 0 to 65535",
+            "--seconds is a number from 1 to 65535",
         )?),
     }
 }

@@ -25,14 +25,15 @@ use args::{CliArgs, parse_args};
 use clap::error::ErrorKind;
 use status::{FINE, OUTSIDE, WRONG_USAGE, exit_of};
 use std::process::ExitCode;
-use std::{env, fs};
+use std::{env, fs, io};
 use turns::{Files, attach, open_requests};
 use usbip_session::End;
 
 fn main(rt: HostRuntime) -> ExitCode {
     let alloc = rt.alloc();
-    let Ok(args) = env::args(&rt) else {
-        return ExitCode::from(OUTSIDE);
+    let args = match env::args(&rt) {
+        Ok(args) => args,
+        Err(error) => return ExitCode::from(print_no_words(&rt, error.kind())),
     };
     let words: Result<Vec<String>, _> = args.collect(alloc);
     let Ok(words) = words else {
@@ -41,6 +42,16 @@ fn main(rt: HostRuntime) -> ExitCode {
     match parse_args(alloc, words.as_slice()) {
         Ok(asked) => ExitCode::from(run(&rt, &asked)),
         Err(error) => ExitCode::from(print_bad_words(&rt, &error)),
+    }
+}
+
+/// Why the words of the command line can't be read: memory, or one isn't UTF-8.
+fn print_no_words(rt: &HostRuntime, kind: io::ErrorKind) -> u8 {
+    if kind == io::ErrorKind::InvalidData {
+        let _ = eprintln!(rt; "hidattach: a word of the command line isn't UTF-8");
+        WRONG_USAGE
+    } else {
+        OUTSIDE
     }
 }
 

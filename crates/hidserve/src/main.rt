@@ -26,12 +26,13 @@ use script::{Script, read_script};
 use serving::serve;
 use status::{FINE, OUTSIDE, WRONG_USAGE, exit_of};
 use std::process::ExitCode;
-use std::{env, fs};
+use std::{env, fs, io};
 
 fn main(rt: HostRuntime) -> ExitCode {
     let alloc = rt.alloc();
-    let Ok(args) = env::args(&rt) else {
-        return ExitCode::from(OUTSIDE);
+    let args = match env::args(&rt) {
+        Ok(args) => args,
+        Err(error) => return ExitCode::from(print_no_words(&rt, error.kind())),
     };
     let words: Result<Vec<String>, _> = args.collect(alloc);
     let Ok(words) = words else {
@@ -40,6 +41,16 @@ fn main(rt: HostRuntime) -> ExitCode {
     match parse_args(alloc, words.as_slice()) {
         Ok(asked) => ExitCode::from(serve_asked(&rt, &asked)),
         Err(error) => ExitCode::from(print_bad_words(&rt, &error)),
+    }
+}
+
+/// Why the words of the command line can't be read: memory, or one isn't UTF-8.
+fn print_no_words(rt: &HostRuntime, kind: io::ErrorKind) -> u8 {
+    if kind == io::ErrorKind::InvalidData {
+        let _ = eprintln!(rt; "hidserve: a word of the command line isn't UTF-8");
+        WRONG_USAGE
+    } else {
+        OUTSIDE
     }
 }
 
@@ -65,7 +76,7 @@ fn print_bad_words(rt: &HostRuntime, error: &clap::Error) -> u8 {
 fn script_of(rt: &HostRuntime, name: &str) -> Result<Script, ServeFault> {
     match fs::read(rt, name) {
         Ok(bytes) => read_script(rt.alloc(), bytes.as_slice()),
-        Err(error) if error.kind() == std::io::ErrorKind::OutOfMemory => Err(ServeFault::Memory),
+        Err(error) if error.kind() == io::ErrorKind::OutOfMemory => Err(ServeFault::Memory),
         Err(_) => Err(ServeFault::Script),
     }
 }
