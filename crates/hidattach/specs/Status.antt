@@ -5,7 +5,7 @@ use Rattle.hid_driver.specs.declared.fault.DriverFault.TheVariants as drivers
 use Rattle.usbip_import.specs.declared.fault.ImportFault.{ImportFault}
 use Rattle.usbip_import.specs.declared.fault.ImportFault.TheVariants as imports
 use Rattle.usbip_session.specs.declared.end.End.{End}
-use Rattle.usbip_session.specs.declared.end.End.TheVariants.{Closed, Import, Device, Early, Late, Unread, Connection, Output, Requests}
+use Rattle.usbip_session.specs.declared.end.End.TheVariants.{Closed, Import, Device, Early, Late, Unread, Connection, Output, Requests, Stopped}
 
 -- the exit status of what ended an import: 3 if memory ran out, else 1
 abbrev pub import_status : ImportFault → ℕ
@@ -26,6 +26,7 @@ exit_of (Device fault) = driver_status fault
 exit_of Early = 1
 exit_of Late = 1
 exit_of Unread = 1
+exit_of Stopped = 1
 exit_of Connection = 3
 exit_of Output = 3
 exit_of Requests = 3

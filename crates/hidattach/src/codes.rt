@@ -14,6 +14,7 @@ These end it, with exit status 1:
   A8: the connection ended too early
   A9: an answer took too long
   A10: no interface of the device can be read
+  A14: an interface's endpoint stays halted
   H8: the device refused the request
   H9: the transfer failed
   H10: the device descriptor can't be read

@@ -52,7 +52,7 @@ pub fn exit_of(end: End) -> u8
         End::Closed => FINE,
         End::Import(fault) => import_status(fault),
         End::Device(fault) => driver_status(fault),
-        End::Early | End::Late | End::Unread => REFUSED,
+        End::Early | End::Late | End::Unread | End::Stopped => REFUSED,
         End::Connection | End::Output | End::Requests => OUTSIDE,
     }
 }

@@ -9,9 +9,8 @@ use std::fs::File;
 use std::io::{ErrorKind, Read, Stdin, Stdout, Write};
 use std::time::{Duration, Instant};
 use std::{fs, thread};
-use usbip::Status;
 use usbip_session::{
-    End, FailedRow, ImportFault, Session, Timer, Told, driver_words, is_endless, is_late,
+    Answer, End, FailedRow, ImportFault, Session, Timer, Told, driver_words, is_endless, is_late,
     notice_of_row, row_after,
 };
 
@@ -23,7 +22,7 @@ const PIECE: usize = 4096;
 /// How many messages a turn adds to what is to be sent at most: as many submits as can be in flight, and one more.
 const MAX_SENT: u32 = 17;
 
-/// In milliseconds, how long the next submit waits after a transfer that failed, as with Linux.
+/// In milliseconds, how long the next submit waits after a transfer that failed.
 const AFTER_ERROR: u64 = 20;
 
 /// The files of a run.
@@ -52,7 +51,7 @@ struct Run<'a> {
     answer: Timer,
     incoming: Timer,
     outgoing: Timer,
-    /// Of each interface, by its place, the transfers that failed since one was done.
+    /// Of each interface, by its place, the transfers that failed since a report came.
     rows: Vec<Option<FailedRow>>,
     /// Whether the server takes nothing any more.
     is_shut: bool,
@@ -296,13 +295,9 @@ impl Run<'_> {
             Err(fault) => return Err(End::Import(fault)),
         };
         self.print()?;
-        if let Told::Report {
-            interface,
-            status,
-            ..
-        } = told
-        {
-            self.count_answer(rt, interface, status != Status::Success)?;
+        if let Told::Report { interface, .. } = told {
+            let answer = self.session.answer_of(told);
+            self.count_answer(rt, interface, answer)?;
         }
         self.judge(rt, told)
     }
@@ -317,9 +312,9 @@ impl Run<'_> {
         &mut self,
         rt: &HostRuntime,
         interface: usize,
-        failed: bool,
+        answer: Answer,
     ) -> Result<(), End> {
-        self.has_failed = self.has_failed || failed;
+        self.has_failed = self.has_failed || answer == Answer::Failed;
         let count = interface.saturating_add(1);
         if self.rows.len() < count && self.rows.resize(count, None).is_err() {
             return Err(MEMORY);
@@ -328,7 +323,7 @@ impl Run<'_> {
             return Ok(());
         };
         let before = *row;
-        let after = row_after(failed, milliseconds(self.time), before);
+        let after = row_after(answer, milliseconds(self.time), before);
         *row = after;
         if let Some(notice) = notice_of_row(interface, before, after) {
             let _ = eprintln!(rt; "{notice}");

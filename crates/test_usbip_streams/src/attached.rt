@@ -264,6 +264,7 @@ impl Attached {
 fn code_of(end: End) -> &'static str {
     match end {
         End::Unread => "A10",
+        End::Stopped => "A14",
         End::Device(_) => "device",
         _ => "import",
     }

@@ -5,7 +5,7 @@ use crate::dice::Dice;
 use crate::stop::{Stop, right};
 use crate::tally::Tally;
 use std::alloc::Global;
-use usbip_session::{is_endless, notice_of_row, row_after};
+use usbip_session::{Answer, is_endless, notice_of_row, row_after};
 
 /// How many answers a stream has at most.
 const MOST_ANSWERS: usize = 300;
@@ -19,9 +19,9 @@ const MOST_BURSTS: u64 = 16;
 /// The answers of a stream.
 #[derive(Drop)]
 pub struct Failures {
-    /// Of each answer its time in milliseconds, in eight bytes, and 1 where it failed, else 0.
+    /// Of each answer its time in milliseconds, in eight bytes, and what it brought: 0 a report, 1 a failure, 2 nothing.
     answers: Vec<u8>,
-    /// When transfers failed since one was done.
+    /// When transfers failed since a report came.
     times: Vec<u64>,
 }
 
@@ -35,6 +35,17 @@ fn wait(dice: &mut Dice, is_fast: bool) -> u64 {
             .unwrap_or(0)
     } else {
         [0, 20, 999, 1000].get(dice.below(4)).copied().unwrap_or(0)
+    }
+}
+
+/// What the next answer brings: a report as often as is said, and nothing one time in three of the others, or never.
+fn answer(dice: &mut Dice, reports: usize, has_empty: bool) -> Answer {
+    if dice.one_in(reports) {
+        Answer::Report
+    } else if has_empty && dice.one_in(3) {
+        Answer::Nothing
+    } else {
+        Answer::Failed
     }
 }
 
@@ -60,15 +71,16 @@ impl Failures {
             .copied()
             .unwrap_or(0);
         let is_fast = dice.one_in(2);
-        let done = [3, 30, 1000].get(dice.below(3)).copied().unwrap_or(3);
+        let reports = [3, 30, 1000].get(dice.below(3)).copied().unwrap_or(3);
+        let has_empty = dice.one_in(2);
         let mut now = 0u64;
         let mut row = None;
         for _ in 0..MOST_ANSWERS {
             now = now.saturating_add(wait(dice, is_fast));
-            let failed = !dice.one_in(done);
+            let brought = answer(dice, reports, has_empty);
             let before = row;
-            row = row_after(failed, now, before);
-            let is_first = self.take(now, failed)?;
+            row = row_after(brought, now, before);
+            let is_first = self.take(now, brought)?;
             let is_told = notice_of_row(0, before, row).is_some();
             right(is_told == is_first, "the first of a burst isn't told alone")?;
             let is_over = is_endless(row, limit);
@@ -84,11 +96,17 @@ impl Failures {
     }
 
     /// An answer came. Whether it is the first failure of a burst.
-    fn take(&mut self, now: u64, failed: bool) -> Result<bool, Stop> {
+    fn take(&mut self, now: u64, answer: Answer) -> Result<bool, Stop> {
         self.answers.extend_from_slice(&now.to_be_bytes())?;
-        self.answers.push(u8::from(failed))?;
-        if !failed {
+        self.answers.push(match answer {
+            Answer::Report => 0,
+            Answer::Failed => 1,
+            Answer::Nothing => 2,
+        })?;
+        if answer == Answer::Report {
             self.times.clear();
+        }
+        if answer != Answer::Failed {
             return Ok(false);
         }
         let is_near = match self.times.last() {

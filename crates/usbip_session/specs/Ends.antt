@@ -9,6 +9,7 @@ use Rattle.hid_driver.specs.declared.interface.InterfaceState.TheVariants.{Waiti
 use Rattle.hid_driver.specs.declared.state.DriverState.{DriverState}
 use Rattle.hid_driver.specs.declared.state.DriverState.TheVariants as states
 use Rattle.hid_driver.specs.declared.state.Moved.{Moved}
+use Rattle.hid_driver.specs.declared.state.Moved.TheVariants as moves
 use Rattle.hid_driver.specs.Driver.{DriverValue}
 use Rattle.hid_driver.specs.Faults.{fault_text}
 use Rattle.hid_driver.specs.Interfaces.{state_shown}
@@ -18,6 +19,7 @@ use Rattle.usbip_import.specs.declared.stage.Told.TheVariants as told
 use Rattle.usbip_import.specs.Faults.{import_fault_text}
 use Rattle.usbip_session.specs.declared.end.End.{End}
 use Rattle.usbip_session.specs.declared.end.End.TheVariants.{Closed, Import, Device, Early, Late, Unread, Connection, Output, Requests}
+use Rattle.usbip_session.specs.declared.end.End.TheVariants as ends
 use Rattle.usbip_session.specs.Session.{SessionState, awaits_answer, is_between, is_ready, is_ready_state}
 use Rattle.usbip_session.specs.Words.{driver_words, import_words}
 
@@ -32,6 +34,7 @@ end_text Unread = codes "A10: no interface of the device can be read"
 end_text Connection = codes "A11: the connection can't be read or written"
 end_text Output = codes "A12: the events can't be written"
 end_text Requests = codes "A13: the file of Output reports can't be read"
+end_text ends.Stopped = codes "A14: an interface's endpoint stays halted"
 
 -- the reports of an interface in this state are read
 abbrev pub is_live_state : InterfaceState → Bool
@@ -68,9 +71,14 @@ abbrev pub end_after_fault : DriverFault → DriverValue → Option End
 end_after_fault drivers.Memory driver = Some (Import imports.Memory)
 end_after_fault fault driver = if is_refused driver.state then Some (Device fault) else end_if_unread driver
 
+-- an interface whose halt couldn't be cleared ends the session: what is held of it could be released by a reset alone
+abbrev pub end_after_move : Moved → DriverValue → Option End
+end_after_move (moves.Stopped place) driver = Some (if is_unread driver then Unread else ends.Stopped)
+end_after_move moved driver = end_if_unread driver
+
 -- what ends a session after a control transfer
 abbrev pub end_after_control : Result Moved DriverFault → DriverValue → Option End
-end_after_control (Ok moved) driver = end_if_unread driver
+end_after_control (Ok moved) driver = end_after_move moved driver
 end_after_control (Err fault) driver = end_after_fault fault driver
 
 -- What ends a session after a message led to this, where its driver is this one then.

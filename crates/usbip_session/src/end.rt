@@ -28,6 +28,8 @@ pub enum End {
     Output,
     /// A13: the file of Output reports can't be read.
     Requests,
+    /// A14: an interface's endpoint stays halted, and others are read, or may be.
+    Stopped,
 }
 
 impl fmt::Display for End {
@@ -50,6 +52,7 @@ impl fmt::Display for End {
             End::Connection => f.write_str("A11: the connection can't be read or written"),
             End::Output => f.write_str("A12: the events can't be written"),
             End::Requests => f.write_str("A13: the file of Output reports can't be read"),
+            End::Stopped => f.write_str("A14: an interface's endpoint stays halted"),
         }
     }
 }

@@ -28,6 +28,8 @@ mod words;
 pub use end::End;
 pub use notice::Notice;
 pub use session::{Laid, Session};
-pub use timer::{FailedRow, MAX_BURSTS, Timer, is_endless, is_late, notice_of_row, row_after};
+pub use timer::{
+    Answer, FailedRow, MAX_BURSTS, Timer, is_endless, is_late, notice_of_row, row_after,
+};
 pub use usbip_import::{Import, ImportFault, Told};
 pub use words::{cause_words, driver_words, import_words};

@@ -8,9 +8,11 @@ ghost use Rattle.usbip_session.specs.Ends.{end_after, end_of_stream, has_live, i
 ghost use Rattle.usbip_session.specs.Notices.{notice_of};
 ghost use Rattle.usbip_session.specs.Requests.{Asks, first_with_output, has_output, has_output_in, output_id, output_id_at, output_id_of, place_of};
 ghost use Rattle.usbip_session.specs.Session.{Lays, TakesBytes, TakesMessage, awaits_answer, is_between, is_control, is_data, is_ready, lacks, session_at_end, session_at_start};
+ghost use Rattle.usbip_session.specs.Timers.{answer_of};
 
 use crate::end::End;
 use crate::notice::{Notice, notice_of};
+use crate::timer::{Answer, answer_of};
 use hid_driver::{
     Ask, Driver, DriverEvent, DriverFault, DriverState, Interface, InterfaceState, Layout, Moved,
     ReportKind,
@@ -387,7 +389,8 @@ impl Session {
         self.is_ready() && !self.has_live()
     }
 
-    /// What ends the session after a message led to this: the device can't be read, memory ran out, or no interface is read.
+    /// What ends the session after a message led to this: the device can't be read, memory ran out, no interface is read, or one is
+    /// stopped. What is held of a stopped interface could be released by a reset alone, for which USB/IP has no message.
     pub fn end_after(&self, told: Told) -> Option<End>
         ensures { result ≡ end_after told self.now.import.driver }
     {
@@ -398,6 +401,7 @@ impl Session {
             Err(DriverFault::Memory) => Some(End::Import(ImportFault::Memory)),
             Err(fault) if self.is_refused() => Some(End::Device(fault)),
             _ if self.is_unread() => Some(End::Unread),
+            Ok(Moved::Stopped { .. }) => Some(End::Stopped),
             _ => None,
         }
     }
@@ -419,6 +423,13 @@ impl Session {
         ensures { result ≡ notice_of told self.now.has_data self.now.import.driver }
     {
         notice_of(told, self.has_data, self.import.driver())
+    }
+
+    /// What the last message brought, which led to this: whether a transfer for a report failed, or brought a report that is read.
+    pub fn answer_of(&self, told: Told) -> Answer
+        ensures { result ≡ answer_of told self.now.has_data }
+    {
+        answer_of(told, self.has_data)
     }
 
     /// Asks the interface at this place to take these bytes as an Output report.

@@ -1,9 +1,11 @@
 //! How long something is awaited, and how long transfers fail.
 ghost use Rattle.std.specs.Prelude.{◌≡◌};
-ghost use Rattle.usbip_session.specs.Timers.{is_endless, is_late, notice_of_row, row_after, row_from, row_with, since_after};
+ghost use Rattle.usbip_session.specs.Timers.{answer_of, answer_with, is_endless, is_late, notice_of_row, row_after, row_from, row_with, since_after};
 
 use crate::notice::Notice;
 use hid_driver::DriverFault;
+use usbip::Status;
+use usbip_import::Told;
 
 /// Since when something is awaited, if it is.
 #[derive(Clone, Copy, Debug, Default)]
@@ -41,7 +43,41 @@ pub const MAX_BURSTS: u32 = 16;
 /// In milliseconds, how far apart two failures of a burst are at most (our choice: Linux retries as long before it resets a device).
 const BURST_GAP: u64 = 1000;
 
-/// Transfers for reports of one interface that failed, with none between them that was done. Those at most a second apart are a burst.
+/// What the answer to a transfer for a report brought.
+#[derive(Clone, Copy, Debug, PartialEq, Eq)]
+pub enum Answer {
+    /// It failed.
+    Failed,
+    /// No byte, or bytes that aren't read.
+    Nothing,
+    /// A report that is read, or a packet of one.
+    Report,
+}
+
+/// What an answer brought whose transfer ended so, with data or without.
+fn answer_with(status: Status, has_data: bool, read: Result<(), DriverFault>) -> Answer
+    ensures { result ≡ answer_with status has_data read }
+{
+    match status {
+        Status::Success => match read {
+            Ok(()) if has_data => Answer::Report,
+            _ => Answer::Nothing,
+        },
+        _ => Answer::Failed,
+    }
+}
+
+/// What a message brought that led to this, and was the data of an answer or not.
+pub(crate) fn answer_of(told: Told, has_data: bool) -> Answer
+    ensures { result ≡ answer_of told has_data }
+{
+    match told {
+        Told::Report { status, result, .. } => answer_with(status, has_data, result),
+        Told::Onward | Told::Control { .. } => Answer::Nothing,
+    }
+}
+
+/// Transfers for reports of one interface that failed, with no report between them. Those at most a second apart are a burst.
 #[derive(Clone, Copy, Debug, PartialEq, Eq)]
 pub struct FailedRow {
     /// When the first one of the last burst was answered, in milliseconds of the program's clock.
@@ -82,14 +118,14 @@ fn row_with(now: u64, row: Option<FailedRow>) -> FailedRow
     }
 }
 
-/// The row of failures of an interface after an answer at this time, which is one of them or not. A transfer that is done ends it.
-pub fn row_after(failed: bool, now: u64, row: Option<FailedRow>) -> Option<FailedRow>
-    ensures { result ≡ row_after failed now row }
+/// The row of failures of an interface after an answer at this time. A report ends it, and an answer without one leaves it as it is.
+pub fn row_after(answer: Answer, now: u64, row: Option<FailedRow>) -> Option<FailedRow>
+    ensures { result ≡ row_after answer now row }
 {
-    if failed {
-        Some(row_with(now, row))
-    } else {
-        None
+    match answer {
+        Answer::Failed => Some(row_with(now, row)),
+        Answer::Nothing => row,
+        Answer::Report => None,
     }
 }
 
