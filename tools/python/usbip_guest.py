@@ -48,7 +48,8 @@ class Failed(Exception):
 
 
 class Starved(Exception):
-    """The guest's reader of evdev came too late, and Linux dropped events before it did (SYN_DROPPED): nothing is known of the programs."""
+    """Linux dropped events before the guest's reader took them (SYN_DROPPED). Those that came before are as they have to be; of the
+    others nothing is known."""
 
 
 def free_port():
@@ -132,13 +133,17 @@ class Guest:
             raise Failed("in the guest `%s` ends with status %d: %s" % (line, status, text.strip()))
         return text
 
-    def watched(self, since=0):
-        """What was told of input devices, from this place on."""
+    def told_since(self, since=0):
+        """What was told of input devices from this place on, and the place after that, where the next events will stand."""
         data = (self.work / "told").read_bytes()[since:]
-        return data[:data.rfind(b"\n") + 1].decode().splitlines()
+        end = data.rfind(b"\n") + 1
+        return data[:end].decode().splitlines(), since + end
+
+    def watched(self, since=0):
+        return self.told_since(since)[0]
 
     def place(self):
-        return (self.work / "told").stat().st_size
+        return self.told_since()[1]
 
     def devices(self):
         """The bus ID of each device by its product, hubs left out; the first of equal ones."""

@@ -38,6 +38,7 @@ NAMES |= {(1, 42): "KEY_LEFTSHIFT", (1, 0x110): "BTN_LEFT", (1, 0x111): "BTN_RIG
           (3, 0x39): "TRACKING_ID", (0, 3): "SYN_DROPPED"}
 CAPS_LOCK, NUM_LOCK = 1, 0  # LED_CAPSL and LED_NUML
 BEGIN = "frame 2000"
+DROPPED = "SYN_DROPPED 0"
 PATIENCE = 60  # seconds, in which an event has to come
 WAIT = 0.4  # seconds, in which nothing more may come
 # Faults that are planted in a script: a part of it, its events, and what the script says in place of that; the last part has no fault.
@@ -49,23 +50,44 @@ PLANTED = [("press 1 07:06, release 1 07:06", "KEY_C 1, KEY_C 0", "press 1 07:06
            ("press 1 09:01, release 1 09:01", "BTN_LEFT 1, BTN_LEFT 0", "press 1 09:02, release 1 09:02"),
            ("press 1 07:0A, release 1 07:0A", "KEY_G 1, KEY_G 0", None)]
 BETWEEN, BETWEEN_EVENTS = ["press 1 07:45", "release 1 07:45"], ["KEY_F12 1", "KEY_F12 0"]
+# Events that Linux dropped: what the guest tells, in the lines of tools/c/usbguest.c, each time that a scene is played in which A and
+# then B are pressed and released; and whether that has to be listed.
+A_AND_B = "KEY_A 1, KEY_A 0, KEY_B 1, KEY_B 0"
+FINE = "1 1 30 1 100, 1 1 30 0 200, 1 1 48 1 300, 1 1 48 0 400"
+DROPS = [("no event is dropped", [FINE], False),
+         ("events are dropped after `KEY_A 1`, and then none", ["1 1 30 1 100, 1 0 3 0 400", FINE], False),
+         ("a release is lost and a press doubled before the drop, and then all is fine",
+          2 * ["1 1 30 1 100, 1 1 30 1 200, 1 1 48 1 300, 1 0 3 0 400"] + [FINE], True),
+         ("more comes than the script has, and is dropped", [FINE + ", 1 0 3 0 500", FINE], True),
+         ("events are dropped each time", 3 * ["1 1 30 1 100, 1 0 3 0 400"], True),
+         ("events of a device are dropped, and meanwhile comes one of another", ["1 1 30 1 100, 2 1 48 1 300, 1 0 3 0 400", FINE], False),
+         ("one of another device comes too early, and then events are dropped", ["2 1 48 1 50, 1 1 30 1 100, 1 0 3 0 400", FINE], True)]
 
 
 def told(lines):
-    """The events of what the guest tells, as `KEY_A 1`, in the order of their times. Where Linux dropped some, as Starved."""
-    events = [list(map(int, line.split())) for line in lines if line[0].isdigit()]
-    names = ["%s %d" % (NAMES.get((kind, code), "%d:%d" % (kind, code)), value)
-             for _, kind, code, value, _ in sorted(events, key=lambda event: event[4])]
-    if "SYN_DROPPED 0" in names:
-        raise Starved("SYN_DROPPED after %d events" % names.index("SYN_DROPPED 0"))
-    return names
+    """The events of what the guest tells, as `KEY_A 1`, in the order of their times. Where Linux dropped some, those before them, and
+    then DROPPED: of the node that has it, all before it are there, and of no other is one missing up to the last of these."""
+    events = sorted((list(map(int, line.split())) for line in lines if line[0].isdigit()), key=lambda event: event[4])
+    names = ["%s %d" % (NAMES.get((kind, code), "%d:%d" % (kind, code)), value) for _, kind, code, value, _ in events]
+    whole = [max((n + 1 for n in range(at) if events[n][0] == events[at][0]), default=0)
+             for at, name in enumerate(names) if name == DROPPED]
+    return names[:min(whole)] + [DROPPED] if whole else names
+
+
+def undropped(have):
+    """The events before those that Linux dropped, and whether it dropped any."""
+    is_dropped = have[-1:] == [DROPPED]
+    return have[:-1] if is_dropped else have, is_dropped
 
 
 def compare(have, want):
-    """Events are as they have to be."""
-    if have != want:
-        at = next((n for n, pair in enumerate(zip(have, want)) if pair[0] != pair[1]), min(len(have), len(want)))
+    """Events are as they have to be. Where Linux dropped some, those before them are, and not all came yet: then this is Starved."""
+    known, is_dropped = undropped(have)
+    if known != want[:len(known)] or (len(known) < len(want)) != is_dropped:
+        at = next((n for n, pair in enumerate(zip(known, want)) if pair[0] != pair[1]), min(len(known), len(want)))
         raise Failed("event %d of %d: evdev tells %s, and the script says %s" % (at + 1, len(want), have[at:at + 8], want[at:at + 8]))
+    if is_dropped:
+        raise Starved("SYN_DROPPED after %d of %d events" % (len(known), len(want)))
 
 
 class Served:
@@ -105,8 +127,9 @@ class Served:
     def wait_gone(self):
         """Until the event node is gone. The kernel lets go of what is held, which its readers may miss."""
         until(lambda: any(line.startswith("gone ") for line in self.guest.watched(self.taken)), "end of the event node")
-        if self.events() not in ([], ["KEY_A 0"]):
-            raise Failed("evdev tells %s, and A alone was held" % self.events())
+        have = self.events()
+        if have:
+            compare(have, ["KEY_A 0"])
 
     def detach(self):
         """The guest detaches the device: hidserve ends with status 0, as after each import before."""
@@ -120,15 +143,20 @@ class Served:
         want = [] if not text else text.split(", ") if isinstance(text, str) else text
         end = time.monotonic() + PATIENCE + len(want) / 20
         have = self.events()
-        while len(have) < len(want) and time.monotonic() < end:
+        while len(have) < len(want) and DROPPED not in have and time.monotonic() < end:
             time.sleep(0.05)
             have = self.events()
         time.sleep(WAIT)
-        have, self.taken = self.events(), self.guest.place()
-        compare(have, want)
+        lines, self.taken = self.guest.told_since(self.taken)
+        compare(told(lines), want)
 
     def events(self):
         return told(self.guest.watched(self.taken))
+
+    def events_of(self, count):
+        """The events, once as many came, or some were dropped; else nothing."""
+        have = self.events()
+        return have if len(have) >= count or DROPPED in have else None
 
     def expect_lines(self, *want):
         """What hidserve tells is this, from its start on."""
@@ -267,15 +295,15 @@ def detached(bench):
 
 def interrupted(bench):
     """A device is detached in the middle of a row of events, and imported again: the row begins again."""
-    row = 1000 * ["press 1 07:04", "release 1 07:04"]
+    row, events = 1000 * ["press 1 07:04", "release 1 07:04"], 1000 * ["KEY_A 1", "KEY_A 0"]
     with served(bench, "interrupted", device(KEYBOARD, *row)) as it:
         for is_first in (True, False):
-            until(lambda: len(it.events()) >= 20, "row of events")
-            have = it.events()
-            if have != (len(row) * ["KEY_A 1", "KEY_A 0"])[:len(have)]:
-                raise Failed("evdev tells %s" % have)
+            until(lambda: it.events_of(20), "row of events")
             if is_first:
                 it.detach()
+            have = it.events()
+            compare(have, events[:len(have)])
+            if is_first:
                 it.attach()
 
 
@@ -288,12 +316,15 @@ def both(bench):
         it.imports += 1
         if status:
             raise Failed("`usbip attach -b 1-2` is refused: %s" % text)
-        until(lambda: len(it.events()) >= 5, "event of both devices")
+        until(lambda: it.events_of(5), "event of both devices")
         time.sleep(WAIT)
-        have = it.events()
+        have, is_dropped = undropped(it.events())
         keys = [event for event in have if event.startswith("KEY_")]
-        if keys != ["KEY_A 1", "KEY_A 0"] or [event for event in have if event not in keys] != ["BTN_LEFT 1", "REL_X 5", "BTN_LEFT 0"]:
-            raise Failed("evdev tells %s" % have)
+        others = [event for event in have if event not in keys]
+        for part, want in ((keys, ["KEY_A 1", "KEY_A 0"]), (others, ["BTN_LEFT 1", "REL_X 5", "BTN_LEFT 0"])):
+            compare(part, want[:len(part)] if is_dropped else want)
+        if is_dropped:
+            raise Starved("SYN_DROPPED after %s" % have)
         it.guest.run("usbip detach -p 01")
 
 
@@ -366,8 +397,11 @@ def planted(bench):
     """Whether the fault of each part of PLANTED is listed, in one script."""
     lines = [line for said, _, spoiled in PLANTED for line in [*(spoiled or said).split(", "), *BETWEEN]]
     with served(bench, "planted", device(NUMBERED, *lines)) as it:
-        until(lambda: len(parts_of(it.events())) == len(PLANTED), "end of the script: evdev tells %s" % it.events(), PATIENCE)
-        parts = parts_of(it.events())
+        until(lambda: len(parts_of(it.events())) == len(PLANTED) or DROPPED in it.events(), "end of the script", PATIENCE)
+        have, is_dropped = undropped(it.events())
+        if is_dropped:
+            raise Starved("SYN_DROPPED after %s" % have)
+        parts = parts_of(have)
     for have, (said, want, spoiled) in zip(parts, PLANTED):
         try:
             compare(have, want.split(", "))
