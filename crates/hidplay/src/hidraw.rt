@@ -20,6 +20,9 @@ const GONE: i32 = 5;
 /// What the names of nodes begin with, before their number.
 const NODE: &str = "hidraw";
 
+/// The folder of nodes.
+const FOLDER: &str = "/dev/";
+
 /// Whether a name is `hidraw` and digits.
 fn is_node(name: &str) -> bool {
     match name.strip_prefix(NODE) {
@@ -39,6 +42,25 @@ pub fn node_of(rt: &HostRuntime, name: &str, file_type: FileType) -> Option<Stri
         return None;
     }
     String::from_str(rt.alloc(), node).ok()
+}
+
+/// Whether the system may have a descriptor for a file that is played as a device: a hidraw node under `/dev`, a link to one, or
+/// `hidraw` and digits alone. So a name that leaves the system's folder is none. A file that isn't there is refused later.
+pub fn may_have_descriptor(rt: &HostRuntime, name: &str) -> bool {
+    if name == "-" || is_node(name) {
+        return true;
+    }
+    match fs::canonicalize(rt, name) {
+        Ok(path) => match path
+            .as_path()
+            .to_str()
+            .and_then(|text| text.strip_prefix(FOLDER))
+        {
+            Some(node) => is_node(node),
+            None => false,
+        },
+        Err(_) => true,
+    }
 }
 
 /// The file in which the system has the report descriptor of a node.

@@ -32,7 +32,7 @@ use end_line::end_line;
 use fault::{FileFault, Why, before_all};
 use file_line::file_line;
 use hid_recording::{Cause, GivenDescriptor, Summary, play_live};
-use hidraw::{ReportFile, descriptor_name, node_of};
+use hidraw::{ReportFile, descriptor_name, may_have_descriptor, node_of};
 use name::ShownName;
 use progress::Progress;
 use source::{Kind, Manner, play_source, read_descriptor};
@@ -108,7 +108,7 @@ fn end_of_file(fault: FileFault, failure: Option<io::Error>) -> FileEnd {
 /// Reads the descriptor that is given, if one is, and plays each file.
 fn play_with_descriptor(rt: &HostRuntime, asked: &CliArgs<'_>) -> u8 {
     let Some(name) = asked.descriptor else {
-        return play_all(rt, asked, None);
+        return play_without_descriptor(rt, asked);
     };
     match open_descriptor(rt, name) {
         Ok(bytes) => {
@@ -123,6 +123,20 @@ fn play_with_descriptor(rt: &HostRuntime, asked: &CliArgs<'_>) -> u8 {
             exit_of(&Err(end.fault))
         }
     }
+}
+
+/// Plays each file, if each that is taken for a device may have a descriptor of the system.
+fn play_without_descriptor(rt: &HostRuntime, asked: &CliArgs<'_>) -> u8 {
+    if asked.kind == Kind::Live {
+        for name in &asked.files {
+            if !may_have_descriptor(rt, *name) {
+                let name = ShownName(*name);
+                let _ = eprintln!(rt; "hidplay: {name}: no hidraw node: --live needs --descriptor");
+                return WRONG_USAGE;
+            }
+        }
+    }
+    play_all(rt, asked, None)
 }
 
 /// The report descriptor in a file.
