@@ -2,7 +2,7 @@
 use Rattle.std.specs.Prelude.{◌≡◌, ◌⊎◌, ℕ, List, [], ◌++◌, Option, None, Some, codes}
 use Rattle.std.specs.Fmt.{decimal}
 use Rattle.hid_input.specs.declared.fault.InputCause.{InputCause}
-use Rattle.hid_input.specs.declared.fault.InputCause.TheVariants.{BadHex, BadCount, BadArray, BadEscape, SeveralStrings, WordOrder, Offset, Dump, BadItem, TwoWays, Utf16, NoDescriptor, Memory}
+use Rattle.hid_input.specs.declared.fault.InputCause.TheVariants.{BadHex, NoCount, BadCount, BadArray, BadEscape, SeveralStrings, WordOrder, Offset, Dump, BadItem, TwoWays, Utf16, NoDescriptor, Memory}
 use Rattle.hid_input.specs.declared.fault.InputFault.{InputFault}
 
 -- what is wrong with the whole text
@@ -20,6 +20,7 @@ IsOfHex fault = (fault ≡ of_text Memory) ⊎ (fault ≡ of_text TwoWays)
 -- the cause of a fault, in words
 abbrev pub cause_text : InputCause → List ℕ
 cause_text BadHex = codes "a byte isn't two hex digits"
+cause_text NoCount = codes "the count is missing, or no number"
 cause_text (BadCount said found) =
     codes "the count says " ++ (decimal said ++ (codes ", there are " ++ (decimal found ++ codes " bytes")))
 cause_text BadArray = codes "an element of the array is no byte"

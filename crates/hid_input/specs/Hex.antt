@@ -56,11 +56,28 @@ spelled_bytes text = option_or (all_bytes (word_bytes Byte) (words_of text)) (ru
 abbrev pub is_spelled_byte : ℕ → Bool
 is_spelled_byte byte = is_ascii_hexdigit byte || (is_separator byte || (is_x byte || is_h byte))
 
--- text of hex alone: with a digit, and without a dash beside a blank, as in numbers such as 7e-45
+-- a colon first, as in Intel HEX
+abbrev pub begins_with_colon : List ℕ → Bool
+begins_with_colon text = nat_le 1 (length text) && (slice_index text 0 == 58)
+
+-- one character and a colon first, and white space or nothing after them, as hid-recorder writes
+abbrev pub begins_with_letter : List ℕ → Bool
+begins_with_letter text =
+    nat_le 2 (length text) && ((slice_index text 1 == 58) && ((length text == 2) || is_ascii_whitespace (slice_index text 2)))
+
+-- a line that has such a mark says what its digits are, which are no bytes alone
+abbrev pub is_marked_line : List ℕ → Bool
+is_marked_line line = begins_with_colon (without_space line) || begins_with_letter (without_space line)
+
+-- some line of a text has such a mark
+abbrev pub has_marked_line : List ℕ → Bool
+has_marked_line text = list_any is_marked_line (lines_of text)
+
+-- text of hex alone: with a digit, without a dash beside a blank, as in numbers such as 7e-45, and without such lines
 abbrev pub is_spelled : List ℕ → Bool
 is_spelled text =
     list_any is_ascii_hexdigit text
-    && (not (list_any (λ byte. byte == 45) text && list_any (λ byte. byte == 32) text) && list_all is_spelled_byte text)
+    && (not (list_any (λ byte. byte == 45) text && list_any (λ byte. byte == 32) text) && (not (has_marked_line text) && list_all is_spelled_byte text))
 
 -- what stands in front of a place, or all where there is none
 abbrev pub in_front : Option ℕ → List ℕ → List ℕ
@@ -75,8 +92,8 @@ before_space text = in_front (position is_ascii_whitespace text) text
 abbrev pub first_word : List ℕ → List ℕ
 first_word text = before_space (without_space text)
 
--- a word that is an offset by its looks: hex digits and a colon, or four zeros or more
+-- a word that is an offset by its looks: two hex digits or more and a colon, or four zeros or more
 abbrev pub is_offset : List ℕ → Bool
 is_offset word =
-    (nat_le 1 (length word) && ((slice_index word (length word - 1) == 58) && list_all is_ascii_hexdigit (take (length word - 1) word)))
+    (nat_le 3 (length word) && ((slice_index word (length word - 1) == 58) && list_all is_ascii_hexdigit (take (length word - 1) word)))
     || (nat_le 4 (length word) && list_all (λ byte. byte == 48) word)

@@ -1,8 +1,8 @@
 -- Descriptors in what hid-recorder and usbhid-dump print (our choice: docs/PICTURES.md).
-use Rattle.std.specs.Prelude.{ℕ, ◌==◌, Bool, not, ◌&&◌, ◌||◌, nat_le, List, [], ◌∷◌, ◌++◌, length, slice_index, drop, is_some, if◌then◌else◌, Option, None, Some, codes}
+use Rattle.std.specs.Prelude.{ℕ, ◌==◌, Bool, false, not, ◌&&◌, ◌||◌, nat_le, List, [], ◌∷◌, ◌++◌, length, slice_index, drop, is_some, if◌then◌else◌, Option, None, Some, ◌+◌, take, codes}
 use Rattle.std.specs.List.{slice_split, list_any, position}
 use Rattle.std.specs.Str.{bytes_eq}
-use Rattle.std.specs.Option.{option_or, unwrap_or}
+use Rattle.std.specs.Option.{option_or, option_and_then}
 use Rattle.std.specs.Char.{is_ascii_whitespace}
 use Rattle.hid_input.specs.declared.words.WordForm.TheVariants.{Run}
 use Rattle.hid_input.specs.Numbers.{number_of, without_space}
@@ -22,18 +22,15 @@ behind_letter text =
 abbrev pub after_letter : List ℕ → Option (List ℕ)
 after_letter line = behind_letter (without_space line)
 
--- the number of a count, or 0 where it is none
-abbrev pub count_of : List ℕ → ℕ
-count_of count = unwrap_or (number_of 10 count) 0
-
--- bytes, if there are so many
-abbrev pub if_counted : ℕ → Option (List ℕ) → Option (List ℕ)
-if_counted said None = None
-if_counted said (Some bytes) = if length bytes == said then Some bytes else None
+-- bytes, if a count says that there are so many
+abbrev pub if_counted : Option ℕ → Option (List ℕ) → Option (List ℕ)
+if_counted None bytes = None
+if_counted (Some said) None = None
+if_counted (Some said) (Some bytes) = if length bytes == said then Some bytes else None
 
 -- the bytes of a count and hex
 abbrev pub bytes_behind : List ℕ → Option (List ℕ)
-bytes_behind text = if_counted (count_of (before_space text)) (ordered_bytes (from_place (position is_ascii_whitespace text) text))
+bytes_behind text = if_counted (number_of 10 (before_space text)) (ordered_bytes (from_place (position is_ascii_whitespace text) text))
 
 unfoldable pub counted_bytes : List ℕ → Option (List ℕ)
 counted_bytes counted = bytes_behind (trimmed_text counted)
@@ -52,15 +49,28 @@ recorded_bytes (line ∷ lines) = recorded_here (after_letter line) (recorded_by
 abbrev pub has_recorded : List ℕ → Bool
 has_recorded text = list_any (λ line. is_some (after_letter line)) (lines_of text)
 
--- a heading of usbhid-dump: one of its words, between white space and colons, is DESCRIPTOR
-abbrev pub ends_word : ℕ → Bool
-ends_word byte = is_ascii_whitespace byte || (byte == 58)
+-- a colon, which parts the words of a heading
+abbrev pub is_colon : ℕ → Bool
+is_colon byte = byte == 58
 
-abbrev pub is_descriptor_word : List ℕ → Bool
-is_descriptor_word word = bytes_eq word (codes "DESCRIPTOR")
+-- a word, if there is one, is DESCRIPTOR
+abbrev pub is_descriptor_word : Option (List ℕ) → Bool
+is_descriptor_word None = false
+is_descriptor_word (Some word) = bytes_eq word (codes "DESCRIPTOR")
 
+-- what stands after a colon at this place, if a decimal number stands in front of it
+abbrev pub behind_number_at : Option ℕ → List ℕ → Option (List ℕ)
+behind_number_at None text = None
+behind_number_at (Some place) text = if is_some (number_of 10 (take place text)) then Some (drop (place + 1) text) else None
+
+-- what stands after a decimal number and a colon
+unfoldable pub behind_number : List ℕ → Option (List ℕ)
+behind_number text = behind_number_at (position is_colon text) text
+
+-- a heading of usbhid-dump: its first word is BUS:DEVICE:INTERFACE:DESCRIPTOR, of three decimal numbers
 abbrev pub is_heading : List ℕ → Bool
-is_heading line = list_any is_descriptor_word (slice_split ends_word line)
+is_heading line =
+    is_descriptor_word (option_and_then behind_number (option_and_then behind_number (behind_number (before_space line))))
 
 -- the lines of hex with which lines begin, each with its end
 abbrev pub hex_below : List (List ℕ) → List ℕ

@@ -10,6 +10,8 @@ use std::fmt;
 pub enum InputCause {
     /// A byte isn't two hex digits.
     BadHex,
+    /// The count of an `R:` line is missing, or no number.
+    NoCount,
     /// The count of an `R:` line, or the length that lsusb prints, isn't that of the bytes.
     BadCount { said: u64, found: u64 },
     /// An element of an array of C is no byte.
@@ -88,6 +90,7 @@ impl fmt::Display for InputCause {
             InputCause::BadCount { said, found } => {
                 return write!(f, "the count says {said}, there are {found} bytes");
             }
+            InputCause::NoCount => "the count is missing, or no number",
             InputCause::BadHex => "a byte isn't two hex digits",
             InputCause::BadArray => "an element of the array is no byte",
             InputCause::BadEscape => "an escape of the string is no byte, or a digit follows it",

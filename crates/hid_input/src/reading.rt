@@ -75,19 +75,19 @@ fn is_utf16(bytes: &[u8]) -> bool
     bytes.len() >= 4 && bytes[0] == 0xFF && bytes[1] == 0xFE && bytes[3] == 0
 }
 
-/// Whether a word is an offset by its looks: a colon after it, or four zeros or more.
+/// Whether a word is an offset by its looks: two digits or more and a colon, or four zeros or more.
 fn is_offset(word: &[u8]) -> bool
     ensures { result ≡ is_offset word.now }
 {
     is_marked_offset(word) || is_zero(word)
 }
 
-/// Whether a word is hex digits and a colon.
+/// Whether a word is two hex digits or more and a colon.
 fn is_marked_offset(word: &[u8]) -> bool
-    ensures { result ≡ (nat_le 1 (length word.now) && ((slice_index word.now (length word.now - 1) == 58) && list_all is_ascii_hexdigit (take (length word.now - 1) word.now))) }
+    ensures { result ≡ (nat_le 3 (length word.now) && ((slice_index word.now (length word.now - 1) == 58) && list_all is_ascii_hexdigit (take (length word.now - 1) word.now))) }
 {
     match word.len() {
-        0 => false,
+        0..=2 => false,
         length => word[length - 1] == b':' && are_digits(&word[..length - 1]),
     }
 }

@@ -1,12 +1,12 @@
 //! Descriptors in what hid-recorder and usbhid-dump print.
 
-ghost use Rattle.std.specs.Prelude.{◌≡◌, [], ℕ, List, Some, IfOk, IfErr, MatchOption, map, true};
-ghost use Rattle.std.specs.List.{slice_split};
-ghost use Rattle.std.specs.Option.{option_map, option_copied};
+ghost use Rattle.std.specs.Prelude.{◌≡◌, ◌<◌, [], ℕ, List, Some, length, IfOk, IfSome, IfErr, MatchOption, map, true};
+ghost use Rattle.std.specs.List.{slice_split, position};
+ghost use Rattle.std.specs.Option.{option_map, option_copied, option_and_then};
 ghost use Rattle.std.specs.Char.{is_ascii_whitespace};
 ghost use Rattle.hid_input.specs.Words.{all_bytes, word_bytes};
 ghost use Rattle.hid_input.specs.Hex.{lines_of};
-ghost use Rattle.hid_input.specs.Recorded.{ordered_bytes, after_letter, count_of, bytes_behind, counted_bytes, recorded_bytes, has_recorded, is_heading, hex_below, dumped_hex, has_dumped};
+ghost use Rattle.hid_input.specs.Recorded.{ordered_bytes, after_letter, bytes_behind, counted_bytes, recorded_bytes, has_recorded, is_colon, behind_number, is_heading, hex_below, dumped_hex, has_dumped};
 
 use crate::digits::number_of;
 use crate::fault::{InputCause, InputFault};
@@ -90,19 +90,14 @@ fn read_digits(alloc: Global, hex: &[u8]) -> Result<Vec<u8>, InputFault>
     }
 }
 
-/// The number of a count, or 0 where it is none.
-fn count_of(count: &[u8]) -> u64
-    ensures { result ≡ count_of count.now }
-{
-    number_of(count, 10).unwrap_or(0)
-}
-
 /// The bytes of `COUNT HEX` without white space at its ends, if they are so many.
 fn read_behind(alloc: Global, text: &[u8]) -> Result<Vec<u8>, InputFault>
     ensures bytes { IfOk result (λ read. bytes_behind text.now ≡ Some read.items) }
     ensures faults { (bytes : List ℕ) → bytes_behind text.now ≡ Some bytes → IfErr result (λ fault. fault.cause ≡ InputCause.Memory) }
 {
-    let said = count_of(before_space(text));
+    let Some(said) = number_of(before_space(text), 10) else {
+        return Err(InputFault::of_text(InputCause::NoCount));
+    };
     let bytes = read_digits(alloc, from_space(text))?;
     let found = bytes.len() as u64;
     if found != said {
@@ -148,7 +143,7 @@ fn read_first(alloc: Global, lines: &[&[u8]]) -> Result<Vec<u8>, InputFault>
 /// The descriptor of the first line that begins with `R:`: `COUNT HEX`.
 ///
 /// # Errors
-/// [`InputCause::BadCount`], what [`read_spelled`] refuses, with the line; [`InputCause::NoDescriptor`] where there is none.
+/// [`InputCause::NoCount`], [`InputCause::BadCount`], what [`read_spelled`] refuses, with the line; [`InputCause::NoDescriptor`] where there is none.
 pub fn read_recorded(alloc: Global, text: &[u8]) -> Result<Vec<u8>, InputFault>
     ensures bytes { IfOk result (λ read. recorded_bytes (lines_of text.now) ≡ Some read.items) }
     ensures faults { (bytes : List ℕ) → recorded_bytes (lines_of text.now) ≡ Some bytes
@@ -158,12 +153,41 @@ pub fn read_recorded(alloc: Global, text: &[u8]) -> Result<Vec<u8>, InputFault>
     read_first(alloc, lines.as_slice())
 }
 
-/// Whether a line is one that usbhid-dump prints in front of a descriptor.
+/// Where the first colon of a text stands.
+fn colon_place(text: &[u8]) -> Option<usize>
+    ensures place { result ≡ position is_colon text.now }
+    ensures bound { IfSome result (λ place. place < length text.now) }
+{
+    text.iter().position(|byte| *byte == b':')
+}
+
+/// What stands after a decimal number and a colon.
+#[tactic(auto, unfolding(crate::specs::Recorded::behind_number))]
+fn behind_number(text: &[u8]) -> Option<&[u8]>
+    ensures { option_copied result ≡ behind_number text.now }
+{
+    let place = colon_place(text)?;
+    let _number = number_of(&text[..place], 10)?;
+    Some(&text[place + 1..])
+}
+
+/// What stands after three decimal numbers, each with a colon.
+fn behind_address(text: &[u8]) -> Option<&[u8]>
+    ensures { option_copied result ≡ option_and_then behind_number (option_and_then behind_number (behind_number text.now)) }
+{
+    let device = behind_number(text)?;
+    let interface = behind_number(device)?;
+    behind_number(interface)
+}
+
+/// Whether a line is one that usbhid-dump prints in front of a descriptor: it begins with BUS:DEVICE:INTERFACE:DESCRIPTOR.
 fn is_heading(line: &[u8]) -> bool
     ensures { result ≡ is_heading line.now }
 {
-    line.split(|byte| byte.is_ascii_whitespace() || *byte == b':')
-        .any(|word| word == b"DESCRIPTOR".as_slice())
+    match behind_address(before_space(line)) {
+        Some(word) => word == b"DESCRIPTOR".as_slice(),
+        None => false,
+    }
 }
 
 /// The lines of hex with which lines begin, each with its end.

@@ -5,10 +5,10 @@ ghost use Rattle.hid_input.specs.Faults.{of_text};
 ghost use Rattle.std.specs.List.{list_any, list_all};
 ghost use Rattle.std.specs.Option.{option_map};
 ghost use Rattle.std.specs.Char.{is_ascii_hexdigit};
-ghost use Rattle.hid_input.specs.Hex.{is_separator, words_of, lines_of, is_one_word, is_long, are_long, is_bare, are_runs, runs_bytes, spelled_bytes, is_spelled_byte, is_spelled};
+ghost use Rattle.hid_input.specs.Hex.{is_separator, words_of, lines_of, is_one_word, is_long, are_long, is_bare, are_runs, runs_bytes, spelled_bytes, is_spelled_byte, begins_with_colon, begins_with_letter, is_marked_line, has_marked_line, is_spelled};
 
 use crate::fault::{InputCause, InputFault};
-use crate::parts::line_number;
+use crate::parts::{line_number, without_space};
 use crate::words::{WordForm, byte_in, is_h, is_x, read_words};
 use std::alloc::{AllocError, Global};
 
@@ -206,10 +206,43 @@ fn are_spelled_bytes(text: &[u8]) -> bool
     text.iter().all(|byte| is_spelled_byte(*byte))
 }
 
+/// Whether a line begins with a colon, as Intel HEX, or with one character and a colon that stand alone, as in hid-recorder's
+/// text.
+fn is_marked_line(line: &[u8]) -> bool
+    ensures { result ≡ is_marked_line line.now }
+{
+    let text = without_space(line);
+    begins_with_colon(text) || begins_with_letter(text)
+}
+
+/// Whether a colon is first.
+fn begins_with_colon(text: &[u8]) -> bool
+    ensures { result ≡ begins_with_colon text.now }
+{
+    text.len() >= 1 && text[0] == b':'
+}
+
+/// Whether one character and a colon are first, and white space or nothing after them.
+fn begins_with_letter(text: &[u8]) -> bool
+    ensures { result ≡ begins_with_letter text.now }
+{
+    text.len() >= 2 && text[1] == b':' && (text.len() == 2 || text[2].is_ascii_whitespace())
+}
+
+/// Whether some line of a text has such a mark.
+fn has_marked_line(text: &[u8]) -> bool
+    ensures { result ≡ has_marked_line text.now }
+{
+    text.split(|byte| *byte == b'\n').any(is_marked_line)
+}
+
 /// Whether a text may be bytes in hex: it has nothing but hex digits, marks and separators. Where a dash stands, no blank
-/// does: `od -t f4` writes numbers such as 7e-45.
+/// does: `od -t f4` writes numbers such as 7e-45. No line is one of Intel HEX, or one of hid-recorder.
 pub fn is_spelled(text: &[u8]) -> bool
     ensures { result ≡ is_spelled text.now }
 {
-    has_digit(text) && !(has_byte(text, b'-') && has_byte(text, b' ')) && are_spelled_bytes(text)
+    has_digit(text)
+        && !(has_byte(text, b'-') && has_byte(text, b' '))
+        && !has_marked_line(text)
+        && are_spelled_bytes(text)
 }
