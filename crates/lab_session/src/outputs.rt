@@ -1,19 +1,21 @@
 //! Output reports that a host sets, as they take effect.
 
-ghost use Rattle.std.specs.Prelude.{◌≡◌, ◌==◌, IfOk, IfSome};
-ghost use Rattle.lab_session.specs.Outputs.{IsAwaited, after_id, output_text};
+ghost use Rattle.std.specs.Prelude.{◌≡◌, ◌≢◌, ◌<◌, ℕ, None, Some, Ok, IfOk, IfSome};
+ghost use Rattle.lab_session.specs.Outputs.{IsAwaited, after_id, output_of_pending, output_set_by, output_text};
 
 use arrayvec::ArrayVec;
 use hid_layout::ReportKind;
 use hid_notation::print_bytes;
 use hid_stack::{Request, Rig};
-use hid_text::{Line, first_word, read_line};
+use hid_text::{Line, read_line};
 use std::alloc::{AllocError, Global};
+
+/// One more than the greatest number of a device: they count from 1.
+const NUMBERS: usize = 8;
 
 /// An Output report that a running request is to set.
 #[derive(Drop)]
 struct PendingOutput {
-    dev: u8,
     id: u8,
     bytes: ArrayVec<u8, 256>,
     /// Whether the device had these bytes before.
@@ -31,11 +33,10 @@ fn output_of(rig: &Rig, dev: u8, id: u8) -> &[u8] {
     }
 }
 
-/// The Output report that a line's request is to set, if it is such a request.
-fn pending_output(rig: &Rig, line: &Line) -> Option<PendingOutput> {
-    let Line::Begin { dev, request } = line else {
-        return None;
-    };
+/// The Output report that a request of a device is to set, if it is such a request.
+fn pending_output(rig: &Rig, dev: u8, request: &Request) -> Option<PendingOutput>
+    ensures { output_of_pending result ≡ output_set_by request.now }
+{
     let Request::SetReport {
         kind: ReportKind::Output,
         id,
@@ -44,9 +45,8 @@ fn pending_output(rig: &Rig, line: &Line) -> Option<PendingOutput> {
     else {
         return None;
     };
-    let is_held = output_of(rig, *dev, *id) == bytes.as_slice();
+    let is_held = output_of(rig, dev, *id) == bytes.as_slice();
     Some(PendingOutput {
-        dev: *dev,
         id: *id,
         bytes: ArrayVec::try_from(bytes.as_slice()).unwrap(),
         is_held,
@@ -66,67 +66,68 @@ fn after_id(id: u8, bytes: &[u8]) -> &[u8]
 impl PendingOutput {
     ghost use Rattle.std.specs.Prelude.{string_bytes};
 
-    /// Whether it is of this device.
-    fn is_of(&self, dev: u8) -> bool
-        ensures { result ≡ (self.now.dev == dev) }
-    {
-        self.dev == dev
-    }
-
-    /// Whether it took effect, by a try that ended the transfer as this says: the device has the bytes now and hadn't before, or
-    /// the transfer is done.
-    fn took_effect(&self, rig: &Rig, is_done: bool) -> bool {
-        is_done || (!self.is_held && output_of(rig, self.dev, self.id) == self.bytes.as_slice())
+    /// Whether it took effect on its device, by a try that ended the transfer as this says: the device has the bytes now and
+    /// hadn't before, or the transfer is done.
+    fn took_effect(&self, rig: &Rig, dev: u8, is_done: bool) -> bool {
+        is_done || (!self.is_held && output_of(rig, dev, self.id) == self.bytes.as_slice())
     }
 
     /// `D output ID HEX`, with its end: the bytes after the ID byte, where reports have one.
     ///
     /// # Errors
     /// Out of memory.
-    fn text(&self, alloc: Global) -> Result<String, AllocError>
+    fn text(&self, alloc: Global, dev: u8) -> Result<String, AllocError>
         ensures { IfOk result (λ text. string_bytes text
-            ≡ output_text self.now.dev self.now.id self.now.bytes.items) }
+            ≡ output_text dev self.now.id self.now.bytes.items) }
     {
-        let PendingOutput { dev, id, .. } = self;
+        let id = self.id;
         let mut text = format!(in alloc; "{dev} output {id}")?;
-        print_bytes(&mut text, after_id(*id, self.bytes.as_slice()))?;
+        print_bytes(&mut text, after_id(id, self.bytes.as_slice()))?;
         text.push_str("\n")?;
         Ok(text)
     }
 }
 
-/// The Output report that the request of a device is to set that began last, if one is.
+/// The Output report that the request of each device is to set that began last, by the number of the device, if one is.
 #[derive(Drop)]
 pub struct Outputs {
-    pending: Option<PendingOutput>,
-}
-
-/// Whether a line is one of requests.
-fn begins_request(line: &[u8]) -> bool {
-    match first_word(line) {
-        Some((first, _)) => first == b"begin".as_slice(),
-        None => false,
-    }
+    pending: [Option<PendingOutput>; NUMBERS],
 }
 
 impl Outputs {
     ghost use Rattle.std.specs.Prelude.{string_bytes};
+    ghost use Rattle.hid_requests.specs.declared.request.Request.{Request};
+    ghost use Rattle.hid_text.specs.declared.line.Line.TheVariants as Lines;
+    ghost use Rattle.hid_text.specs.Line.{meaning_of};
+    ghost use Rattle.lab_session.specs.Outputs.{BeginsRequestOf, awaited_at};
 
     /// None is to be set.
-    pub fn new() -> Self {
-        Outputs { pending: None }
+    pub fn new() -> Self
+        ensures { (dev : ℕ) → awaited_at result dev ≡ None }
+    {
+        Outputs {
+            pending: [None, None, None, None, None, None, None, None],
+        }
     }
 
-    /// Keeps which Output report a line is to set, if it begins a request.
-    pub fn note(&mut self, rig: &Rig, line: &[u8]) {
-        if begins_request(line) {
-            if let Ok(said) = &read_line(line) {
-                self.pending = pending_output(rig, said);
+    /// Keeps which Output report a line is to set, if it begins a request. Of other devices nothing changes.
+    pub fn note(&mut self, rig: &Rig, line: &[u8])
+        ensures its { (dev : ℕ) → (request : Request) → dev < 8
+            → meaning_of line.now ≡ Ok (Lines.Begin dev request)
+            → awaited_at self.new dev ≡ output_set_by request }
+        ensures others { (dev : ℕ) → (BeginsRequestOf line.now dev → ⊥)
+            → awaited_at self.new dev ≡ awaited_at self.old dev }
+    {
+        if let Ok(Line::Begin { dev, request }) = &read_line(line) {
+            let number = usize::from(*dev);
+            if number < NUMBERS {
+                self.pending[number] = pending_output(rig, *dev, request);
             }
         }
     }
 
-    /// The line of the Output report that took effect by a try of a device, if one did.
+    /// The line of the Output report that took effect by a try of a device, if one did: it isn't awaited any more then. Of other
+    /// devices nothing changes.
     ///
     /// # Errors
     /// Out of memory.
@@ -137,16 +138,21 @@ impl Outputs {
         dev: u8,
         is_done: bool,
     ) -> Result<Option<String>, AllocError>
-        ensures { IfOk result (λ told. IfSome told
-            (λ text. IsAwaited self.old.pending dev (string_bytes text))) }
+        ensures its { IfOk result (λ told. IfSome told
+            (λ text. IsAwaited (awaited_at self.old dev) dev (string_bytes text))) }
+        ensures once { IfOk result (λ told. IfSome told (λ _. awaited_at self.new dev ≡ None)) }
+        ensures others { (other : ℕ) → other ≢ dev
+            → awaited_at self.new other ≡ awaited_at self.old other }
     {
-        let text = match &self.pending {
-            Some(pending) if pending.is_of(dev) && pending.took_effect(rig, is_done) => {
-                pending.text(alloc)?
-            }
+        let number = usize::from(dev);
+        if number >= NUMBERS {
+            return Ok(None);
+        }
+        let text = match &self.pending[number] {
+            Some(pending) if pending.took_effect(rig, dev, is_done) => pending.text(alloc, dev)?,
             _ => return Ok(None),
         };
-        self.pending = None;
+        self.pending[number] = None;
         Ok(Some(text))
     }
 }
