@@ -98,6 +98,17 @@ fn file_trouble(alloc: Global, cause: LabCause, path: &str, error: &io::Error) -
     }
 }
 
+/// Why the last source has no next line: of a file that can't be read with the system's words.
+fn source_trouble(alloc: Global, sources: &[LabSource], cause: LabCause) -> Trouble {
+    let Some(source) = sources.last() else {
+        return Trouble::from(cause);
+    };
+    match source.file_failure() {
+        Some(error) => file_trouble(alloc, LabCause::Unreadable, source.name.as_str(), &error),
+        None => Trouble::from(cause),
+    }
+}
+
 /// Hands on what was printed, before a read that may have to wait.
 fn flush<W: Write>(writer: &mut W) -> Result<(), LabCause> {
     match writer.flush() {
@@ -136,7 +147,7 @@ fn count_sources(sources: &[LabSource], is_body: bool) -> usize {
         .count()
 }
 
-/// Takes the lines up to the `end` of a `repeat`, which come next then.
+/// Takes the lines up to the `end` of a `repeat`, which come next then. Without an `end` the source stands at the `repeat` again.
 fn open_body<W: Write>(
     alloc: Global,
     sources: &mut Vec<LabSource>,
@@ -159,7 +170,10 @@ fn open_body<W: Write>(
             flush(writer)?;
         }
         match sources[last].next_line(&mut line)? {
-            LineEnd::NoLine => return Err(LabCause::Unpaired),
+            LineEnd::NoLine => {
+                sources[last].line = before;
+                return Err(LabCause::Unpaired);
+            }
             LineEnd::Line => match body.add(line.as_slice())? {
                 Added::Open => {}
                 Added::TooLong => return Err(LabCause::TooDeep),
@@ -224,6 +238,10 @@ fn read_descriptor(rt: &HostRuntime, path: &str) -> Result<Vec<u8>, Trouble> {
         Err(error) => return Err(file_trouble(alloc, LabCause::Unreadable, path, &error)),
     };
     match descriptor_in(alloc, bytes.as_slice()) {
+        Ok(descriptor) if descriptor.is_empty() => Err(Trouble {
+            cause: LabCause::NoDescriptor,
+            words: format!(in alloc; "{path}: no descriptor").ok(),
+        }),
         Ok(descriptor) => Ok(descriptor),
         Err(
             InputFault {
@@ -249,7 +267,10 @@ fn give<W: Write>(
     let alloc = rt.alloc();
     match asked {
         Asked::End => Err(Trouble::from(LabCause::Unpaired)),
-        Asked::Repeat { count } => Ok(open_body(alloc, sources, count, writer)?),
+        Asked::Repeat { count } => match open_body(alloc, sources, count, writer) {
+            Ok(()) => Ok(()),
+            Err(cause) => Err(source_trouble(alloc, sources.as_slice(), cause)),
+        },
         Asked::Include(name) => include(rt, sources, name),
         Asked::Device { start, boot, name } => {
             let path = path_of(alloc, sources.as_slice(), name)?;
@@ -270,8 +291,10 @@ fn run_line<W: Write>(
     line: &mut Vec<u8>,
     writer: &mut W,
 ) -> Result<bool, Trouble> {
-    if !take_line(sources, line, writer)? {
-        return Ok(false);
+    match take_line(sources, line, writer) {
+        Ok(true) => {}
+        Ok(false) => return Ok(false),
+        Err(cause) => return Err(source_trouble(rt.alloc(), sources.as_slice(), cause)),
     }
     let line = line.as_slice();
     match bench.line(line, writer) {

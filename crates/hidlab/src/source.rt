@@ -6,7 +6,7 @@ use lab_lines::{Body, MAX_LAB_LINE};
 use lab_session::LabCause;
 use std::alloc::Global;
 use std::fs::File;
-use std::io::{BufRead, BufReader, ErrorKind, Read, Stdin};
+use std::io::{self, BufRead, BufReader, ErrorKind, Read, Stdin};
 
 /// How often a line asks its reader at most.
 const MAX_READS: u32 = 1_000_000;
@@ -38,6 +38,8 @@ pub struct LabSource {
     pub line: u64,
     /// The line of its file before the first one of a body.
     before: u64,
+    /// What the system said where a read failed.
+    failure: Option<io::Error>,
 }
 
 /// Adds bytes of a line, up to one more than a line has with its return.
@@ -70,10 +72,11 @@ fn take_front(line: &mut Vec<u8>, front: &[u8]) -> Result<(usize, bool), LabCaus
     }
 }
 
-/// Reads a line. A read that is interrupted is tried again.
+/// Reads a line. A read that is interrupted is tried again; what the system says of one that fails is kept.
 fn read_line<R: Read + Drop>(
     reader: &mut BufReader<R>,
     line: &mut Vec<u8>,
+    failure: &mut Option<io::Error>,
 ) -> Result<LineEnd, LabCause> {
     line.clear();
     for _ in 0..MAX_READS {
@@ -87,7 +90,10 @@ fn read_line<R: Read + Drop>(
             }
             Ok(front) => take_front(line, front)?,
             Err(error) if error.kind() == ErrorKind::Interrupted => (0, false),
-            Err(_) => return Err(LabCause::Script(Cause::Read)),
+            Err(error) => {
+                *failure = Some(error);
+                return Err(LabCause::Script(Cause::Read));
+            }
         };
         reader.consume(taken);
         if is_whole {
@@ -106,6 +112,7 @@ impl LabSource {
             name,
             line: 0,
             before: 0,
+            failure: None,
         }
     }
 
@@ -116,6 +123,7 @@ impl LabSource {
             name,
             line: 0,
             before: 0,
+            failure: None,
         }
     }
 
@@ -126,12 +134,21 @@ impl LabSource {
             name,
             line: before,
             before,
+            failure: None,
         }
     }
 
     /// Whether it is the body of a `repeat`.
     pub fn is_body(&self) -> bool {
         matches!(&self.lines, Lines::Repeated(_))
+    }
+
+    /// What the system said where a read of a file failed; none of standard input.
+    pub fn file_failure(&self) -> Option<io::Error> {
+        match &self.lines {
+            Lines::File(_) => self.failure,
+            Lines::Input(_) | Lines::Repeated(_) => None,
+        }
     }
 
     /// Whether a read may have to wait: nothing is there that was read and not taken.
@@ -149,8 +166,8 @@ impl LabSource {
     /// X2, X5, X7 and X8, at the line that was to come.
     pub fn next_line(&mut self, line: &mut Vec<u8>) -> Result<LineEnd, LabCause> {
         let end = match &mut self.lines {
-            Lines::Input(reader) => read_line(reader, line),
-            Lines::File(reader) => read_line(reader, line),
+            Lines::Input(reader) => read_line(reader, line, &mut self.failure),
+            Lines::File(reader) => read_line(reader, line, &mut self.failure),
             Lines::Repeated(body) => {
                 return match body.next_line(line)? {
                     Some(number) => {
