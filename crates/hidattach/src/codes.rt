@@ -12,7 +12,7 @@ These end it, with exit status 1:
   A5: an answer with more bytes than were asked for
   A6: the device is gone
   A8: the connection ended too early
-  A9: an answer took too long
+  A9: an answer took too long, or transfers failed without an end
   A10: no interface of the device can be read
   A14: an interface's endpoint stays halted
   H8: the device refused the request

@@ -71,7 +71,7 @@ abbrev pub end_after_fault : DriverFault → DriverValue → Option End
 end_after_fault drivers.Memory driver = Some (Import imports.Memory)
 end_after_fault fault driver = if is_refused driver.state then Some (Device fault) else end_if_unread driver
 
--- an interface whose halt couldn't be cleared ends the session: what is held of it could be released by a reset alone
+-- an interface whose halt couldn't be cleared ends the session: what is held of it is released at the end alone
 abbrev pub end_after_move : Moved → DriverValue → Option End
 end_after_move (moves.Stopped place) driver = Some (if is_unread driver then Unread else ends.Stopped)
 end_after_move moved driver = end_if_unread driver

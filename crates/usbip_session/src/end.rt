@@ -18,7 +18,7 @@ pub enum End {
     Device(DriverFault),
     /// A8: the connection ended before the device was read, in a message, or with a request unanswered.
     Early,
-    /// A9: an answer, or the rest of a message, took too long.
+    /// A9: an answer, or the rest of a message, took too long, or transfers failed without an end.
     Late,
     /// A10: no interface of the device can be read.
     Unread,

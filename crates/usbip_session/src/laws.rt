@@ -3,7 +3,8 @@ ghost use Rattle.std.specs.Prelude.{◌≡◌, ◌≤◌, ◌+◌, ◌*◌, ℕ,
 ghost use Rattle.usbip_session.specs.declared.timer.Answer.{Answer};
 ghost use Rattle.usbip_session.specs.Failures.{AreApart, BringNoReport, GoesOn, failing_time, failure_times};
 
-/// Failures of an interface that go on, with no report between them, make an endless row. Answers without a report change nothing.
+/// Failures of an interface that go on, with no report and no packet of one between them, make an endless row. Answers without a
+/// report change nothing.
 #[tactic(auto, using(crate::proofs::FailureLemmas::sixteen_end, crate::proofs::FailureLemmas::failures_end))]
 pub fn failures_end()
     // Of failures over a second apart, however far, at most fifteen go by.

@@ -7,7 +7,8 @@ use hid_driver::{Driver, DriverFault, InterfaceCause, InterfaceState, Moved};
 use std::fmt;
 use usbip_import::Told;
 
-/// What is reported while a session goes on, and ends nothing. It is printed in words, with the code of a refusal.
+/// What is reported while a session goes on. Only [`Notice::Stopped`] also ends it. It is printed in words, with the code of a
+/// refusal.
 #[derive(Clone, Copy, Debug, PartialEq, Eq)]
 pub enum Notice {
     /// The reports of an interface are read from now on.
@@ -22,7 +23,7 @@ pub enum Notice {
         /// Why.
         cause: InterfaceCause,
     },
-    /// The device refused to clear the halt of an interface's endpoint: its reports aren't read any more.
+    /// The halt of an interface's endpoint couldn't be cleared: its reports aren't read any more.
     Stopped {
         /// Its place in the list of the driver.
         interface: usize,

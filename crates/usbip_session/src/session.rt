@@ -390,7 +390,7 @@ impl Session {
     }
 
     /// What ends the session after a message led to this: the device can't be read, memory ran out, no interface is read, or one is
-    /// stopped. What is held of a stopped interface could be released by a reset alone, for which USB/IP has no message.
+    /// stopped. What is held of a stopped interface is released at the end alone.
     pub fn end_after(&self, told: Told) -> Option<End>
         ensures { result ≡ end_after told self.now.import.driver }
     {
