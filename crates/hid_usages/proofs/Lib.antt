@@ -3,6 +3,7 @@ pub mod UsageLemmas
 pub mod ViewLemmas
 pub mod NamedLemmas
 pub mod KeyLemmas
+pub mod KeySearchLemmas
 pub mod TakeLemmas
 pub mod PressLemmas
 pub mod BitLemmas

@@ -1,5 +1,6 @@
 -- The keys that the elements of an array name, as they are read one by one (HID 1.11, 6.2.2.5 and appendix C).
-use Rattle.std.specs.Prelude.{◌≡◌, ℕ, ◌*◌, ◌≤◌, Bool, true, false, not, List, [], ◌∷◌, ◌++◌, length, replicate, take, Option, ℤ}
+use Rattle.std.specs.Prelude.{◌≡◌, ℕ, ◌*◌, ◌≤◌, ◌==◌, ◌&&◌, Bool, true, false, not, List, [], ◌∷◌, ◌++◌, length, replicate, take, Option, ℤ}
+use Rattle.std.specs.Int.{bit_at}
 use Rattle.std.specs.List.{list_any}
 use Rattle.hid_report_descriptor.specs.declared.usage.Usage.{Usage}
 use Rattle.hid_report_descriptor.specs.Usages.{usage_list}
@@ -66,6 +67,10 @@ pub record KeepsOtherFlags (array : KeyArray) (old new : List Bool) : Type 0 whe
 -- no flag from a place on is set
 abbrev pub NoneSetFrom : ℕ → List Bool → Type 0
 NoneSetFrom n flags = (i : ℕ) → n ≤ i → is_on flags i ≡ false
+
+-- the bit is 1 in the first word and 0 in the second
+abbrev pub is_alone_bit : ℕ → ℕ → ℕ → Bool
+is_alone_bit word other b = (bit_at word b == 1) && not (bit_at other b == 1)
 
 -- the events of an array's keys, by the flags before and those after, which may be more: each release, and then each press
 abbrev pub flag_events : ℕ → List Usage → List Bool → List Bool → List Event

@@ -51,6 +51,7 @@ fn next_by_word(held: &Flags, index: usize, word: u64, from: usize) -> Option<us
 }
 
 /// The first switch from one on, before an end, that its number changes.
+#[inline(always)]
 fn next_by_number<C: FieldCodec>(
     held: &Flags,
     numbers: &FieldRun<'_>,
@@ -113,6 +114,9 @@ fn next_switch<C: FieldCodec>(
     // For the prover: how many switches there are at most.
     let _ = held.len();
 
+    if end <= from {
+        return None;
+    }
     for k in from / 64..end.div_ceil(64) {
         match next_of_64::<C>(held, numbers, k, from.max(64 * k)) {
             Some(index) => return Some(index),

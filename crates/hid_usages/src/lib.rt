@@ -29,6 +29,7 @@ mod changed_bits;
 mod dropped_motion;
 mod elements;
 mod key_array;
+mod key_search;
 pub mod laws;
 mod plan;
 mod planned_report;
