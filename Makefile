@@ -12,6 +12,7 @@ SCRIPT ?= examples/layouts/mouse.script
 ARGS ?=
 COUNT ?= 20000
 SEED ?= 1
+SOURCE ?=
 PREFIX ?= /usr/local
 LIBDIR ?= $(PREFIX)/lib
 DESTDIR ?=
@@ -20,7 +21,7 @@ VERSION := 0.2.0
 LIBRARY_VERSION := $(shell sed -n 's/^\#define HIDSTACK_VERSION "\(.*\)"/\1/p' include/hidstack.h)
 MAJOR := $(firstword $(subst ., ,$(LIBRARY_VERSION)))
 
-.PHONY: run test try hidrun hidplay hidmap hidlab hidserve hidattach bench examples library library-test library-check library-cost scale play-cost install deb deb-test documents tour format memory refusals mutants descriptors compare-linux help clean
+.PHONY: run test try hidrun hidplay hidmap hidlab hidserve hidattach bench examples library library-test library-check library-cost linux-cost scale play-cost install deb deb-test documents tour format memory refusals mutants descriptors compare-linux help clean
 
 # The first line of each recipe that starts the toolchain: without `rt`, make ends with one line.
 NEEDS_RT = $(if $(shell command -v rt),,$(error rt is missing: it is in the bin folder of the Rattle kit, rattle-kit-13 (logic dac8208d650f15bf), which belongs on the PATH))
@@ -100,6 +101,12 @@ library-check: library  ## runs them under valgrind and the sanitizers, and with
 # beside their limits: the table of docs/C.md.
 library-cost: library  ## counts the instructions of calls of the C library
 	tools/measure/cost library
+
+# Counts the instructions of reports of some 200 devices, by callgrind: here, in Linux's HID core and in decoders written by hand:
+# the tables of docs/SPEED.md. It needs valgrind and a C compiler, fetches Linux's source into bin/linux by Debian's apt, or takes
+# that of SOURCE, and says what it leaves out.
+linux-cost: $(BENCH) library  ## counts the instructions of reports beside Linux's HID core: SOURCE=FOLDER
+	tools/measure/linux $(if $(SOURCE),--source $(SOURCE))
 
 # Programs, the two tools for many recordings, library, header, pkg-config file, manual pages, completion, documents and
 # examples. LIBDIR is the folder of the libraries. The pages of the library's calls are made from its header.
