@@ -1,6 +1,7 @@
+mod CodeLemmas
 mod DecimalLemmas
 mod DumpLemmas
-mod FormLemmas
+mod ListedLemmas
 mod NumberLemmas
 mod RecordLemmas
 mod Vectors

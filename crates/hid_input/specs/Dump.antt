@@ -1,26 +1,21 @@
 -- Dumps: rows of bytes after offsets, which count the bytes so far (our choice: docs/PICTURES.md).
 use Rattle.std.specs.Prelude.{◌≡◌, ℕ, ◌==◌, ◌-◌, ◌+◌, ◌/◌, Bool, true, false, not, ◌&&◌, ◌||◌, nat_le, List, [], ◌∷◌, ◌++◌, length, slice_index, take, drop, map, if◌then◌else◌, Option, None, Some, zero, suc}
-use Rattle.std.specs.List.{zip, position, suffix_len, flat_map, All, Contains}
+use Rattle.std.specs.List.{zip, position, flat_map, All, Contains}
 use Rattle.std.specs.Str.{bytes_eq}
 use Rattle.std.specs.Option.{option_or, option_and_then, option_to_list}
-use Rattle.std.specs.Char.{is_ascii_whitespace, is_ascii_alphanumeric}
+use Rattle.std.specs.Char.{is_ascii_alphanumeric}
 use Rattle.hid_input.specs.declared.words.WordForm.{WordForm}
 use Rattle.hid_input.specs.declared.words.WordForm.TheVariants.{Pair, Run, Swapped, Octal, Decimal, Signed}
 use Rattle.hid_input.specs.declared.dump.DumpBytes.{DumpBytes}
 use Rattle.hid_input.specs.declared.dump.DumpEnd.{DumpEnd}
 use Rattle.hid_input.specs.declared.dump.DumpEnd.TheVariants.{Read, Line}
-use Rattle.hid_input.specs.Numbers.{number_of, without_space}
+use Rattle.hid_input.specs.Numbers.{number_of, trimmed_text}
 use Rattle.hid_input.specs.Words.{words_by, all_bytes, word_bytes}
 use Rattle.hid_input.specs.Hex.{lines_of, in_front}
 
 -- a blank or a tab
 abbrev pub is_blank : ℕ → Bool
 is_blank byte = (byte == 32) || (byte == 9)
-
--- a text without the white space at both of its ends
-abbrev pub trimmed_text : List ℕ → List ℕ
-trimmed_text text =
-    take (length (without_space text) - suffix_len is_ascii_whitespace (without_space text)) (without_space text)
 
 -- a tool writes offsets of this base with so many digits: seven octal or decimal ones (od), eight decimal ones (xxd -d), and hex
 -- ones from two on: Wireshark four, od six, xxd and hexdump eight

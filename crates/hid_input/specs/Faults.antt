@@ -1,5 +1,5 @@
 -- Why a file has no descriptor, of the whole text or of a line of it (our choice: docs/PICTURES.md).
-use Rattle.std.specs.Prelude.{◌≡◌, ◌⊎◌, ℕ, List, [], ◌++◌, Option, None, Some, codes}
+use Rattle.std.specs.Prelude.{◌≡◌, ◌==◌, ◌⊎◌, ℕ, if◌then◌else◌, List, [], ◌++◌, Option, None, Some, codes}
 use Rattle.std.specs.Fmt.{decimal}
 use Rattle.hid_input.specs.declared.fault.InputCause.{InputCause}
 use Rattle.hid_input.specs.declared.fault.InputCause.TheVariants.{BadHex, NoCount, BadCount, BadArray, BadEscape, SeveralStrings, WordOrder, Offset, Dump, BadItem, TwoWays, Utf16, NoDescriptor, Memory}
@@ -17,12 +17,16 @@ of_line line cause = record { line = Some line; cause = cause }
 abbrev pub IsOfHex : InputFault → Type 0
 IsOfHex fault = (fault ≡ of_text Memory) ⊎ (fault ≡ of_text TwoWays)
 
+-- how many bytes there are, in words
+abbrev pub bytes_text : ℕ → List ℕ
+bytes_text found =
+    if found == 1 then codes ", there is 1 byte" else codes ", there are " ++ (decimal found ++ codes " bytes")
+
 -- the cause of a fault, in words
 abbrev pub cause_text : InputCause → List ℕ
 cause_text BadHex = codes "a byte isn't two hex digits"
 cause_text NoCount = codes "the count is missing, or no number"
-cause_text (BadCount said found) =
-    codes "the count says " ++ (decimal said ++ (codes ", there are " ++ (decimal found ++ codes " bytes")))
+cause_text (BadCount said found) = codes "the count says " ++ (decimal said ++ bytes_text found)
 cause_text BadArray = codes "an element of the array is no byte"
 cause_text BadEscape = codes "an escape of the string is no byte, or a digit follows it"
 cause_text SeveralStrings = codes "a string beside others, or a single character: which bytes are meant isn't known"

@@ -1,58 +1,62 @@
 -- The forms of text that have a descriptor (our choice: docs/PICTURES.md).
-use Rattle.std.specs.Prelude.{◌≡◌, ℕ, Bool, true, false, List, Some}
+use Rattle.std.specs.Prelude.{◌≡◌, ◌⊎◌, ℕ, List, Some, if◌then◌else◌}
 use Rattle.hid_input.specs.declared.fault.InputCause.TheVariants.{Memory}
 use Rattle.hid_input.specs.declared.fault.InputFault.{InputFault}
-use Rattle.hid_input.specs.Faults.{IsOfHex}
+use Rattle.hid_input.specs.declared.form.TextForm.{TextForm}
+use Rattle.hid_input.specs.declared.form.TextForm.TheVariants.{Dump, Hex, Recorded, Dumped, Listed, Array, Quoted, Other}
+use Rattle.hid_input.specs.Faults.{of_text, IsOfHex}
 use Rattle.hid_input.specs.Hex.{lines_of, first_word, is_offset, is_spelled, spelled_bytes}
 use Rattle.hid_input.specs.Dump.{IsDump, HasNoOthers}
 use Rattle.hid_input.specs.Decimal.{IsOnlyHex}
-use Rattle.hid_input.specs.Recorded.{has_recorded, recorded_bytes, has_dumped, dumped_hex, ordered_bytes}
+use Rattle.hid_input.specs.Recorded.{has_recorded, recorded_bytes, has_dumped, block_below, block_bytes}
+use Rattle.hid_input.specs.Listed.{has_listed, listed_bytes}
+use Rattle.hid_input.specs.Code.{code_of, has_array, array_bytes}
+use Rattle.hid_input.specs.Strings.{has_string}
 
--- a dump, hex, a line R: of hid-recorder, lines of hex of usbhid-dump; or what lsusb prints, an array or a string of C, or nothing
-pub data TextForm : Type 0 where
-  Dump : TextForm
-  Hex : TextForm
-  Recorded : TextForm
-  Dumped : TextForm
-  Other : TextForm
+-- the form of a text without comments: an array of C, a string, or none
+abbrev pub form_of_code : List ℕ → TextForm
+form_of_code code = if has_array code then Array else (if has_string code then Quoted else Other)
 
--- the first of these that a text has
-abbrev pub first_form : Bool → Bool → Bool → Bool → TextForm
-first_form true hex recorded dumped = Dump
-first_form false true recorded dumped = Hex
-first_form false false true dumped = Recorded
-first_form false false false true = Dumped
-first_form false false false false = Other
-
--- a text is a dump if its first word is an offset by its looks
+-- the first form that a text has: a dump if its first word is an offset by its looks, hex, a line R: of hid-recorder, lines of
+-- usbhid-dump, items of lsusb, or an array or a string of C
 unfoldable pub form_of : List ℕ → TextForm
-form_of text = first_form (is_offset (first_word text)) (is_spelled text) (has_recorded text) (has_dumped text)
+form_of text =
+    if is_offset (first_word text) then Dump
+    else (if is_spelled text then Hex
+    else (if has_recorded text then Recorded
+    else (if has_dumped text then Dumped
+    else (if has_listed text then Listed else form_of_code (code_of text)))))
 
--- a text of a form encodes these bytes; of other forms nothing is said
+-- a text of a form encodes these bytes; of a string nothing is said, and other text encodes none
 abbrev pub Encodes : List ℕ → List ℕ → TextForm → Type 0
 Encodes text bytes Dump = IsDump text bytes
 Encodes text bytes Hex = spelled_bytes text ≡ Some bytes
 Encodes text bytes Recorded = recorded_bytes (lines_of text) ≡ Some bytes
-Encodes text bytes Dumped = ordered_bytes (dumped_hex (lines_of text)) ≡ Some bytes
-Encodes text bytes Other = Unit {0}
+Encodes text bytes Dumped = block_bytes (block_below (lines_of text)) ≡ Some bytes
+Encodes text bytes Listed = listed_bytes (lines_of text) ≡ Some bytes
+Encodes text bytes Array = array_bytes (code_of text) ≡ Some bytes
+Encodes text bytes Quoted = Unit {0}
+Encodes text bytes Other = ⊥
 
--- a dump is no dump of other bytes in another way; hex is neither that, nor decimal numbers that are other bytes
+-- a dump is no dump of other bytes in another way, nor are lines of usbhid-dump one; hex is neither that, nor numbers that are other bytes
 abbrev pub IsAlone : List ℕ → List ℕ → TextForm → Type 0
 IsAlone text bytes Dump = HasNoOthers text bytes
 IsAlone text bytes Hex = IsOnlyHex text bytes
-IsAlone text bytes Recorded = Unit {0}
-IsAlone text bytes Dumped = Unit {0}
-IsAlone text bytes Other = Unit {0}
+IsAlone text bytes Dumped = HasNoOthers (block_below (lines_of text)) bytes
+IsAlone text bytes form = Unit {0}
 
--- why text that encodes bytes is refused: memory ran out, or a dump or hex can be read in another way too, which gives other bytes
+-- why text that encodes bytes is refused: memory ran out, or it can be read in another way too, which gives other bytes
 abbrev pub IsFaultOf : InputFault → TextForm → Type 0
 IsFaultOf fault Dump = IsOfHex fault
 IsFaultOf fault Hex = IsOfHex fault
 IsFaultOf fault Recorded = fault.cause ≡ Memory
-IsFaultOf fault Dumped = fault.cause ≡ Memory
-IsFaultOf fault Other = Unit {0}
+IsFaultOf fault Dumped = IsOfHex fault
+IsFaultOf fault Listed = fault.cause ≡ Memory
+IsFaultOf fault Array = fault ≡ of_text Memory
+IsFaultOf fault Quoted = Unit {0}
+IsFaultOf fault Other = ⊥
 
--- memory ran out; of other forms nothing is said
+-- memory ran out; of strings nothing is said
 abbrev pub IsMemoryOf : InputFault → TextForm → Type 0
-IsMemoryOf fault Other = Unit {0}
+IsMemoryOf fault Quoted = Unit {0}
 IsMemoryOf fault form = fault.cause ≡ Memory

@@ -1,10 +1,15 @@
+pub mod Code
 pub mod Decimal
 pub mod Dump
 pub mod Faults
 pub mod Forms
 pub mod Hex
+pub mod Known
+pub mod Listed
 pub mod Numbers
+pub mod Parts
 pub mod Readings
 pub mod Recorded
+pub mod Strings
 pub mod Text
 pub mod Words

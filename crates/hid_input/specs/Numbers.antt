@@ -1,6 +1,6 @@
 -- Digits, and the numbers and bytes that they encode (our choice: docs/PICTURES.md).
-use Rattle.std.specs.Prelude.{ℕ, ◌==◌, ◌-◌, ◌^◌, min, Bool, ◌&&◌, nat_le, nat_lt, List, length, slice_index, drop, if◌then◌else◌, Option, None, Some}
-use Rattle.std.specs.List.{list_all, prefix_len}
+use Rattle.std.specs.Prelude.{ℕ, ◌==◌, ◌-◌, ◌^◌, min, Bool, ◌&&◌, nat_le, nat_lt, List, length, slice_index, take, drop, if◌then◌else◌, Option, None, Some}
+use Rattle.std.specs.List.{list_all, prefix_len, suffix_len}
 use Rattle.std.specs.Option.{option_and_then}
 use Rattle.std.specs.Char.{digit_value, is_ascii_whitespace}
 use Rattle.std.specs.Str.Parse.{digits_value}
@@ -40,6 +40,11 @@ decimal_byte word =
 -- a text without the white space in front of it
 abbrev pub without_space : List ℕ → List ℕ
 without_space text = drop (prefix_len is_ascii_whitespace text) text
+
+-- a text without the white space at both of its ends
+abbrev pub trimmed_text : List ℕ → List ℕ
+trimmed_text text =
+    take (length (without_space text) - suffix_len is_ascii_whitespace (without_space text)) (without_space text)
 
 -- a decimal number at the right of so many columns
 abbrev pub column_byte : ℕ → List ℕ → Option ℕ

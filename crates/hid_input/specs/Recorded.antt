@@ -1,14 +1,14 @@
 -- Descriptors in what hid-recorder and usbhid-dump print (our choice: docs/PICTURES.md).
 use Rattle.std.specs.Prelude.{ℕ, ◌==◌, Bool, false, not, ◌&&◌, ◌||◌, nat_le, List, [], ◌∷◌, ◌++◌, length, slice_index, drop, is_some, if◌then◌else◌, Option, None, Some, ◌+◌, take, codes}
-use Rattle.std.specs.List.{slice_split, list_any, position}
+use Rattle.std.specs.List.{slice_split, list_any, list_all, position}
 use Rattle.std.specs.Str.{bytes_eq}
 use Rattle.std.specs.Option.{option_or, option_and_then}
 use Rattle.std.specs.Char.{is_ascii_whitespace}
 use Rattle.hid_input.specs.declared.words.WordForm.TheVariants.{Run}
-use Rattle.hid_input.specs.Numbers.{number_of, without_space}
+use Rattle.hid_input.specs.Numbers.{number_of, without_space, trimmed_text}
 use Rattle.hid_input.specs.Words.{all_bytes, word_bytes}
 use Rattle.hid_input.specs.Hex.{lines_of, spelled_bytes, is_spelled, before_space}
-use Rattle.hid_input.specs.Dump.{trimmed_text, from_place}
+use Rattle.hid_input.specs.Dump.{from_place}
 
 -- the bytes of hex whose tool writes them in their order: runs of digits, or another spelling
 unfoldable pub ordered_bytes : List ℕ → Option (List ℕ)
@@ -72,17 +72,21 @@ abbrev pub is_heading : List ℕ → Bool
 is_heading line =
     is_descriptor_word (option_and_then behind_number (option_and_then behind_number (behind_number (before_space line))))
 
--- the lines of hex with which lines begin, each with its end
-abbrev pub hex_below : List (List ℕ) → List ℕ
-hex_below [] = []
-hex_below (line ∷ lines) = if is_spelled line then line ++ (10 ∷ hex_below lines) else []
+-- the lines with which lines begin, up to an empty one, each with its end
+abbrev pub block_of : List (List ℕ) → List ℕ
+block_of [] = []
+block_of (line ∷ lines) = if list_all is_ascii_whitespace line then [] else line ++ (10 ∷ block_of lines)
 
--- the lines of hex below the first heading that has some
-abbrev pub dumped_hex : List (List ℕ) → List ℕ
-dumped_hex [] = []
-dumped_hex (line ∷ lines) =
-    if is_heading line && not (length (hex_below lines) == 0) then hex_below lines else dumped_hex lines
+-- the lines below the first heading that has some, up to an empty one
+abbrev pub block_below : List (List ℕ) → List ℕ
+block_below [] = []
+block_below (line ∷ lines) =
+    if is_heading line && not (length (block_of lines) == 0) then block_of lines else block_below lines
 
 -- a text has such lines
 abbrev pub has_dumped : List ℕ → Bool
-has_dumped text = not (length (dumped_hex (lines_of text)) == 0)
+has_dumped text = not (length (block_below (lines_of text)) == 0)
+
+-- the bytes of such lines, if all are hex
+unfoldable pub block_bytes : List ℕ → Option (List ℕ)
+block_bytes block = if is_spelled block then ordered_bytes block else None

@@ -4,8 +4,8 @@ use Rattle.std.specs.List.{filter, slice_split}
 use Rattle.std.specs.Option.{option_map, option_or, option_and_then}
 use Rattle.std.specs.Char.{digit_value}
 use Rattle.hid_input.specs.declared.words.WordForm.{WordForm}
-use Rattle.hid_input.specs.declared.words.WordForm.TheVariants.{Byte, Pair, Run, Swapped, Octal, Decimal, Signed, Number}
-use Rattle.hid_input.specs.Numbers.{byte_in_base, octal_byte, column_byte}
+use Rattle.hid_input.specs.declared.words.WordForm.TheVariants.{Byte, Pair, Run, Swapped, Octal, Decimal, Signed, Number, Element}
+use Rattle.hid_input.specs.Numbers.{byte_in_base, octal_byte, column_byte, trimmed_text}
 
 -- the words of a text: what stands between the bytes that part them
 abbrev pub words_by : (ℕ → Bool) → List ℕ → List (List ℕ)
@@ -60,6 +60,37 @@ marked_digits word =
 abbrev pub byte_of_word : List ℕ → Option ℕ
 byte_of_word word = option_or (byte_of_pair word) (option_and_then byte_of_digits (marked_digits word))
 
+-- a number that is marked as hex in C
+abbrev pub is_prefixed : List ℕ → Bool
+is_prefixed word = nat_le 2 (length word) && ((slice_index word 0 == 48) && is_x (slice_index word 1))
+
+-- the byte of a number: in hex behind 0x, else in decimal
+abbrev pub number_byte : List ℕ → Option ℕ
+number_byte word = if is_prefixed word then byte_in_base 16 (drop 2 word) else byte_in_base 10 word
+
+-- one byte, if two readings give it
+abbrev pub same_byte : Option ℕ → Option ℕ → Option ℕ
+same_byte None other = None
+same_byte (Some one) None = None
+same_byte (Some one) (Some other) = if one == other then Some one else None
+
+-- the byte of a number of C: one that begins with 0 is octal, and is taken if it is the same in decimal (C11, 6.4.4.1)
+abbrev pub constant_byte : List ℕ → Option ℕ
+constant_byte word =
+    if is_prefixed word then byte_in_base 16 (drop 2 word)
+    else (if nat_le 1 (length word) && (slice_index word 0 == 48) then same_byte (byte_in_base 8 word) (byte_in_base 10 word)
+    else byte_in_base 10 word)
+
+-- a number without the u or U that may stand behind it
+abbrev pub without_suffix : List ℕ → List ℕ
+without_suffix word =
+    if nat_le 1 (length word) && ((slice_index word (length word - 1) == 117) || (slice_index word (length word - 1) == 85))
+    then take (length word - 1) word else word
+
+-- the byte of an element of an array of C
+abbrev pub element_byte : List ℕ → Option ℕ
+element_byte word = constant_byte (without_suffix (trimmed_text word))
+
 -- the bytes of a run of digits, two for each byte
 abbrev pub run_bytes : List ℕ → Option (List ℕ)
 run_bytes [] = Some []
@@ -75,4 +106,5 @@ word_bytes Swapped word = option_map reverse (run_bytes word)
 word_bytes Octal word = single_byte (octal_byte word)
 word_bytes Decimal word = single_byte (column_byte 4 word)
 word_bytes Signed word = single_byte (column_byte 5 word)
-word_bytes Number word = single_byte (byte_in_base 10 word)
+word_bytes Number word = single_byte (number_byte word)
+word_bytes Element word = single_byte (element_byte word)

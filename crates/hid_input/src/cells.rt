@@ -5,8 +5,8 @@ ghost use Rattle.std.specs.Option.{option_map};
 ghost use Rattle.hid_input.specs.Words.{words_by, all_bytes, word_bytes};
 ghost use Rattle.hid_input.specs.Dump.{is_blank, cells_bytes, shown_bytes, enclosed_bytes, parted_bytes, words_row, pieces, row_bytes};
 
-use crate::columns::{front_of, gap_place, has_characters, is_blank, place_of};
-use crate::parts::trimmed_text;
+use crate::columns::{front_of, gap_place, has_characters, is_blank};
+use crate::parts::{place_of, trimmed_text};
 use crate::words::{WordForm, read_words};
 use std::alloc::{AllocError, Global};
 
@@ -21,8 +21,15 @@ fn words_at_blanks(alloc: Global, cells: &[u8]) -> Result<Vec<&[u8]>, AllocError
 }
 
 /// The bytes of words at blanks; none where another word stands.
+///
+/// # Errors
+/// Out of memory.
 #[tactic(auto, unfolding(crate::specs::Dump::cells_bytes))]
-fn read_cells(alloc: Global, cells: &[u8], form: WordForm) -> Result<Option<Vec<u8>>, AllocError>
+pub fn read_cells(
+    alloc: Global,
+    cells: &[u8],
+    form: WordForm,
+) -> Result<Option<Vec<u8>>, AllocError>
     ensures { IfOk result (λ read. option_map (λ bytes. bytes.items) read ≡ cells_bytes form cells.now) }
 {
     let words = words_at_blanks(alloc, cells)?;
@@ -136,8 +143,11 @@ pub fn read_row(alloc: Global, rest: &[u8], form: WordForm) -> Result<Option<Vec
     match form {
         WordForm::Octal | WordForm::Decimal => read_pieces(alloc, rest, 4, form),
         WordForm::Signed => read_pieces(alloc, rest, 5, form),
-        WordForm::Byte | WordForm::Pair | WordForm::Run | WordForm::Swapped | WordForm::Number => {
-            read_words_row(alloc, trimmed_text(rest), form)
-        }
+        WordForm::Byte
+        | WordForm::Pair
+        | WordForm::Run
+        | WordForm::Swapped
+        | WordForm::Number
+        | WordForm::Element => read_words_row(alloc, trimmed_text(rest), form),
     }
 }

@@ -4,7 +4,7 @@ ghost use Rattle.std.specs.Prelude.{◌≡◌, ◌<◌, ◌-◌, ◌==◌, lengt
 ghost use Rattle.std.specs.List.{position, zip};
 ghost use Rattle.std.specs.Option.{option_copied};
 ghost use Rattle.hid_input.specs.Hex.{in_front};
-ghost use Rattle.hid_input.specs.Dump.{is_blank, is_offset_length, ends_offset, offset_word, offset_of, from_place, behind_offset, character_of, has_characters, front_of, place_of, is_gap, gap_place};
+ghost use Rattle.hid_input.specs.Dump.{is_blank, is_offset_length, ends_offset, offset_word, offset_of, from_place, behind_offset, character_of, has_characters, front_of, is_gap, gap_place};
 
 use crate::digits::number_of;
 use crate::parts::trimmed_text;
@@ -92,14 +92,6 @@ pub fn front_of(row: &[u8], closing: u8) -> Option<&[u8]>
     } else {
         None
     }
-}
-
-/// Where a character stands first.
-pub fn place_of(row: &[u8], opening: u8) -> Option<usize>
-    ensures place { result ≡ place_of opening row.now }
-    ensures bound { IfSome result (λ place. place < length row.now) }
-{
-    row.iter().position(|byte| *byte == opening)
 }
 
 /// Where two blanks stand first, as xxd and Wireshark print them in front of characters.

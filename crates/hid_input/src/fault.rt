@@ -87,6 +87,9 @@ impl fmt::Display for InputCause {
 
     fn fmt<W: fmt::Write>(&self, f: &mut fmt::Formatter<W>) -> fmt::Result {
         let words = match *self {
+            InputCause::BadCount { said, found: 1 } => {
+                return write!(f, "the count says {said}, there is 1 byte");
+            }
             InputCause::BadCount { said, found } => {
                 return write!(f, "the count says {said}, there are {found} bytes");
             }

@@ -1,100 +1,218 @@
 //! The items of a report descriptor as `lsusb -v` prints them.
 
-use crate::digits::{byte_of, number_of};
+ghost use Rattle.std.specs.Prelude.{◌≡◌, ℕ, List, Some, IfOk, IfErr, map};
+ghost use Rattle.std.specs.Option.{option_map};
+ghost use Rattle.hid_input.specs.Words.{IsAdded};
+ghost use Rattle.hid_input.specs.Hex.{lines_of};
+ghost use Rattle.hid_input.specs.Listed.{item_name, prefix_of, size_code, sized_item, data_bytes, item_bytes, line_bytes, length_in, ends_items, items_bytes, listed_bytes, has_listed};
+ghost use Rattle.hid_input.specs.Recorded.{if_counted};
+
+use crate::cells::read_cells;
+use crate::digits::number_of;
 use crate::fault::{InputCause, InputFault};
-use crate::parts::{line_number, up_to};
+use crate::parts::{
+    behind_part, from_character, in_front_of, line_number, lines_of, place_of, trimmed_text,
+};
+use crate::words::WordForm;
 use std::alloc::{AllocError, Global};
 
-/// The name of an item, and its prefix with no data (HID 1.11, 6.2.2.4, 6.2.2.7 and 6.2.2.8).
+/// The prefixes of items without data (HID 1.11, 6.2.2.4, 6.2.2.7 and 6.2.2.8).
 #[rattlefmt::skip]
-const NAMES: [(&[u8], u8); 27] = [
-    (b"Input", 0x80), (b"Output", 0x90), (b"Feature", 0xB0), (b"Collection", 0xA0), (b"End Collection", 0xC0),
-    (b"Usage Page", 0x04), (b"Logical Minimum", 0x14), (b"Logical Maximum", 0x24), (b"Physical Minimum", 0x34),
-    (b"Physical Maximum", 0x44), (b"Unit Exponent", 0x54), (b"Unit", 0x64), (b"Report Size", 0x74), (b"Report ID", 0x84),
-    (b"Report Count", 0x94), (b"Push", 0xA4), (b"Pop", 0xB4), (b"Usage", 0x08), (b"Usage Minimum", 0x18),
-    (b"Usage Maximum", 0x28), (b"Designator Index", 0x38), (b"Designator Minimum", 0x48), (b"Designator Maximum", 0x58),
-    (b"String Index", 0x78), (b"String Minimum", 0x88), (b"String Maximum", 0x98), (b"Delimiter", 0xA8),
+pub const PREFIXES: [u8; 27] = [
+    0x80, 0x90, 0xB0, 0xA0, 0xC0, 0x04, 0x14, 0x24, 0x34, 0x44, 0x54, 0x64, 0x74, 0x84, 0x94, 0xA4, 0xB4, 0x08, 0x18, 0x28,
+    0x38, 0x48, 0x58, 0x78, 0x88, 0x98, 0xA8,
 ];
 
-/// The prefix of an item by its name.
-fn prefix_of(name: &[u8]) -> Option<u8> {
-    for row in NAMES {
-        let (of, prefix) = row;
-        if of == name {
+/// An item by its prefix without data, as lsusb names it: what stands after `Item(`, up to the comma.
+fn item_name(prefix: u8) -> &'static [u8]
+    ensures { result.now ≡ item_name prefix }
+{
+    match prefix {
+        0x80 => b"Main  ): Input",
+        0x90 => b"Main  ): Output",
+        0xB0 => b"Main  ): Feature",
+        0xA0 => b"Main  ): Collection",
+        0xC0 => b"Main  ): End Collection",
+        0x04 => b"Global): Usage Page",
+        0x14 => b"Global): Logical Minimum",
+        0x24 => b"Global): Logical Maximum",
+        0x34 => b"Global): Physical Minimum",
+        0x44 => b"Global): Physical Maximum",
+        0x54 => b"Global): Unit Exponent",
+        0x64 => b"Global): Unit",
+        0x74 => b"Global): Report Size",
+        0x84 => b"Global): Report ID",
+        0x94 => b"Global): Report Count",
+        0xA4 => b"Global): Push",
+        0xB4 => b"Global): Pop",
+        0x08 => b"Local ): Usage",
+        0x18 => b"Local ): Usage Minimum",
+        0x28 => b"Local ): Usage Maximum",
+        0x38 => b"Local ): Designator Index",
+        0x48 => b"Local ): Designator Minimum",
+        0x58 => b"Local ): Designator Maximum",
+        0x78 => b"Local ): String Index",
+        0x88 => b"Local ): String Minimum",
+        0x98 => b"Local ): String Maximum",
+        0xA8 => b"Local ): Delimiter",
+        _ => b"",
+    }
+}
+
+/// The prefix of an item with this name.
+#[tactic(auto, unfolding(crate::specs::Listed::prefix_of))]
+fn prefix_of(name: &[u8]) -> Option<u8>
+    ensures { result ≡ prefix_of name.now }
+{
+    for prefix in PREFIXES {
+        if item_name(prefix) == name {
             return Some(prefix);
         }
     }
     None
 }
 
-/// What stands after a part of a line.
-fn after<'a>(line: &'a [u8], part: &[u8]) -> Option<&'a [u8]> {
-    let place = line
-        .windows(part.len().max(1))
-        .position(|window| window == part)?;
-    line.get(place..)?.strip_prefix(part)
+/// The code of so many bytes of data (HID 1.11, 6.2.2.2).
+fn size_code(count: usize) -> Option<u8>
+    ensures { result ≡ size_code count }
+{
+    match count {
+        0 => Some(0),
+        1 => Some(1),
+        2 => Some(2),
+        4 => Some(3),
+        _ => None,
+    }
 }
 
-/// Adds an item: its prefix, and its data, of 0, 1, 2 or 4 bytes; false where there are more or others.
-fn add_item(bytes: &mut Vec<u8>, prefix: u8, words: &[u8]) -> Result<bool, AllocError> {
-    let count = words
-        .split(|byte| *byte == b' ')
-        .filter(|word| !word.is_empty())
-        .count();
-    let size = match count {
-        0 => 0,
-        1 => 1,
-        2 => 2,
-        4 => 3,
-        _ => return Ok(false),
+/// The data after the name of an item; none where it is another text.
+fn read_data(alloc: Global, text: &[u8]) -> Result<Option<Vec<u8>>, AllocError>
+    ensures { IfOk result (λ read. option_map (λ bytes. bytes.items) read ≡ data_bytes text.now) }
+{
+    if text == b", data=none".as_slice() {
+        return Ok(Some(Vec::new(alloc)));
+    }
+    let Some(inside) = behind_part(text, b", data= [") else {
+        return Ok(None);
+    };
+    match place_of(inside, b']') {
+        Some(place) => read_cells(alloc, &inside[..place], WordForm::Byte),
+        None => Ok(None),
+    }
+}
+
+/// Adds the bytes of an item: its prefix with the code of its size, and its data. False where one is missing.
+fn add_sized(
+    bytes: &mut Vec<u8>,
+    prefix: Option<u8>,
+    body: Option<Vec<u8>>,
+) -> Result<bool, AllocError>
+    ensures { IfOk result (λ is_read. IsAdded bytes.old.items (sized_item prefix (option_map (λ read. read.items) body)) is_read bytes.new.items) }
+{
+    let (Some(prefix), Some(body)) = (prefix, body) else {
+        return Ok(false);
+    };
+    let Some(size) = size_code(body.len()) else {
+        return Ok(false);
     };
     bytes.push(prefix | size)?;
-    for word in words.split(|byte| *byte == b' ') {
-        if word.is_empty() {
-            continue;
-        }
-        let byte = match word {
-            [b'0', b'x', digits @ ..] => byte_of(digits, 16),
-            _ => None,
-        };
-        match byte {
-            Some(byte) => bytes.push(byte)?,
-            None => return Ok(false),
-        }
-    }
+    bytes.extend_from_slice(body.as_slice())?;
     Ok(true)
 }
 
-/// Adds the item of a line `Item(Global): Usage Page, data= [ 0x01 ] 1`; false where it is none.
-fn add_line(bytes: &mut Vec<u8>, line: &[u8]) -> Result<bool, AllocError> {
-    let Some(named) = after(line, b"): ") else {
-        return Ok(false);
-    };
-    let Some(prefix) = prefix_of(up_to(named, b",")) else {
-        return Ok(false);
-    };
-    let Some(data) = after(named, b"data=") else {
-        return Ok(false);
-    };
-    if data.trim_ascii() == b"none".as_slice() {
-        return add_item(bytes, prefix, &[]);
-    }
-    match after(data, b"[") {
-        Some(words) if words.contains(&b']') => add_item(bytes, prefix, up_to(words, b"]")),
-        _ => Ok(false),
+/// Adds the bytes of an item; false where it is none.
+#[tactic(auto, unfolding(crate::specs::Listed::item_bytes))]
+fn add_item(alloc: Global, bytes: &mut Vec<u8>, item: &[u8]) -> Result<bool, AllocError>
+    ensures { IfOk result (λ is_read. IsAdded bytes.old.items (item_bytes item.now) is_read bytes.new.items) }
+{
+    let prefix = prefix_of(in_front_of(item, b','));
+    let body = read_data(alloc, from_character(item, b','))?;
+    add_sized(bytes, prefix, body)
+}
+
+/// Adds the bytes of a line of an item; false where it has none. Of other lines nothing is added.
+fn add_line(alloc: Global, bytes: &mut Vec<u8>, line: &[u8]) -> Result<bool, AllocError>
+    ensures { IfOk result (λ is_read. IsAdded bytes.old.items (line_bytes line.now) is_read bytes.new.items) }
+{
+    match behind_part(trimmed_text(line), b"Item(") {
+        Some(item) => add_item(alloc, bytes, item),
+        None => Ok(true),
     }
 }
 
 /// The length in `Report Descriptor: (length is 50)`.
-fn length_in(line: &[u8]) -> Option<u64> {
-    let behind = after(line, b"Report Descriptor: (length is ")?;
-    number_of(up_to(behind, b")"), 10)
+fn length_in(line: &[u8]) -> Option<u64>
+    ensures { result ≡ length_in line.now }
+{
+    let behind = behind_part(trimmed_text(line), b"Report Descriptor: (length is ")?;
+    number_of(in_front_of(behind, b')'), 10)
 }
 
 /// Whether a text has a report descriptor of lsusb.
-pub fn has_items(text: &[u8]) -> bool {
+pub fn has_listed(text: &[u8]) -> bool
+    ensures { result ≡ has_listed text.now }
+{
     text.split(|byte| *byte == b'\n')
         .any(|line| length_in(line).is_some())
+}
+
+/// Whether a line begins another descriptor.
+fn ends_items(line: &[u8]) -> bool
+    ensures { result ≡ ends_items line.now }
+{
+    length_in(line).is_some() || trimmed_text(line).ends_with(b"Descriptor:")
+}
+
+/// The bytes of the items in lines, up to another descriptor. So many lines stand in front of them.
+fn read_lines(alloc: Global, lines: &[&[u8]], front: u64) -> Result<Vec<u8>, InputFault>
+    ensures bytes { IfOk result (λ read. items_bytes (map (λ line. line.now) lines.now) ≡ Some read.items) }
+    ensures faults { (bytes : List ℕ) → items_bytes (map (λ line. line.now) lines.now) ≡ Some bytes
+        → IfErr result (λ fault. fault.cause ≡ InputCause.Memory) }
+{
+    let mut bytes = Vec::new(alloc);
+    for (before, line) in lines.iter().enumerate() {
+        if ends_items(line) {
+            return Ok(bytes);
+        }
+        if !add_line(alloc, &mut bytes, line)? {
+            let number = line_number(before).saturating_add(front);
+            return Err(InputFault::of_line(number, InputCause::BadItem));
+        }
+    }
+    Ok(bytes)
+}
+
+/// The bytes of the items in lines, if they are so many. So many lines stand in front of them.
+fn read_counted(
+    alloc: Global,
+    said: u64,
+    lines: &[&[u8]],
+    front: u64,
+) -> Result<Vec<u8>, InputFault>
+    ensures bytes { IfOk result (λ read. if_counted (Some said) (items_bytes (map (λ line. line.now) lines.now)) ≡ Some read.items) }
+    ensures faults { (bytes : List ℕ) → if_counted (Some said) (items_bytes (map (λ line. line.now) lines.now)) ≡ Some bytes
+        → IfErr result (λ fault. fault.cause ≡ InputCause.Memory) }
+{
+    let bytes = read_lines(alloc, lines, front)?;
+    let found = bytes.len() as u64;
+    if found != said {
+        return Err(InputFault::of_text(InputCause::BadCount { said, found }));
+    }
+    Ok(bytes)
+}
+
+/// The bytes of the first report descriptor in lines.
+fn read_first(alloc: Global, lines: &[&[u8]]) -> Result<Vec<u8>, InputFault>
+    ensures bytes { IfOk result (λ read. listed_bytes (map (λ line. line.now) lines.now) ≡ Some read.items) }
+    ensures faults { (bytes : List ℕ) → listed_bytes (map (λ line. line.now) lines.now) ≡ Some bytes
+        → IfErr result (λ fault. fault.cause ≡ InputCause.Memory) }
+{
+    for (before, line) in lines.iter().enumerate() {
+        if let Some(said) = length_in(line) {
+            return read_counted(alloc, said, &lines[before + 1..], line_number(before));
+        }
+    }
+    Err(InputFault::of_text(InputCause::NoDescriptor))
 }
 
 /// The first report descriptor of lsusb in a text.
@@ -102,24 +220,11 @@ pub fn has_items(text: &[u8]) -> bool {
 /// # Errors
 /// [`InputCause::BadItem`] of a line; [`InputCause::BadCount`] where its length isn't the one that is printed;
 /// [`InputCause::NoDescriptor`] where there is none; [`InputCause::Memory`].
-pub fn read_items(alloc: Global, text: &[u8]) -> Result<Vec<u8>, InputFault> {
-    let mut bytes = Vec::new(alloc);
-    let mut said = None;
-    for (before, line) in text.split(|byte| *byte == b'\n').enumerate() {
-        if said.is_none() {
-            said = length_in(line);
-        } else if line.trim_ascii().starts_with(b"Item(") {
-            if !add_line(&mut bytes, line)? {
-                return Err(InputFault::of_line(line_number(before), InputCause::BadItem));
-            }
-        } else if length_in(line).is_some() || after(line, b"Descriptor").is_some() {
-            break;
-        }
-    }
-    let found = bytes.len() as u64;
-    match said {
-        Some(said) if said == found => Ok(bytes),
-        Some(said) => Err(InputFault::of_text(InputCause::BadCount { said, found })),
-        None => Err(InputFault::of_text(InputCause::NoDescriptor)),
-    }
+pub fn read_listed(alloc: Global, text: &[u8]) -> Result<Vec<u8>, InputFault>
+    ensures bytes { IfOk result (λ read. listed_bytes (lines_of text.now) ≡ Some read.items) }
+    ensures faults { (bytes : List ℕ) → listed_bytes (lines_of text.now) ≡ Some bytes
+        → IfErr result (λ fault. fault.cause ≡ InputCause.Memory) }
+{
+    let lines = lines_of(alloc, text)?;
+    read_first(alloc, lines.as_slice())
 }

@@ -10,9 +10,9 @@
 //! The rule to know: a first column is an offset if it counts the bytes so far, and characters at the right are those of the
 //! bytes of their line. Dumps and hex are read in each way in which they can be, and where two ways differ the text is refused.
 //!
-//! The promise: what is read of a dump, of hex, and of what hid-recorder and usbhid-dump print is what their definitions say, and
-//! what they encode is read (`text`, `alone`, `complete` and `one_way` on [`descriptor_in`]). Bytes that aren't text are the
-//! descriptor, byte for byte. What is read of lsusb and of C is tested.
+//! The promise: what is read of a text is what the definition of its form says, and what it encodes is read (`text`, `alone`,
+//! `complete` and `one_way` on [`descriptor_in`]). Bytes that aren't text are the descriptor, byte for byte. What is read of strings
+//! of C is tested.
 #![tactic(auto)]
 
 mod cells;
@@ -23,7 +23,9 @@ mod digits;
 mod dump;
 mod fault;
 mod file_name;
+mod form;
 mod items;
+mod known;
 mod parts;
 mod reading;
 mod recorded;
@@ -34,5 +36,6 @@ mod words;
 
 pub use fault::{InputCause, InputFault};
 pub use file_name::FileName;
+pub use known::{KnownFile, known_file};
 pub use reading::{descriptor_in, is_recording};
 pub use recorded::begins_recording;

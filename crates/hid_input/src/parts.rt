@@ -1,21 +1,15 @@
 //! Parts of a text, and the numbers of its lines.
 
 ghost use Rattle.std.specs.Prelude.{◌≡◌, ◌<◌, ◌+◌, ◌-◌, ◌^◌, min, length, map, IfOk, IfSome};
-ghost use Rattle.std.specs.List.{position};
+ghost use Rattle.std.specs.List.{position, list_all};
+ghost use Rattle.std.specs.Option.{option_copied};
 ghost use Rattle.std.specs.Char.{is_ascii_whitespace};
-ghost use Rattle.hid_input.specs.Numbers.{without_space};
-ghost use Rattle.hid_input.specs.Hex.{before_space, first_word, lines_of};
-ghost use Rattle.hid_input.specs.Dump.{from_place, trimmed_text};
+ghost use Rattle.hid_input.specs.Numbers.{without_space, trimmed_text};
+ghost use Rattle.hid_input.specs.Hex.{in_front, before_space, first_word, lines_of};
+ghost use Rattle.hid_input.specs.Dump.{from_place, place_of};
+ghost use Rattle.hid_input.specs.Parts.{behind_part};
 
 use std::alloc::{AllocError, Global};
-
-/// What stands in front of the first of these characters; the whole text where there is none.
-pub fn up_to<'a>(text: &'a [u8], ends: &[u8]) -> &'a [u8] {
-    match text.split(|byte| ends.contains(byte)).next() {
-        Some(part) => part,
-        None => text,
-    }
-}
 
 /// Where the first white space of a text stands.
 fn space_place(text: &[u8]) -> Option<usize>
@@ -64,6 +58,52 @@ pub fn first_word(text: &[u8]) -> &[u8]
     ensures { result.now ≡ first_word text.now }
 {
     before_space(without_space(text))
+}
+
+/// Whether a line has nothing but white space.
+pub fn is_empty_line(line: &[u8]) -> bool
+    ensures { result ≡ list_all is_ascii_whitespace line.now }
+{
+    line.iter().all(|byte| byte.is_ascii_whitespace())
+}
+
+/// What stands after a part with which a text begins.
+pub fn behind_part<'a>(text: &'a [u8], part: &[u8]) -> Option<&'a [u8]>
+    ensures { option_copied result ≡ behind_part part.now text.now }
+{
+    if text.starts_with(part) {
+        Some(&text[part.len()..])
+    } else {
+        None
+    }
+}
+
+/// Where a character stands first.
+pub fn place_of(text: &[u8], wanted: u8) -> Option<usize>
+    ensures place { result ≡ place_of wanted text.now }
+    ensures bound { IfSome result (λ place. place < length text.now) }
+{
+    text.iter().position(|byte| *byte == wanted)
+}
+
+/// What stands in front of the first such character; the whole text where there is none.
+pub fn in_front_of(text: &[u8], wanted: u8) -> &[u8]
+    ensures { result.now ≡ in_front (place_of wanted text.now) text.now }
+{
+    match place_of(text, wanted) {
+        Some(place) => &text[..place],
+        None => text,
+    }
+}
+
+/// What stands from the first such character on; nothing where there is none.
+pub fn from_character(text: &[u8], wanted: u8) -> &[u8]
+    ensures { result.now ≡ from_place (place_of wanted text.now) text.now }
+{
+    match place_of(text, wanted) {
+        Some(place) => &text[place..],
+        None => &[],
+    }
 }
 
 /// The number of a line, from 1 on, by how many lines stand before it.

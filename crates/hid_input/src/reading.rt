@@ -1,24 +1,23 @@
 //! The descriptor of a file, whatever form it has.
 
-ghost use Rattle.std.specs.Prelude.{◌≡◌, ℕ, ◌==◌, ◌-◌, ◌&&◌, nat_le, false, true, List, length, slice_index, take, Some, IfOk, IfErr, Err};
+ghost use Rattle.std.specs.Prelude.{◌≡◌, ℕ, false, true, List, Some, IfOk, IfErr, Err};
 ghost use Rattle.std.specs.List.{list_all};
-ghost use Rattle.std.specs.Char.{is_ascii_hexdigit};
-ghost use Rattle.hid_input.specs.Hex.{lines_of, spelled_bytes, first_word, is_offset, is_spelled};
+ghost use Rattle.hid_input.specs.Hex.{spelled_bytes};
 ghost use Rattle.hid_input.specs.Dump.{IsDump, HasNoOthers};
 ghost use Rattle.hid_input.specs.Decimal.{IsOnlyHex};
-ghost use Rattle.hid_input.specs.Recorded.{has_recorded, recorded_bytes, has_dumped, dumped_hex, ordered_bytes};
 ghost use Rattle.hid_input.specs.Forms.{form_of, Encodes, IsAlone, IsFaultOf, IsMemoryOf};
 ghost use Rattle.hid_input.specs.Faults.{of_text, IsOfHex};
 ghost use Rattle.hid_input.specs.Text.{is_space, is_text_byte, has_printed, is_text, is_utf16, without_mark};
 
-use crate::code::{has_array, read_array};
+use crate::code::read_array;
 use crate::decimal::add_decimal;
 use crate::fault::{InputCause, InputFault};
-use crate::items::{has_items, read_items};
-use crate::parts::{first_word, line_number};
-use crate::recorded::{has_record, has_recorded, read_dumped, read_recorded};
-use crate::spelled::{is_spelled, read_spelled};
-use crate::strings::{has_string, read_string};
+use crate::form::{TextForm, are_digits, form_of};
+use crate::items::read_listed;
+use crate::parts::line_number;
+use crate::recorded::{has_record, read_dumped, read_recorded};
+use crate::spelled::read_spelled;
+use crate::strings::read_string;
 use crate::ways::{add_dumps, agreed, are_all};
 use std::alloc::Global;
 
@@ -73,44 +72,6 @@ fn is_utf16(bytes: &[u8]) -> bool
     ensures { result ≡ is_utf16 bytes.now }
 {
     bytes.len() >= 4 && bytes[0] == 0xFF && bytes[1] == 0xFE && bytes[3] == 0
-}
-
-/// Whether a word is an offset by its looks: two digits or more and a colon, or four zeros or more.
-fn is_offset(word: &[u8]) -> bool
-    ensures { result ≡ is_offset word.now }
-{
-    is_marked_offset(word) || is_zero(word)
-}
-
-/// Whether a word is two hex digits or more and a colon.
-fn is_marked_offset(word: &[u8]) -> bool
-    ensures { result ≡ (nat_le 3 (length word.now) && ((slice_index word.now (length word.now - 1) == 58) && list_all is_ascii_hexdigit (take (length word.now - 1) word.now))) }
-{
-    match word.len() {
-        0..=2 => false,
-        length => word[length - 1] == b':' && are_digits(&word[..length - 1]),
-    }
-}
-
-/// Whether each byte is a hex digit.
-fn are_digits(word: &[u8]) -> bool
-    ensures { result ≡ list_all is_ascii_hexdigit word.now }
-{
-    word.iter().all(|byte| byte.is_ascii_hexdigit())
-}
-
-/// Whether each byte is a zero.
-fn are_zeros(word: &[u8]) -> bool
-    ensures { result ≡ list_all (λ byte. byte == 48) word.now }
-{
-    word.iter().all(|byte| *byte == b'0')
-}
-
-/// Whether a word is four zeros or more.
-fn is_zero(word: &[u8]) -> bool
-    ensures { result ≡ (nat_le 4 (length word.now) && list_all (λ byte. byte == 48) word.now) }
-{
-    word.len() >= 4 && are_zeros(word)
 }
 
 /// Whether a word is hex digits of several bytes.
@@ -174,60 +135,37 @@ fn read_hex(alloc: Global, text: &[u8]) -> Result<Vec<u8>, InputFault>
     Ok(spelled)
 }
 
+/// The descriptor in text of this form.
+fn read_form(alloc: Global, text: &[u8], form: TextForm) -> Result<Vec<u8>, InputFault>
+    ensures text { IfOk result (λ read. Encodes text.now read.items form) }
+    ensures alone { IfOk result (λ read. IsAlone text.now read.items form) }
+    ensures complete { (whole : List ℕ) → Encodes text.now whole form → IfErr result (λ fault. IsFaultOf fault form) }
+    ensures one_way { (whole : List ℕ) → Encodes text.now whole form → IsAlone text.now whole form
+        → IfErr result (λ fault. IsMemoryOf fault form) }
+{
+    match form {
+        TextForm::Dump => read_offset_dump(alloc, text),
+        TextForm::Hex => read_hex(alloc, text),
+        TextForm::Recorded => read_recorded(alloc, text),
+        TextForm::Dumped => read_dumped(alloc, text),
+        TextForm::Listed => read_listed(alloc, text),
+        TextForm::Array => read_array(alloc, text),
+        TextForm::Quoted => read_string(alloc, text),
+        TextForm::Other => Err(InputFault::of_text(InputCause::NoDescriptor)),
+    }
+}
+
 /// The descriptor in text.
 fn descriptor_in_text(alloc: Global, text: &[u8]) -> Result<Vec<u8>, InputFault>
-    // A dump.
-    ensures dump { is_offset (first_word text.now) ≡ true
-        → IfOk result (λ read. IsDump text.now read.items × HasNoOthers text.now read.items) }
-    ensures dump_read { (bytes : List ℕ) → is_offset (first_word text.now) ≡ true → IsDump text.now bytes
-        → HasNoOthers text.now bytes → IfErr result (λ fault. fault ≡ of_text InputCause.Memory) }
-    ensures dump_faults { (bytes : List ℕ) → is_offset (first_word text.now) ≡ true → IsDump text.now bytes
-        → IfErr result IsOfHex }
-
-    // Hex.
-    ensures hex { is_offset (first_word text.now) ≡ false → is_spelled text.now ≡ true
-        → IfOk result (λ read. (spelled_bytes text.now ≡ Some read.items) × IsOnlyHex text.now read.items) }
-    ensures hex_read { (bytes : List ℕ) → is_offset (first_word text.now) ≡ false → is_spelled text.now ≡ true
-        → spelled_bytes text.now ≡ Some bytes → IsOnlyHex text.now bytes
-        → IfErr result (λ fault. fault ≡ of_text InputCause.Memory) }
-    ensures hex_faults { (bytes : List ℕ) → is_offset (first_word text.now) ≡ false → is_spelled text.now ≡ true
-        → spelled_bytes text.now ≡ Some bytes → IfErr result IsOfHex }
-
-    // What hid-recorder and usbhid-dump print.
-    ensures recorded { is_offset (first_word text.now) ≡ false → is_spelled text.now ≡ false → has_recorded text.now ≡ true
-        → IfOk result (λ read. recorded_bytes (lines_of text.now) ≡ Some read.items) }
-    ensures recorded_faults { (bytes : List ℕ) → is_offset (first_word text.now) ≡ false → is_spelled text.now ≡ false
-        → has_recorded text.now ≡ true → recorded_bytes (lines_of text.now) ≡ Some bytes
-        → IfErr result (λ fault. fault.cause ≡ InputCause.Memory) }
-    ensures dumped { is_offset (first_word text.now) ≡ false → is_spelled text.now ≡ false → has_recorded text.now ≡ false
-        → has_dumped text.now ≡ true → IfOk result (λ read. ordered_bytes (dumped_hex (lines_of text.now)) ≡ Some read.items) }
-    ensures dumped_faults { (bytes : List ℕ) → is_offset (first_word text.now) ≡ false → is_spelled text.now ≡ false
-        → has_recorded text.now ≡ false → has_dumped text.now ≡ true
-        → ordered_bytes (dumped_hex (lines_of text.now)) ≡ Some bytes
-        → IfErr result (λ fault. fault.cause ≡ InputCause.Memory) }
+    ensures text { IfOk result (λ read. Encodes text.now read.items (form_of text.now)) }
+    ensures alone { IfOk result (λ read. IsAlone text.now read.items (form_of text.now)) }
+    ensures complete { (whole : List ℕ) → Encodes text.now whole (form_of text.now)
+        → IfErr result (λ fault. IsFaultOf fault (form_of text.now)) }
+    ensures one_way { (whole : List ℕ) → Encodes text.now whole (form_of text.now)
+        → IsAlone text.now whole (form_of text.now) → IfErr result (λ fault. IsMemoryOf fault (form_of text.now)) }
 {
-    if is_offset(first_word(text)) {
-        return read_offset_dump(alloc, text);
-    }
-    if is_spelled(text) {
-        return read_hex(alloc, text);
-    }
-    if has_recorded(text) {
-        return read_recorded(alloc, text);
-    }
-    if let Some(bytes) = read_dumped(alloc, text)? {
-        return Ok(bytes);
-    }
-    if has_items(text) {
-        return read_items(alloc, text);
-    }
-    if has_array(text) {
-        return read_array(alloc, text);
-    }
-    if has_string(text) {
-        return read_string(alloc, text);
-    }
-    Err(InputFault::of_text(InputCause::NoDescriptor))
+    let form = form_of(alloc, text)?;
+    read_form(alloc, text, form)
 }
 
 /// The descriptor in the bytes of a file. Text is read as the first of these that it has: a dump whose first word is an offset,

@@ -1,19 +1,23 @@
 //! Descriptors in what hid-recorder and usbhid-dump print.
 
-ghost use Rattle.std.specs.Prelude.{◌≡◌, ◌<◌, [], ℕ, List, Some, length, IfOk, IfSome, IfErr, MatchOption, map, true};
+ghost use Rattle.std.specs.Prelude.{◌≡◌, ◌<◌, [], ℕ, List, Some, length, IfOk, IfSome, IfErr, map};
 ghost use Rattle.std.specs.List.{slice_split, position};
 ghost use Rattle.std.specs.Option.{option_map, option_copied, option_and_then};
 ghost use Rattle.std.specs.Char.{is_ascii_whitespace};
 ghost use Rattle.hid_input.specs.Words.{all_bytes, word_bytes};
 ghost use Rattle.hid_input.specs.Hex.{lines_of};
-ghost use Rattle.hid_input.specs.Recorded.{ordered_bytes, after_letter, bytes_behind, counted_bytes, recorded_bytes, has_recorded, is_colon, behind_number, is_heading, hex_below, dumped_hex, has_dumped};
+ghost use Rattle.hid_input.specs.Recorded.{ordered_bytes, after_letter, bytes_behind, counted_bytes, recorded_bytes, has_recorded, is_colon, behind_number, is_heading, block_of, block_below, has_dumped, block_bytes};
+ghost use Rattle.hid_input.specs.Dump.{HasNoOthers};
+ghost use Rattle.hid_input.specs.Faults.{of_text, IsOfHex};
 
 use crate::digits::number_of;
 use crate::fault::{InputCause, InputFault};
 use crate::parts::{
-    before_space, first_word, from_space, line_number, lines_of, trimmed_text, without_space,
+    before_space, first_word, from_space, is_empty_line, line_number, lines_of, trimmed_text,
+    without_space,
 };
 use crate::spelled::{is_spelled, read_spelled};
+use crate::ways::has_no_others;
 use crate::words::{WordForm, read_words};
 use std::alloc::{AllocError, Global};
 
@@ -190,54 +194,93 @@ fn is_heading(line: &[u8]) -> bool
     }
 }
 
-/// The lines of hex with which lines begin, each with its end.
-fn hex_below(alloc: Global, lines: &[&[u8]]) -> Result<Vec<u8>, AllocError>
-    ensures { IfOk result (λ hex. hex.items ≡ hex_below (map (λ line. line.now) lines.now)) }
+/// The lines with which lines begin, up to an empty one, each with its end.
+fn block_of(alloc: Global, lines: &[&[u8]]) -> Result<Vec<u8>, AllocError>
+    ensures { IfOk result (λ block. block.items ≡ block_of (map (λ line. line.now) lines.now)) }
 {
-    let mut hex = Vec::new(alloc);
+    let mut block = Vec::new(alloc);
     for line in lines {
-        if !is_spelled(line) {
-            return Ok(hex);
+        if is_empty_line(line) {
+            return Ok(block);
         }
-        hex.extend_from_slice(line)?;
-        hex.push(b'\n')?;
+        block.extend_from_slice(line)?;
+        block.push(b'\n')?;
     }
-    Ok(hex)
+    Ok(block)
 }
 
-/// The lines of hex below the first heading of usbhid-dump that has some.
-fn dumped_hex(alloc: Global, lines: &[&[u8]]) -> Result<Vec<u8>, AllocError>
-    ensures { IfOk result (λ hex. hex.items ≡ dumped_hex (map (λ line. line.now) lines.now)) }
+/// The lines below the first heading of usbhid-dump that has some, up to an empty one.
+fn block_below(alloc: Global, lines: &[&[u8]]) -> Result<Vec<u8>, AllocError>
+    ensures { IfOk result (λ block. block.items ≡ block_below (map (λ line. line.now) lines.now)) }
 {
     for (before, line) in lines.iter().enumerate() {
         if is_heading(line) {
-            let hex = hex_below(alloc, &lines[before + 1..])?;
-            if hex.len() != 0 {
-                return Ok(hex);
+            let block = block_of(alloc, &lines[before + 1..])?;
+            if block.len() != 0 {
+                return Ok(block);
             }
         }
     }
     Ok(Vec::new(alloc))
 }
 
-/// The bytes of the lines of hex after the first heading of usbhid-dump that has some, where there is one.
+/// Whether lines stand below a heading of usbhid-dump.
 ///
 /// # Errors
-/// What [`read_spelled`] refuses; [`InputCause::Memory`].
-pub fn read_dumped(alloc: Global, text: &[u8]) -> Result<Option<Vec<u8>>, InputFault>
-    ensures bytes { IfOk result (λ read. MatchOption read (dumped_hex (lines_of text.now) ≡ [])
-        (λ bytes. (has_dumped text.now ≡ true) × (ordered_bytes (dumped_hex (lines_of text.now)) ≡ Some bytes.items))) }
-    ensures faults { (bytes : List ℕ) → ordered_bytes (dumped_hex (lines_of text.now)) ≡ Some bytes
-        → IfErr result (λ fault. fault.cause ≡ InputCause.Memory) }
+/// Out of memory.
+pub fn has_dumped(alloc: Global, text: &[u8]) -> Result<bool, AllocError>
+    ensures { IfOk result (λ has. has ≡ has_dumped text.now) }
 {
     let lines = lines_of(alloc, text)?;
-    let hex = dumped_hex(alloc, lines.as_slice())?;
-    if hex.len() == 0 {
-        return Ok(None);
+    let block = block_below(alloc, lines.as_slice())?;
+    Ok(block.len() != 0)
+}
+
+/// The bytes of lines of usbhid-dump. A line of them has another number in the text, so none is named.
+#[tactic(auto, unfolding(crate::specs::Recorded::block_bytes))]
+fn read_hex_block(alloc: Global, block: &[u8]) -> Result<Vec<u8>, InputFault>
+    ensures bytes { IfOk result (λ read. block_bytes block.now ≡ Some read.items) }
+    ensures faults { (bytes : List ℕ) → block_bytes block.now ≡ Some bytes
+        → IfErr result (λ fault. fault ≡ of_text InputCause.Memory) }
+{
+    if !is_spelled(block) {
+        return Err(InputFault::of_text(InputCause::BadHex));
     }
-    // A line of the digits has another number in the text.
-    match read_digits(alloc, hex.as_slice()) {
-        Ok(bytes) => Ok(Some(bytes)),
+    match read_digits(alloc, block) {
+        Ok(bytes) => Ok(bytes),
         Err(fault) => Err(InputFault::of_text(fault.cause)),
     }
+}
+
+/// The bytes of lines of usbhid-dump, if no way reads them as a dump of other bytes.
+fn read_block(alloc: Global, block: &[u8]) -> Result<Vec<u8>, InputFault>
+    ensures bytes { IfOk result (λ read. block_bytes block.now ≡ Some read.items) }
+    ensures alone { IfOk result (λ read. HasNoOthers block.now read.items) }
+    ensures faults { (bytes : List ℕ) → block_bytes block.now ≡ Some bytes → IfErr result IsOfHex }
+    ensures read { (bytes : List ℕ) → block_bytes block.now ≡ Some bytes → HasNoOthers block.now bytes
+        → IfErr result (λ fault. fault ≡ of_text InputCause.Memory) }
+{
+    let bytes = read_hex_block(alloc, block)?;
+    if has_no_others(alloc, block, bytes.as_slice())? {
+        Ok(bytes)
+    } else {
+        Err(InputFault::of_text(InputCause::TwoWays))
+    }
+}
+
+/// The bytes of the lines after the first heading of usbhid-dump that has some, up to an empty one.
+///
+/// # Errors
+/// [`InputCause::BadHex`] where they aren't hex; [`InputCause::TwoWays`] where they are a dump of other bytes too;
+/// [`InputCause::Memory`].
+pub fn read_dumped(alloc: Global, text: &[u8]) -> Result<Vec<u8>, InputFault>
+    ensures bytes { IfOk result (λ read. block_bytes (block_below (lines_of text.now)) ≡ Some read.items) }
+    ensures alone { IfOk result (λ read. HasNoOthers (block_below (lines_of text.now)) read.items) }
+    ensures faults { (bytes : List ℕ) → block_bytes (block_below (lines_of text.now)) ≡ Some bytes → IfErr result IsOfHex }
+    ensures read { (bytes : List ℕ) → block_bytes (block_below (lines_of text.now)) ≡ Some bytes
+        → HasNoOthers (block_below (lines_of text.now)) bytes → IfErr result (λ fault. fault ≡ of_text InputCause.Memory) }
+{
+    let lines = lines_of(alloc, text)?;
+    let block = block_below(alloc, lines.as_slice())?;
+    read_block(alloc, block.as_slice())
 }

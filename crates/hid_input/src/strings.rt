@@ -1,5 +1,8 @@
 //! The bytes of a string in a source text, as its escapes say them.
 
+ghost use Rattle.std.specs.Prelude.{◌≡◌};
+ghost use Rattle.hid_input.specs.Strings.{has_string};
+
 use crate::code::without_comments;
 use crate::digits::digit_of;
 use crate::fault::{InputCause, InputFault};
@@ -160,9 +163,15 @@ fn ends_after_string(text: &[u8]) -> bool {
     has_string
 }
 
-/// Whether a text has a string that begins with an escape.
-pub fn has_string(text: &[u8]) -> bool {
-    string_place(text).is_some()
+/// Whether a text without comments has a string that begins with an escape.
+pub fn has_string(code: &[u8]) -> bool
+    ensures { result ≡ has_string code.now }
+{
+    if code.is_empty() {
+        return false;
+    }
+    code.iter().zip(code[1..].iter()).any(|(one, next)| (*one == b'"' || *one == b'\'')
+        && *next == b'\\')
 }
 
 /// The bytes of the first string that begins with an escape, and of those after it, with blanks and comments between them.

@@ -5,7 +5,7 @@ ghost use Rattle.std.specs.List.{flat_map, Contains};
 ghost use Rattle.std.specs.Option.{option_to_list};
 ghost use Rattle.hid_input.specs.Readings.{AreAll, Differ};
 ghost use Rattle.hid_input.specs.Faults.{of_text};
-ghost use Rattle.hid_input.specs.Dump.{dump_of, dumps_in, dumps_of};
+ghost use Rattle.hid_input.specs.Dump.{dump_of, dumps_in, dumps_of, HasNoOthers};
 
 use crate::dump::{DumpEnd, Way, read_dump};
 use crate::fault::{InputCause, InputFault};
@@ -120,4 +120,17 @@ pub fn add_dumps(alloc: Global, text: &[u8], readings: &mut Vec<Vec<u8>>) -> Res
     let decimal = add_in_base(alloc, lines.as_slice(), 10, readings)?;
     let octal = add_in_base(alloc, lines.as_slice(), 8, readings)?;
     Ok(hex.max(decimal).max(octal))
+}
+
+/// Whether no way reads a text as a dump of other bytes.
+///
+/// # Errors
+/// Out of memory.
+pub fn has_no_others(alloc: Global, text: &[u8], bytes: &[u8]) -> Result<bool, InputFault>
+    ensures others { IfOk result (λ has. IsTrue has ↔ HasNoOthers text.now bytes.now) }
+    ensures memory { IfErr result (λ fault. fault ≡ of_text InputCause.Memory) }
+{
+    let mut readings = Vec::new(alloc);
+    let _reached = add_dumps(alloc, text, &mut readings)?;
+    Ok(are_all(readings.as_slice(), bytes))
 }

@@ -2,9 +2,10 @@
 
 ghost use Rattle.std.specs.Prelude.{◌≡◌, IfOk, map, reverse};
 ghost use Rattle.std.specs.Option.{option_map, option_copied};
-ghost use Rattle.hid_input.specs.Words.{all_bytes, IsAdded, single_byte, byte_of_digits, is_x, is_h, marked_digits, byte_of_word, run_bytes, word_bytes};
+ghost use Rattle.hid_input.specs.Words.{all_bytes, IsAdded, single_byte, byte_of_digits, is_x, is_h, marked_digits, byte_of_word, is_prefixed, number_byte, same_byte, constant_byte, without_suffix, element_byte, run_bytes, word_bytes};
 
 use crate::digits::{byte_of, column_byte, octal_byte, pair_of};
+use crate::parts::trimmed_text;
 use std::alloc::{AllocError, Global};
 
 /// How a word or a cell is written.
@@ -24,8 +25,10 @@ pub enum WordForm {
     Decimal,
     /// One byte: a decimal number in five columns, perhaps with a sign.
     Signed,
-    /// One byte: a decimal number.
+    /// One byte: a decimal number, or hex after `0x`.
     Number,
+    /// One byte: an element of an array of C.
+    Element,
 }
 
 /// Whether a byte is `x` of either case.
@@ -75,6 +78,65 @@ pub fn byte_in(word: &[u8]) -> Option<u8>
         Some(byte) => Some(byte),
         None => byte_of_digits(marked_digits(word)?),
     }
+}
+
+/// Whether a number is marked as hex in C.
+fn is_prefixed(word: &[u8]) -> bool
+    ensures { result ≡ is_prefixed word.now }
+{
+    word.len() >= 2 && word[0] == b'0' && is_x(word[1])
+}
+
+/// The byte of a number: in hex after `0x`, else in decimal.
+fn number_byte(word: &[u8]) -> Option<u8>
+    ensures { result ≡ number_byte word.now }
+{
+    if is_prefixed(word) {
+        byte_of(&word[2..], 16)
+    } else {
+        byte_of(word, 10)
+    }
+}
+
+/// A byte that two readings give.
+fn same_byte(one: Option<u8>, other: Option<u8>) -> Option<u8>
+    ensures { result ≡ same_byte one other }
+{
+    match (one, other) {
+        (Some(one), Some(other)) if one == other => Some(one),
+        _ => None,
+    }
+}
+
+/// The byte of a number of C. One that begins with 0 is octal, and is taken if it is the same in decimal (C11, 6.4.4.1).
+fn constant_byte(word: &[u8]) -> Option<u8>
+    ensures { result ≡ constant_byte word.now }
+{
+    if is_prefixed(word) {
+        byte_of(&word[2..], 16)
+    } else if word.len() >= 1 && word[0] == b'0' {
+        same_byte(byte_of(word, 8), byte_of(word, 10))
+    } else {
+        byte_of(word, 10)
+    }
+}
+
+/// A number without the `u` or `U` that may stand after it.
+fn without_suffix(word: &[u8]) -> &[u8]
+    ensures { result.now ≡ without_suffix word.now }
+{
+    if word.len() >= 1 && (word[word.len() - 1] == b'u' || word[word.len() - 1] == b'U') {
+        &word[..word.len() - 1]
+    } else {
+        word
+    }
+}
+
+/// The byte of an element of an array of C.
+fn element_byte(word: &[u8]) -> Option<u8>
+    ensures { result ≡ element_byte word.now }
+{
+    constant_byte(without_suffix(trimmed_text(word)))
 }
 
 /// Adds a byte; false where there is none.
@@ -148,7 +210,8 @@ fn add_word(
         WordForm::Octal => add_byte(bytes, octal_byte(word)),
         WordForm::Decimal => add_byte(bytes, column_byte(word, 4)),
         WordForm::Signed => add_byte(bytes, column_byte(word, 5)),
-        WordForm::Number => add_byte(bytes, byte_of(word, 10)),
+        WordForm::Number => add_byte(bytes, number_byte(word)),
+        WordForm::Element => add_byte(bytes, element_byte(word)),
     }
 }
 

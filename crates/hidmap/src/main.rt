@@ -19,7 +19,8 @@ mod status;
 
 use args::{CliArgs, parse_args};
 use clap::error::ErrorKind;
-use hid_input::{FileName, InputCause, InputFault, descriptor_in};
+use command_words::{FileName, print_unread_words, words_of};
+use hid_input::{InputCause, InputFault, KnownFile, descriptor_in, known_file};
 use hid_layout::{Cause, Layout, LayoutFault, Limits, MAX_DESCRIPTOR, long_report};
 use hid_notation::RefusalText;
 use hid_page::{Form, MAX_DRAWN, draw, draw_refused};
@@ -45,15 +46,14 @@ const COLUMNS: u16 = 80;
 /// has 258 at most.
 const MOST: usize = MAX_DESCRIPTOR + 258;
 
+/// What can be done where a name isn't UTF-8.
+const ADVICE: &str = ": give the file by < FILE";
+
 fn main(rt: HostRuntime) -> ExitCode {
     let alloc = rt.alloc();
-    let args = match env::args(&rt) {
-        Ok(args) => args,
-        Err(error) => return ExitCode::from(print_no_words(&rt, error.kind())),
-    };
-    let words: Result<Vec<String>, _> = args.collect(alloc);
-    let Ok(words) = words else {
-        return ExitCode::from(OUTSIDE);
+    let words = match words_of(&rt) {
+        Ok(words) => words,
+        Err(fault) => return ExitCode::from(print_unread_words(&rt, "hidmap", &fault, ADVICE)),
     };
     match parse_args(alloc, words.as_slice(), terminal_columns(&rt)) {
         Ok(asked) => ExitCode::from(draw_file(&rt, &asked)),
@@ -69,16 +69,6 @@ fn terminal_columns(rt: &HostRuntime) -> u16 {
     match env::var(rt, "COLUMNS") {
         Ok(text) => text.as_str().parse::<u16>().unwrap_or(COLUMNS),
         Err(_) => COLUMNS,
-    }
-}
-
-/// Why the words of the command line can't be read: memory, or one isn't UTF-8.
-fn print_no_words(rt: &HostRuntime, kind: io::ErrorKind) -> u8 {
-    if kind == io::ErrorKind::InvalidData {
-        let _ = eprintln!(rt; "hidmap: a word of the command line isn't UTF-8");
-        WRONG_USAGE
-    } else {
-        OUTSIDE
     }
 }
 
@@ -166,6 +156,9 @@ fn draw_bytes(rt: &HostRuntime, asked: &CliArgs<'_>, descriptor: &[u8]) -> u8 {
     match Layout::parse_within(rt.alloc(), Limits::Real, descriptor) {
         Ok(layout) => {
             if layout.reports().is_empty() {
+                if let Some(known) = known_file(descriptor) {
+                    return print_known(rt, asked.file, known);
+                }
                 let name = FileName(asked.file);
                 let _ = eprintln!(rt; "hidmap: {name}: no reports");
             }
@@ -182,6 +175,13 @@ fn draw_bytes(rt: &HostRuntime, asked: &CliArgs<'_>, descriptor: &[u8]) -> u8 {
             Err(_) => print_outside_fault(rt, NO_MEMORY),
         },
     }
+}
+
+/// What a file is that has no descriptor.
+fn print_known(rt: &HostRuntime, name: &str, known: KnownFile) -> u8 {
+    let name = FileName(name);
+    let _ = eprintln!(rt; "hidmap: {name}: {known}");
+    REFUSED
 }
 
 /// Writes what is drawn of a layout.
@@ -218,7 +218,7 @@ fn print_no_picture(rt: &HostRuntime, layout: &Layout, form: Form) {
     }
 }
 
-/// Writes why a descriptor is refused, and its page, where a page is asked for.
+/// Writes why a descriptor is refused, and its page, where a page is asked for; of a file that is known for another one what it is.
 fn draw_refusal(
     rt: &HostRuntime,
     asked: &CliArgs<'_>,
@@ -227,6 +227,9 @@ fn draw_refusal(
 ) -> u8
     requires { length descriptor.now ≤ MOST }
 {
+    if let Some(known) = known_file(descriptor) {
+        return print_known(rt, asked.file, known);
+    }
     let name = FileName(asked.file);
     let _ = eprintln!(rt; "hidmap: {name}: {refusal}");
     match asked.form {

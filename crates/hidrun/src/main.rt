@@ -14,37 +14,23 @@ mod status;
 
 use args::options_of;
 use clap::error::ErrorKind;
+use command_words::{print_unread_words, words_of};
 use hid_script::{Cause, Options, ScriptFault, Summary, run};
 use status::{OUTSIDE, WRONG_USAGE, exit_of};
-use std::env;
-use std::io::{self, BufWriter};
+use std::io::BufWriter;
 use std::process::ExitCode;
 
 const USAGE: &str = "usage: hidrun [--layout] [--trace]";
 
 fn main(rt: HostRuntime) -> ExitCode {
     let alloc = rt.alloc();
-    let args = match env::args(&rt) {
-        Ok(args) => args,
-        Err(error) => return ExitCode::from(print_no_words(&rt, error.kind())),
-    };
-    let words: Result<Vec<String>, _> = args.collect(alloc);
-    let Ok(words) = words else {
-        return ExitCode::from(OUTSIDE);
+    let words = match words_of(&rt) {
+        Ok(words) => words,
+        Err(fault) => return ExitCode::from(print_unread_words(&rt, "hidrun", &fault, "")),
     };
     match options_of(alloc, words.as_slice()) {
         Ok(options) => run_script(&rt, options),
         Err(error) => ExitCode::from(print_bad_words(&rt, &error)),
-    }
-}
-
-/// Why the words of the command line can't be read: memory, or one isn't UTF-8.
-fn print_no_words(rt: &HostRuntime, kind: io::ErrorKind) -> u8 {
-    if kind == io::ErrorKind::InvalidData {
-        let _ = eprintln!(rt; "hidrun: a word of the command line isn't UTF-8");
-        WRONG_USAGE
-    } else {
-        OUTSIDE
     }
 }
 

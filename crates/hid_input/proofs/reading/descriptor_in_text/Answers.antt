@@ -1,7 +1,15 @@
+use Rattle.std.proofs.Common.{ℕ, List, subst}
+use Rattle.std.specs.Prelude.{IfErr}
+use Rattle.hid_input.specs.declared.form.TextForm.{TextForm}
+use Rattle.hid_input.specs.Forms.{Encodes, IsAlone, IsFaultOf, IsMemoryOf}
 use Rattle.hid_input.proofs.reading.descriptor_in_text.Goals as goal
 
-pub returns-then-is_offset-clause-dump_faults : goal.returns-then-is_offset-clause-dump_faults
-returns-then-is_offset-clause-dump_faults c = λ bytes _ dump. c.read_offset_dump.ensures.faults bytes dump
+pub returns-clause-complete : goal.returns-clause-complete
+returns-clause-complete c =
+    subst (λ (form : TextForm). (whole : List ℕ) → Encodes c.args.text.now whole form → IfErr c.read_form.result (λ fault. IsFaultOf fault form))
+    c.in_ok-form.ensures c.read_form.ensures.complete
 
-pub returns-then-is_offset-clause-dump_read : goal.returns-then-is_offset-clause-dump_read
-returns-then-is_offset-clause-dump_read c = λ bytes _ dump alone. c.read_offset_dump.ensures.read bytes dump alone
+pub returns-clause-one_way : goal.returns-clause-one_way
+returns-clause-one_way c =
+    subst (λ (form : TextForm). (whole : List ℕ) → Encodes c.args.text.now whole form → IsAlone c.args.text.now whole form → IfErr c.read_form.result (λ fault. IsMemoryOf fault form))
+    c.in_ok-form.ensures c.read_form.ensures.one_way

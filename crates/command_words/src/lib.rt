@@ -1,0 +1,17 @@
+//! The words of a command line, and names as they are printed.
+//! ```text
+//!   the system --> words_of --> the words, as text
+//!                     |
+//!                     +-- WordsFault: out of memory, or the first word that isn't UTF-8 --> print_unread_words
+//! ```
+//! The rule to know: paths are text, so a file whose name isn't UTF-8 can't be opened by its name. Standard input can have it.
+//!
+//! The promise: bytes that are UTF-8 are a word, the word has them, and others are refused with them (`text`, `bytes` and `fault` on
+//! [`word_of`]); the characters that are printed as numbers are the control characters (`escaped`). What a terminal gets is tested.
+#![tactic(auto)]
+
+mod names;
+mod words;
+
+pub use names::{FileName, ShownBytes, is_escaped};
+pub use words::{WordsFault, print_unread_words, word_of, words_of};

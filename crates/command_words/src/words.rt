@@ -1,0 +1,113 @@
+//! The words of the command line.
+
+ghost use Rattle.std.specs.Prelude.{◌≡◌, IsOk, IfOk, IfErr, string_bytes};
+ghost use Rattle.std.specs.Str.{IsUtf8};
+
+use crate::names::ShownBytes;
+use std::alloc::{AllocError, Global};
+use std::env::{Env, FillError};
+
+/// The command line is wrong.
+const WRONG_USAGE: u8 = 2;
+
+/// Memory failed.
+const OUTSIDE: u8 = 3;
+
+/// In bytes, the room for a word at first.
+const ROOM: usize = 256;
+
+/// Why the words can't be read.
+#[derive(Debug, Drop)]
+pub enum WordsFault {
+    /// Memory ran out.
+    Memory,
+    /// A word isn't UTF-8: its bytes.
+    NotText(Vec<u8>),
+}
+
+impl From<AllocError> for WordsFault {
+    fn from(_error: AllocError) -> WordsFault {
+        WordsFault::Memory
+    }
+}
+
+/// What room for a word came to.
+#[derive(Drop)]
+enum WordEnd {
+    /// The word.
+    Word(Vec<u8>),
+    /// The word is longer.
+    TooLong,
+    /// There is no such word.
+    NoWord,
+}
+
+/// The word of this place, if it has up to so many bytes.
+fn read_within(rt: &HostRuntime, place: usize, room: usize) -> Result<WordEnd, AllocError> {
+    let mut bytes = Vec::new(rt.alloc());
+    bytes.resize(room, 0)?;
+    match rt.arg(place, bytes.as_mut_slice()) {
+        Ok(count) => {
+            bytes.truncate(count);
+            Ok(WordEnd::Word(bytes))
+        }
+        Err(FillError::TooLong) => Ok(WordEnd::TooLong),
+        Err(FillError::NotPresent) => Ok(WordEnd::NoWord),
+    }
+}
+
+/// The word of this place, if there is one.
+fn read_word(rt: &HostRuntime, place: usize) -> Result<Option<Vec<u8>>, AllocError> {
+    let mut room = ROOM;
+    for _ in 0..usize::BITS {
+        match read_within(rt, place, room)? {
+            WordEnd::Word(bytes) => return Ok(Some(bytes)),
+            WordEnd::TooLong => room = room.saturating_mul(2),
+            WordEnd::NoWord => return Ok(None),
+        }
+    }
+    Err(AllocError)
+}
+
+/// A word as text, if its bytes are UTF-8.
+///
+/// # Errors
+/// [`WordsFault::NotText`], with the bytes.
+pub fn word_of(bytes: Vec<u8>) -> Result<String, WordsFault>
+    ensures text { IsUtf8 bytes.items → IsOk result }
+    ensures bytes { IfOk result (λ word. string_bytes word ≡ bytes.items) }
+    ensures fault { IfErr result (λ fault. fault ≡ WordsFault.NotText bytes) }
+{
+    match String::from_utf8(bytes) {
+        Ok(word) => Ok(word),
+        Err(error) => Err(WordsFault::NotText(error.into_bytes())),
+    }
+}
+
+/// The words of the command line, of which the first is the name of the program.
+///
+/// # Errors
+/// A [`WordsFault`]: memory ran out, or the first word that isn't UTF-8.
+pub fn words_of(rt: &HostRuntime) -> Result<Vec<String>, WordsFault> {
+    let mut words = Vec::new(rt.alloc());
+    for place in 0..usize::MAX {
+        let Some(bytes) = read_word(rt, place)? else {
+            break;
+        };
+        words.push(word_of(bytes)?).map_err(AllocError::from)?;
+    }
+    Ok(words)
+}
+
+/// Says on standard error why the words can't be read: the program, the word, and what can be done, as `give the file by < FILE`.
+/// The exit status is 2 for a word that isn't UTF-8. It is 3, without a line, where memory ran out.
+pub fn print_unread_words(rt: &HostRuntime, program: &str, fault: &WordsFault, advice: &str) -> u8 {
+    match fault {
+        WordsFault::Memory => OUTSIDE,
+        WordsFault::NotText(bytes) => {
+            let word = ShownBytes(bytes.as_slice());
+            let _ = eprintln!(rt; "{program}: {word}: not UTF-8{advice}");
+            WRONG_USAGE
+        }
+    }
+}

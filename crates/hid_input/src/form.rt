@@ -1,0 +1,114 @@
+//! The form of a text that has a descriptor.
+
+ghost use Rattle.std.specs.Prelude.{◌≡◌, ◌==◌, ◌-◌, ◌&&◌, nat_le, length, slice_index, take, IfOk};
+ghost use Rattle.std.specs.List.{list_all};
+ghost use Rattle.std.specs.Char.{is_ascii_hexdigit};
+ghost use Rattle.hid_input.specs.Hex.{is_offset};
+ghost use Rattle.hid_input.specs.Forms.{form_of_code, form_of};
+
+use crate::code::{has_array, without_comments};
+use crate::items::has_listed;
+use crate::parts::first_word;
+use crate::recorded::{has_dumped, has_recorded};
+use crate::spelled::is_spelled;
+use crate::strings::has_string;
+use std::alloc::{AllocError, Global};
+
+/// A form of text.
+#[derive(Clone, Copy, Debug, PartialEq, Eq)]
+pub enum TextForm {
+    /// A dump with offsets.
+    Dump,
+    /// Hex alone.
+    Hex,
+    /// A line `R:` of hid-recorder.
+    Recorded,
+    /// Lines of usbhid-dump.
+    Dumped,
+    /// Items as `lsusb -v` prints them.
+    Listed,
+    /// An array of C, or elements of one.
+    Array,
+    /// A string of C with escapes.
+    Quoted,
+    /// None of these.
+    Other,
+}
+
+/// Whether a word is an offset by its looks: two digits or more and a colon, or four zeros or more.
+fn is_offset(word: &[u8]) -> bool
+    ensures { result ≡ is_offset word.now }
+{
+    is_marked_offset(word) || is_zero(word)
+}
+
+/// Whether a word is two hex digits or more and a colon.
+fn is_marked_offset(word: &[u8]) -> bool
+    ensures { result ≡ (nat_le 3 (length word.now) && ((slice_index word.now (length word.now - 1) == 58) && list_all is_ascii_hexdigit (take (length word.now - 1) word.now))) }
+{
+    match word.len() {
+        0..=2 => false,
+        length => word[length - 1] == b':' && are_digits(&word[..length - 1]),
+    }
+}
+
+/// Whether each byte is a hex digit.
+pub fn are_digits(word: &[u8]) -> bool
+    ensures { result ≡ list_all is_ascii_hexdigit word.now }
+{
+    word.iter().all(|byte| byte.is_ascii_hexdigit())
+}
+
+/// Whether each byte is a zero.
+fn are_zeros(word: &[u8]) -> bool
+    ensures { result ≡ list_all (λ byte. byte == 48) word.now }
+{
+    word.iter().all(|byte| *byte == b'0')
+}
+
+/// Whether a word is four zeros or more.
+fn is_zero(word: &[u8]) -> bool
+    ensures { result ≡ (nat_le 4 (length word.now) && list_all (λ byte. byte == 48) word.now) }
+{
+    word.len() >= 4 && are_zeros(word)
+}
+
+/// The form of a text without comments.
+fn form_of_code(code: &[u8]) -> TextForm
+    ensures { result ≡ form_of_code code.now }
+{
+    if has_array(code) {
+        TextForm::Array
+    } else if has_string(code) {
+        TextForm::Quoted
+    } else {
+        TextForm::Other
+    }
+}
+
+/// The form of a text: the first one that it has.
+///
+/// # Errors
+/// Out of memory.
+#[tactic(auto, unfolding(crate::specs::Forms::form_of))]
+pub fn form_of(alloc: Global, text: &[u8]) -> Result<TextForm, AllocError>
+    ensures { IfOk result (λ form. form ≡ form_of text.now) }
+{
+    if is_offset(first_word(text)) {
+        return Ok(TextForm::Dump);
+    }
+    if is_spelled(text) {
+        return Ok(TextForm::Hex);
+    }
+    if has_recorded(text) {
+        return Ok(TextForm::Recorded);
+    }
+    if has_dumped(alloc, text)? {
+        return Ok(TextForm::Dumped);
+    }
+    if has_listed(text) {
+        return Ok(TextForm::Listed);
+    }
+    let code = without_comments(alloc, text)?;
+    Ok(form_of_code(code.as_slice()))
+}

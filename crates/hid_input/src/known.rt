@@ -1,0 +1,94 @@
+//! Files that are known by their first bytes, and are no report descriptors.
+
+ghost use Rattle.std.specs.Prelude.{◌≡◌};
+ghost use Rattle.hid_input.specs.Known.{is_capture, are_usb_descriptors, is_compressed, is_program, known_file};
+
+use std::fmt;
+
+/// What a file is that is no report descriptor.
+#[derive(Clone, Copy, Debug, PartialEq, Eq)]
+pub enum KnownFile {
+    /// A capture of pcap or pcapng.
+    Capture,
+    /// Descriptors of a device or of a configuration (USB 2.0, 9.6).
+    UsbDescriptors,
+    /// A file of gzip, xz, zstd or zip.
+    Compressed,
+    /// A program or an object file of ELF.
+    Program,
+}
+
+impl fmt::Display for KnownFile {
+    ghost use Rattle.std.specs.Prelude.{Some};
+    ghost use Rattle.hid_input.specs.Known.{known_text};
+
+    ghost output = { λ known. Some (known_text known) };
+
+    fn fmt<W: fmt::Write>(&self, f: &mut fmt::Formatter<W>) -> fmt::Result {
+        f.write_str(match *self {
+            KnownFile::Capture => "a capture of a bus: hidplay reads it",
+            KnownFile::UsbDescriptors => {
+                "USB descriptors, without a report descriptor (/sys/class/hidraw has those)"
+            }
+            KnownFile::Compressed => "a compressed file: unpack it first",
+            KnownFile::Program => "a program, without a report descriptor",
+        })
+    }
+}
+
+/// Whether bytes begin as a capture: pcap in either byte order, of microseconds or nanoseconds, or pcapng.
+fn is_capture(bytes: &[u8]) -> bool
+    ensures { result ≡ is_capture bytes.now }
+{
+    bytes.starts_with(&[0xD4, 0xC3, 0xB2, 0xA1])
+        || bytes.starts_with(&[0xA1, 0xB2, 0xC3, 0xD4])
+        || bytes.starts_with(&[0x4D, 0x3C, 0xB2, 0xA1])
+        || bytes.starts_with(&[0xA1, 0xB2, 0x3C, 0x4D])
+        || bytes.starts_with(&[0x0A, 0x0D, 0x0D, 0x0A])
+}
+
+/// Whether bytes begin with the descriptor of a device, or with those of a configuration and an interface.
+fn are_usb_descriptors(bytes: &[u8]) -> bool
+    ensures { result ≡ are_usb_descriptors bytes.now }
+{
+    if bytes.len() < 18 {
+        return false;
+    }
+    bytes.starts_with(&[0x12, 0x01])
+        || (bytes.starts_with(&[0x09, 0x02]) && bytes[9..].starts_with(&[0x09, 0x04]))
+}
+
+/// Whether bytes begin as a file of gzip, xz, zstd or zip.
+fn is_compressed(bytes: &[u8]) -> bool
+    ensures { result ≡ is_compressed bytes.now }
+{
+    bytes.starts_with(&[0x1F, 0x8B])
+        || bytes.starts_with(&[0xFD, 0x37, 0x7A, 0x58, 0x5A, 0x00])
+        || bytes.starts_with(&[0x28, 0xB5, 0x2F, 0xFD])
+        || bytes.starts_with(&[0x50, 0x4B, 0x03, 0x04])
+}
+
+/// Whether bytes begin as a program of ELF.
+fn is_program(bytes: &[u8]) -> bool
+    ensures { result ≡ is_program bytes.now }
+{
+    bytes.starts_with(&[0x7F, 0x45, 0x4C, 0x46])
+}
+
+/// What a file is by its first bytes, if it is none that has a report descriptor. A descriptor may begin with these bytes too: one
+/// that can be read is one.
+pub fn known_file(bytes: &[u8]) -> Option<KnownFile>
+    ensures { result ≡ known_file bytes.now }
+{
+    if is_capture(bytes) {
+        Some(KnownFile::Capture)
+    } else if are_usb_descriptors(bytes) {
+        Some(KnownFile::UsbDescriptors)
+    } else if is_compressed(bytes) {
+        Some(KnownFile::Compressed)
+    } else if is_program(bytes) {
+        Some(KnownFile::Program)
+    } else {
+        None
+    }
+}
