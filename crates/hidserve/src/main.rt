@@ -3,7 +3,7 @@
 //! ```text
 //!   hidserve [--output FILE] SCRIPT
 //!
-//!   standard input --> usbip_serving::Serving --> standard output     a launcher as socat or systemd hands both to it
+//!   standard input --> usbip_script::serve --> standard output        a launcher as socat or systemd hands both to it
 //!                          |             |
 //!   SCRIPT --> devices, actions          +--> FILE, or standard error: what the host sets, as `1 output 0 02`
 //! ```
@@ -13,20 +13,14 @@
 #![tactic(auto)]
 
 mod args;
-mod fault;
-mod output_text;
-mod script;
-mod serving;
-mod status;
 
 use args::{CliArgs, parse_args};
 use clap::error::ErrorKind;
-use fault::ServeFault;
-use script::{Script, read_script};
-use serving::serve;
-use status::{FINE, OUTSIDE, WRONG_USAGE, exit_of};
 use std::process::ExitCode;
 use std::{env, fs, io};
+use usbip_script::{
+    FINE, OUTSIDE, Script, ServeFault, Telling, WRONG_USAGE, exit_of, read_script, serve,
+};
 
 fn main(rt: HostRuntime) -> ExitCode {
     let alloc = rt.alloc();
@@ -87,15 +81,17 @@ fn serve_file(rt: &HostRuntime, asked: &CliArgs<'_>) -> Result<(), ServeFault> {
     let mut from = rt.stdin();
     let mut to = rt.stdout();
     let Some(name) = asked.output else {
-        let end = serve(rt, &mut script, &mut from, &mut to, &mut rt.stderr());
+        let mut watch = Telling::new(rt.stderr());
+        let end = serve(rt, &mut script, &mut from, &mut to, &mut watch);
         drop(script);
         return end;
     };
-    let Ok(mut told) = fs::create(rt, name) else {
+    let Ok(told) = fs::create(rt, name) else {
         drop(script);
         return Err(ServeFault::Told);
     };
-    let end = serve(rt, &mut script, &mut from, &mut to, &mut told);
+    let mut watch = Telling::new(told);
+    let end = serve(rt, &mut script, &mut from, &mut to, &mut watch);
     drop(script);
     end
 }

@@ -12,7 +12,7 @@ ghost use Rattle.usbip_export.specs.ExportedDevices.{answer_of_report, answer_to
 
 use crate::answer::Answer;
 use hid_gadget::{Change, ChangeFault, Config, Control, DeviceFault, Gadget, Poll, Setup};
-use hid_layout::{ControlId, ReportKind, Usage};
+use hid_layout::{ControlId, Layout, ReportKind, Usage};
 use std::alloc::Global;
 use usbip::{
     Direction, HEADER, MAX_DATA, PendingSubmits, Reply, Status, Submit, SubmitReply, Unlink,
@@ -116,6 +116,13 @@ impl ExportedDevice {
         ensures { result ≡ is_some (slice_get self.now.pending 0) }
     {
         self.pending.oldest().is_some()
+    }
+
+    /// The layout of its reports.
+    pub fn layout(&self) -> &Layout
+        ensures { result.now ≡ self.now.gadget.layout }
+    {
+        self.gadget.layout()
     }
 
     /// The least control with a usage.

@@ -39,12 +39,16 @@ abbrev pub acting : Option Action → Move
 acting None = Waiting
 acting (Some action) = Acting action
 
+-- The next action may come: the host asks for a report, and the time of the last frames is over.
+abbrev pub may_act : Serving → List ExportedDevice → ℕ → Bool
+may_act s ds now = asks (device_at ds (place_of_stage s.connection.stage)) && nat_le s.due now
+
 -- What a turn does. A report that is asked for and due goes first. The next action comes once the host asks for a report, none
 -- is due, and the time of the last frames is over; so the host has taken all that came before.
 abbrev pub move_of : Serving → List ExportedDevice → List Action → ℕ → Move
 move_of s ds actions now =
     if not (length (report_answer ds s.connection.stage) == 0) then Sending
-    else if asks (device_at ds (place_of_stage s.connection.stage)) && nat_le s.due now
+    else if may_act s ds now
     then acting (slice_get actions s.done) else Waiting
 
 -- ---- what an action does

@@ -4,7 +4,7 @@ ghost use Rattle.usbip_export.specs.declared.description.TheConstants.{MAX_DEVIC
 ghost use Rattle.usbip_export.specs.declared.exported_device.TheConstants.{MAX_ANSWER};
 ghost use Rattle.usbip_export.specs.Connections.{Takes, bytes_wanted, changed_device, devices_after_end, place_of_stage};
 ghost use Rattle.usbip_serving.specs.SetReports.{count_of, report_set};
-ghost use Rattle.usbip_serving.specs.Turns.{Turns, after_frames, asks, changed_if, device_at, device_if, devices_after_action, due_after, frames_over, move_of, refusal_at, refusal_of, with_change, with_halt, with_reset};
+ghost use Rattle.usbip_serving.specs.Turns.{Turns, after_frames, asks, changed_if, device_at, device_if, devices_after_action, due_after, frames_over, may_act, move_of, refusal_at, refusal_of, with_change, with_halt, with_reset};
 
 use crate::action::{Action, Turn};
 use crate::set_report::{Taken, awaited_report, set_by};
@@ -80,6 +80,14 @@ impl Serving {
         self.due
     }
 
+    /// Whether the next action may come: the host asks for a report, and the time of the last frames is over. A report that is due
+    /// goes first.
+    pub fn may_act(&self, devices: &[ExportedDevice], now: u64) -> bool
+        ensures { result ≡ may_act self.now devices.now now }
+    {
+        is_asked(devices, self.connection.stage().place()) && self.due <= now
+    }
+
     /// In bytes, what the connection takes next; 0 where it is over.
     pub fn wants(&self) -> usize
         ensures { result ≡ bytes_wanted self.now.connection.stage }
@@ -147,7 +155,7 @@ impl Serving {
             self.new devices.new room.new }
     {
         let place = self.connection.stage().place();
-        let may_act = is_asked(devices, place) && self.due <= now;
+        let may_act = self.may_act(devices, now);
         let count = self.connection.report(devices, room);
         if count > 0 {
             return Ok(Turn::Sends(count));

@@ -1,9 +1,9 @@
 //! Exit statuses.
 
 ghost use Rattle.std.specs.Prelude.{◌≡◌};
-ghost use Rattle.hidserve.specs.Status.{status_of};
+ghost use Rattle.usbip_script.specs.Status.{status_of};
 
-use super::fault::ServeFault;
+use super::fault::{LineCause, ServeFault};
 
 /// The connection ended as connections do.
 pub const FINE: u8 = 0;
@@ -17,12 +17,16 @@ pub const WRONG_USAGE: u8 = 2;
 /// A file, a stream, the clock or memory failed.
 pub const OUTSIDE: u8 = 3;
 
+/// What is expected of the host wasn't set.
+pub const UNMET: u8 = 4;
+
 /// The exit status of what ended serving early: 1 where the script or what the host sent is refused, 3 where the cause lies outside
-/// of both.
+/// of both, and 4 where what is expected wasn't set.
 pub fn exit_of(fault: &ServeFault) -> u8
     ensures { result ≡ status_of fault.now }
 {
     match fault {
+        ServeFault::Line(_, LineCause::Unmet) => UNMET,
         ServeFault::Line(..)
         | ServeFault::Message(_)
         | ServeFault::NoDevices

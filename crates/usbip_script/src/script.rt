@@ -2,8 +2,8 @@
 
 ghost use Rattle.std.specs.Prelude.{◌≡◌, ◌≢◌, ◌⊎◌, ◌<◌, ◌∷◌, [], length, ℕ, OnOk, IfOk, IfErr, Ok, Err, vec_len};
 ghost use Rattle.std.specs.Str.Lines.{lines, strip_carriage_return};
-ghost use Rattle.hidserve.specs.Scripts.{Read as ReadScript, AllGive, Attaches, Changes, Does, Finds, Gives, IsRefusedAt, LineGives, nothing_read, place_of, read_of, with_action};
-ghost use Rattle.hidserve.specs.declared.fault.LineCause.{LineCause as RefusalCause};
+ghost use Rattle.usbip_script.specs.Scripts.{Read as ReadScript, AllGive, Attaches, Changes, Does, Finds, Gives, IsRefusedAt, LineGives, nothing_read, place_of, read_of, with_action};
+ghost use Rattle.usbip_script.specs.declared.fault.LineCause.{LineCause as RefusalCause};
 
 use crate::fault::{LineCause, ServeFault};
 use hid_text::{Line, ShortLine, read_line, split_line};
@@ -24,7 +24,10 @@ pub struct Script {
 }
 
 /// The place of a device by its number.
-fn place_of(devices: &[ExportedDevice], dev: u8) -> Result<usize, LineCause>
+///
+/// # Errors
+/// No device has this number.
+pub fn place_of(devices: &[ExportedDevice], dev: u8) -> Result<usize, LineCause>
     ensures { result ≡ place_of (length devices.now) dev }
 {
     let number = usize::from(dev);
@@ -116,7 +119,7 @@ fn without_return(line: &[u8]) -> &[u8]
 
 impl Script {
     /// A script of which no line came.
-    fn new(alloc: Global) -> Script
+    pub fn new(alloc: Global) -> Script
         ensures { read_of result ≡ nothing_read }
     {
         Script {
@@ -126,8 +129,11 @@ impl Script {
         }
     }
 
-    /// Adds a device.
-    fn attach(
+    /// Adds a device with this descriptor, by the number of its line.
+    ///
+    /// # Errors
+    /// There are seven devices already, or there can be no such device; or memory ran out.
+    pub fn attach(
         &mut self,
         alloc: Global,
         number: usize,
@@ -156,8 +162,11 @@ impl Script {
         }
     }
 
-    /// Adds an action.
-    fn add(&mut self, number: usize, action: Action) -> Result<(), ServeFault>
+    /// Adds an action, by the number of its line.
+    ///
+    /// # Errors
+    /// Memory ran out.
+    pub fn add(&mut self, number: usize, action: Action) -> Result<(), ServeFault>
         ensures ok { OnOk result (with_action (read_of self.old) number (Ok action) ≡ Ok (read_of self.new)) }
         ensures memory { IfErr result (λ fault. fault ≡ ServeFault.Memory) }
     {
@@ -167,8 +176,11 @@ impl Script {
         Ok(())
     }
 
-    /// Takes a line, without its end.
-    fn take(&mut self, alloc: Global, number: usize, line: &[u8]) -> Result<(), ServeFault>
+    /// Takes a line, without its end, by its number.
+    ///
+    /// # Errors
+    /// The line is refused, or memory ran out.
+    pub fn take(&mut self, alloc: Global, number: usize, line: &[u8]) -> Result<(), ServeFault>
         ensures ok { OnOk result (LineGives (read_of self.old) number line.now (Ok (read_of self.new))) }
         ensures err { IfErr result (λ fault. (fault ≡ ServeFault.Memory) ⊎ ((cause : RefusalCause)
             × (fault ≡ ServeFault.Line number cause) × LineGives (read_of self.old) number line.now (Err cause))) }
@@ -196,8 +208,11 @@ impl Script {
         }
     }
 
-    /// Takes a short line.
-    fn take_step(&mut self, number: usize, line: &ShortLine) -> Result<(), ServeFault>
+    /// Takes a short line, by its number.
+    ///
+    /// # Errors
+    /// The line is refused, or memory ran out.
+    pub fn take_step(&mut self, number: usize, line: &ShortLine) -> Result<(), ServeFault>
         ensures ok { OnOk result (Gives (read_of self.old) number (Line.Step line.now) (Ok (read_of self.new))) }
         ensures err { IfErr result (λ fault. (fault ≡ ServeFault.Memory) ⊎ ((cause : RefusalCause)
             × (fault ≡ ServeFault.Line number cause) × Gives (read_of self.old) number (Line.Step line.now) (Err cause))) }

@@ -1,8 +1,9 @@
-//! The connection: what comes and goes, and the clock.
+//! The session: what comes and goes, and the clock.
 
 use crate::fault::{LineCause, ServeFault};
 use crate::output_text::print_output;
 use crate::script::Script;
+use crate::watch::Watch;
 use std::io::{ErrorKind, Read, Write};
 use std::thread;
 use std::time::{Duration, Instant};
@@ -80,22 +81,19 @@ fn send<W: Write>(rt: &HostRuntime, to: &mut W, bytes: &[u8]) -> Result<bool, Se
     Ok(true)
 }
 
-/// Writes the line of a report that a host set.
-fn tell<T: Write>(
+/// Lets the line of a report be heard that a host set.
+fn tell<T: Watch>(
     text: &mut String,
     device: &ExportedDevice,
     set: &SetReport,
-    told: &mut T,
+    watch: &mut T,
 ) -> Result<(), ServeFault> {
     let bytes = device.outputs(set.kind, set.id).unwrap_or(&[]);
     text.clear();
     if print_output(text, set, bytes).is_err() {
         return Err(ServeFault::Memory);
     }
-    if told.write_all(text.as_bytes()).is_err() || told.flush().is_err() {
-        return Err(ServeFault::Told);
-    }
-    Ok(())
+    watch.hear(text.as_str())
 }
 
 impl Service {
@@ -150,13 +148,13 @@ impl Service {
         }
     }
 
-    /// Takes the message that came, if it is whole, sends its answer, and prints the report that it set.
-    fn answer<W: Write, T: Write>(
+    /// Takes the message that came, if it is whole, sends its answer, and tells the report that it set.
+    fn answer<W: Write, T: Watch>(
         &mut self,
         rt: &HostRuntime,
         devices: &mut [ExportedDevice],
         to: &mut W,
-        told: &mut T,
+        watch: &mut T,
     ) -> Result<Came, ServeFault> {
         let wanted = self.serving.wants();
         if self.filled < wanted || self.message.len() < wanted {
@@ -178,7 +176,7 @@ impl Service {
         if let Some(set) = taken.set
             && let Some(device) = devices.get(set.place)
         {
-            tell(&mut self.text, device, &set, told)?;
+            tell(&mut self.text, device, &set, watch)?;
         }
         self.send(rt, to, taken.length)
     }
@@ -197,12 +195,27 @@ impl Service {
         }
     }
 
+    /// Whether the script goes on after the actions that may come so far, where nothing else is to be done.
+    fn goes_on<T: Watch>(
+        &self,
+        script: &Script,
+        watch: &mut T,
+        count: usize,
+        now: u64,
+    ) -> Result<bool, ServeFault> {
+        if self.serving.done() < count || !self.serving.may_act(script.devices.as_slice(), now) {
+            return Ok(false);
+        }
+        watch.go_on(self.serving.stage().place(), now)
+    }
+
     /// Does all that is to be done now.
-    fn act<W: Write>(
+    fn act<W: Write, T: Watch>(
         &mut self,
         rt: &HostRuntime,
         script: &mut Script,
         to: &mut W,
+        watch: &mut T,
         now: u64,
     ) -> Result<Came, ServeFault> {
         let mut came = Came::Nothing;
@@ -210,8 +223,10 @@ impl Service {
             if self.room.resize(MAX_ANSWER, 0).is_err() {
                 return Err(ServeFault::Memory);
             }
-            let actions = script.actions.as_slice();
+            let count = watch.allowed().min(script.actions.len());
+            let actions = &script.actions.as_slice()[..count];
             match self.serving.turn(script.devices.as_mut_slice(), actions, now, &mut self.room) {
+                Ok(Turn::Waits) if self.goes_on(script, watch, count, now)? => came = Came::Some,
                 Ok(Turn::Waits) => break,
                 Ok(Turn::Acted) => came = Came::Some,
                 Ok(Turn::Sends(count)) => came = self.send(rt, to, count)?,
@@ -237,17 +252,17 @@ fn millis(rt: &HostRuntime, start: &Instant) -> Result<u64, ServeFault> {
 }
 
 /// One round: what came, the frames, and what is to be done; a rest, where there was nothing. False at the end.
-fn go_round<R: Read, W: Write, T: Write>(
+fn go_round<R: Read, W: Write, T: Watch>(
     rt: &HostRuntime,
     service: &mut Service,
     script: &mut Script,
     from: &mut R,
     to: &mut W,
-    told: &mut T,
+    watch: &mut T,
 ) -> Result<bool, ServeFault> {
     let read = service.read(from)?;
     let came = match read {
-        Came::Some => service.answer(rt, script.devices.as_mut_slice(), to, told)?,
+        Came::Some => service.answer(rt, script.devices.as_mut_slice(), to, watch)?,
         Came::Nothing | Came::End => read,
     };
     if came == Came::End {
@@ -256,7 +271,7 @@ fn go_round<R: Read, W: Write, T: Write>(
     // (a read that blocks takes time)
     let now = millis(rt, &service.start)?;
     service.serving.pass(script.devices.as_mut_slice(), now);
-    let done = service.act(rt, script, to, now)?;
+    let done = service.act(rt, script, to, watch, now)?;
     if done == Came::End {
         return Ok(false);
     }
@@ -270,36 +285,39 @@ fn go_round<R: Read, W: Write, T: Write>(
 }
 
 /// Rounds, until the connection ends.
-fn go_on<R: Read, W: Write, T: Write>(
+fn go_on<R: Read, W: Write, T: Watch>(
     rt: &HostRuntime,
     service: &mut Service,
     script: &mut Script,
     from: &mut R,
     to: &mut W,
-    told: &mut T,
+    watch: &mut T,
 ) -> Result<(), ServeFault> {
     for _ in 0..u64::MAX {
-        if !go_round(rt, service, script, from, to, told)? {
+        if !go_round(rt, service, script, from, to, watch)? {
             break;
         }
     }
     Ok(())
 }
 
-/// Serves the devices of a script until the connection ends.
+/// Serves the devices of a script until the connection ends: the bytes that come from the host are read, and those that go to it
+/// written.
 ///
 /// # Errors
-/// A message of the host or a change of the script that is refused, or a stream, the clock or memory that fails.
-pub fn serve<R: Read, W: Write, T: Write>(
+/// A message of the host or a change of the script that is refused; a stream, the clock or memory that fails; or what the watch says.
+pub fn serve<R: Read, W: Write, T: Watch>(
     rt: &HostRuntime,
     script: &mut Script,
     from: &mut R,
     to: &mut W,
-    told: &mut T,
+    watch: &mut T,
 ) -> Result<(), ServeFault> {
     let mut service = Service::new(rt)?;
-    let end = go_on(rt, &mut service, script, from, to, told);
+    let end = go_on(rt, &mut service, script, from, to, watch);
+    let place = service.serving.stage().place();
     service.serving.end(script.devices.as_mut_slice());
     drop(service);
-    end
+    end?;
+    watch.end(place)
 }

@@ -1,7 +1,7 @@
 //! Why a script isn't served, and why serving ends early.
 
 ghost use Rattle.std.specs.Prelude.{◌≡◌, Some};
-ghost use Rattle.hidserve.specs.FaultText.{change_words, line_cause_text, serve_fault_text, text_words};
+ghost use Rattle.usbip_script.specs.FaultText.{change_words, line_cause_text, serve_fault_text, text_words};
 
 use hid_text::LineFault;
 use std::fmt;
@@ -23,6 +23,10 @@ pub enum LineCause {
     TooManyDevices,
     /// E1: the host that has a device polls it and begins requests, and `hidrun` prints layouts and values.
     NotServed,
+    /// E11: over 1,048,576 lines or actions, or over 16,384 expectations, those of bodies each time.
+    TooLong,
+    /// X13: what is expected of the host wasn't set.
+    Unmet,
 }
 
 /// Why nothing is served, or serving ends early.
@@ -92,6 +96,8 @@ impl fmt::Display for LineCause {
             LineCause::Device(fault) => write!(f, "X4 S5 {fault}: there can be no such device"),
             LineCause::TooManyDevices => f.write_str("X4 S7: there are seven devices already"),
             LineCause::NotServed => f.write_str("E1: the host does this, or hidrun prints it"),
+            LineCause::TooLong => f.write_str("E11: the script is too long"),
+            LineCause::Unmet => f.write_str("X13: the host set another report, or none"),
         }
     }
 }

@@ -9,10 +9,10 @@ use Rattle.hid_text.specs.declared.fault.LineFault.{LineFault}
 use Rattle.hid_text.specs.declared.fault.LineFault.TheVariants.{Syntax, LineTooLong, BadHex}
 use Rattle.usbip_export.specs.Faults.{export_fault_code}
 use Rattle.usbip_serving.specs.Words.{export_words}
-use Rattle.hidserve.specs.declared.fault.LineCause.{LineCause}
-use Rattle.hidserve.specs.declared.fault.LineCause.TheVariants.{Text, NoDevice, Change, Device, TooManyDevices, NotServed}
-use Rattle.hidserve.specs.declared.fault.ServeFault.{ServeFault}
-use Rattle.hidserve.specs.declared.fault.ServeFault.TheVariants.{Line, Message, NoDevices, HalfMessage, Script, Memory, Input, Output, Full, Told, Clock}
+use Rattle.usbip_script.specs.declared.fault.LineCause.{LineCause}
+use Rattle.usbip_script.specs.declared.fault.LineCause.TheVariants.{Text, NoDevice, Change, Device, TooManyDevices, NotServed, TooLong, Unmet}
+use Rattle.usbip_script.specs.declared.fault.ServeFault.{ServeFault}
+use Rattle.usbip_script.specs.declared.fault.ServeFault.TheVariants.{Line, Message, NoDevices, HalfMessage, Script, Memory, Input, Output, Full, Told, Clock}
 
 -- of a line that is none
 abbrev pub text_words : LineFault → List ℕ
@@ -38,6 +38,8 @@ line_cause_text (Change fault) = codes "X4 S3 " ++ change_code fault ++ codes ":
 line_cause_text (Device fault) = codes "X4 S5 " ++ device_fault_text fault.cause fault.at ++ codes ": there can be no such device"
 line_cause_text TooManyDevices = codes "X4 S7: there are seven devices already"
 line_cause_text NotServed = codes "E1: the host does this, or hidrun prints it"
+line_cause_text TooLong = codes "E11: the script is too long"
+line_cause_text Unmet = codes "X13: the host set another report, or none"
 
 -- why serving ends early. Example: line 2: X1: no line of a script
 abbrev pub serve_fault_text : ServeFault → List ℕ

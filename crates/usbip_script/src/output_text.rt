@@ -1,7 +1,7 @@
 //! The line of a report that a host set.
 
 ghost use Rattle.std.specs.Prelude.{◌≡◌, ◌++◌, OnOk, string_bytes};
-ghost use Rattle.hidserve.specs.OutputText.{after_id, kind_word, output_text};
+ghost use Rattle.usbip_script.specs.OutputText.{after_id, kind_word, output_text};
 
 use hid_layout::ReportKind;
 use hid_notation::print_bytes;

@@ -19,9 +19,9 @@ use Rattle.usbip_export.specs.declared.description.TheConstants.{MAX_DEVICES}
 use Rattle.usbip_export.specs.declared.exported_device.ExportedDevice.{ExportedDevice}
 use Rattle.usbip_serving.specs.declared.action.Action.{Action}
 use Rattle.usbip_serving.specs.declared.action.Action.TheVariants as actions
-use Rattle.hidserve.specs.declared.fault.LineCause.{LineCause}
-use Rattle.hidserve.specs.declared.fault.LineCause.TheVariants.{Text, NoDevice, Change, Device, TooManyDevices, NotServed}
-use Rattle.hidserve.specs.declared.script.Script.{Script}
+use Rattle.usbip_script.specs.declared.fault.LineCause.{LineCause}
+use Rattle.usbip_script.specs.declared.fault.LineCause.TheVariants.{Text, NoDevice, Change, Device, TooManyDevices, NotServed}
+use Rattle.usbip_script.specs.declared.script.Script.{Script}
 
 -- What was read of a script: its devices, what is done at them, and of each action the line that it stands on.
 pub record Read : Type 0 where

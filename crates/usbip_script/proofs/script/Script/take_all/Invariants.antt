@@ -1,8 +1,8 @@
 use Rattle.std.proofs.Common.{◌≡◌, ◌≤◌, ◌+◌, ℕ, length, List}
 use Rattle.std.specs.Str.Lines.{lines}
-use Rattle.hidserve.specs.declared.fault.LineCause.{LineCause}
-use Rattle.hidserve.specs.Scripts.{AllGive, IsRefusedAt, Read, read_of}
-use Rattle.hidserve.proofs.script.Script.take_all.Given as goal
+use Rattle.usbip_script.specs.declared.fault.LineCause.{LineCause}
+use Rattle.usbip_script.specs.Scripts.{AllGive, IsRefusedAt, Read, read_of}
+use Rattle.usbip_script.proofs.script.Script.take_all.Given as goal
 
 abbrev pub invariant-loop-rest : goal.invariant-loop-rest
 invariant-loop-rest l = record {

@@ -1,0 +1,5 @@
+pub mod Expecting
+pub mod Parts
+pub mod Reading
+pub mod Advancing
+pub mod Laws

@@ -1,0 +1,68 @@
+//! What stands by while a script of the bench is served.
+
+use crate::expectations::{Advance, Expectations};
+use crate::expecting::Expecting;
+use std::alloc::Global;
+use std::io::Write;
+use usbip_script::{LineCause, ServeFault, Watch};
+
+/// The expectations of a script, and where what the host sets is printed, if it is.
+#[derive(Drop)]
+pub struct Watching<T> {
+    expectations: Expectations,
+    to: Option<T>,
+}
+
+/// Why the session ends at the expectation of a line.
+fn unmet(number: usize) -> ServeFault {
+    ServeFault::Line(number, LineCause::Unmet)
+}
+
+impl<T: Write> Watching<T> {
+    /// These are expected. What the host sets is printed to this, if it is printed; it has to be expected then, each report in its
+    /// turn, and else it may be.
+    pub fn new(alloc: Global, expected: Vec<Expecting>, to: Option<T>) -> Self {
+        Watching {
+            expectations: Expectations::new(alloc, expected),
+            to,
+        }
+    }
+
+    /// What the host set in place of what is expected next.
+    pub fn came(&self) -> &[u8] {
+        self.expectations.came()
+    }
+}
+
+impl<T: Write> Watch for Watching<T> {
+    fn hear(&mut self, line: &str) -> Result<(), ServeFault> {
+        if let Some(to) = &mut self.to {
+            if to.write_all(line.as_bytes()).is_err() || to.flush().is_err() {
+                return Err(ServeFault::Told);
+            }
+        }
+        match self.expectations.add(line.as_bytes(), self.to.is_some()) {
+            Ok(()) => Ok(()),
+            Err(_) => Err(ServeFault::Memory),
+        }
+    }
+
+    fn allowed(&self) -> usize {
+        self.expectations.allowed()
+    }
+
+    fn go_on(&mut self, place: Option<usize>, now: u64) -> Result<bool, ServeFault> {
+        match self.expectations.advance(place, now) {
+            Advance::Goes => Ok(true),
+            Advance::Waits => Ok(false),
+            Advance::Fails => Err(unmet(self.expectations.number())),
+        }
+    }
+
+    fn end(&mut self, place: Option<usize>) -> Result<(), ServeFault> {
+        match self.expectations.left(place) {
+            Some(number) if place.is_some() => Err(unmet(number)),
+            _ => Ok(()),
+        }
+    }
+}
