@@ -8,6 +8,7 @@ ghost use Rattle.hid_snapshots.specs.Snapshots.{Changes};
 ghost use Rattle.hid_gadget.specs.Gadgets.{FindsControl, MakesGadget, halted_gadget};
 ghost use Rattle.hid_gadget.specs.Rooms.{with_front};
 ghost use Rattle.usbip.specs.Messages.{data_length, reply_bytes};
+ghost use Rattle.usbip_export.specs.Payloads.{payload_length};
 ghost use Rattle.usbip_export.specs.ExportedDevices.{answer_of_report, answer_to_submit, answer_to_unlink, control_data, control_reply, core_after_control, device_after_end, device_after_import, device_after_report, device_after_submit, device_after_unlink, fits_setup, refused_reply, reply_at_report, reply_at_submit, report_data, status_of_reply, submit_data};
 
 use crate::answer::Answer;
@@ -188,6 +189,16 @@ impl ExportedDevice {
     }
 }
 
+/// In bytes, the data after a reply of this length: as many where they go to the host, none where they went to the device.
+fn payload_length(direction: Direction, length: u32) -> usize
+    ensures { result ≡ payload_length direction length }
+{
+    match direction {
+        Direction::Out => 0,
+        Direction::In => length as usize,
+    }
+}
+
 impl ExportedDevice {
     /// Takes a submit with its data, and gives the answer that stands at the front of the room; none where it waits for a report.
     pub(crate) fn submit(&mut self, submit: &Submit, sent: &[u8], room: &mut [u8]) -> Answer
@@ -201,12 +212,8 @@ impl ExportedDevice {
         match self.carry_out(submit, sent, &mut room[HEADER..]) {
             Some(reply) => {
                 put_header(&Reply::Submit(reply), room);
-                let length = match submit.direction {
-                    Direction::Out => HEADER,
-                    Direction::In => HEADER + reply.length as usize,
-                };
                 Answer {
-                    length,
+                    length: HEADER + payload_length(submit.direction, reply.length),
                     status: Some(reply.status),
                 }
             }
