@@ -8,9 +8,11 @@ HIDSERVE := bin/hidserve
 HIDATTACH := bin/hidattach
 HIDLAB := bin/hidlab
 BENCH := bin/hid_bench
+READERS := bin/test_readers
 SCRIPT ?= examples/layouts/mouse.script
 ARGS ?=
 COUNT ?= 20000
+REPORTS ?= 1000000
 SEED ?= 1
 SOURCE ?=
 PREFIX ?= /usr/local
@@ -21,7 +23,7 @@ VERSION := 0.2.0
 LIBRARY_VERSION := $(shell sed -n 's/^\#define HIDSTACK_VERSION "\(.*\)"/\1/p' include/hidstack.h)
 MAJOR := $(firstword $(subst ., ,$(LIBRARY_VERSION)))
 
-.PHONY: run test try hidrun hidplay hidmap hidlab hidserve hidattach bench examples library library-test library-check library-cost linux-cost scale play-cost install deb deb-test documents tour format memory refusals mutants descriptors compare-linux help clean
+.PHONY: run test try hidrun hidplay hidmap hidlab hidserve hidattach bench examples library library-test library-check library-cost linux-cost scale play-cost install deb deb-test documents tour format memory refusals mutants descriptors readers compare-linux help clean
 
 # The first line of each recipe that starts the toolchain: without `rt`, make ends with one line.
 NEEDS_RT = $(if $(shell command -v rt),,$(error rt is missing: it is in the bin folder of the Rattle kit, rattle-kit-13 (logic dac8208d650f15bf), which belongs on the PATH))
@@ -51,7 +53,7 @@ hidlab: $(HIDLAB)  ## bin/hidlab, the test bench
 hidserve: $(HIDSERVE)  ## bin/hidserve, which serves the devices of a script over USB/IP
 hidattach: $(HIDATTACH)  ## bin/hidattach, which reads a device of a USB/IP server
 
-PROGRAMS := hidrun hidplay hidmap hidlab hidserve hidattach hid_bench
+PROGRAMS := hidrun hidplay hidmap hidlab hidserve hidattach hid_bench test_readers
 # (folders too, so that a file that was removed is seen)
 SOURCES := $(shell find crates/*/src crates/*/specs crates/*/proofs 2> /dev/null)
 
@@ -189,6 +191,11 @@ format:  ## checks that each file is as rt fmt writes it
 descriptors: $(HIDRUN) $(HIDPLAY)  ## compares hidrun and hidplay with the second reader: COUNT=20000
 	tools/check/second-reader --random $(COUNT) $(HIDRUN)
 	tools/check/second-reader --recordings $(COUNT) $(HIDPLAY)
+
+# Reads random reports by a Reader, which has plans, and by the plain program of a View, of made devices and of those of the examples;
+# fails at the first difference.
+readers: $(READERS)  ## compares both readings of random reports: REPORTS=1000000 SEED=1
+	$(READERS) --seed $(SEED) --reports $(REPORTS) $(patsubst %,--descriptor %,$(shell grep -l '^N:' examples/recordings/*.hid))
 
 # Compares hidplay, on the recordings of the examples and on some made from a seed, with Debian's Linux kernel in QEMU and
 # with tshark, and on what QEMU's own keyboard, mouse and tablet send; tries hidserve and hidattach with that kernel:
