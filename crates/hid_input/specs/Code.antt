@@ -49,11 +49,11 @@ code_from place (byte ∷ text) = code_part place byte ++ code_from (place_after
 unfoldable pub code_of : List ℕ → List ℕ
 code_of text = code_from Code text
 
--- a decimal digit stands first, perhaps behind white space
+-- a decimal digit stands first, perhaps after white space
 abbrev pub begins_number : List ℕ → Bool
 begins_number text = nat_le 1 (length (without_space text)) && is_ascii_digit (slice_index (without_space text) 0)
 
--- what stands behind the first brace that a number follows
+-- what stands after the first brace that a number follows
 abbrev pub behind_brace : List ℕ → Option (List ℕ)
 behind_brace [] = None
 behind_brace (byte ∷ code) = if (byte == 123) && begins_number code then Some code else behind_brace code
@@ -71,7 +71,7 @@ abbrev pub array_text : Option (List ℕ) → List ℕ → Option (List ℕ)
 array_text (Some inside) code = option_map (λ place. take place inside) (place_of 125 inside)
 array_text None code = Some (in_front (place_of 125 code) code)
 
--- words without the last one if it is empty: a comma may stand behind the last element
+-- words without the last one if it is empty: a comma may stand after the last element
 abbrev pub without_empty : List (List ℕ) → List (List ℕ)
 without_empty words =
     if nat_le 1 (length words) && list_all is_ascii_whitespace (slice_index_or words (length words - 1) []) then take (length words - 1) words else words

@@ -16,7 +16,7 @@ is_capture bytes =
     || (begins (0x4D ∷ 0x3C ∷ 0xB2 ∷ 0xA1 ∷ []) bytes
     || (begins (0xA1 ∷ 0xB2 ∷ 0x3C ∷ 0x4D ∷ []) bytes || begins (0x0A ∷ 0x0D ∷ 0x0D ∷ 0x0A ∷ []) bytes)))
 
--- a device descriptor of 18 bytes, or a configuration of 9 bytes with an interface of 9 behind it (USB 2.0, 9.6.1, 9.6.3 and 9.6.5)
+-- a device descriptor of 18 bytes, or a configuration of 9 bytes with an interface of 9 after it (USB 2.0, 9.6.1, 9.6.3 and 9.6.5)
 abbrev pub are_usb_descriptors : List ℕ → Bool
 are_usb_descriptors bytes =
     (begins (0x12 ∷ 0x01 ∷ []) bytes && nat_le 18 (length bytes))

@@ -62,7 +62,7 @@ abbrev pub bracketed_data : Option (List ℕ) → Option (List ℕ)
 bracketed_data None = None
 bracketed_data (Some inside) = option_and_then (λ place. cells_bytes Byte (take place inside)) (place_of 93 inside)
 
--- the data behind the name of an item
+-- the data after the name of an item
 abbrev pub data_bytes : List ℕ → Option (List ℕ)
 data_bytes text = if bytes_eq text (codes ", data=none") then Some [] else bracketed_data (behind_part (codes ", data= [") text)
 

@@ -2,7 +2,7 @@
 use Rattle.std.specs.Prelude.{ℕ, ◌==◌, Bool, ◌&&◌, ◌||◌, List, drop}
 use Rattle.std.specs.List.{list_any, zip}
 
--- a quote, and a backslash behind it
+-- a quote, and a backslash after it
 abbrev pub is_escaped_quote : ℕ × ℕ → Bool
 is_escaped_quote pair = ((pair.0 == 34) || (pair.0 == 39)) && (pair.1 == 92)
 

@@ -64,7 +64,7 @@ byte_of_word word = option_or (byte_of_pair word) (option_and_then byte_of_digit
 abbrev pub is_prefixed : List ℕ → Bool
 is_prefixed word = nat_le 2 (length word) && ((slice_index word 0 == 48) && is_x (slice_index word 1))
 
--- the byte of a number: in hex behind 0x, else in decimal
+-- the byte of a number: in hex after 0x, else in decimal
 abbrev pub number_byte : List ℕ → Option ℕ
 number_byte word = if is_prefixed word then byte_in_base 16 (drop 2 word) else byte_in_base 10 word
 
@@ -81,7 +81,7 @@ constant_byte word =
     else (if nat_le 1 (length word) && (slice_index word 0 == 48) then same_byte (byte_in_base 8 word) (byte_in_base 10 word)
     else byte_in_base 10 word)
 
--- a number without the u or U that may stand behind it
+-- a number without the u or U that may stand after it
 abbrev pub without_suffix : List ℕ → List ℕ
 without_suffix word =
     if nat_le 1 (length word) && ((slice_index word (length word - 1) == 117) || (slice_index word (length word - 1) == 85))

@@ -148,7 +148,7 @@ impl Service {
         }
     }
 
-    /// Takes the message that came, if it is whole, sends its answer, and tells the report that it set.
+    /// Takes the message that came, if it is whole, sends its answer, and passes on the report that it set.
     fn answer<W: Write, T: Watch>(
         &mut self,
         rt: &HostRuntime,

@@ -24,7 +24,7 @@ pub trait Watch {
     /// The connection ended, of a host that had the device at this place, if it had one.
     ///
     /// # Errors
-    /// What is told in place of a good end.
+    /// What is reported instead, where the end is not a good one.
     fn end(&mut self, place: Option<usize>) -> Result<(), ServeFault>;
 }
 
