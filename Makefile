@@ -159,7 +159,7 @@ examples: $(HIDRUN) $(HIDPLAY) $(HIDMAP) $(HIDLAB) $(HIDSERVE) $(HIDATTACH) $(BE
 	tools/check/serve $(HIDSERVE)
 	tools/check/attach $(HIDATTACH)
 	tools/check/attach $(HIDATTACH) --speed 5000
-	tools/check/failures $(HIDRUN) $(HIDMAP)
+	tools/check/failures $(HIDRUN) $(HIDMAP) $(HIDLAB)
 	tools/check/examples $(HIDRUN) $(HIDPLAY) $(HIDMAP) $(HIDLAB)
 	tools/check/rows $(HIDRUN)
 
@@ -212,8 +212,8 @@ compare-linux: $(HIDPLAY) $(HIDSERVE) $(HIDATTACH)  ## compares hidplay with Lin
 # Runs each example script on the proved program, and each test of calls that take memory, with each of its allocations
 # refused in turn: half a minute. It needs a C compiler, and the test programs that `rt ci` or `rt test` made from the current
 # sources; it says what it leaves out without them.
-memory: $(HIDRUN)  ## runs examples and tests with each allocation refused
-	tools/check/memory $(HIDRUN) --tests crates
+memory: $(HIDRUN) $(HIDLAB)  ## runs examples and tests with each allocation refused
+	tools/check/memory $(HIDRUN) --lab $(HIDLAB) --tests crates
 
 # Lists the goal and the clause at which each wrong body is refused: make refusals CRATES="usb_packet hid_items" (none: all)
 refusals:  ## lists how wrong bodies are refused: CRATES="usb_packet hid_items" (none: all)

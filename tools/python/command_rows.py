@@ -10,6 +10,7 @@ from rows import ROOT, File, bytes_of
 
 STDIN = ("closed", "a folder", "in pieces", "cut off by a failure")
 STDOUT = ("full", "closed")
+STDERR = ("a terminal",)
 COMMAND = "command"
 
 
@@ -20,7 +21,7 @@ class Command:
         self.place, self.name = row.place, row.name
         self.program, *self.words = shlex.split(row.file.filled(row.given)) or [""]
         self.files, self.pipes, self.pieces = files_of(row.file), {}, []
-        self.stdin, self.stdout = "open", "open"
+        self.stdin, self.stdout, self.stderr = "open", "open", "open"
         self.printed, self.said, self.named, self.items, self.status = list(row.told), [], None, None, 0
         self.parts, self.others = [], []
         self.is_read = row.question == COMMAND and all([self.take(step) for step in row.steps])
@@ -34,7 +35,7 @@ class Command:
 
     def is_plain(self):
         """Whether it takes nothing but words, bytes on standard input and files, and its whole text is known."""
-        return self.stdin == self.stdout == "open" and self.items is None and not self.parts and not self.pipes
+        return self.stdin == self.stdout == self.stderr == "open" and self.items is None and not self.parts and not self.pipes
 
     def take(self, step):
         """Takes a step; whether there is such a one."""
@@ -51,6 +52,9 @@ class Command:
         elif key.startswith("stdout is ") and not told:
             self.stdout = key.removeprefix("stdout is ")
             return self.stdout in STDOUT
+        elif key.startswith("stderr is ") and not told:
+            self.stderr = key.removeprefix("stderr is ")
+            return self.stderr in STDERR
         elif key == "items":
             self.items = "".join(told)
         else:

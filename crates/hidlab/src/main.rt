@@ -21,10 +21,10 @@ use hid_input::FileName;
 use hid_script::Cause;
 use lab_session::{Bench, LabCause, cause_words};
 use progress::Progress;
-use run::{Trouble, run_lines};
+use run::{Trouble, run_all};
 use source::LabSource;
 use status::{FINE, OUTSIDE, WRONG_USAGE, exit_of};
-use std::io::{BufReader, BufWriter, IsTerminal, Stderr, Write};
+use std::io::{BufWriter, IsTerminal, Stderr, Write};
 use std::process::ExitCode;
 use std::{env, fs, io};
 
@@ -76,8 +76,7 @@ fn print_bad_words(rt: &HostRuntime, error: &clap::Error) -> u8 {
 fn open_source(rt: &HostRuntime, name: &str) -> Option<LabSource> {
     let alloc = rt.alloc();
     if name == "-" {
-        let reader = BufReader::new(alloc, rt.stdin()).ok()?;
-        return Some(LabSource::input(reader, String::new(alloc)));
+        return Some(LabSource::input(alloc, rt.stdin(), String::new(alloc)));
     }
     let file = match fs::open(rt, name) {
         Ok(file) => file,
@@ -88,8 +87,7 @@ fn open_source(rt: &HostRuntime, name: &str) -> Option<LabSource> {
         }
     };
     let path = String::from_str(alloc, name).ok()?;
-    let reader = BufReader::new(alloc, file).ok()?;
-    Some(LabSource::file(reader, path))
+    Some(LabSource::file(alloc, file, path))
 }
 
 /// Runs the script that the words name.
@@ -128,28 +126,39 @@ fn run_sources(
         return OUTSIDE;
     };
     let mut progress = Progress::new(terminal(rt));
-    let end = run_lines(rt, sources, bench, &mut output, &mut progress);
+    let end = run_all(rt, sources, bench, &mut output, &mut progress);
     progress.clear();
     let end = match output.flush() {
         Ok(()) => end,
-        Err(_) => Err(Trouble::from(LabCause::Script(Cause::Write))),
+        Err(_) => Err(Trouble {
+            line: line_of(&end),
+            cause: LabCause::Script(Cause::Write),
+            words: None,
+        }),
     };
     if asked.options.summary {
         let counts = bench.counts();
         let _ = eprintln!(rt; "{counts}");
     }
     match end {
-        Ok(()) => FINE,
+        Ok(_) => FINE,
         Err(trouble) => print_trouble(rt, sources.as_slice(), bench, &trouble),
+    }
+}
+
+/// The line at which a run ended: after the last one, where all were carried out.
+fn line_of(end: &Result<usize, Trouble>) -> usize {
+    match end {
+        Ok(lines) => lines.saturating_add(1),
+        Err(trouble) => trouble.line,
     }
 }
 
 /// Prints what ended a run early: the file if it is an included one, the line, the codes, and words.
 fn print_trouble(rt: &HostRuntime, sources: &[LabSource], bench: &Bench, trouble: &Trouble) -> u8 {
     let cause = trouble.cause;
-    let mut number = 0;
+    let number = trouble.line;
     if let Some(source) = sources.last() {
-        number = source.line;
         if sources.iter().filter(|source| !source.is_body()).count() > 1 {
             let name = FileName(source.name.as_str());
             let _ = eprint!(rt; "{name}: ");

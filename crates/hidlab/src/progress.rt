@@ -1,5 +1,6 @@
 //! How far a run is, as a line that is written over and over.
 
+use lab_session::Watch;
 use std::io::Write;
 
 /// The line is written once for so many lines that were carried out.
@@ -9,7 +10,12 @@ const STEP: u64 = 100_000;
 #[derive(Drop)]
 pub struct Progress<W> {
     terminal: Option<W>,
+    /// The lines of all sources, up to the last read.
     lines: u64,
+    /// Those of the source that runs.
+    of_source: usize,
+    /// Where the line is written next.
+    next: u64,
     is_shown: bool,
 }
 
@@ -19,18 +25,19 @@ impl<W: Write> Progress<W> {
         Progress {
             terminal,
             lines: 0,
+            of_source: 0,
+            next: STEP,
             is_shown: false,
         }
     }
 
-    /// A line was carried out. Whether the progress is to be shown.
-    pub fn add_line(&mut self) -> bool {
-        self.lines = self.lines.saturating_add(1);
-        self.lines % STEP == 0
+    /// Another source runs, of which so many lines were counted.
+    pub fn begin(&mut self, lines: usize) {
+        self.of_source = lines;
     }
 
     /// Shows the progress: these polls were made so far.
-    pub fn show(&mut self, polls: u64) {
+    fn show(&mut self, polls: u64) {
         let lines = self.lines;
         if let Some(terminal) = &mut self.terminal {
             let _ = write!(terminal, "\r{lines} lines, {polls} polls");
@@ -47,5 +54,17 @@ impl<W: Write> Progress<W> {
             let _ = write!(terminal, "\r\x1b[K");
         }
         self.is_shown = false;
+    }
+}
+
+impl<W: Write> Watch for Progress<W> {
+    fn tell(&mut self, lines: usize, polls: u64) {
+        let more = lines.saturating_sub(self.of_source) as u64;
+        self.of_source = lines;
+        self.lines = self.lines.saturating_add(more);
+        if self.lines >= self.next {
+            self.next = self.lines.saturating_add(STEP);
+            self.show(polls);
+        }
     }
 }

@@ -1,17 +1,23 @@
 //! A run: the sources of lines, and the bench that carries them out.
 
+ghost use Rattle.std.specs.Prelude.{◌<◌, vec_len};
+
 use super::progress::Progress;
-use super::source::{LabSource, LineEnd, name_beside};
+use super::source::{LabSource, name_beside};
 use hid_input::{InputCause, InputFault, descriptor_in};
-use hid_script::Cause;
-use lab_lines::{Added, Body, MAX_REPEATS, Unread, diagnose, read_lab_line};
-use lab_session::{Asked, Bench, LabCause, cause_words};
+use hid_script::{Cause, StepFault};
+use hid_snapshots::ChangeFault;
+use hid_stack::StackFault;
+use lab_lines::{
+    Added, Body, ControlName, LabLine, MAX_REPEATS, Unread, diagnose, is_any_name, read_lab_line,
+};
+use lab_session::{Bench, LabCause, LabFault, Need, RunEnd, cause_words};
 use std::alloc::{AllocError, Global};
 use std::fs;
-use std::io::{self, BufReader, Read, Write};
+use std::io::{self, Read, Write};
 
-/// How many lines a run takes at most, those of bodies each time.
-const MAX_LINES: u64 = 1_000_000_000_000;
+/// How many lines a body has at most, and how often a run goes from one source to another.
+const MAX_TURNS: u64 = 1_000_000_000_000;
 
 /// The most bytes of a file with a descriptor.
 const LONGEST: usize = 1 << 24;
@@ -19,124 +25,144 @@ const LONGEST: usize = 1 << 24;
 /// Why a line is not carried out, and words that say more than those of the cause, if there are any.
 #[derive(Drop)]
 pub struct Trouble {
+    /// The line of its file.
+    pub line: usize,
     pub cause: LabCause,
     pub words: Option<String>,
 }
 
-impl From<LabCause> for Trouble {
-    fn from(cause: LabCause) -> Trouble {
-        Trouble { cause, words: None }
+/// A cause without words of its own.
+fn bare(line: usize, cause: LabCause) -> Trouble {
+    Trouble {
+        line,
+        cause,
+        words: None,
     }
 }
 
-impl From<AllocError> for Trouble {
-    fn from(error: AllocError) -> Trouble {
-        Trouble::from(LabCause::from(error))
-    }
+/// Memory ran out.
+fn no_memory(line: usize) -> Trouble {
+    bare(line, LabCause::Script(Cause::Memory))
 }
 
-/// Which word of a line is wrong (X1), and what was expected there.
-fn syntax_trouble(alloc: Global, line: &[u8]) -> Trouble {
+/// Which word of a line is wrong, and what was expected there, in words.
+fn syntax_words(alloc: Global, line: &[u8]) -> Result<Option<String>, AllocError> {
     let unread = match read_lab_line(line) {
         Err(unread) => unread,
         Ok(_) => diagnose(line),
     };
-    match unread {
-        Unread::TooLong => Trouble::from(LabCause::Script(Cause::LineTooLong)),
-        Unread::Word(word, expected) => match String::from_utf8_lossy(alloc, word) {
-            Err(error) => Trouble::from(error),
-            Ok(word) => {
-                let words = if word.is_empty() {
-                    format!(in alloc; "the line ends: expected is {expected}")
-                } else {
-                    format!(in alloc; "{word}: expected is {expected}")
-                };
-                Trouble {
-                    cause: LabCause::Script(Cause::Syntax),
-                    words: words.ok(),
-                }
-            }
-        },
+    let Unread::Word(word, expected) = unread else {
+        return Ok(None);
+    };
+    let word = String::from_utf8_lossy(alloc, word)?;
+    if word.is_empty() {
+        Ok(Some(format!(in alloc; "the line ends: expected is {expected}")?))
+    } else {
+        Ok(Some(format!(in alloc; "{word}: expected is {expected}")?))
     }
 }
 
-/// What came in place of what is expected.
-fn unmet_trouble(alloc: Global, bench: &Bench) -> Trouble {
-    let words = match String::from_utf8_lossy(alloc, bench.came()) {
-        Ok(came) => format!(in alloc; "{came} was printed").ok(),
-        Err(_) => None,
+/// The name by which a line names a control, if it does.
+fn name_in(line: &[u8]) -> Option<&[u8]> {
+    let control = match read_lab_line(line) {
+        Ok(LabLine::Change { control, .. }) => control,
+        Ok(LabLine::Click { control, .. }) => control,
+        _ => return None,
     };
-    Trouble {
-        cause: LabCause::Unmet,
-        words,
+    match control {
+        ControlName::Named { name, .. } => Some(name),
+        _ => None,
     }
+}
+
+/// That no usage has the name by which a line names a control, in words, where none has.
+fn name_words(alloc: Global, line: &[u8]) -> Result<Option<String>, AllocError> {
+    match name_in(line) {
+        Some(name) if !is_any_name(name) => {
+            let name = String::from_utf8_lossy(alloc, name)?;
+            Ok(Some(format!(in alloc; "{name}: no usage has this name")?))
+        }
+        _ => Ok(None),
+    }
+}
+
+/// What came in place of what is expected, in words.
+fn unmet_words(alloc: Global, bench: &Bench) -> Result<Option<String>, AllocError> {
+    let came = String::from_utf8_lossy(alloc, bench.came())?;
+    Ok(Some(format!(in alloc; "{came} was printed")?))
 }
 
 /// The words of a cause, with the control that the line meant if one is known.
-fn cause_trouble(alloc: Global, bench: &Bench, cause: LabCause) -> Trouble {
+fn bench_words(
+    alloc: Global,
+    bench: &Bench,
+    cause: LabCause,
+) -> Result<Option<String>, AllocError> {
     let words = cause_words(cause, bench.control());
-    Trouble {
+    Ok(Some(format!(in alloc; "{words}")?))
+}
+
+/// Whether a control isn't there.
+fn is_no_control(cause: LabCause) -> bool {
+    matches!(
         cause,
-        words: format!(in alloc; "{words}").ok(),
-    }
+        LabCause::Script(Cause::Step(StepFault::Stack(StackFault::Refused(
+            ChangeFault::NoSuchControl
+        ))))
+    )
 }
 
 /// Why the bench refuses a line.
-fn bench_trouble(alloc: Global, bench: &Bench, line: &[u8], cause: LabCause) -> Trouble {
-    match cause {
-        LabCause::Script(Cause::Syntax) => syntax_trouble(alloc, line),
-        LabCause::Unmet => unmet_trouble(alloc, bench),
-        _ => cause_trouble(alloc, bench, cause),
+fn bench_trouble(alloc: Global, bench: &Bench, source: &LabSource, fault: &LabFault) -> Trouble {
+    let cause = fault.cause;
+    let line = source.refused_line(fault);
+    let words = match cause {
+        LabCause::Script(Cause::Syntax) => syntax_words(alloc, line),
+        LabCause::Unmet => unmet_words(alloc, bench),
+        _ if is_no_control(cause) => match name_words(alloc, line) {
+            Ok(None) => bench_words(alloc, bench, cause),
+            words => words,
+        },
+        _ => bench_words(alloc, bench, cause),
+    };
+    let number = source.number(fault.line);
+    match words {
+        Ok(words) => Trouble {
+            line: number,
+            cause,
+            words,
+        },
+        Err(_) => no_memory(number),
     }
 }
 
 /// Why a file can't be used.
-fn file_trouble(alloc: Global, cause: LabCause, path: &str, error: &io::Error) -> Trouble {
+fn file_trouble(
+    alloc: Global,
+    line: usize,
+    cause: LabCause,
+    path: &str,
+    error: &io::Error,
+) -> Trouble {
     Trouble {
+        line,
         cause,
         words: format!(in alloc; "{path}: {error}").ok(),
     }
 }
 
-/// Why the last source has no next line: of a file that can't be read with the system's words.
-fn source_trouble(alloc: Global, sources: &[LabSource], cause: LabCause) -> Trouble {
-    let Some(source) = sources.last() else {
-        return Trouble::from(cause);
-    };
+/// Why a source gives no more lines, or a line of it is refused: of a file that can't be read with the system's words.
+fn source_trouble(alloc: Global, bench: &Bench, source: &LabSource, fault: &LabFault) -> Trouble {
     match source.file_failure() {
-        Some(error) => file_trouble(alloc, LabCause::Unreadable, source.name.as_str(), &error),
-        None => Trouble::from(cause),
+        Some(error) => file_trouble(
+            alloc,
+            source.number(fault.line),
+            LabCause::Unreadable,
+            source.name.as_str(),
+            &error,
+        ),
+        None => bench_trouble(alloc, bench, source, fault),
     }
-}
-
-/// Hands on what was printed, before a read that may have to wait.
-fn flush<W: Write>(writer: &mut W) -> Result<(), LabCause> {
-    match writer.flush() {
-        Ok(()) => Ok(()),
-        Err(_) => Err(LabCause::Script(Cause::Write)),
-    }
-}
-
-/// Takes the next line of the last source; sources that are at their end go. Whether there is a line.
-fn take_line<W: Write>(
-    sources: &mut Vec<LabSource>,
-    line: &mut Vec<u8>,
-    writer: &mut W,
-) -> Result<bool, LabCause> {
-    for _ in 0..MAX_LINES {
-        let count = sources.len();
-        if count == 0 {
-            return Ok(false);
-        }
-        if sources[count - 1].may_wait() {
-            flush(writer)?;
-        }
-        match sources[count - 1].next_line(line)? {
-            LineEnd::Line => return Ok(true),
-            LineEnd::NoLine => drop(sources.pop()),
-        }
-    }
-    Ok(false)
 }
 
 /// How many of the sources are bodies, or files.
@@ -147,77 +173,97 @@ fn count_sources(sources: &[LabSource], is_body: bool) -> usize {
         .count()
 }
 
-/// Takes the lines up to the `end` of a `repeat`, which come next then. Without an `end` the source stands at the `repeat` again.
-fn open_body<W: Write>(
+/// Takes the lines up to the `end` of a `repeat`, which stands on a line with this number.
+fn take_body<W: Write>(
     alloc: Global,
-    sources: &mut Vec<LabSource>,
+    bench: &Bench,
+    source: &mut LabSource,
     count: u16,
     writer: &mut W,
-) -> Result<(), LabCause> {
-    if count_sources(sources.as_slice(), true) >= MAX_REPEATS {
-        return Err(LabCause::TooDeep);
-    }
-    let depth = sources.len();
-    if depth == 0 {
-        return Err(LabCause::Unpaired);
-    }
-    let last = depth - 1;
-    let before = sources[last].line;
+) -> Result<Body, Trouble> {
+    let before = source.last_number();
     let mut body = Body::new(alloc, count);
     let mut line = Vec::new(alloc);
-    for _ in 0..MAX_LINES {
-        if sources[last].may_wait() {
-            flush(writer)?;
+    for _ in 0..MAX_TURNS {
+        match source.next_line(&mut line, writer) {
+            Err(fault) => return Err(source_trouble(alloc, bench, source, &fault)),
+            Ok(false) => return Err(bare(before, LabCause::Unpaired)),
+            Ok(true) => {}
         }
-        match sources[last].next_line(&mut line)? {
-            LineEnd::NoLine => {
-                sources[last].line = before;
-                return Err(LabCause::Unpaired);
+        let number = source.last_number();
+        match body.add(line.as_slice()) {
+            Err(_) => return Err(no_memory(number)),
+            Ok(Added::Open) => {}
+            Ok(Added::Whole) => return Ok(body),
+            Ok(Added::TooLong) => return Err(bare(number, LabCause::TooDeep)),
+            Ok(Added::Malformed) => {
+                return Err(Trouble {
+                    line: number,
+                    cause: LabCause::Script(Cause::Syntax),
+                    words: syntax_words(alloc, line.as_slice()).unwrap_or(None),
+                });
             }
-            LineEnd::Line => match body.add(line.as_slice())? {
-                Added::Open => {}
-                Added::TooLong => return Err(LabCause::TooDeep),
-                Added::Whole => {
-                    let name = sources[last].name.clone()?;
-                    let source = LabSource::body(body, name, before);
-                    return match sources.push(source) {
-                        Ok(()) => Ok(()),
-                        Err(_) => Err(LabCause::Script(Cause::Memory)),
-                    };
-                }
-            },
         }
     }
-    Err(LabCause::TooDeep)
+    Err(bare(before, LabCause::TooDeep))
 }
 
-/// The name of a file that the line of the last source names.
-fn path_of(alloc: Global, sources: &[LabSource], name: &[u8]) -> Result<String, LabCause> {
-    match sources.last() {
-        Some(source) => name_beside(alloc, source.name.as_str(), name),
-        None => name_beside(alloc, "", name),
+/// Adds a source, which comes first from now on.
+fn push(sources: &mut Vec<LabSource>, source: LabSource, line: usize) -> Result<(), Trouble> {
+    match sources.push(source) {
+        Ok(()) => Ok(()),
+        Err(_) => Err(no_memory(line)),
+    }
+}
+
+/// The lines of a `repeat` come next, so often.
+fn repeat<W: Write>(
+    alloc: Global,
+    sources: &mut Vec<LabSource>,
+    bench: &Bench,
+    last: usize,
+    count: u16,
+    writer: &mut W,
+) -> Result<(), Trouble>
+    requires { last < vec_len sources.old }
+{
+    let line = sources[last].last_number();
+    if count_sources(sources.as_slice(), true) >= MAX_REPEATS {
+        return Err(bare(line, LabCause::TooDeep));
+    }
+    let body = take_body(alloc, bench, &mut sources[last], count, writer)?;
+    let Ok(name) = sources[last].name.clone() else {
+        return Err(no_memory(line));
+    };
+    push(sources, LabSource::body(alloc, body, name, line), line)
+}
+
+/// The name of a file that the line of a source names.
+fn path_of(alloc: Global, source: &LabSource, name: &[u8]) -> Result<String, Trouble> {
+    match name_beside(alloc, source.name.as_str(), name) {
+        Ok(path) => Ok(path),
+        Err(cause) => Err(bare(source.last_number(), cause)),
     }
 }
 
 /// The lines of a file come next.
-fn include(rt: &HostRuntime, sources: &mut Vec<LabSource>, name: &[u8]) -> Result<(), Trouble> {
+fn include(
+    rt: &HostRuntime,
+    sources: &mut Vec<LabSource>,
+    last: usize,
+    name: &[u8],
+) -> Result<(), Trouble>
+    requires { last < vec_len sources.old }
+{
+    let line = sources[last].last_number();
     if count_sources(sources.as_slice(), false) > MAX_REPEATS {
-        return Err(Trouble::from(LabCause::TooDeep));
+        return Err(bare(line, LabCause::TooDeep));
     }
     let alloc = rt.alloc();
-    let path = path_of(alloc, sources.as_slice(), name)?;
-    let file = match fs::open(rt, path.as_str()) {
-        Ok(file) => file,
-        Err(error) => {
-            return Err(file_trouble(alloc, LabCause::Unreadable, path.as_str(), &error));
-        }
-    };
-    match BufReader::new(alloc, file) {
-        Ok(reader) => match sources.push(LabSource::file(reader, path)) {
-            Ok(()) => Ok(()),
-            Err(_) => Err(Trouble::from(LabCause::Script(Cause::Memory))),
-        },
-        Err(_) => Err(Trouble::from(LabCause::Script(Cause::Memory))),
+    let path = path_of(alloc, &sources[last], name)?;
+    match fs::open(rt, path.as_str()) {
+        Ok(file) => push(sources, LabSource::file(alloc, file, path), line),
+        Err(error) => Err(file_trouble(alloc, line, LabCause::Unreadable, path.as_str(), &error)),
     }
 }
 
@@ -230,100 +276,96 @@ fn read_file(rt: &HostRuntime, path: &str) -> io::Result<Vec<u8>> {
     Ok(bytes)
 }
 
-/// The descriptor in a file.
-fn read_descriptor(rt: &HostRuntime, path: &str) -> Result<Vec<u8>, Trouble> {
+/// The descriptor in a file, which a line names.
+fn read_descriptor(rt: &HostRuntime, line: usize, path: &str) -> Result<Vec<u8>, Trouble> {
     let alloc = rt.alloc();
     let bytes = match read_file(rt, path) {
         Ok(bytes) => bytes,
-        Err(error) => return Err(file_trouble(alloc, LabCause::Unreadable, path, &error)),
+        Err(error) => {
+            return Err(file_trouble(alloc, line, LabCause::Unreadable, path, &error));
+        }
     };
-    match descriptor_in(alloc, bytes.as_slice()) {
-        Ok(descriptor) if descriptor.is_empty() => Err(Trouble {
-            cause: LabCause::NoDescriptor,
-            words: format!(in alloc; "{path}: no descriptor").ok(),
-        }),
-        Ok(descriptor) => Ok(descriptor),
+    let words = match descriptor_in(alloc, bytes.as_slice()) {
+        Ok(descriptor) if descriptor.is_empty() => format!(in alloc; "{path}: no descriptor"),
+        Ok(descriptor) => return Ok(descriptor),
         Err(
             InputFault {
                 cause: InputCause::Memory,
                 ..
             },
-        ) => Err(Trouble::from(LabCause::Script(Cause::Memory))),
-        Err(fault) => Err(Trouble {
-            cause: LabCause::NoDescriptor,
-            words: format!(in alloc; "{path}: {fault}").ok(),
-        }),
+        ) => return Err(no_memory(line)),
+        Err(fault) => format!(in alloc; "{path}: {fault}"),
+    };
+    Err(Trouble {
+        line,
+        cause: LabCause::NoDescriptor,
+        words: words.ok(),
+    })
+}
+
+/// Why the device of a file is not attached.
+fn attach_trouble(alloc: Global, bench: &Bench, line: usize, cause: LabCause) -> Trouble {
+    match bench_words(alloc, bench, cause) {
+        Ok(words) => Trouble { line, cause, words },
+        Err(_) => no_memory(line),
     }
 }
 
-/// Gives what the line of the last source asks for: the lines that come next, or a device.
+/// Gives what the last line of a source asks for: the lines that come next, or a device.
 fn give<W: Write>(
     rt: &HostRuntime,
     sources: &mut Vec<LabSource>,
     bench: &mut Bench,
-    asked: Asked<'_>,
+    last: usize,
+    need: Need,
     writer: &mut W,
-) -> Result<(), Trouble> {
+) -> Result<(), Trouble>
+    requires { last < vec_len sources.old }
+{
     let alloc = rt.alloc();
-    match asked {
-        Asked::End => Err(Trouble::from(LabCause::Unpaired)),
-        Asked::Repeat { count } => match open_body(alloc, sources, count, writer) {
-            Ok(()) => Ok(()),
-            Err(cause) => Err(source_trouble(alloc, sources.as_slice(), cause)),
-        },
-        Asked::Include(name) => include(rt, sources, name),
-        Asked::Device { start, boot, name } => {
-            let path = path_of(alloc, sources.as_slice(), name)?;
-            let descriptor = read_descriptor(rt, path.as_str())?;
+    let line = sources[last].last_number();
+    match need {
+        Need::End => Err(bare(line, LabCause::Unpaired)),
+        Need::Repeat { count } => repeat(alloc, sources, bench, last, count, writer),
+        Need::Include(name) => include(rt, sources, last, name.as_slice()),
+        Need::Device { start, boot, name } => {
+            let path = path_of(alloc, &sources[last], name.as_slice())?;
+            let descriptor = read_descriptor(rt, line, path.as_str())?;
             match bench.attach(start, boot, descriptor.as_slice(), writer) {
                 Ok(()) => Ok(()),
-                Err(cause) => Err(cause_trouble(alloc, bench, cause)),
+                Err(cause) => Err(attach_trouble(alloc, bench, line, cause)),
             }
         }
     }
 }
 
-/// Reads a line and carries it out. Whether there was one.
-fn run_line<W: Write>(
-    rt: &HostRuntime,
-    sources: &mut Vec<LabSource>,
-    bench: &mut Bench,
-    line: &mut Vec<u8>,
-    writer: &mut W,
-) -> Result<bool, Trouble> {
-    match take_line(sources, line, writer) {
-        Ok(true) => {}
-        Ok(false) => return Ok(false),
-        Err(cause) => return Err(source_trouble(rt.alloc(), sources.as_slice(), cause)),
-    }
-    let line = line.as_slice();
-    match bench.line(line, writer) {
-        Ok(None) => {}
-        Ok(Some(asked)) => give(rt, sources, bench, asked, writer)?,
-        Err(cause) => return Err(bench_trouble(rt.alloc(), bench, line, cause)),
-    }
-    Ok(true)
-}
-
-/// Carries out all lines of the sources.
+/// Carries out all lines of the sources. How many lines the last one has, which is the first.
 ///
 /// # Errors
-/// Why a line is not carried out: that at which the last source stands.
-pub fn run_lines<W: Write, T: Write>(
+/// Why a line is not carried out, which is one of the last source.
+pub fn run_all<W: Write, T: Write>(
     rt: &HostRuntime,
     sources: &mut Vec<LabSource>,
     bench: &mut Bench,
     writer: &mut W,
     progress: &mut Progress<T>,
-) -> Result<(), Trouble> {
-    let mut line = Vec::new(rt.alloc());
-    for _ in 0..MAX_LINES {
-        if !run_line(rt, sources, bench, &mut line, writer)? {
-            return Ok(());
+) -> Result<usize, Trouble> {
+    let mut lines = 0;
+    for _ in 0..MAX_TURNS {
+        let count = sources.len();
+        if count == 0 {
+            return Ok(lines);
         }
-        if progress.add_line() {
-            progress.show(bench.counts().polls);
+        let last = count - 1;
+        progress.begin(sources[last].taken());
+        match sources[last].run(bench, writer, progress) {
+            Ok(RunEnd::All(summary)) => {
+                lines = summary.lines as usize;
+                drop(sources.pop());
+            }
+            Ok(RunEnd::Asks(need)) => give(rt, sources, bench, last, need, writer)?,
+            Err(fault) => return Err(source_trouble(rt.alloc(), bench, &sources[last], &fault)),
         }
     }
-    Err(Trouble::from(LabCause::TooDeep))
+    Err(bare(lines, LabCause::TooDeep))
 }

@@ -1,30 +1,17 @@
 //! Where lines come from: standard input, files, and the bodies of `repeat`.
 
-use hid_script::Cause;
-use hid_text::split_line;
-use lab_lines::{Body, MAX_LAB_LINE};
-use lab_session::LabCause;
+use hid_script::Sink;
+use lab_lines::Body;
+use lab_session::{Ahead, Bench, Incoming, LabCause, LabFault, RunEnd, Watch, run};
 use std::alloc::Global;
 use std::fs::File;
-use std::io::{self, BufRead, BufReader, ErrorKind, Read, Stdin};
-
-/// How often a line asks its reader at most.
-const MAX_READS: u32 = 1_000_000;
-
-/// What a line came to.
-#[derive(Clone, Copy, Debug, PartialEq, Eq)]
-pub enum LineEnd {
-    /// A line, without its end.
-    Line,
-    /// There is none.
-    NoLine,
-}
+use std::io::{self, Stdin};
 
 /// Who gives lines.
 #[derive(Drop)]
 enum Lines {
-    Input(BufReader<Stdin>),
-    File(BufReader<File>),
+    Input(Incoming<Stdin>),
+    File(Incoming<File>),
     Repeated(Body),
 }
 
@@ -32,109 +19,41 @@ enum Lines {
 #[derive(Drop)]
 pub struct LabSource {
     lines: Lines,
+    ahead: Ahead,
     /// As it was named; of a body that of the file in which it stands.
     pub name: String,
-    /// The lines that were taken; of a body with those of its file before it.
-    pub line: u64,
     /// The line of its file before the first one of a body.
-    before: u64,
-    /// What the system said where a read failed.
-    failure: Option<io::Error>,
-}
-
-/// Adds bytes of a line, up to one more than a line has with its return.
-fn keep(line: &mut Vec<u8>, bytes: &[u8]) -> Result<(), LabCause> {
-    if line.len().saturating_add(bytes.len()) > MAX_LAB_LINE + 1 {
-        return Err(LabCause::Script(Cause::LineTooLong));
-    }
-    line.extend_from_slice(bytes)?;
-    Ok(())
-}
-
-/// A line without the one return at its end, if it has one.
-fn drop_return(line: &mut Vec<u8>) {
-    if let [.., b'\r'] = line.as_slice() {
-        let _return = line.pop();
-    }
-}
-
-/// How many bytes of a front belong to a line, and whether its end is among them.
-fn take_front(line: &mut Vec<u8>, front: &[u8]) -> Result<(usize, bool), LabCause> {
-    match split_line(front) {
-        Some((last, _)) => {
-            keep(line, last)?;
-            Ok((last.len() + 1, true))
-        }
-        None => {
-            keep(line, front)?;
-            Ok((front.len(), false))
-        }
-    }
-}
-
-/// Reads a line. A read that is interrupted is tried again; what the system says of one that fails is kept.
-fn read_line<R: Read + Drop>(
-    reader: &mut BufReader<R>,
-    line: &mut Vec<u8>,
-    failure: &mut Option<io::Error>,
-) -> Result<LineEnd, LabCause> {
-    line.clear();
-    for _ in 0..MAX_READS {
-        let (taken, is_whole) = match reader.fill_buf() {
-            Ok(front) if front.is_empty() => {
-                return Ok(if line.is_empty() {
-                    LineEnd::NoLine
-                } else {
-                    LineEnd::Line
-                });
-            }
-            Ok(front) => take_front(line, front)?,
-            Err(error) if error.kind() == ErrorKind::Interrupted => (0, false),
-            Err(error) => {
-                *failure = Some(error);
-                return Err(LabCause::Script(Cause::Read));
-            }
-        };
-        reader.consume(taken);
-        if is_whole {
-            drop_return(line);
-            return Ok(LineEnd::Line);
-        }
-    }
-    Err(LabCause::Script(Cause::TooManyReads))
+    before: usize,
 }
 
 impl LabSource {
     /// The lines of standard input.
-    pub fn input(reader: BufReader<Stdin>, name: String) -> Self {
+    pub fn input(alloc: Global, reader: Stdin, name: String) -> Self {
         LabSource {
-            lines: Lines::Input(reader),
+            lines: Lines::Input(Incoming::new(reader)),
+            ahead: Ahead::new(alloc, true),
             name,
-            line: 0,
             before: 0,
-            failure: None,
         }
     }
 
     /// The lines of a file.
-    pub fn file(reader: BufReader<File>, name: String) -> Self {
+    pub fn file(alloc: Global, reader: File, name: String) -> Self {
         LabSource {
-            lines: Lines::File(reader),
+            lines: Lines::File(Incoming::new(reader)),
+            ahead: Ahead::new(alloc, true),
             name,
-            line: 0,
             before: 0,
-            failure: None,
         }
     }
 
     /// The lines of a body, which stands in a file after this line.
-    pub fn body(body: Body, name: String, before: u64) -> Self {
+    pub fn body(alloc: Global, body: Body, name: String, before: usize) -> Self {
         LabSource {
             lines: Lines::Repeated(body),
+            ahead: Ahead::new(alloc, false),
             name,
-            line: before,
             before,
-            failure: None,
         }
     }
 
@@ -146,40 +65,70 @@ impl LabSource {
     /// What the system said where a read of a file failed; none of standard input.
     pub fn file_failure(&self) -> Option<io::Error> {
         match &self.lines {
-            Lines::File(_) => self.failure,
+            Lines::File(incoming) => incoming.failure(),
             Lines::Input(_) | Lines::Repeated(_) => None,
         }
     }
 
-    /// Whether a read may have to wait: nothing is there that was read and not taken.
-    pub fn may_wait(&self) -> bool {
+    /// The line of its file at which the source stands when it has given so many lines.
+    pub fn number(&self, lines: usize) -> usize {
         match &self.lines {
-            Lines::Input(reader) => reader.buffer().is_empty(),
-            Lines::File(reader) => reader.buffer().is_empty(),
-            Lines::Repeated(_) => false,
+            Lines::Input(_) | Lines::File(_) => lines,
+            Lines::Repeated(body) => {
+                let each = (body.lines() as usize).max(1);
+                self.before
+                    .saturating_add(lines.saturating_sub(1) % each)
+                    .saturating_add(1)
+            }
         }
     }
 
-    /// Takes the next line.
+    /// The line of its file that was taken last.
+    pub fn last_number(&self) -> usize {
+        self.number(self.ahead.lines())
+    }
+
+    /// How many lines were taken.
+    pub fn taken(&self) -> usize {
+        self.ahead.lines()
+    }
+
+    /// The line that was refused.
+    pub fn refused_line(&self, fault: &LabFault) -> &[u8] {
+        self.ahead.line_at(fault.line)
+    }
+
+    /// Carries out the lines, up to the first that asks for something.
     ///
     /// # Errors
-    /// X2, X5, X7 and X8, at the line that was to come.
-    pub fn next_line(&mut self, line: &mut Vec<u8>) -> Result<LineEnd, LabCause> {
-        let end = match &mut self.lines {
-            Lines::Input(reader) => read_line(reader, line, &mut self.failure),
-            Lines::File(reader) => read_line(reader, line, &mut self.failure),
-            Lines::Repeated(body) => {
-                return match body.next_line(line)? {
-                    Some(number) => {
-                        self.line = self.before.saturating_add(number);
-                        Ok(LineEnd::Line)
-                    }
-                    None => Ok(LineEnd::NoLine),
-                };
-            }
-        };
-        self.line = self.line.saturating_add(1);
-        end
+    /// The first line that is not carried out.
+    pub fn run<W: Sink, T: Watch>(
+        &mut self,
+        bench: &mut Bench,
+        writer: &mut W,
+        watch: &mut T,
+    ) -> Result<RunEnd, LabFault> {
+        match &mut self.lines {
+            Lines::Input(input) => run(bench, &mut self.ahead, input, writer, watch),
+            Lines::File(file) => run(bench, &mut self.ahead, file, writer, watch),
+            Lines::Repeated(body) => run(bench, &mut self.ahead, body, writer, watch),
+        }
+    }
+
+    /// Takes the next line. Whether there is one.
+    ///
+    /// # Errors
+    /// X2, X5 to X8, at the line that was to come.
+    pub fn next_line<W: Sink>(
+        &mut self,
+        line: &mut Vec<u8>,
+        writer: &mut W,
+    ) -> Result<bool, LabFault> {
+        match &mut self.lines {
+            Lines::Input(input) => self.ahead.next_line(input, line, writer),
+            Lines::File(file) => self.ahead.next_line(file, line, writer),
+            Lines::Repeated(body) => self.ahead.next_line(body, line, writer),
+        }
     }
 }
 

@@ -21,7 +21,7 @@ pub enum Expectation<'a> {
     Other(&'a [u8]),
     /// Nothing was printed that hasn't been expected.
     Nothing,
-    /// Over [`MAX_TRANSCRIPT`] bytes were printed since the last `expect`, so the first lines are lost.
+    /// Over [`MAX_TRANSCRIPT`] bytes were printed since the last `expect`, so none of them is kept.
     TooMuch,
 }
 
@@ -35,7 +35,7 @@ pub struct Transcript {
 }
 
 impl Transcript {
-    ghost use Rattle.std.specs.Prelude.{◌≡◌, true, false, [], ◌∷◌, ◌++◌, OnOk, if◌then◌else◌};
+    ghost use Rattle.std.specs.Prelude.{◌≡◌, ◌+◌, ◌<◌, true, false, [], ◌∷◌, ◌++◌, length, OnOk, if◌then◌else◌};
     ghost use Rattle.lab_expectations.specs.Expectations.{Met, TooMuch, parts_of, outcome, first_required, waits, is_expected_at, is_none_at, answer_of, answer_at, answer_none};
 
     /// Nothing was printed.
@@ -52,7 +52,8 @@ impl Transcript {
 
     /// Takes the lines away that were expected.
     fn drop_front(&mut self) -> Result<(), AllocError>
-        ensures { OnOk result ((waits self.new ≡ waits self.old) × (self.new.is_cut ≡ self.old.is_cut)) }
+        ensures { OnOk result ((waits self.new ≡ waits self.old) × (self.new.is_cut ≡ self.old.is_cut)
+            × (vec_len self.new.text ≡ length (waits self.old))) }
     {
         let kept = Vec::from_slice(*self.text.allocator(), self.waiting())?;
         self.from = 0;
@@ -62,7 +63,10 @@ impl Transcript {
 
     /// Makes room for so many bytes more, or forgets what was printed.
     fn make_room(&mut self, more: usize) -> Result<(), AllocError>
-        ensures { OnOk result (self.new.is_cut ≡ false → waits self.new ≡ waits self.old) }
+        ensures waits { OnOk result (self.new.is_cut ≡ false
+            → (waits self.new ≡ waits self.old) × (self.old.is_cut ≡ false)) }
+        ensures room { OnOk result (self.old.is_cut ≡ false
+            → length (waits self.old) + more ≤ 1048576 → self.new.is_cut ≡ false) }
     {
         if self.text.len().saturating_add(more) <= MAX_TRANSCRIPT {
             return Ok(());
@@ -77,13 +81,19 @@ impl Transcript {
         Ok(())
     }
 
-    /// Adds lines that were printed, with their line feeds.
+    /// Adds lines that were printed, with their line feeds. Once too much was printed, nothing is kept.
     ///
     /// # Errors
     /// Out of memory.
     pub fn add(&mut self, lines: &[u8]) -> Result<(), AllocError>
-        ensures { OnOk result (self.new.is_cut ≡ false → waits self.new ≡ waits self.old ++ lines.now) }
+        ensures waits { OnOk result (self.new.is_cut ≡ false
+            → (waits self.new ≡ waits self.old ++ lines.now) × (self.old.is_cut ≡ false)) }
+        ensures room { OnOk result (self.old.is_cut ≡ false
+            → length (waits self.old) + length lines.now ≤ 1048576 → self.new.is_cut ≡ false) }
     {
+        if self.is_cut {
+            return Ok(());
+        }
         self.make_room(lines.len())?;
         self.text.extend_from_slice(lines)?;
         Ok(())
@@ -94,8 +104,14 @@ impl Transcript {
     /// # Errors
     /// Out of memory.
     pub fn add_optional(&mut self, line: &[u8]) -> Result<(), AllocError>
-        ensures { OnOk result (self.new.is_cut ≡ false → waits self.new ≡ waits self.old ++ 43 ∷ line.now) }
+        ensures waits { OnOk result (self.new.is_cut ≡ false
+            → (waits self.new ≡ waits self.old ++ 43 ∷ line.now) × (self.old.is_cut ≡ false)) }
+        ensures room { OnOk result (self.old.is_cut ≡ false
+            → length (waits self.old) + length line.now < 1048576 → self.new.is_cut ≡ false) }
     {
+        if self.is_cut {
+            return Ok(());
+        }
         self.make_room(line.len().saturating_add(1))?;
         self.text.push(OPTIONAL)?;
         self.text.extend_from_slice(line)?;
@@ -166,6 +182,16 @@ impl Transcript {
         self.from = 0;
         self.text.clear();
         true
+    }
+
+    /// Passes over all that was printed, also where too much was.
+    pub fn forget(&mut self)
+        ensures waits { waits self.new ≡ [] }
+        ensures cut { self.new.is_cut ≡ false }
+    {
+        self.is_cut = false;
+        self.from = 0;
+        self.text.clear();
     }
 
     /// What came where no line is expected.

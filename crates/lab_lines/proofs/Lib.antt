@@ -1,3 +1,4 @@
+pub mod BodyLemmas
 pub mod ControlLemmas
 pub mod HexLemmas
 pub mod NameLemmas

@@ -40,6 +40,7 @@ pub data Said : Type 0 where
   End : Said
   Expect : List Word → Said
   ExpectNone : Said
+  ExpectAny : Said
   Wait : ℕ → Said
   Include : List ℕ → Said
 
@@ -65,6 +66,7 @@ said_of (declared_line.Repeat count) = Repeat count
 said_of declared_line.End = End
 said_of (declared_line.Expect line) = Expect (words_of line.now)
 said_of declared_line.ExpectNone = ExpectNone
+said_of declared_line.ExpectAny = ExpectAny
 said_of (declared_line.Wait count) = Wait count
 said_of (declared_line.Include name) = Include name.now
 
@@ -148,10 +150,12 @@ unfoldable pub count_meaning : (ℕ → Said) → List ℕ → Result Said Refus
 count_meaning make text =
     at_place place.Count count_of text >>= (λ count. said_at_end (make count) (words_of (after_word text)))
 
--- LINE, or none
+-- LINE, none, or any
 unfoldable pub expect_meaning : List Word → Result Said Refusal
 expect_meaning [] = Err (Wrong [] place.Line)
-expect_meaning (word ∷ []) = if bytes_eq word (codes "none") then Ok ExpectNone else Ok (Expect (word ∷ []))
+expect_meaning (word ∷ []) =
+    if bytes_eq word (codes "none") then Ok ExpectNone
+    else if bytes_eq word (codes "any") then Ok ExpectAny else Ok (Expect (word ∷ []))
 expect_meaning (word ∷ next ∷ more) = Ok (Expect (word ∷ next ∷ more))
 
 -- a name of a file
@@ -193,7 +197,7 @@ wanted_at change.Press text = Ok (Press, text)
 wanted_at change.Release text = Ok (Release, text)
 wanted_at change.Null text = Ok (Null, text)
 wanted_at change.Set text = at_place place.Number signed_of_word text >>= (λ value. Ok (Set value, after_word text))
-wanted_at change.Move text = at_place place.Number amount_of text >>= (λ by. Ok (Move by, after_word text))
+wanted_at change.Move text = at_place place.Amount amount_of text >>= (λ by. Ok (Move by, after_word text))
 
 -- D C, and a number after `set` and `move`
 unfoldable pub change_meaning : ChangeWord → List ℕ → Result Said Refusal

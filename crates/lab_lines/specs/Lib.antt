@@ -1,7 +1,9 @@
+pub mod Bodies
 pub mod ControlNames
 pub mod Fates
 pub mod Keys
 pub mod LabLines
 pub mod Losses
 pub mod Names
+pub mod Roles
 pub mod Typing

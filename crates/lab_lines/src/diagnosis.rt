@@ -2,7 +2,7 @@
 
 use super::expected::Expected;
 use super::lab_line::Unread;
-use hid_text::{first_word, look_up, read_boot, read_count, read_device, read_start};
+use hid_text::{first_word, look_up, read_boot, read_count, read_device, read_number, read_start};
 
 /// The words that a line may begin with.
 const KEYWORDS: [&[u8]; 14] = [
@@ -10,7 +10,7 @@ const KEYWORDS: [&[u8]; 14] = [
     b"poll", b"control", b"begin", b"reset", b"halt",
 ];
 
-/// The requests that take no further word.
+/// The requests.
 const REQUESTS: [&[u8]; 15] = [
     b"device",
     b"config",
@@ -28,6 +28,12 @@ const REQUESTS: [&[u8]; 15] = [
     b"clear",
     b"endpoint-status",
 ];
+
+/// Which of a device's reports is meant.
+const REPORT_KINDS: [&[u8]; 3] = [b"input", b"output", b"feature"];
+
+/// The protocols that a host sets.
+const PROTOCOLS: [&[u8]; 2] = [b"boot", b"report"];
 
 /// Whether a word is one of these.
 fn is_one_of(words: &[&[u8]], word: &[u8]) -> bool {
@@ -47,6 +53,9 @@ fn is_as(expected: Expected, word: &[u8]) -> bool {
         )
         .is_some(),
         Expected::Request => is_one_of(&REQUESTS, word),
+        Expected::Byte => matches!(read_number(10, word), Some(0..=0xFF)),
+        Expected::ReportKind => is_one_of(&REPORT_KINDS, word),
+        Expected::Protocol => is_one_of(&PROTOCOLS, word),
         _ => true,
     }
 }
@@ -63,8 +72,64 @@ static ONE_DEVICE: [Expected; 1] = [Expected::Device];
 /// The words of `device`, before those of its descriptor.
 static ATTACHMENT: [Expected; 2] = [Expected::Start, Expected::Kind];
 
-/// The words of `begin`, before those of its request.
+/// The words of `begin`, before those that its request takes.
 static REQUEST: [Expected; 2] = [Expected::Device, Expected::Request];
+
+/// The words of `idle`.
+static IDLE_TIME: [Expected; 2] = [Expected::Byte, Expected::Byte];
+
+/// The words of `get-idle`.
+static REPORT_ID: [Expected; 1] = [Expected::Byte];
+
+/// The words of `protocol`.
+static PROTOCOL: [Expected; 1] = [Expected::Protocol];
+
+/// The words of `get-report`, and of `set-report` before its bytes.
+static WHICH_REPORT: [Expected; 2] = [Expected::ReportKind, Expected::Byte];
+
+/// What the words after a request are, each in its place; all of them have to be there.
+fn places_of_request(request: &[u8]) -> &'static [Expected] {
+    match request {
+        b"idle" => &IDLE_TIME[..],
+        b"get-idle" => &REPORT_ID[..],
+        b"protocol" => &PROTOCOL[..],
+        b"get-report" => &WHICH_REPORT[..],
+        b"set-report" => &WHICH_REPORT[..],
+        _ => &[],
+    }
+}
+
+/// What is wrong with the words after a request.
+fn diagnose_request<'a>(request: &[u8], text: &'a [u8]) -> Unread<'a> {
+    let places = places_of_request(request);
+    let rest = match wrong_word(places, places.len(), text) {
+        Err(unread) => return unread,
+        Ok(rest) => rest,
+    };
+    let expected = if request == b"set-report".as_slice() {
+        Expected::Report
+    } else {
+        Expected::End
+    };
+    match first_word(rest) {
+        Some((word, _)) => Unread::Word(word, expected),
+        None => Unread::Word(b"", expected),
+    }
+}
+
+/// What is wrong with the words after `begin`.
+fn diagnose_begin(text: &[u8]) -> Unread<'_> {
+    if let Err(unread) = wrong_word(&REQUEST, REQUEST.len(), text) {
+        return unread;
+    }
+    let Some((_, text)) = first_word(text) else {
+        return Unread::Word(b"", Expected::Device);
+    };
+    match first_word(text) {
+        Some((request, rest)) => diagnose_request(request, rest),
+        None => Unread::Word(b"", Expected::Request),
+    }
+}
 
 /// What the words after a keyword are, each in its place.
 fn places_of(keyword: &[u8]) -> &'static [Expected] {
@@ -75,7 +140,6 @@ fn places_of(keyword: &[u8]) -> &'static [Expected] {
         b"reset" => &ONE_DEVICE[..],
         b"halt" => &ONE_DEVICE[..],
         b"device" => &ATTACHMENT[..],
-        b"begin" => &REQUEST[..],
         _ => &[],
     }
 }
@@ -85,14 +149,13 @@ fn needed_of(keyword: &[u8]) -> usize {
     match keyword {
         b"frame" => 0,
         b"device" => 2,
-        b"begin" => 2,
         _ => 1,
     }
 }
 
 /// Whether words may stand after the last place of these lines.
 fn goes_on(keyword: &[u8]) -> bool {
-    let keywords: [&[u8]; 4] = [b"layout", b"values", b"device", b"begin"];
+    let keywords: [&[u8]; 3] = [b"layout", b"values", b"device"];
     is_one_of(&keywords, keyword)
 }
 
@@ -127,6 +190,9 @@ pub fn diagnose(line: &[u8]) -> Unread<'_> {
     };
     if !is_one_of(&KEYWORDS, first) {
         return Unread::Word(first, Expected::Keyword);
+    }
+    if first == b"begin".as_slice() {
+        return diagnose_begin(text);
     }
     match wrong_word(places_of(first), needed_of(first), text) {
         Err(unread) => unread,

@@ -9,8 +9,19 @@ pub enum Expected {
     Keyword,
     Device,
     Control,
+    /// A number that a control is set to.
     Number,
+    /// By how much a control moves.
+    Amount,
     Count,
+    /// A Report ID or an idle time.
+    Byte,
+    /// Which of a device's reports.
+    ReportKind,
+    /// The protocol that a host sets.
+    Protocol,
+    /// The bytes of a report that is set.
+    Report,
     Fate,
     Start,
     Kind,
@@ -38,7 +49,12 @@ impl fmt::Display for Expected {
             Expected::Keyword => "a line's first word, as press or poll",
             Expected::Device => "a device, 1 to 7",
             Expected::Control => "a control: 07:04, 0D:42#2, a place 7.0 or a name as Keyboard_A",
-            Expected::Number => "a decimal number",
+            Expected::Number => "a decimal number of up to 18 digits",
+            Expected::Amount => "a number, -2147483648 to 2147483647",
+            Expected::Byte => "a number, 0 to 255",
+            Expected::ReportKind => "input, output or feature",
+            Expected::Protocol => "boot or report",
+            Expected::Report => "a report of at most 256 bytes",
             Expected::Count => "a count, 1 to 10000",
             Expected::Fate => "a fate: clean, token, reply or ack",
             Expected::Start => "ready or cold",
@@ -49,7 +65,7 @@ impl fmt::Display for Expected {
             Expected::Seed => "a seed, up to 18 digits",
             Expected::Text => "a text between quotes",
             Expected::Character => "a character that a key of a US keyboard types",
-            Expected::Line => "a line that is printed, or none",
+            Expected::Line => "a line that is printed, none, or any",
             Expected::File => "the name of a file",
             Expected::Arguments => "what this request takes",
             Expected::End => "the end of the line",

@@ -104,6 +104,8 @@ pub enum LabLine<'a> {
     Expect(&'a [u8]),
     /// `expect none`: all that was printed has been expected.
     ExpectNone,
+    /// `expect any`: all that was printed is passed over.
+    ExpectAny,
     /// `wait MS`: so many frames of 1 ms pass.
     Wait {
         /// How many milliseconds, 1 to 10,000.
@@ -320,7 +322,7 @@ fn read_wait(text: &[u8]) -> Result<LabLine<'_>, Unread<'_>>
     end(LabLine::Wait { count }, text)
 }
 
-/// `LINE` or `none`.
+/// `LINE`, `none` or `any`.
 #[tactic(auto, unfolding(crate::specs::LabLines::expect_meaning))]
 fn read_expect(text: &[u8]) -> Result<LabLine<'_>, Unread<'_>>
     ensures { reading said_of result ≡ expect_meaning (words_of text.now) }
@@ -330,6 +332,7 @@ fn read_expect(text: &[u8]) -> Result<LabLine<'_>, Unread<'_>>
     };
     match first_word(rest) {
         None if word == b"none".as_slice() => Ok(LabLine::ExpectNone),
+        None if word == b"any".as_slice() => Ok(LabLine::ExpectAny),
         _ => Ok(LabLine::Expect(text)),
     }
 }
@@ -401,13 +404,13 @@ fn next_value(text: &[u8]) -> Result<(i64, &[u8]), Unread<'_>>
 
 /// An amount of a motion, and the text after it.
 fn next_amount(text: &[u8]) -> Result<(i32, &[u8]), Unread<'_>>
-    ensures said { reading (λ found. found.0) result ≡ at_place Expected.Number amount_of text.now }
+    ensures said { reading (λ found. found.0) result ≡ at_place Expected.Amount amount_of text.now }
     ensures rest { IfOk result (λ found. found.1.now ≡ after_word text.now) }
 {
-    let (word, rest) = next_word(text, Expected::Number)?;
+    let (word, rest) = next_word(text, Expected::Amount)?;
     match read_amount(word) {
         Some(by) => Ok((by, rest)),
-        None => Err(Unread::Word(word, Expected::Number)),
+        None => Err(Unread::Word(word, Expected::Amount)),
     }
 }
 

@@ -9,12 +9,13 @@
 //!   device ready plain @pad.hid    DeviceFile: the descriptor is in a file
 //!   type 1 "Hi"                    Type: keys_of gives the keys of a US keyboard
 //!   lose 1 5 7                     Lose: Losses gives the fate of each poll and try
-//!   repeat 3 .. end                Body: the lines between, and how often they come
+//!   repeat 3 .. end                Body: the lines between, and the text that comes of them
 //! ```
 //! The rule to know: a line that `hidrun` reads says the same here. A line is read alone, and no memory is taken.
 //!
 //! The promise: a control that is named is the n-th with the usage or the name, in the order of the layout (`find_control`);
-//! a character is typed by the key of the US table (`key_of`); a fate follows from the generator's word (`fate_of_word`).
+//! a character is typed by the key of the US table (`key_of`); a fate follows from the generator's word (`fate_of_word`); the text of
+//! a body is that of its lines, so often (`text_to_come`).
 #![tactic(auto)]
 
 mod body;
@@ -36,5 +37,5 @@ pub use hex_words::read_hex;
 pub use keys::{Key, LEFT_SHIFT, key_of};
 pub use lab_line::{LabLine, MAX_LAB_LINE, MAX_REPEATS, Unread, read_lab_line};
 pub use losses::{Losses, fate_of_word};
-pub use names::is_name_of;
+pub use names::{is_any_name, is_name_of};
 pub use typing::TypedText;

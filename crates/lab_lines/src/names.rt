@@ -5,7 +5,7 @@ ghost use Rattle.lab_lines.specs.Names.{fold, spells, place_of, spells_before, s
 ghost use Rattle.hid_text.specs.Numbers.{number_of};
 
 use hid_layout::Usage;
-use hid_names::{UsageName, usage_name};
+use hid_names::{UsageName, page_name, usage_name};
 use hid_text::read_number;
 
 /// A byte of a name or of a word: blanks are written `_`, and case means nothing.
@@ -134,4 +134,30 @@ pub fn is_name_of(usage: Usage, word: &[u8]) -> bool
         Some(UsageName::Instance(number)) => is_numbered(b"Instance ", number, word),
         None => false,
     }
+}
+
+/// The last page of the tables that has names.
+const LAST_PAGE: u16 = 0xF0;
+
+/// The greatest ID that is looked at on a page.
+const LAST_ID: u16 = 0x1FFF;
+
+/// Whether a word names a usage on a page.
+fn names_on_page(page: u16, word: &[u8]) -> bool {
+    for id in 0..=LAST_ID {
+        if is_name_of(Usage { page, id }, word) {
+            return true;
+        }
+    }
+    false
+}
+
+/// Whether a word names any usage of the tables, which takes some milliseconds: a word that doesn't is misspelt.
+pub fn is_any_name(word: &[u8]) -> bool {
+    for page in 0..=LAST_PAGE {
+        if page_name(page).is_some() && names_on_page(page, word) {
+            return true;
+        }
+    }
+    false
 }

@@ -29,7 +29,9 @@ use Rattle.lab_lines.specs.declared.keys.Key.{Key}
 use Rattle.lab_lines.specs.ControlNames.{Named}
 use Rattle.lab_lines.specs.Keys.{key_of}
 use Rattle.lab_lines.specs.Typing.{characters_of}
-use Rattle.lab_session.specs.Lines.{Moment, ClicksKey, ClicksKeys, DoesBytes, DoesNamed, DoesNothing, DoesPart, DrawsOne, LineDoes, NamesControl, Often, PollsOnce, Polls, ScriptLineDoes, Settles, ShortLineDoes, Then, Tries, Types, has_nothing}
+use Rattle.lab_session.specs.declared.fault.LabCause.{LabCause}
+use Rattle.lab_session.specs.declared.fault.LabCause.TheVariants.{Unsettled}
+use Rattle.lab_session.specs.Lines.{LineUnsettled, StaysUnsettled, Moment, ClicksKey, ClicksKeys, DoesBytes, DoesNamed, DoesNothing, DoesPart, DrawsOne, LineDoes, NamesControl, Often, PollsOnce, Polls, ScriptLineDoes, Settles, ShortLineDoes, Then, Tries, Types, has_nothing}
 use Rattle.hid_text.specs.declared.short.ShortLine.{ShortLine}
 use Rattle.lab_lines.specs.LabLines.{Said}
 use Rattle.lab_lines.specs.LabLines as lab
@@ -368,3 +370,9 @@ stays_undrawn given lab.Nothing meaning before after parts text is h none = λ d
 stays_undrawn given (lab.Script bytes) meaning before after parts text is h none = part_none _ before after parts text h.2 none
 stays_undrawn given (lab.Short said) meaning before after parts text is h none = short_none said before after parts text h none
 stays_undrawn given said meaning before after parts text is h none = absurd (cc)
+
+-- a line that ended since a device had still something to send clicks controls of one
+pub line_unsettled : (said : Said) (r : Result (Unit {0}) LabCause) (after : Moment) → LineUnsettled said r after → r ≡ Err Unsettled → (dev : ℕ) × StaysUnsettled dev after
+line_unsettled (lab.Click dev named) r after h is = (dev, h is)
+line_unsettled (lab.Typing dev bytes) r after h is = (dev, h is)
+line_unsettled said r after h is = absurd (h is)

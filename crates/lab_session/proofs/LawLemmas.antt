@@ -31,7 +31,7 @@ use Rattle.lab_session.specs.Parts.{Part, Says, Changes, LaysOut, ShowsValues, A
 
 -- ---- lines are their parts
 
-carry_both : (a b c : Session) (p q : List Part) (t u : List ℕ) → AllCarry a p t b → AllCarry b q u c → AllCarry a (p ++ q) (t ++ u) c
+pub carry_both : (a b c : Session) (p q : List Part) (t u : List ℕ) → AllCarry a p t b → AllCarry b q u c → AllCarry a (p ++ q) (t ++ u) c
 carry_both a b c [] q t u h k =
     subst (λ s. AllCarry s q (t ++ u) c) h.1 (subst (λ x. AllCarry b q (x ++ u) c) (sym h.0) k)
 carry_both a b c (part ∷ p) q t u h k =
@@ -119,7 +119,7 @@ its_parts_types : (dev : ℕ) (bytes : List ℕ) → IsItsParts (Types dev bytes
 its_parts_types dev bytes before after parts text h = keys_are_parts dev h.0 before after parts text h.2
 
 its_parts_loses : (dev percent seed : ℕ) → IsItsParts (Loses dev percent seed)
-its_parts_loses dev percent seed before after parts text h = carried_as before.session after.session [] parts text h.0 (h.1, h.2)
+its_parts_loses dev percent seed before after parts text h = carried_as before.session after.session [] parts text h.1 (h.2, h.3)
 
 pub lines_are_parts : LinesAreParts
 unfolding LineDoes
@@ -139,6 +139,7 @@ lines_are_parts given (lab.Repeat count) before after parts text h = its_parts_n
 lines_are_parts given lab.End before after parts text h = its_parts_nothing before after parts text h
 lines_are_parts given (lab.Expect words) before after parts text h = its_parts_nothing before after parts text h
 lines_are_parts given lab.ExpectNone before after parts text h = its_parts_nothing before after parts text h
+lines_are_parts given lab.ExpectAny before after parts text h = its_parts_nothing before after parts text h
 lines_are_parts given (lab.Include name) before after parts text h = its_parts_nothing before after parts text h
 
 -- ---- what parts do, and print

@@ -1,4 +1,5 @@
 pub mod DoingLemmas
+pub mod FateLemmas
 pub mod LawLemmas
 pub mod PrintedLemmas
 pub mod RunLemmas

@@ -1,15 +1,15 @@
 -- Runs of lines, and that two of them which end by themselves are one.
-use Rattle.std.proofs.Common.{◌≡◌, true, false, nat_eq, ℕ, ◌+◌, ◌<◌, List, [], ◌∷◌, ◌++◌, length, refl, sym, ap, ◌∙◌, subst, inl, inr, ◌⊎◌, arith, append_assoc, append-nil, Option, None, Some, Result, Ok, Err}
+use Rattle.std.proofs.Common.{◌≡◌, true, false, nat_eq, ℕ, ◌+◌, ◌-◌, ◌<◌, ◌≤◌, drop, drop_at, length-append, IfSome, List, [], ◌∷◌, ◌++◌, length, refl, sym, ap, ◌∙◌, subst, inl, inr, ◌⊎◌, arith, append_assoc, append-nil, Option, None, Some, Result, Ok, Err}
 use Rattle.std.proofs.lemmas.Bool.{eqb-true, eqb-false}
-use Rattle.std.specs.Io.KnownBytes.{Appends}
-use Rattle.std.proofs.KnownBytes.{Appends-nil, Appends-trans}
+use Rattle.std.specs.Io.KnownBytes.{Appends, Consumes, IsAtEnd, Keeps}
+use Rattle.std.proofs.KnownBytes.{Appends-nil, Appends-trans, Consumes-whole}
 use Rattle.std.specs.List.{All}
 use Rattle.std.specs.Option.{option_map}
 use Rattle.std.specs.Str.Lines.{lines, strip_carriage_return}
 use Rattle.std.proofs.lemmas.List.Elements.{All-nil, All-cons, All-head, All-tail}
 use Rattle.hid_text.specs.Lines.{IsUnbroken}
 use Rattle.hid_text.proofs.LineLemmas.{lines_first}
-use Rattle.hid_text.proofs.PieceLemmas.{last_line}
+use Rattle.hid_text.proofs.PieceLemmas.{last_line, long_line}
 use Rattle.hid_text.specs.Line.{meaning_of}
 use Rattle.hid_script.specs.declared.fault.Cause.{Cause}
 use Rattle.hid_script.specs.declared.fault.ScriptFault.{ScriptFault}
@@ -29,7 +29,15 @@ use Rattle.lab_session.specs.Asking.{asked_said}
 use Rattle.lab_session.specs.Bench.{DoesLine, moment_of}
 use Rattle.lab_session.specs.Printed.{IsPlain}
 use Rattle.lab_session.specs.Laws.{EndsByItself, RunsAreOne, ScriptsThatEndWell}
-use Rattle.lab_session.specs.Scripts.{IsScripts, IsUndrawn, LineRan, PrintsAs, RunsAsScript, lab_run}
+use Rattle.lab_session.specs.declared.ahead.Ahead.{Ahead}
+use Rattle.lab_session.specs.declared.need.Need.{Need}
+use Rattle.lab_session.specs.declared.runs.RunEnd.{RunEnd}
+use Rattle.lab_session.specs.declared.runs.RunEnd.TheVariants as ended
+use Rattle.lab_session.specs.Ahead.{unread}
+use Rattle.lab_session.specs.Feeds.{IsOutside}
+use Rattle.lab_session.specs.Scripts.{AheadRan, Fails, GoesOn, IsScripts, IsUndrawn, LineRan, PrintsAs, RunsAs, RunsAsScript, RunsFed, StopsHere}
+use Rattle.hid_script.specs.declared.fault.Cause.TheVariants as causes
+use Rattle.hid_script.proofs.PlaceLemmas.{first_begins}
 use Rattle.lab_session.proofs.DoingLemmas.{said_of_meaning, stays_undrawn}
 use Rattle.lab_session.proofs.ScriptLineLemmas.{asks_nothing, script_old, script_read}
 use Rattle.hid_script.specs.Interpreter.{session_of}
@@ -59,19 +67,17 @@ runs_behind session next line more before text rest (Err fault) h k = record {
 }
 
 -- a line that the bench carried out, and a run of the lines after it
-pub lab_behind : (u v w : Option (List ℕ)) (session next : Session) (script : List (List ℕ)) (line : List ℕ) (more : List (List ℕ)) (before : ℕ) (text : List ℕ) (result : Result Ran LabFault)
-    → script ≡ line ∷ more → Appends u v text → LinePrints session line (success text next) → RunsAsScript v w next more (before + 1) result → RunsAsScript u w session script before result
-lab_behind u v w session next script line more before text result is grew h k =
-    (k.0, text ++ k.1, k.2, Appends-trans u v w text k.1 grew k.3, subst (λ l. RunsTo session l before (text ++ k.1) k.0) (sym is) (runs_behind session next line more before text k.1 k.0 h k.4))
+pub lab_behind : (u v w : Option (List ℕ)) (session next : Session) (script : List (List ℕ)) (line : List ℕ) (more : List (List ℕ)) (before : ℕ) (text : List ℕ) (end : Result Summary ScriptFault)
+    → script ≡ line ∷ more → Appends u v text → LinePrints session line (success text next) → RunsAs v w next more (before + 1) end → RunsAs u w session script before end
+lab_behind u v w session next script line more before text end is grew h k =
+    (text ++ k.0, Appends-trans u v w text k.0 grew k.1, subst (λ l. RunsTo session l before (text ++ k.0) end) (sym is) (runs_behind session next line more before text k.0 end h k.2))
 
 -- a line ended the run
-pub lab_stops : (u v : Option (List ℕ)) (session : Session) (script : List (List ℕ)) (line : List ℕ) (more : List (List ℕ)) (before at : ℕ) (part : List ℕ) (cause : Cause) (result : Result Ran LabFault)
-    → script ≡ line ∷ more → result ≡ Err (record { line = at; cause = Script cause }) → at ≡ before + 1 → Appends u v part
-    → Ends (LinePrints session line) (LineBegins session line) part cause → RunsAsScript u v session script before result
-lab_stops u v session script line more before at part cause result is ends place grew h = (
-  Err (record { line = at; cause = cause }),
+pub lab_stops : (u v : Option (List ℕ)) (session : Session) (script : List (List ℕ)) (line : List ℕ) (more : List (List ℕ)) (before at : ℕ) (part : List ℕ) (cause : Cause)
+    → script ≡ line ∷ more → at ≡ before + 1 → Appends u v part
+    → Ends (LinePrints session line) (LineBegins session line) part cause → RunsAs u v session script before (Err (record { line = at; cause = cause }))
+lab_stops u v session script line more before at part cause is place grew h = (
   part,
-  ends,
   grew,
   subst (λ l. Stops session l before part (record { line = at; cause = cause })) (sym is) (record {
     first = [];
@@ -88,10 +94,13 @@ lab_stops u v session script line more before at part cause result is ends place
 )
 
 -- no line is left
-pub lab_finishes : (u : Option (List ℕ)) (session : Session) (script : List (List ℕ)) (before : ℕ) (summary : Summary) (result : Result Ran LabFault)
-    → script ≡ [] → result ≡ lab_run (Ok summary) → summary.lines ≡ before → summary.events ≡ session.events → RunsAsScript u u session script before result
-lab_finishes u session script before summary result none is lines events =
-    (Ok summary, [], is, Appends-nil u, subst (λ l. RunsTo session l before [] (Ok summary)) (sym none) (record { last = session; all = (refl, refl); lines = omega (arith, lines); events = events }))
+pub lab_finishes : (u : Option (List ℕ)) (session : Session) (script : List (List ℕ)) (before : ℕ) (summary : Summary)
+    → script ≡ [] → summary.lines ≡ before → summary.events ≡ session.events → RunsAs u u session script before (Ok summary)
+lab_finishes u session script before summary none lines events =
+    ([], Appends-nil u, subst (λ l. RunsTo session l before [] (Ok summary)) (sym none) (record { last = session; all = (refl, refl); lines = omega (arith, lines); events = events }))
+
+fault_of : (fault : LabFault) (cause : Cause) → fault.cause ≡ Script cause → fault ≡ record { line = fault.line; cause = Script cause }
+fault_of fault cause is = ap (λ c. record fault { cause = c }) is
 
 -- ---- a line of a run
 
@@ -125,40 +134,50 @@ ran_out old new u v line count at cause is (Err why, ends, (written, grew, told)
 
 -- ---- the loop over the lines
 
--- The lines so far were carried out as in hidrun: who goes on so has done so from the start.
-abbrev pub GoesOn : Bench → Option (List ℕ) → List ℕ → Bench → Option (List ℕ) → List ℕ → ℕ → Type 0
-GoesOn first u text now v rest count =
-    IsPlain now.options × IsUndrawn (moment_of now) × All IsScripts (lines rest)
-    × ((w : Option (List ℕ)) (result : Result Ran LabFault)
-    → RunsAsScript v w (session_of now.interpreter) (lines rest) count result → RunsAsScript u w (session_of first.interpreter) (lines text) 0 result)
+pub goes_start : (first : Bench) (u : Option (List ℕ)) (text : List ℕ) (before : ℕ) → IsPlain first.options → IsUndrawn (moment_of first) → All IsScripts (lines text)
+    → GoesOn first u text before first u text before
+goes_start first u text before plain undrawn old = (plain, undrawn, old, λ w end h. h)
+
+-- lines after others
+pub goes_both : (first now next : Bench) (u v w : Option (List ℕ)) (text rest left : List ℕ) (before count n : ℕ)
+    → GoesOn first u text before now v rest count → GoesOn now v rest count next w left n → GoesOn first u text before next w left n
+goes_both first now next u v w text rest left before count n h k = (k.0, k.1, k.2, λ x end runs. h.3 x end (k.3 x end runs))
+
+-- a fault after lines that were carried out
+pub goes_fail : (first now : Bench) (u v w : Option (List ℕ)) (text rest : List ℕ) (before count : ℕ) (fault : LabFault)
+    → GoesOn first u text before now v rest count → Fails v w (session_of now.interpreter) (lines rest) count fault → Fails u w (session_of first.interpreter) (lines text) before fault
+goes_fail first now u v w text rest before count fault h k = (k.0, k.1, h.3 w (Err k.0) k.2)
 
 lines_split : (rest last behind : List ℕ) → IsUnbroken last → rest ≡ last ++ 10 ∷ behind → lines rest ≡ strip_carriage_return last ∷ lines behind
 lines_split rest last behind whole is = ap lines is ∙ lines_first last behind whole
 
+pub behind_more : (rest last behind more : List ℕ) → rest ≡ last ++ 10 ∷ behind → rest ++ more ≡ last ++ 10 ∷ (behind ++ more)
+behind_more rest last behind more is = ap (λ l. l ++ more) is ∙ append_assoc last (10 ∷ behind) more
+
 -- the line that comes next is one of hidrun's
-pub next_old : (first now : Bench) (u v : Option (List ℕ)) (text rest last behind : List ℕ) (count : ℕ) → IsUnbroken last → rest ≡ last ++ 10 ∷ behind
-    → GoesOn first u text now v rest count → IsScripts (strip_carriage_return last)
-next_old first now u v text rest last behind count whole is h =
+pub next_old : (first now : Bench) (u v : Option (List ℕ)) (text rest last behind : List ℕ) (before count : ℕ) → IsUnbroken last → rest ≡ last ++ 10 ∷ behind
+    → GoesOn first u text before now v rest count → IsScripts (strip_carriage_return last)
+next_old first now u v text rest last behind before count whole is h =
     All-head IsScripts (strip_carriage_return last) (lines behind) (subst (All IsScripts) (lines_split rest last behind whole is) h.2)
 
-pub goes_on : (first now next : Bench) (u v w : Option (List ℕ)) (text rest last behind : List ℕ) (count : ℕ) (asked : Option Asked) → IsUnbroken last → rest ≡ last ++ 10 ∷ behind
-    → GoesOn first u text now v rest count → LineRan now next v w (strip_carriage_return last) count (Ok asked) → GoesOn first u text next w behind (count + 1)
-goes_on first now next u v w text rest last behind count asked whole is h k =
+pub goes_on : (first now next : Bench) (u v w : Option (List ℕ)) (text rest last behind : List ℕ) (before count : ℕ) (asked : Option Asked) → IsUnbroken last → rest ≡ last ++ 10 ∷ behind
+    → GoesOn first u text before now v rest count → LineRan now next v w (strip_carriage_return last) count (Ok asked) → GoesOn first u text before next w behind (count + 1)
+goes_on first now next u v w text rest last behind before count asked whole is h k =
     let split = lines_split rest last behind whole is in (
       subst IsPlain (sym k.5) h.0,
       k.4,
       All-tail IsScripts (strip_carriage_return last) (lines behind) (subst (All IsScripts) split h.2),
-      λ x result runs. h.3 x result (lab_behind v w x (session_of now.interpreter) (session_of next.interpreter) (lines rest) (strip_carriage_return last) (lines behind) count k.1 result split k.2 k.3 runs),
+      λ x end runs. h.3 x end (lab_behind v w x (session_of now.interpreter) (session_of next.interpreter) (lines rest) (strip_carriage_return last) (lines behind) count k.1 end split k.2 k.3 runs),
     )
 
-fault_of : (fault : LabFault) (cause : Cause) → fault.cause ≡ Script cause → (let r : Result Ran LabFault = Err fault in r) ≡ Err (record { line = fault.line; cause = Script cause })
-fault_of fault cause is = ap (λ c. Err (record { line = fault.line; cause = c })) is
-
-pub goes_out : (first now next : Bench) (u v w : Option (List ℕ)) (text rest last behind : List ℕ) (count : ℕ) (fault : LabFault) → IsUnbroken last → rest ≡ last ++ 10 ∷ behind
-    → GoesOn first u text now v rest count → LineRan now next v w (strip_carriage_return last) count (Err fault) → RunsAsScript u w (session_of first.interpreter) (lines text) 0 (Err fault)
-goes_out first now next u v w text rest last behind count fault whole is h k =
-    h.3 w (Err fault) (lab_stops v w (session_of now.interpreter) (lines rest) (strip_carriage_return last) (lines behind) count fault.line k.3 k.1 (Err fault)
-    (lines_split rest last behind whole is) (fault_of fault k.1 k.2) k.0 k.4 k.5)
+pub goes_out : (first now next : Bench) (u v w : Option (List ℕ)) (text rest last behind : List ℕ) (before count : ℕ) (fault : LabFault) → IsUnbroken last → rest ≡ last ++ 10 ∷ behind
+    → GoesOn first u text before now v rest count → LineRan now next v w (strip_carriage_return last) count (Err fault) → Fails u w (session_of first.interpreter) (lines text) before fault
+goes_out first now next u v w text rest last behind before count fault whole is h k = (
+  record { line = fault.line; cause = k.1 },
+  fault_of fault k.1 k.2,
+  h.3 w (Err (record { line = fault.line; cause = k.1 })) (lab_stops v w (session_of now.interpreter) (lines rest) (strip_carriage_return last) (lines behind) count fault.line k.3 k.1
+      (lines_split rest last behind whole is) k.0 k.4 k.5),
+)
 
 -- ---- the last line, which no line feed ends
 
@@ -175,15 +194,190 @@ last_old line whole some h =
 
 pub last_on : (now next : Bench) (u v : Option (List ℕ)) (line : List ℕ) (count : ℕ) (asked : Option Asked) (summary : Summary) → IsUnbroken line → 0 < length line
     → LineRan now next u v line count (Ok asked) → summary.lines ≡ count + 1 → summary.events ≡ (session_of next.interpreter).events
-    → RunsAsScript u v (session_of now.interpreter) (lines line) count (Ok (ran.All summary))
+    → RunsAs u v (session_of now.interpreter) (lines line) count (Ok summary)
 last_on now next u v line count asked summary whole some h lines' events' =
-    lab_behind u v v (session_of now.interpreter) (session_of next.interpreter) (lines line) line [] count h.1 (Ok (ran.All summary)) (ap lines (sym (append-nil line)) ∙ last_line line whole some) h.2 h.3
-    (lab_finishes v (session_of next.interpreter) [] (count + 1) summary (Ok (ran.All summary)) refl refl lines' events')
+    lab_behind u v v (session_of now.interpreter) (session_of next.interpreter) (lines line) line [] count h.1 (Ok summary) (ap lines (sym (append-nil line)) ∙ last_line line whole some) h.2 h.3
+    (lab_finishes v (session_of next.interpreter) [] (count + 1) summary refl lines' events')
 
 pub last_out : (now next : Bench) (u v : Option (List ℕ)) (line : List ℕ) (count : ℕ) (fault : LabFault) → IsUnbroken line → 0 < length line
-    → LineRan now next u v line count (Err fault) → RunsAsScript u v (session_of now.interpreter) (lines line) count (Err fault)
-last_out now next u v line count fault whole some h =
-    lab_stops u v (session_of now.interpreter) (lines line) line [] count fault.line h.3 h.1 (Err fault) (ap lines (sym (append-nil line)) ∙ last_line line whole some) (fault_of fault h.1 h.2) h.0 h.4 h.5
+    → LineRan now next u v line count (Err fault) → Fails u v (session_of now.interpreter) (lines line) count fault
+last_out now next u v line count fault whole some h = (
+  record { line = fault.line; cause = h.1 },
+  fault_of fault h.1 h.2,
+  lab_stops u v (session_of now.interpreter) (lines line) line [] count fault.line h.3 h.1 (ap lines (sym (append-nil line)) ∙ last_line line whole some) h.0 h.4 h.5,
+)
+
+-- a run that went on after lines of a text that were carried out
+pub runs_through : (first now : Bench) (u v w : Option (List ℕ)) (text rest : List ℕ) (before count : ℕ) (result : Result Ran LabFault)
+    → GoesOn first u text before now v rest count → RunsAsScript v w (session_of now.interpreter) (lines rest) count result
+    → RunsAsScript u w (session_of first.interpreter) (lines text) before result
+runs_through first now u v w text rest before count (Ok (ran.All summary)) h k = h.3 w (Ok summary) k
+runs_through first now u v w text rest before count (Ok (ran.Asks asked line left)) h k = k
+runs_through first now u v w text rest before count (Err fault) h k = goes_fail first now u v w text rest before count fault h k
+
+pub fed_through : (first now : Bench) (u v w : Option (List ℕ)) (text rest : List ℕ) (before count : ℕ) (result : Result RunEnd LabFault)
+    → GoesOn first u text before now v rest count → RunsFed v w (session_of now.interpreter) (lines rest) count result
+    → RunsFed u w (session_of first.interpreter) (lines text) before result
+fed_through first now u v w text rest before count (Ok (ended.All summary)) h k = h.3 w (Ok summary) k
+fed_through first now u v w text rest before count (Ok (ended.Asks need)) h k = k
+fed_through first now u v w text rest before count (Err fault) h k = goes_fail first now u v w text rest before count fault h k
+
+-- ---- pieces
+
+-- what a text has behind its front
+pub rest_left : (text front rest : List ℕ) → text ≡ front ++ rest → drop (length text - length rest) text ≡ rest
+rest_left text front rest is =
+    let len : length text - length rest ≡ length front = omega (arith, ap length is, length-append front rest) in
+    ap (λ n. drop n text) len ∙ ap (drop (length front)) is ∙ drop_at front rest (length front) refl
+
+pub no_longer : (text front rest : List ℕ) → text ≡ front ++ rest → length rest ≤ length text
+no_longer text front rest is = omega (arith, ap length is, length-append front rest)
+
+outside_ends : (session : Session) (script : List (List ℕ)) (cause : Cause) → IsOutside cause → Ends (FirstPrints session script) (FirstBegins session script) [] cause
+unfolding ending_of
+outside_ends session script causes.Memory h = first_begins session script
+outside_ends session script causes.Write h = ([], first_begins session script, ([], refl))
+outside_ends session script causes.Read h = refl
+outside_ends session script causes.TooManyReads h = refl
+outside_ends session script cause h = absurd h
+
+-- memory, the reader or the writer ended the run before its next line
+pub outside_fails : (u v : Option (List ℕ)) (session : Session) (script : List (List ℕ)) (count : ℕ) (cause : Cause) (fault : LabFault) → Appends u v [] → IsOutside cause
+    → fault.line ≡ count + 1 → fault.cause ≡ Script cause → Fails u v session script count fault
+outside_fails u v session script count cause fault grew out at is = (
+  record { line = fault.line; cause = cause },
+  fault_of fault cause is,
+  (
+    [],
+    grew,
+    record {
+      first = [];
+      others = script;
+      split = refl;
+      line = omega (arith, at);
+      text = [];
+      now = session;
+      all = (refl, refl);
+      part = [];
+      ends = outside_ends session script cause out;
+      whole = refl;
+    },
+  ),
+)
+
+-- a line that is too long is none of hidrun's
+too_long : (rest more : List ℕ) → IsUnbroken rest → 16385 < length rest → All IsScripts (lines (rest ++ more)) → ⊥
+too_long rest more whole long old =
+    let first = long_line 16384 [] rest more (All-nil (λ b. nat_eq b 10 ≡ false)) whole (omega (arith, long)) in
+    let script = All-head IsScripts first.0 first.1 (subst (All IsScripts) first.2 old) in
+    omega (arith, first.3, script.room)
+
+pub stops_here : (u v : Option (List ℕ)) (rest : List ℕ) (count : ℕ) (cause : Cause) (fault : LabFault) → Appends u v []
+    → IsOutside cause ⊎ ((cause ≡ causes.LineTooLong) × (16385 < length rest)) → fault.line ≡ count + 1 → fault.cause ≡ Script cause → StopsHere u v rest count fault
+stops_here u v rest count cause fault grew (inl out) at is = λ session more whole old. outside_fails u v session (lines (rest ++ more)) count cause fault grew out at is
+stops_here u v rest count cause fault grew (inr long) at is = λ session more whole old. absurd (too_long rest more whole long.1 old)
+
+-- more bytes were read behind those that were
+pub reads_more : (a read given more : List ℕ) → a ++ (read ++ (given ++ more)) ≡ a ++ ((read ++ given) ++ more)
+reads_more a read given more = ap (λ l. a ++ l) (sym (append_assoc read given more))
+
+-- what holds whatever comes holds of what is known
+pub known_rest : (a b : Option (List ℕ)) (read : List ℕ) (P : List ℕ → Type 0) → Consumes a b read → ((more : List ℕ) → P (read ++ more)) → IfSome a P
+known_rest None b read P h f = tt
+known_rest (Some xs) None read P h f = absurd h
+known_rest (Some xs) (Some ys) read P h f = subst P (sym h) (f ys)
+
+-- the state of a run that has read so much
+abbrev pub HasRun : Bench → Option (List ℕ) → List ℕ → ℕ → List ℕ → Bench → Option (List ℕ) → List ℕ → ℕ → Type 0
+HasRun first u ahead before read now v left count =
+    IsPlain first.options → IsUndrawn (moment_of first) → (more : List ℕ) → All IsScripts (lines (ahead ++ (read ++ more)))
+    → GoesOn first u (ahead ++ (read ++ more)) before now v (left ++ more) count
+
+pub runs_first : (first : Bench) (u : Option (List ℕ)) (ahead : List ℕ) (before : ℕ) → HasRun first u ahead before [] first u ahead before
+runs_first first u ahead before = λ plain undrawn more old. goes_start first u (ahead ++ more) before plain undrawn old
+
+-- lines were carried out
+pub runs_lines : (first now next : Bench) (u v w : Option (List ℕ)) (ahead read : List ℕ) (before : ℕ) (old new : Ahead)
+    → HasRun first u ahead before read now v (unread old) old.lines
+    → (IsPlain now.options → IsUndrawn (moment_of now) → (more : List ℕ) → All IsScripts (lines (unread old ++ more)) → AheadRan now next v w old new more (Ok None))
+    → HasRun first u ahead before read next w (unread new) new.lines
+runs_lines first now next u v w ahead read before old new h k = λ plain undrawn more scripts.
+    let here = h plain undrawn more scripts in
+    goes_both first now next u v w (ahead ++ (read ++ more)) (unread old ++ more) (unread new ++ more) before old.lines new.lines here (k here.0 here.1 more here.2)
+
+kept_goes : (first now : Bench) (u v w : Option (List ℕ)) (text rest : List ℕ) (before count : ℕ) → Keeps v w → GoesOn first u text before now v rest count → GoesOn first u text before now w rest count
+kept_goes first now u v w text rest before count keeps h = (h.0, h.1, h.2, λ x end runs. h.3 x end (runs.0, Appends-from v w x runs.0 keeps runs.1, runs.2))
+  where
+    Appends-from : (a b c : Option (List ℕ)) (bs : List ℕ) → Keeps a b → Appends b c bs → Appends a c bs
+    Appends-from None b c bs k g = tt
+    Appends-from (Some xs) None c bs k g = absurd k
+    Appends-from (Some xs) (Some ys) None bs k g = absurd g
+    Appends-from (Some xs) (Some ys) (Some zs) bs k g = g ∙ ap (λ l. l ++ bs) k
+
+-- bytes were read
+pub runs_read : (first now : Bench) (u v w : Option (List ℕ)) (ahead read given left next : List ℕ) (before count n : ℕ) → Keeps v w → next ≡ left ++ given → n ≡ count
+    → HasRun first u ahead before read now v left count → HasRun first u ahead before (read ++ given) now w next n
+runs_read first now u v w ahead read given left next before count n keeps is same h = λ plain undrawn more scripts.
+    let here = h plain undrawn (given ++ more) (subst (λ t. All IsScripts (lines t)) (sym (reads_more ahead read given more)) scripts) in
+    let kept = kept_goes first now u v w (ahead ++ (read ++ (given ++ more))) (left ++ (given ++ more)) before count keeps here in
+    let there = subst (λ t. GoesOn first u t before now w (left ++ (given ++ more)) count) (reads_more ahead read given more) kept in
+    let rest = subst (λ r. GoesOn first u (ahead ++ ((read ++ given) ++ more)) before now w r count) (sym (ap (λ l. l ++ more) is ∙ append_assoc left given more)) there in
+    subst (λ m. GoesOn first u (ahead ++ ((read ++ given) ++ more)) before now w (next ++ more) m) (sym same) rest
+
+-- a run that ended here, whatever comes
+pub run_fails : (first now : Bench) (u v w : Option (List ℕ)) (a b : Option (List ℕ)) (ahead read left : List ℕ) (before count : ℕ) (fault : LabFault) (result : Result RunEnd LabFault) → Consumes a b read
+    → HasRun first u ahead before read now v left count
+    → ((more : List ℕ) → IsPlain now.options → IsUndrawn (moment_of now) → All IsScripts (lines (left ++ more)) → Fails v w (session_of now.interpreter) (lines (left ++ more)) count fault)
+    → result ≡ Err fault → IsPlain first.options → IsUndrawn (moment_of first)
+    → IfSome a (λ more. All IsScripts (lines (ahead ++ more)) → RunsFed u w (session_of first.interpreter) (lines (ahead ++ more)) before result)
+run_fails first now u v w a b ahead read left before count fault result from h k is plain undrawn =
+    known_rest a b read (λ more. All IsScripts (lines (ahead ++ more)) → RunsFed u w (session_of first.interpreter) (lines (ahead ++ more)) before result) from (λ more scripts.
+    let here = h plain undrawn more scripts in
+    subst (λ r. RunsFed u w (session_of first.interpreter) (lines (ahead ++ (read ++ more))) before r) (sym is)
+    (goes_fail first now u v w (ahead ++ (read ++ more)) (left ++ more) before count fault here (k more here.0 here.1 here.2)))
+
+-- a run to its end
+pub run_ends_well : (first now : Bench) (u v w : Option (List ℕ)) (a b : Option (List ℕ)) (ahead read left : List ℕ) (before count : ℕ) (result : Result RunEnd LabFault) → Consumes a b read → IsAtEnd b
+    → HasRun first u ahead before read now v left count
+    → (IsPlain now.options → IsUndrawn (moment_of now) → All IsScripts (lines left) → RunsFed v w (session_of now.interpreter) (lines left) count result)
+    → IsPlain first.options → IsUndrawn (moment_of first)
+    → IfSome a (λ more. All IsScripts (lines (ahead ++ more)) → RunsFed u w (session_of first.interpreter) (lines (ahead ++ more)) before result)
+run_ends_well first now u v w a b ahead read left before count result from end h k plain undrawn =
+    Consumes-whole a b read (λ more. All IsScripts (lines (ahead ++ more)) → RunsFed u w (session_of first.interpreter) (lines (ahead ++ more)) before result) from end (λ scripts.
+    let whole = subst (λ l. All IsScripts (lines (ahead ++ l))) (sym (append-nil read)) scripts in
+    let here = h plain undrawn [] whole in
+    let there = subst (λ r. GoesOn first u (ahead ++ (read ++ [])) before now v r count) (append-nil left) here in
+    let all = fed_through first now u v w (ahead ++ (read ++ [])) left before count result there (k there.0 there.1 there.2) in
+    subst (λ l. RunsFed u w (session_of first.interpreter) (lines (ahead ++ l)) before result) (append-nil read) all)
+
+-- what was read goes on where a line asks for something, which no script does
+pub run_asks : (first now next : Bench) (u v w : Option (List ℕ)) (a b : Option (List ℕ)) (ahead read : List ℕ) (before : ℕ) (old new : Ahead) (need : Need) → Consumes a b read
+    → HasRun first u ahead before read now v (unread old) old.lines
+    → (IsPlain now.options → IsUndrawn (moment_of now) → (more : List ℕ) → All IsScripts (lines (unread old ++ more)) → AheadRan now next v w old new more (Ok (Some need)))
+    → IsPlain first.options → IsUndrawn (moment_of first) → IfSome a (λ more. All IsScripts (lines (ahead ++ more)) → ⊥)
+run_asks first now next u v w a b ahead read before old new need from h k plain undrawn =
+    known_rest a b read (λ more. All IsScripts (lines (ahead ++ more)) → ⊥) from (λ more scripts.
+    let here = h plain undrawn more scripts in
+    k here.0 here.1 more here.2)
+
+-- what is left of the bytes that were read
+pub left_is : (ahead next : Ahead) (text front rest : List ℕ) → text ≡ unread ahead → text ≡ front ++ rest → unread next ≡ drop (length (unread ahead) - length rest) (unread ahead) → unread next ≡ rest
+left_is ahead next text front rest same is h = h ∙ rest_left (unread ahead) front rest (sym same ∙ is)
+
+-- lines of the bytes that were read were carried out
+pub ahead_on : (old new : Bench) (u v : Option (List ℕ)) (ahead next : Ahead) (text rest more : List ℕ) (before count : ℕ)
+    → text ≡ unread ahead → before ≡ ahead.lines → unread next ≡ rest → next.lines ≡ count
+    → GoesOn old u (text ++ more) before new v (rest ++ more) count → GoesOn old u (unread ahead ++ more) ahead.lines new v (unread next ++ more) next.lines
+ahead_on old new u v ahead next text rest more before count same at left n h =
+    let a = subst (λ t. GoesOn old u (t ++ more) before new v (rest ++ more) count) same h in
+    let b = subst (λ m. GoesOn old u (unread ahead ++ more) m new v (rest ++ more) count) at a in
+    let d = subst (λ r. GoesOn old u (unread ahead ++ more) ahead.lines new v (r ++ more) count) (sym left) b in
+    subst (λ m. GoesOn old u (unread ahead ++ more) ahead.lines new v (unread next ++ more) m) (sym n) d
+
+-- no more lines had come whole, so what is left has no line feed
+pub none_needed : (need : Option Need) → ((n : Need) → need ≡ Some n → ⊥) → need ≡ None
+none_needed None h = refl
+none_needed (Some n) h = absurd (h n refl)
 
 -- ---- runs that end by themselves
 

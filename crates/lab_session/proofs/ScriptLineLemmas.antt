@@ -131,7 +131,11 @@ count_new make none text =
 expect_new : (words : List Word) → IsNew (expect_meaning words)
 unfolding expect_meaning
 expect_new [] = tt
-expect_new (word ∷ []) = elim (bytes_eq word (codes "none")) as (λ b. IsNew (cond b (Ok lab.ExpectNone) (Ok (lab.Expect (word ∷ []))))) [ true ↦ refl | false ↦ refl ]
+expect_new (word ∷ []) =
+    elim (bytes_eq word (codes "none")) as (λ b. IsNew (cond b (Ok lab.ExpectNone) (cond (bytes_eq word (codes "any")) (Ok lab.ExpectAny) (Ok (lab.Expect (word ∷ [])))))) [
+      | true ↦ refl
+      | false ↦ elim (bytes_eq word (codes "any")) as (λ b. IsNew (cond b (Ok lab.ExpectAny) (Ok (lab.Expect (word ∷ []))))) [ true ↦ refl | false ↦ refl ]
+    ]
 expect_new (word ∷ next ∷ more) = refl
 
 file_new : (name : List ℕ) → IsNew (file_name name)
@@ -270,7 +274,7 @@ old_line bytes first text room none h =
                 (
                   (λ b t. change_new (λ l. at_place place.Number signed_of_word l >>= (λ value. Ok (Set value, after_word l))) (λ l. answer_then (at_place place.Number signed_of_word l) _ (place_answers place.Number signed_of_word l) (λ value. tt)) t, λ words. none_syntax _),
                   (
-                    (λ b t. change_new (λ l. at_place place.Number amount_of l >>= (λ by. Ok (Move by, after_word l))) (λ l. answer_then (at_place place.Number amount_of l) _ (place_answers place.Number amount_of l) (λ by. tt)) t, λ words. none_syntax _),
+                    (λ b t. change_new (λ l. at_place place.Amount amount_of l >>= (λ by. Ok (Move by, after_word l))) (λ l. answer_then (at_place place.Amount amount_of l) _ (place_answers place.Amount amount_of l) (λ by. tt)) t, λ words. none_syntax _),
                     tt,
                   ),
                 ),
@@ -410,3 +414,15 @@ asks_nothing lab.Nothing meaning is = refl
 asks_nothing (lab.Script bytes) meaning is = refl
 asks_nothing (lab.Short said) meaning is = refl
 asks_nothing said meaning is = absurd (cc)
+
+-- ---- short lines
+
+-- a short line says to the bench what it says to hidrun
+pub short_read : (line : List ℕ) (short : ShortLine) → short_of (meaning_of line) ≡ Some short → lab_meaning line ≡ Ok (lab.Short short)
+unfolding lab_meaning meaning_of
+short_read line short is = ⊎_elim
+    (λ (long : 1024 < length line).
+    let none : short_of (meaning_of line) ≡ None = ap short_of (cond-true (nat_lt 1024 (length line)) (Err fault.LineTooLong) (line_meaning (words_of line)) (lt-ltb 1024 (length line) long)) in
+    absurd (cc))
+    (λ (room : length line ≤ 1024). rw (le-ltb 16384 (length line) (omega (arith, room))) (ap (λ o. short_or o (other_meaning line (words_of line))) is))
+    (cases_lt 1024 (length line))

@@ -1,5 +1,5 @@
 -- What an expectation of the bench takes, and what it keeps of the line that came in its place (our choice: docs/LAB.md).
-use Rattle.std.specs.Prelude.{◌≡◌, ℕ, true, false, List, [], if◌then◌else◌, Result, Ok, Err, codes}
+use Rattle.std.specs.Prelude.{◌≡◌, ℕ, true, false, List, [], ◌++◌, if◌then◌else◌, Result, Ok, Err, codes}
 use Rattle.lab_expectations.specs.declared.transcript.Transcript.{Transcript}
 use Rattle.lab_expectations.specs.Expectations.{Answer, Came, Instead, NoLine, TooMuch, Met, answer_at, answer_none, first_required, is_expected_at, is_none_at, outcome, parts_of, waits}
 use Rattle.lab_lines.specs.declared.lab_line.LabLine.{LabLine}
@@ -32,8 +32,17 @@ ExpectsNone old new came (Ok _) = (is_none_at old ≡ true) × (waits new ≡ []
 ExpectsNone old new came (Err cause) =
     (is_none_at old ≡ false) × (new ≡ old) × (cause ≡ Unmet → came ≡ came_words (answer_to_none old))
 
+-- Lines wait behind those that waited, unless too much was printed since the last expectation.
+abbrev pub Keeps : Transcript → Transcript → List ℕ → Type 0
+Keeps old new text = new.is_cut ≡ false → (waits new ≡ waits old ++ text) × (old.is_cut ≡ false)
+
+-- nothing waits, and all that is printed from here on does
+abbrev pub IsForgotten : Transcript → Type 0
+IsForgotten new = (waits new ≡ []) × (new.is_cut ≡ false)
+
 -- what comes of a line that expects something: it is met, or it isn't
 abbrev pub LineExpects : LabLine → Transcript → Transcript → List ℕ → Result (Unit {0}) LabCause → Type 0
 LineExpects (said.Expect expected) old new came result = Expects expected.now old new came result
 LineExpects said.ExpectNone old new came result = ExpectsNone old new came result
+LineExpects said.ExpectAny old new came result = (result ≡ Ok tt) × IsForgotten new
 LineExpects _ old new came result = Unit {0}

@@ -1,8 +1,10 @@
 pub mod Acts
+pub mod Ahead
 pub mod Asking
 pub mod Bench
 pub mod Chances
 pub mod Expecting
+pub mod Feeds
 pub mod Laws
 pub mod Lines
 pub mod Outputs

@@ -1,5 +1,5 @@
 -- What the lines of the bench are, in parts (our choice: docs/LAB.md).
-use Rattle.std.specs.Prelude.{◌≡◌, ◌≢◌, ◌⊎◌, ℕ, ◌<◌, zero, suc, Bool, true, false, List, [], ◌∷◌, ◌++◌, map, Option, None, Some, Ok}
+use Rattle.std.specs.Prelude.{◌≡◌, ◌≢◌, ◌⊎◌, ℕ, ◌<◌, zero, suc, Bool, true, false, List, [], ◌∷◌, ◌++◌, map, Option, None, Some, Result, Ok, Err}
 use Rattle.hid_layout.specs.declared.control.ControlId.{ControlId}
 use Rattle.usb_transact.specs.declared.transaction.Fate.{Fate}
 use Rattle.usb_transact.specs.declared.transaction.Fate.TheVariants.{Clean}
@@ -28,6 +28,8 @@ use Rattle.lab_lines.specs.Typing.{characters_of}
 use Rattle.lab_lines.specs.ControlNames.{Named, control_named}
 use Rattle.lab_lines.specs.LabLines.{Said}
 use Rattle.lab_lines.specs.LabLines as lab
+use Rattle.lab_session.specs.declared.fault.LabCause.{LabCause}
+use Rattle.lab_session.specs.declared.fault.LabCause.TheVariants.{Unsettled}
 use Rattle.lab_session.specs.Chances.{Chance, fate_by, chance_after}
 use Rattle.lab_session.specs.Parts.{Part, Says, Changes, LaysOut, ShowsValues, Attaches, PartPrints}
 
@@ -114,6 +116,11 @@ abbrev pub Settles : ℕ → Moment → List Part → List ℕ → Moment → Ty
 Settles dev before parts text after =
     (n : ℕ) × (n < 100) × Then (Often n (PollsOnce dev Clean false)) (PollsOnce dev Clean true) before parts text after
 
+-- a device was polled a hundred times, one after the other up to here, and had something to send each time
+abbrev pub StaysUnsettled : ℕ → Moment → Type 0
+StaysUnsettled dev after =
+    (before : Moment) × (parts : List Part) × (text : List ℕ) × Often 100 (PollsOnce dev Clean false) before parts text after
+
 -- ---- lines
 
 -- a control changes, and the device is polled until it has nothing to send
@@ -185,10 +192,10 @@ abbrev pub seed_by : Option ℕ → ℕ → ℕ
 seed_by None seed = seed
 seed_by (Some other) seed = other
 
--- `lose D PERCENT SEED`: from now on fates of the device are drawn
+-- `lose D PERCENT SEED`: from now on fates of the device, which is there, are drawn
 abbrev pub Loses : ℕ → ℕ → ℕ → Moment → List Part → List ℕ → Moment → Type 0
 Loses dev percent seed before parts text after =
-    (parts ≡ []) × (text ≡ []) × (after.session ≡ before.session)
+    ((m : Member) × (member_at before.session.members dev ≡ Some m)) × (parts ≡ []) × (text ≡ []) × (after.session ≡ before.session)
     × (dev < 8 → after.chance dev ≡ Some (record { percent = percent; generator = generator_at_first dev seed }))
     × ((other : ℕ) → other ≢ dev → after.chance other ≡ before.chance other)
 
@@ -211,4 +218,12 @@ LineDoes given (lab.Repeat count) = DoesNothing
 LineDoes given lab.End = DoesNothing
 LineDoes given (lab.Expect words) = DoesNothing
 LineDoes given lab.ExpectNone = DoesNothing
+LineDoes given lab.ExpectAny = DoesNothing
 LineDoes given (lab.Include name) = DoesNothing
+
+-- Where a line ends since a device has still something to send, the line clicks controls of that device, and the device was
+-- polled a hundred times.
+abbrev pub LineUnsettled : Said → Result (Unit {0}) LabCause → Moment → Type 0
+LineUnsettled (lab.Click dev named) result after = result ≡ Err Unsettled → StaysUnsettled dev after
+LineUnsettled (lab.Typing dev bytes) result after = result ≡ Err Unsettled → StaysUnsettled dev after
+LineUnsettled _ result after = result ≡ Err Unsettled → ⊥

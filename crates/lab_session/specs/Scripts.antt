@@ -1,5 +1,5 @@
 -- Lines of hidrun, as the bench carries them out (our choice: docs/LAB.md).
-use Rattle.std.specs.Prelude.{◌≡◌, ◌+◌, ◌≤◌, ℕ, Bool, true, false, not, List, length, Option, None, Some, is_some, IfSome, Result, Ok, Err}
+use Rattle.std.specs.Prelude.{◌≡◌, ◌+◌, ◌≤◌, ℕ, Bool, true, false, not, List, ◌++◌, length, All, Option, None, Some, is_some, IfSome, Result, Ok, Err}
 use Rattle.std.specs.Io.KnownBytes.{Appends}
 use Rattle.hid_text.specs.declared.fault.LineFault.{LineFault}
 use Rattle.hid_text.specs.declared.line.Line.{Line}
@@ -23,7 +23,17 @@ use Rattle.lab_session.specs.declared.fault.LabCause.{LabCause}
 use Rattle.lab_session.specs.declared.fault.LabCause.TheVariants.{Script}
 use Rattle.lab_session.specs.declared.runs.LabFault.{LabFault}
 use Rattle.lab_session.specs.declared.runs.Ran.{Ran}
-use Rattle.lab_session.specs.declared.runs.Ran.TheVariants.{All}
+use Rattle.lab_session.specs.declared.runs.Ran.TheVariants as ran
+use Rattle.lab_session.specs.declared.runs.Done.{Done}
+use Rattle.lab_session.specs.declared.runs.Done.TheVariants as done
+use Rattle.lab_session.specs.declared.runs.RunEnd.{RunEnd}
+use Rattle.lab_session.specs.declared.runs.RunEnd.TheVariants as ended
+use Rattle.lab_session.specs.declared.need.Need.{Need}
+use Rattle.lab_session.specs.declared.ahead.Ahead.{Ahead}
+use Rattle.lab_session.specs.Ahead.{unread}
+use Rattle.lab_session.specs.Printed.{IsPlain}
+use Rattle.hid_text.specs.Lines.{IsUnbroken}
+use Rattle.std.specs.Str.Lines.{lines}
 use Rattle.lab_session.specs.Bench.{moment_of}
 use Rattle.lab_session.specs.Lines.{Moment}
 
@@ -94,13 +104,62 @@ LineRan old new before after line count (Err fault) =
     × (written : List ℕ) × Appends before after written
     × Ends (LinePrints (session_of old.interpreter) line) (LineBegins (session_of old.interpreter) line) written cause
 
--- how the bench ends a run that hidrun ends so: all lines were carried out, or one wasn't, for the same cause
-abbrev pub lab_run : Result Summary ScriptFault → Result Ran LabFault
-lab_run (Ok summary) = Ok (All summary)
-lab_run (Err fault) = Err (record { line = fault.line; cause = Script fault.cause })
+-- Known bytes grew by what hidrun writes of these lines, with so many lines before them, and hidrun answers so.
+abbrev pub RunsAs : Option (List ℕ) → Option (List ℕ) → Session → List (List ℕ) → ℕ → Result Summary ScriptFault → Type 0
+RunsAs old new session script before end = (written : List ℕ) × Appends old new written × RunsTo session script before written end
 
--- Known bytes grew by what hidrun writes of these lines, with so many lines before them, and the run ended as hidrun ends it.
+-- a line ended the run, for the cause for which hidrun ends it there
+abbrev pub Fails : Option (List ℕ) → Option (List ℕ) → Session → List (List ℕ) → ℕ → LabFault → Type 0
+Fails old new session script before fault =
+    (end : ScriptFault) × (fault ≡ record { line = end.line; cause = Script end.cause })
+    × RunsAs old new session script before (Err end)
+
+-- Known bytes grew by what hidrun writes of these lines, with so many lines before them, and the run ended as hidrun ends it: all
+-- lines were carried out, or one wasn't, for the same cause.
 abbrev pub RunsAsScript : Option (List ℕ) → Option (List ℕ) → Session → List (List ℕ) → ℕ → Result Ran LabFault → Type 0
-RunsAsScript old new session script before result =
-    (end : Result Summary ScriptFault) × (written : List ℕ)
-    × (result ≡ lab_run end) × Appends old new written × RunsTo session script before written end
+RunsAsScript old new session script before (Ok (ran.All summary)) = RunsAs old new session script before (Ok summary)
+RunsAsScript old new session script before (Ok (ran.Asks asked line rest)) = ⊥
+RunsAsScript old new session script before (Err fault) = Fails old new session script before fault
+
+-- ---- pieces
+
+-- The lines so far were carried out as in hidrun: who goes on so has done so from the start.
+abbrev pub GoesOn : Bench → Option (List ℕ) → List ℕ → ℕ → Bench → Option (List ℕ) → List ℕ → ℕ → Type 0
+GoesOn first u text before now v rest count =
+    IsPlain now.options × IsUndrawn (moment_of now) × All IsScripts (lines rest)
+    × ((w : Option (List ℕ)) (end : Result Summary ScriptFault)
+    → RunsAs v w (session_of now.interpreter) (lines rest) count end
+    → RunsAs u w (session_of first.interpreter) (lines text) before end)
+
+-- the lines that end in a text were carried out, whatever comes behind it
+abbrev pub LinesRan : Bench → Bench → Option (List ℕ) → Option (List ℕ) → List ℕ → ℕ → List ℕ → Result Done LabFault → Type 0
+LinesRan old new u v text before more (Ok (done.Lines count rest)) = GoesOn old u (text ++ more) before new v (rest.now ++ more) count
+LinesRan old new u v text before more (Ok (done.Asks asked count rest)) = ⊥
+LinesRan old new u v text before more (Err fault) = Fails u v (session_of old.interpreter) (lines (text ++ more)) before fault
+
+-- what is left of a text stands at its end, and so many lines end before it at most
+abbrev pub Leaves : List ℕ → ℕ → Done → Type 0
+Leaves text before (done.Lines count rest) =
+    ((front : List ℕ) × (text ≡ front ++ rest.now)) × (count ≤ before + length text) × IsUnbroken rest.now
+Leaves text before (done.Asks asked count rest) = ((front : List ℕ) × (text ≡ front ++ rest.now)) × (count ≤ before + length text)
+
+-- the lines that had come whole were carried out, whatever comes behind them
+abbrev pub AheadRan : Bench → Bench → Option (List ℕ) → Option (List ℕ) → Ahead → Ahead → List ℕ → Result (Option Need) LabFault → Type 0
+AheadRan old new u v before after more (Ok None) =
+    GoesOn old u (unread before ++ more) before.lines new v (unread after ++ more) after.lines
+AheadRan old new u v before after more (Ok (Some need)) = ⊥
+AheadRan old new u v before after more (Err fault) =
+    Fails u v (session_of old.interpreter) (lines (unread before ++ more)) before.lines fault
+
+-- A run ended before the line that comes next, and before anything of it was written, whatever comes then; or that line is too
+-- long to be one of hidrun's.
+abbrev pub StopsHere : Option (List ℕ) → Option (List ℕ) → List ℕ → ℕ → LabFault → Type 0
+StopsHere u v rest count fault =
+    (session : Session) (more : List ℕ) → IsUnbroken rest → All IsScripts (lines (rest ++ more))
+    → Fails u v session (lines (rest ++ more)) count fault
+
+-- as `RunsAsScript`, of a run whose lines come in pieces
+abbrev pub RunsFed : Option (List ℕ) → Option (List ℕ) → Session → List (List ℕ) → ℕ → Result RunEnd LabFault → Type 0
+RunsFed old new session script before (Ok (ended.All summary)) = RunsAs old new session script before (Ok summary)
+RunsFed old new session script before (Ok (ended.Asks need)) = ⊥
+RunsFed old new session script before (Err fault) = Fails old new session script before fault

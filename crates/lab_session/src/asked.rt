@@ -54,6 +54,7 @@ pub(crate) fn asked_of(line: LabLine<'_>) -> Option<Asked<'_>>
         | LabLine::Lose { .. }
         | LabLine::Expect(_)
         | LabLine::ExpectNone
+        | LabLine::ExpectAny
         | LabLine::Wait { .. } => None,
     }
 }

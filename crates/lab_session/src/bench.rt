@@ -1,6 +1,6 @@
 //! The bench between two lines, and how a line is carried out.
 
-ghost use Rattle.std.specs.Prelude.{◌≡◌, ◌||◌, ℕ, List, Option, None, IfOk, OnOk, is_some};
+ghost use Rattle.std.specs.Prelude.{◌≡◌, ◌||◌, ℕ, List, Option, None, Err, IfOk, IfErr, OnOk, is_some};
 ghost use Rattle.std.specs.Option.{option_map};
 ghost use Rattle.hid_text.specs.declared.change_kind.ChangeKind.TheVariants.{Press, Release};
 ghost use Rattle.hid_bus.specs.declared.step.Step.TheVariants as Taking;
@@ -11,7 +11,7 @@ ghost use Rattle.hid_script.specs.LineOutput.{Begins, CarriesOut, LineBegins, Li
 ghost use Rattle.hid_script.specs.Place.{AppendsOnce, AppendsOutput};
 ghost use Rattle.lab_expectations.specs.Expectations.{answer_of};
 ghost use Rattle.lab_session.specs.Asking.{asked_said};
-ghost use Rattle.lab_session.specs.Expecting.{Expects, ExpectsNone, LineExpects, came_words};
+ghost use Rattle.lab_session.specs.Expecting.{Expects, ExpectsNone, IsForgotten, LineExpects, came_words};
 ghost use Rattle.lab_session.specs.Lines.{has_nothing};
 ghost use Rattle.lab_session.specs.Parts.{Says, Changes, LaysOut, ShowsValues, Attaches};
 ghost use Rattle.lab_session.specs.Printed.{IsPlain, is_styled, kept_cause};
@@ -29,7 +29,7 @@ use hid_requests::Boot;
 use hid_script::{Cause, Interpreter, Options, Sink, StepFault};
 use hid_snapshots::ChangeFault;
 use hid_stack::{Rig, StackFault, Start, Step, Told};
-use hid_text::{ChangeKind, ShortLine};
+use hid_text::{ChangeKind, ShortLine, read_short};
 use lab_expectations::Expectation;
 use lab_lines::{
     ControlName, Key, LEFT_SHIFT, LabLine, TypedText, find_control, key_of, read_hex, read_lab_line,
@@ -125,7 +125,9 @@ impl Bench {
     ghost use Rattle.lab_session.specs.Scripts.{IsScripts, IsUndrawn, PrintsAs, PrintsSaid, end_of};
     ghost use Rattle.lab_session.specs.Chances.{chance_at};
     ghost use Rattle.hid_stack.specs.Attaching.{Finds};
-    ghost use Rattle.lab_session.specs.Lines.{Clicks, ClicksKey, ClicksShifted, DoesBytes, DoesPart, LineDoes, Loses, NamesControl, Often, PollLineDoes, Polls, PollsOnce, ScriptLineDoes, Settles, SettlesChange, ShortLineDoes, Tries, Types, seed_by};
+    ghost use Rattle.hid_stack.specs.Rig.{member_at};
+    ghost use Rattle.hid_script.specs.LineOutput.{stack_cause};
+    ghost use Rattle.lab_session.specs.Lines.{Clicks, ClicksKey, ClicksShifted, DoesBytes, DoesPart, LineDoes, Loses, NamesControl, Often, PollLineDoes, Polls, PollsOnce, ScriptLineDoes, LineUnsettled, Settles, SettlesChange, ShortLineDoes, StaysUnsettled, Tries, Types, seed_by};
     ghost use Rattle.lab_lines.specs.ControlNames.{named_of};
     ghost use Rattle.lab_lines.specs.LabLines.{said_of};
 
@@ -165,6 +167,11 @@ impl Bench {
         counts
     }
 
+    /// How many polls were made.
+    pub fn poll_count(&self) -> u64 {
+        self.counts.polls
+    }
+
     /// How many events were delivered.
     pub fn events(&self) -> u64
         ensures { result ≡ (session_of self.now.interpreter).events }
@@ -197,7 +204,14 @@ impl Bench {
         ensures prints { IsPlain self.old.options → IsUndrawn (moment_of self.old) → IsScripts line.now
             → PrintsAs (W.contents writer.old) (W.contents writer.new) (meaning_of line.now)
             (session_of self.old.interpreter) (end_of result) (session_of self.new.interpreter) }
+        ensures unsettled { end_of result ≡ Err LabCause.Unsettled
+            → (dev : ℕ) × StaysUnsettled dev (moment_of self.new) }
     {
+        // Most lines are short, and no new line is.
+        if let Some(short) = read_short(line) {
+            self.short_line(&short, writer)?;
+            return Ok(None);
+        }
         match read_lab_line(line) {
             Ok(said) => {
                 self.carry_out(&said, writer)?;
@@ -220,6 +234,7 @@ impl Bench {
             (session_of self.old.interpreter) result (session_of self.new.interpreter) }
         ensures expects { LineExpects line.now self.old.printer.transcript
             self.new.printer.transcript self.new.came.items result }
+        ensures unsettled { LineUnsettled (said_of line.now) result (moment_of self.new) }
     {
         match *line {
             LabLine::Nothing
@@ -246,12 +261,13 @@ impl Bench {
                 self.click(dev, control, writer)
             }
             LabLine::Type { dev, text } => self.type_text(dev, text, writer),
-            LabLine::Lose { dev, percent, seed } => {
-                self.lose(dev, percent, seed);
-                Ok(())
-            }
+            LabLine::Lose { dev, percent, seed } => { Ok(self.lose(dev, percent, seed)?) }
             LabLine::Expect(expected) => self.expect(expected),
             LabLine::ExpectNone => self.expect_none(),
+            LabLine::ExpectAny => {
+                self.forget();
+                Ok(())
+            }
         }
     }
 
@@ -597,6 +613,7 @@ impl Bench {
     fn settle<W: Sink>(&mut self, dev: u8, writer: &mut W) -> Result<(), LabCause>
         ensures does { OnOk result (Does (Settles dev) self.old self.new
             (W.contents writer.old) (W.contents writer.new)) }
+        ensures unsettled { result ≡ Err LabCause.Unsettled → StaysUnsettled dev (moment_of self.new) }
     {
         for _ in 0..MOST_POLLS {
             if self.poll(dev, Fate::Clean, writer)? {
@@ -616,6 +633,7 @@ impl Bench {
     ) -> Result<(), LabCause>
         ensures does { OnOk result (Does (SettlesChange dev control wanted) self.old self.new
             (W.contents writer.old) (W.contents writer.new)) }
+        ensures unsettled { result ≡ Err LabCause.Unsettled → StaysUnsettled dev (moment_of self.new) }
     {
         self.change(dev, control, wanted, writer)?;
         self.settle(dev, writer)
@@ -630,6 +648,7 @@ impl Bench {
     ) -> Result<(), LabCause>
         ensures does { OnOk result (Does (Clicks dev control) self.old self.new
             (W.contents writer.old) (W.contents writer.new)) }
+        ensures unsettled { result ≡ Err LabCause.Unsettled → StaysUnsettled dev (moment_of self.new) }
     {
         self.settle_change(dev, control, ChangeKind::Press, writer)?;
         self.settle_change(dev, control, ChangeKind::Release, writer)
@@ -637,8 +656,9 @@ impl Bench {
 
     /// The least control with a usage.
     fn find_usage(&self, dev: u8, usage: Usage) -> Result<ControlId, LabCause>
-        ensures { IfOk result
+        ensures found { IfOk result
             (λ control. Finds (session_of self.now.interpreter).members dev usage (Ok control)) }
+        ensures err { result ≡ Err LabCause.Unsettled → ⊥ }
     {
         match self.interpreter.rig().find(dev, usage) {
             Ok(control) => Ok(control),
@@ -656,6 +676,7 @@ impl Bench {
     ) -> Result<(), LabCause>
         ensures does { OnOk result (Does (ClicksShifted dev shift control) self.old self.new
             (W.contents writer.old) (W.contents writer.new)) }
+        ensures unsettled { result ≡ Err LabCause.Unsettled → StaysUnsettled dev (moment_of self.new) }
     {
         self.settle_change(dev, shift, ChangeKind::Press, writer)?;
         self.click(dev, control, writer)?;
@@ -666,6 +687,7 @@ impl Bench {
     fn click_key<W: Sink>(&mut self, dev: u8, key: Key, writer: &mut W) -> Result<(), LabCause>
         ensures does { OnOk result (Does (ClicksKey dev key) self.old self.new
             (W.contents writer.old) (W.contents writer.new)) }
+        ensures unsettled { result ≡ Err LabCause.Unsettled → StaysUnsettled dev (moment_of self.new) }
     {
         let control = self.find_usage(dev, key.usage)?;
         if key.is_shifted {
@@ -685,6 +707,7 @@ impl Bench {
     ) -> Result<(), LabCause>
         ensures does { OnOk result (Does (Types dev text.entry.rest.now) self.old self.new
             (W.contents writer.old) (W.contents writer.new)) }
+        ensures unsettled { result ≡ Err LabCause.Unsettled → StaysUnsettled dev (moment_of self.new) }
     {
         let mut text = text;
         while let Some(character) = text.next_character() {
@@ -697,15 +720,22 @@ impl Bench {
     }
 
     /// From now on draws what is lost of a device's polls and tries.
-    fn lose(&mut self, dev: u8, percent: u8, seed: u64)
-        ensures does { (bytes : Option (List ℕ)) → Does (Loses dev percent
-            (seed_by self.old.options.seed seed)) self.old self.new bytes bytes }
+    fn lose(&mut self, dev: u8, percent: u8, seed: u64) -> Result<(), Cause>
+        ensures does { OnOk result ((bytes : Option (List ℕ)) → Does (Loses dev percent
+            (seed_by self.old.options.seed seed)) self.old self.new bytes bytes) }
+        ensures err { IfErr result (λ cause. (cause ≡ stack_cause StackFault.NoDevice)
+            × (member_at (session_of self.old.interpreter).members dev ≡ None)
+            × (self.new ≡ self.old)) }
     {
+        if let Err(fault) = self.interpreter.rig().device(dev) {
+            return Err(Cause::from(fault));
+        }
         let seed = match self.options.seed {
             Some(other) => other,
             None => seed,
         };
         self.draws.lose(dev, percent, seed);
+        Ok(())
     }
 
     /// Whether the next line that was printed is this one.
@@ -714,6 +744,7 @@ impl Bench {
         ensures options { self.new.options ≡ self.old.options }
         ensures expects { Expects expected.now self.old.printer.transcript
             self.new.printer.transcript self.new.came.items result }
+        ensures settled { result ≡ Err LabCause.Unsettled → ⊥ }
     {
         if self.printer.expect(expected) {
             return Ok(());
@@ -724,12 +755,22 @@ impl Bench {
         }
     }
 
+    /// Passes over all that was printed.
+    fn forget(&mut self)
+        ensures moment { moment_of self.new ≡ moment_of self.old }
+        ensures options { self.new.options ≡ self.old.options }
+        ensures expects { IsForgotten self.new.printer.transcript }
+    {
+        self.printer.forget();
+    }
+
     /// Whether all that was printed has been expected.
     fn expect_none(&mut self) -> Result<(), LabCause>
         ensures moment { moment_of self.new ≡ moment_of self.old }
         ensures options { self.new.options ≡ self.old.options }
         ensures expects { ExpectsNone self.old.printer.transcript self.new.printer.transcript
             self.new.came.items result }
+        ensures settled { result ≡ Err LabCause.Unsettled → ⊥ }
     {
         if self.printer.expect_none() {
             return Ok(());

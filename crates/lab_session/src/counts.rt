@@ -24,6 +24,11 @@ pub struct Counts {
     pub ack: u64,
 }
 
+/// How many of these were lost, whichever packet was.
+fn lost_of(token: u64, reply: u64, ack: u64) -> u64 {
+    token.saturating_add(reply).saturating_add(ack)
+}
+
 /// So many more.
 fn add(count: &mut u64, more: u64) {
     *count = count.saturating_add(more);
@@ -73,9 +78,10 @@ impl fmt::Display for Counts {
             reply,
             ack,
         } = *self;
+        let lost = lost_of(token, reply, ack);
         write!(
             f,
-            "polls {polls}, tries {tries}, repeated {repeated}, events {events}; clean {clean}, token {token}, reply {reply}, ack {ack}"
+            "polls {polls}, tries {tries}, lost {lost}, repeated {repeated}, events {events}; clean {clean}, token {token}, reply {reply}, ack {ack}"
         )
     }
 }

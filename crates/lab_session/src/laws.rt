@@ -1,6 +1,6 @@
 //! Laws of the definitions that the contracts of the bench cite.
 
-ghost use Rattle.lab_session.specs.Laws.{ClicksAreParts, KeysAreParts, ShortLinesAreParts, LinesAreParts, LinesOfScripts, PartsPrintLives, RunsAreOne, ScriptsThatEndWell};
+ghost use Rattle.lab_session.specs.Laws.{ClicksAreParts, KeysAreParts, ShortLinesAreParts, LinesAreParts, LinesOfScripts, PartsJoin, PartsPrintLives, PollsHaveFates, RunsAreOne, ScriptsThatEndWell};
 
 use hid_script::laws::one_outcome;
 
@@ -11,6 +11,17 @@ pub fn lines_are_parts()
     ensures keys { KeysAreParts }
     ensures short { ShortLinesAreParts }
     ensures any { LinesAreParts }
+{}
+
+/// What lines do in turn is what their parts do, one list behind the other.
+pub fn parts_join()
+    ensures { PartsJoin }
+{}
+
+/// After `lose D PERCENT SEED` the polls of the device of which nothing is said have the fates that follow from PERCENT and SEED: a
+/// list that is a function of them.
+pub fn losses_are_listed()
+    ensures { PollsHaveFates }
 {}
 
 /// The headline, of the text that parts print: for each device of a run, the lines printed of its events are the texts of the

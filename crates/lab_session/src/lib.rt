@@ -10,26 +10,34 @@
 //!
 //! The promise: a line does and prints what its parts do and print, one after the other, by the clauses of
 //! [`Interpreter`](hid_script::Interpreter) (`does` of [`Bench::carry_out`]). An expectation changes neither. A script of `hidrun` is
-//! carried out as there (`script` of [`run_text`]).
+//! carried out as there, in whatever pieces it comes (`script` of [`run`], and of [`run_text`] of a whole text).
 #![tactic(auto)]
 
+mod ahead;
 mod asked;
 mod bench;
 mod counts;
 mod draws;
 mod fault;
+mod feed;
 pub mod laws;
+mod need;
 mod options;
 mod outputs;
 mod printer;
 mod runs;
 mod shown;
+mod watch;
 mod words;
 
+pub use ahead::Ahead;
 pub use asked::Asked;
 pub use bench::Bench;
 pub use counts::Counts;
 pub use fault::LabCause;
+pub use feed::{Feed, Incoming};
+pub use need::Need;
 pub use options::LabOptions;
-pub use runs::{LabFault, Ran, run_text};
+pub use runs::{LabFault, Ran, RunEnd, run, run_text};
+pub use watch::Watch;
 pub use words::{CauseWords, cause_words};

@@ -1,6 +1,6 @@
 //! What is printed of the parts of a line, and is expected.
 
-ghost use Rattle.std.specs.Prelude.{◌≡◌, Ok, OnOk, IfErr, [], true, false};
+ghost use Rattle.std.specs.Prelude.{◌≡◌, ◌∷◌, Ok, OnOk, IfErr, [], true, false};
 ghost use Rattle.std.specs.Io.KnownBytes.{Appends};
 ghost use Rattle.lab_session.specs.Printed.{is_styled, IsPlain, WritesText, PrintsPart};
 
@@ -21,7 +21,7 @@ pub struct Printer {
 
 impl Printer {
     ghost use Rattle.lab_expectations.specs.Expectations.{Met, answer_at, answer_of, is_expected_at, is_none_at, outcome, parts_of, waits};
-    ghost use Rattle.lab_session.specs.Expecting.{answer_to_none};
+    ghost use Rattle.lab_session.specs.Expecting.{IsForgotten, Keeps, answer_to_none};
 
     /// Nothing was printed.
     pub fn new(alloc: Global) -> Self {
@@ -36,6 +36,7 @@ impl Printer {
     ///
     /// # Errors
     /// X7: nothing is printed. X6: the writer took some of it.
+    #[inline(always)] // most steps print nothing
     pub fn print<W: Sink>(
         &mut self,
         options: &LabOptions,
@@ -43,12 +44,29 @@ impl Printer {
         events: &[Delivered],
         writer: &mut W,
     ) -> Result<(), Cause>
-        ensures { is_styled options.now ≡ false
+        ensures written { is_styled options.now ≡ false
             → WritesText (W.contents writer.old) (W.contents writer.new) text.now result }
+        ensures kept { OnOk result (Keeps self.old.transcript self.new.transcript text.now) }
     {
         if text.is_empty() {
             return Ok(());
         }
+        self.print_some(options, text, events, writer)
+    }
+
+    /// Prints lines that are there, and keeps them.
+    #[inline(never)]
+    fn print_some<W: Sink>(
+        &mut self,
+        options: &LabOptions,
+        text: &[u8],
+        events: &[Delivered],
+        writer: &mut W,
+    ) -> Result<(), Cause>
+        ensures written { is_styled options.now ≡ false
+            → WritesText (W.contents writer.old) (W.contents writer.new) text.now result }
+        ensures kept { OnOk result (Keeps self.old.transcript self.new.transcript text.now) }
+    {
         if self.transcript.add(text).is_err() {
             return Err(Cause::Memory);
         }
@@ -66,6 +84,7 @@ impl Printer {
     ///
     /// # Errors
     /// Why the part ended early; X7 where there was no room for its text, and nothing is printed; X6.
+    #[inline(always)] // most steps print nothing
     pub fn print_part<W: Sink>(
         &mut self,
         options: &LabOptions,
@@ -77,6 +96,7 @@ impl Printer {
         ensures written { is_styled options.now ≡ false
             → PrintsPart (W.contents writer.old) (W.contents writer.new) text.now part result }
         ensures ok { OnOk result (part ≡ Ok tt) }
+        ensures kept { OnOk result (Keeps self.old.transcript self.new.transcript text.now) }
     {
         match part {
             Err(Cause::Write) => Err(Cause::Memory),
@@ -101,6 +121,10 @@ impl Printer {
             → Appends (W.contents writer.old) (W.contents writer.new) [] }
         ensures memory { options.now.trace ≡ false
             → IfErr result (λ cause. cause ≡ Cause.Memory) }
+        ensures kept { OnOk result (options.now.trace ≡ true
+            → Keeps self.old.transcript self.new.transcript text.now) }
+        ensures optional { OnOk result (options.now.trace ≡ false
+            → Keeps self.old.transcript self.new.transcript (43 ∷ text.now)) }
     {
         if options.trace {
             return self.print(options, text, &[], writer);
@@ -135,6 +159,13 @@ impl Printer {
         ensures same { result ≡ false → self.new ≡ self.old }
     {
         self.transcript.expect_none()
+    }
+
+    /// Passes over all that was printed.
+    pub fn forget(&mut self)
+        ensures { IsForgotten self.new.transcript }
+    {
+        self.transcript.forget();
     }
 
     /// What came where no line is expected.

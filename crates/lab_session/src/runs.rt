@@ -1,18 +1,29 @@
-//! A text, line by line.
+//! Texts and readers, line by line.
 
-ghost use Rattle.std.specs.Prelude.{◌≡◌, ◌+◌, ◌-◌, ◌^◌, ◌<◌, All};
+ghost use Rattle.std.specs.Prelude.{◌≡◌, ℕ, ◌+◌, ◌-◌, ◌^◌, ◌<◌, ◌≤◌, ◌++◌, List, All, IfOk, IfSome, IfNone};
 ghost use Rattle.std.specs.Str.Lines.{lines, strip_carriage_return};
 ghost use Rattle.hid_script.specs.Interpreter.{session_of};
 ghost use Rattle.hid_text.specs.Lines.{IsUnbroken};
 ghost use Rattle.lab_session.specs.Bench.{moment_of};
 ghost use Rattle.lab_session.specs.Printed.{IsPlain};
-ghost use Rattle.lab_session.specs.Scripts.{IsScripts, IsUndrawn, LineRan, RunsAsScript};
+ghost use Rattle.lab_session.specs.Ahead.{unread};
+ghost use Rattle.lab_session.specs.Scripts.{AheadRan, IsScripts, IsUndrawn, Leaves, LineRan, LinesRan, RunsAsScript, RunsFed};
 
+use super::ahead::Ahead;
 use super::asked::Asked;
 use super::bench::Bench;
 use super::fault::LabCause;
-use hid_script::{Sink, Summary};
+use super::feed::Feed;
+use super::need::Need;
+use super::watch::Watch;
+use hid_script::{Cause, Sink, Summary};
 use hid_text::split_line;
+
+/// How many lines a source has at most.
+const MAX_LINES: usize = 1_000_000_000_000;
+
+/// How many reads a run makes at most.
+const MAX_READS: u64 = 1 << 40;
 
 /// Why a text is not carried out to its end.
 #[derive(Clone, Copy, Debug, PartialEq, Eq)]
@@ -39,8 +50,38 @@ pub enum Ran<'a> {
     },
 }
 
+/// What came of a run.
+#[derive(Drop)]
+pub enum RunEnd {
+    /// All lines were carried out.
+    All(Summary),
+    /// A line asks for what the bench doesn't have. Those before it were carried out.
+    Asks(Need),
+}
+
+/// What came of the lines that end in a text.
+#[derive(Clone, Copy)]
+pub(crate) enum Done<'a> {
+    /// All were carried out.
+    Lines {
+        /// How many there were, with those before the text.
+        lines: usize,
+        /// What stands after the last line feed.
+        rest: &'a [u8],
+    },
+    /// A line asks for what the bench doesn't have.
+    Asks {
+        /// What it asks for.
+        asked: Asked<'a>,
+        /// Which line it is, from 1.
+        lines: usize,
+        /// What stands after it.
+        rest: &'a [u8],
+    },
+}
+
 /// A line without the one carriage return at its end, if it has one.
-fn without_return(line: &[u8]) -> &[u8]
+pub(crate) fn without_return(line: &[u8]) -> &[u8]
     ensures { result.now ≡ strip_carriage_return line.now }
 {
     match line {
@@ -107,6 +148,37 @@ fn run_last<'a, W: Sink>(
     }
 }
 
+/// Carries out the lines that end in a text, with so many lines before it, up to the first that asks for something.
+fn run_lines<'a, W: Sink>(
+    bench: &mut Bench,
+    before: usize,
+    text: &'a [u8],
+    writer: &mut W,
+) -> Result<Done<'a>, LabFault>
+    requires { before ≤ 1000000000000 }
+    ensures script { IsPlain bench.old.options → IsUndrawn (moment_of bench.old) → (more : List ℕ)
+        → All IsScripts (lines (text.now ++ more))
+        → LinesRan bench.old bench.new (W.contents writer.old) (W.contents writer.new) text.now
+        before more result }
+    ensures rest { IfOk result (λ done. Leaves text.now before done) }
+{
+    let mut rest = text;
+    let mut count = before;
+    while let Some((last, behind)) = split_line(rest) {
+        let asked = run_line(bench, count, without_return(last), writer)?;
+        count += 1;
+        rest = behind;
+        if let Some(asked) = asked {
+            return Ok(Done::Asks {
+                asked,
+                lines: count,
+                rest,
+            });
+        }
+    }
+    Ok(Done::Lines { lines: count, rest })
+}
+
 /// Carries out the lines of a text, up to the first that asks for what the bench doesn't have: a `repeat`, an `end`, an `include`,
 /// or a device with its descriptor in a file.
 ///
@@ -123,19 +195,107 @@ pub fn run_text<'a, W: Sink>(
         → RunsAsScript (W.contents writer.old) (W.contents writer.new)
         (session_of bench.old.interpreter) (lines text.now) 0 result }
 {
-    let mut rest = text;
-    let mut count = 0;
-    while let Some((last, behind)) = split_line(rest) {
-        let asked = run_line(bench, count, without_return(last), writer)?;
-        count += 1;
-        rest = behind;
-        if let Some(asked) = asked {
-            return Ok(Ran::Asks {
-                asked,
-                line: count,
-                rest,
-            });
+    match run_lines(bench, 0, text, writer)? {
+        Done::Lines { lines, rest } => run_last(bench, lines, rest, writer),
+        Done::Asks { asked, lines, rest } => Ok(Ran::Asks {
+            asked,
+            line: lines,
+            rest,
+        }),
+    }
+}
+
+/// What a line asks for, which is the last one that was taken.
+fn need_of(ahead: &Ahead, asked: Asked<'_>, line: usize) -> Result<Need, LabFault> {
+    match Need::of(ahead.alloc(), asked) {
+        Ok(need) => Ok(need),
+        Err(_) => Err(LabFault {
+            line,
+            cause: LabCause::Script(Cause::Memory),
+        }),
+    }
+}
+
+/// Carries out the lines that have come whole, up to the first that asks for something.
+fn run_ahead<W: Sink>(
+    bench: &mut Bench,
+    ahead: &mut Ahead,
+    writer: &mut W,
+) -> Result<Option<Need>, LabFault>
+    ensures script { IsPlain bench.old.options → IsUndrawn (moment_of bench.old) → (more : List ℕ)
+        → All IsScripts (lines (unread ahead.old ++ more))
+        → AheadRan bench.old bench.new (W.contents writer.old) (W.contents writer.new) ahead.old
+        ahead.new more result }
+    ensures unbroken { IfOk result (λ need. IfNone need (IsUnbroken (unread ahead.new))) }
+{
+    if ahead.lines() > MAX_LINES {
+        return Err(ahead.fault(Cause::TooManyReads));
+    }
+    match run_lines(bench, ahead.lines(), ahead.unread(), writer)? {
+        Done::Lines { lines, rest } => {
+            let left = rest.len();
+            ahead.advance(lines, left);
+            Ok(None)
+        }
+        Done::Asks { asked, lines, rest } => {
+            let left = rest.len();
+            let need = need_of(ahead, asked, lines)?;
+            ahead.advance(lines, left);
+            Ok(Some(need))
         }
     }
-    run_last(bench, count, rest, writer)
+}
+
+/// Carries out the last line, which no line feed ends.
+fn run_rest<W: Sink>(
+    bench: &mut Bench,
+    ahead: &mut Ahead,
+    writer: &mut W,
+) -> Result<RunEnd, LabFault>
+    requires { IsUnbroken (unread ahead.old) }
+    ensures script { IsPlain bench.old.options → IsUndrawn (moment_of bench.old)
+        → All IsScripts (lines (unread ahead.old))
+        → RunsFed (W.contents writer.old) (W.contents writer.new)
+        (session_of bench.old.interpreter) (lines (unread ahead.old)) ahead.old.lines result }
+{
+    match run_last(bench, ahead.lines(), ahead.unread(), writer)? {
+        Ran::All(summary) => Ok(RunEnd::All(summary)),
+        Ran::Asks { asked, .. } => {
+            let line = ahead.lines() + 1;
+            let need = need_of(ahead, asked, line)?;
+            ahead.advance(line.min(usize::MAX - 1), 0);
+            Ok(RunEnd::Asks(need))
+        }
+    }
+}
+
+/// Carries out the lines of a feed, from those on that were read ahead, up to its end or to the first that asks for what the bench
+/// doesn't have. What was printed is handed on before each read that may have to wait.
+///
+/// # Errors
+/// The first line that is not carried out, and why. What was printed before stands.
+pub fn run<F: Feed, W: Sink, T: Watch>(
+    bench: &mut Bench,
+    ahead: &mut Ahead,
+    feed: &mut F,
+    writer: &mut W,
+    watch: &mut T,
+) -> Result<RunEnd, LabFault>
+    // A script of hidrun is carried out as there, in whatever pieces it comes: this is what `run` of hid_script ensures of it.
+    ensures script { IsPlain bench.old.options → IsUndrawn (moment_of bench.old)
+        → IfSome (F.remaining feed.old) (λ more. All IsScripts (lines (unread ahead.old ++ more))
+        → RunsFed (W.contents writer.old) (W.contents writer.new)
+        (session_of bench.old.interpreter) (lines (unread ahead.old ++ more)) ahead.old.lines
+        result) }
+{
+    for _ in 0..MAX_READS {
+        if let Some(need) = run_ahead(bench, ahead, writer)? {
+            return Ok(RunEnd::Asks(need));
+        }
+        watch.tell(ahead.lines(), bench.poll_count());
+        if !ahead.read_on(feed, writer)? {
+            return run_rest(bench, ahead, writer);
+        }
+    }
+    Err(ahead.fault(Cause::TooManyReads))
 }

@@ -1,4 +1,4 @@
-use Rattle.std.proofs.Common.{◌∙◌, refl, sym, ap, subst, Ok}
+use Rattle.std.proofs.Common.{◌∙◌, refl, sym, subst, Ok}
 use Rattle.std.specs.Str.Lines.{lines}
 use Rattle.hid_script.specs.Interpreter.{session_of}
 use Rattle.lab_session.specs.Scripts.{RunsAsScript}
@@ -9,8 +9,10 @@ use Rattle.lab_session.proofs.runs.run_last.Goals as goal
 pub returns-then-is_empty : goal.returns-then-is_empty
 returns-then-is_empty g c = record {
   script = λ plain undrawn old.
-      lab_finishes (g.W.Sink.contents c.args.writer.now) (session_of c.args.bench.now.interpreter) (lines c.args.line.now) c.args.before _ (Ok c.whole.result)
-      (empty_lines c.args.line.now (sym c.is_empty.ensures ∙ c.if-is_empty.true)) (ap (λ r. Ok r) c.whole.ensures) refl refl;
+      subst (λ r. RunsAsScript (g.W.Sink.contents c.args.writer.now) (g.W.Sink.contents c.args.writer.now) (session_of c.args.bench.now.interpreter) (lines c.args.line.now) c.args.before (Ok r))
+      (sym c.whole.ensures)
+      (lab_finishes (g.W.Sink.contents c.args.writer.now) (session_of c.args.bench.now.interpreter) (lines c.args.line.now) c.args.before _
+      (empty_lines c.args.line.now (sym c.is_empty.ensures ∙ c.if-is_empty.true)) refl refl);
 }
 
 pub returns-in_err-asked : goal.returns-in_err-asked

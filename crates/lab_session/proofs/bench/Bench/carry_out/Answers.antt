@@ -9,8 +9,8 @@ use Rattle.std.proofs.KnownBytes.{Appends-nil}
 use Rattle.hid_script.specs.Interpreter.{session_of}
 use Rattle.hid_script.specs.LineOutput.{LineBegins, LinePrints}
 use Rattle.lab_lines.specs.LabLines.{said_of}
-use Rattle.lab_session.specs.Bench.{Does}
-use Rattle.lab_session.specs.Lines.{LineDoes}
+use Rattle.lab_session.specs.Bench.{Does, moment_of}
+use Rattle.lab_session.specs.Lines.{LineDoes, LineUnsettled}
 use Rattle.lab_session.specs.Scripts.{PrintsSaid}
 use Rattle.lab_session.proofs.DoingLemmas.{does_nothing, err_is, however, nothing_said, same_moment}
 use Rattle.lab_session.proofs.bench.Bench.carry_out.Goals as goal
@@ -64,3 +64,17 @@ unfolding LineDoes
 returns-in-ExpectNone-clause-does g c =
     subst (λ l. OnOk c.expect_none.result (Does (LineDoes c.args.self.now.options.seed (said_of l)) c.args.self.now c.expect_none.new.self (g.W.Sink.contents c.args.writer.now) (g.W.Sink.contents c.args.writer.now)))
     (sym c.in-ExpectNone.is) (however c.expect_none.result _ (same_moment c.args.self.now c.expect_none.new.self (g.W.Sink.contents c.args.writer.now) c.expect_none.ensures.moment c.expect_none.ensures.options))
+
+pub returns-in-Expect-clause-unsettled : goal.returns-in-Expect-clause-unsettled
+returns-in-Expect-clause-unsettled g c =
+    subst (λ l. LineUnsettled (said_of l) c.expect.result (moment_of c.expect.new.self)) (sym c.in-Expect.is) c.expect.ensures.settled
+
+pub returns-in-ExpectNone-clause-unsettled : goal.returns-in-ExpectNone-clause-unsettled
+returns-in-ExpectNone-clause-unsettled g c =
+    subst (λ l. LineUnsettled (said_of l) c.expect_none.result (moment_of c.expect_none.new.self)) (sym c.in-ExpectNone.is) c.expect_none.ensures.settled
+
+pub returns-in-ExpectAny-clause-does : goal.returns-in-ExpectAny-clause-does
+unfolding LineDoes
+returns-in-ExpectAny-clause-does g c =
+    subst (λ l. Does (LineDoes c.args.self.now.options.seed (said_of l)) c.args.self.now c.forget.new.self (g.W.Sink.contents c.args.writer.now) (g.W.Sink.contents c.args.writer.now))
+    (sym c.in-ExpectAny.is) (same_moment c.args.self.now c.forget.new.self (g.W.Sink.contents c.args.writer.now) c.forget.ensures.moment c.forget.ensures.options)

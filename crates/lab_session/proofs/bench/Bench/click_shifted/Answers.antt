@@ -1,3 +1,5 @@
+use Rattle.std.proofs.Common.{sym, ◌∙◌}
+use Rattle.lab_session.proofs.DoingLemmas.{err_is}
 use Rattle.hid_text.specs.declared.change_kind.ChangeKind.TheVariants.{Press, Release}
 use Rattle.lab_session.specs.Lines.{Clicks, SettlesChange, Then}
 use Rattle.lab_session.proofs.DoingLemmas.{ok_then}
@@ -9,4 +11,11 @@ returns g c = record {
       c.args.self.now c.settle_change.new.self c.settle_change-2.new.self _ (g.W.Sink.contents c.settle_change.new.writer) _ c.in_ok-settle_change.ensures.does
       (ok_then c.settle_change-2.result (Clicks c.args.dev c.args.control) (SettlesChange c.args.dev c.args.shift Release)
       c.settle_change.new.self c.click.new.self c.settle_change-2.new.self _ (g.W.Sink.contents c.click.new.writer) _ c.in_ok-click.ensures.does c.settle_change-2.ensures.does);
+  unsettled = c.settle_change-2.ensures.unsettled;
 }
+
+pub returns-in_err-settle_change-clause-unsettled : goal.returns-in_err-settle_change-clause-unsettled
+returns-in_err-settle_change-clause-unsettled g c = λ is. c.in_err-settle_change.ensures.unsettled (sym (err_is c.from_residual.result _ c.from_residual.ensures.1) ∙ is)
+
+pub returns-in_err-click-clause-unsettled : goal.returns-in_err-click-clause-unsettled
+returns-in_err-click-clause-unsettled g c = λ is. c.in_err-click.ensures.unsettled (sym (err_is c.from_residual-in_err-click.result _ c.from_residual-in_err-click.ensures.1) ∙ is)

@@ -6,4 +6,5 @@ use Rattle.lab_session.proofs.bench.Bench.settle_change.Goals as goal
 pub returns : goal.returns
 returns g c = record {
   does = ok_then c.settle.result (DoesPart (Changes c.args.dev c.args.control c.args.wanted)) (Settles c.args.dev) c.args.self.now c.change.new.self c.settle.new.self _ (g.W.Sink.contents c.change.new.writer) _ c.in_ok-change.ensures.does c.settle.ensures.does;
+  unsettled = c.settle.ensures.unsettled;
 }

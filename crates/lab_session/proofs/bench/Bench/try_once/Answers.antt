@@ -29,14 +29,14 @@ returns-in_err-print-clause-prints g c = λ plain none.
     (sym (err_is c.from_residual.result _ c.from_residual.ensures.1))
     (step_printed _ _ c.as_slice.result.now (Control c.args.dev c.args.said) _ _ (Err c.in_err-print.field-0.0)
     (step_told c.args.dev c.args.said c.next_fate-fate.result _ c.clear.new.self.items c.take_step.new.writer.items c.as_slice.result.now told.0 _ _ c.next_fate-fate.ensures.fate none c.clear.ensures.items told.1 c.as_slice.ensures.value told.2)
-    (c.in_err-print.ensures plain.style))
+    (c.in_err-print.ensures.written plain.style))
 
 pub returns-in-Err-take_effect-clause-prints : goal.returns-in-Err-take_effect-clause-prints
 unfolding ending_of
 returns-in-Err-take_effect-clause-prints g c = λ plain none.
     let told = c.in-Ok.ensures.prints in (
       c.as_slice.result.now,
-      c.in_ok-print.ensures plain.style,
+      c.in_ok-print.ensures.written plain.style,
       inr (_, step_told c.args.dev c.args.said c.next_fate-fate.result _ c.clear.new.self.items c.take_step.new.writer.items c.as_slice.result.now told.0 _ _ c.next_fate-fate.ensures.fate none c.clear.ensures.items told.1 c.as_slice.ensures.value told.2),
     )
 
@@ -46,10 +46,10 @@ returns-in-Ok-Some g c =
     record {
       prints = λ plain none. step_output _ _ _ c.as_slice.result.now (Control c.args.dev c.args.said) _ _ c.print_output.result
           (step_told c.args.dev c.args.said c.next_fate-fate.result _ c.clear.new.self.items c.take_step.new.writer.items c.as_slice.result.now told.0 _ _ c.next_fate-fate.ensures.fate none c.clear.ensures.items told.1 c.as_slice.ensures.value told.2)
-          (c.in_ok-print.ensures plain.style) (c.print_output.ensures.quiet plain.trace) (c.print_output.ensures.memory plain.trace);
+          (c.in_ok-print.ensures.written plain.style) (c.print_output.ensures.quiet plain.trace) (c.print_output.ensures.memory plain.trace);
       does = however c.print_output.result _ (did_try c.args.dev c.args.said c.next_fate-fate.result c.args.self.now _ c.clear.new.self.items c.take_step.new.writer.items c.as_slice.result.now told.0 _ _ c.next_fate-fate.ensures.fate c.clear.ensures.items told.1 c.as_slice.ensures.value told.2
           (λ plain. subst (Appends (g.W.Sink.contents c.args.writer.now) (g.W.Sink.contents c.print_output.new.writer)) (append-nil c.as_slice.result.now)
-          (Appends-trans (g.W.Sink.contents c.args.writer.now) (g.W.Sink.contents c.print.new.writer) (g.W.Sink.contents c.print_output.new.writer) c.as_slice.result.now [] (c.in_ok-print.ensures plain.style) (c.print_output.ensures.quiet plain.trace)))
+          (Appends-trans (g.W.Sink.contents c.args.writer.now) (g.W.Sink.contents c.print.new.writer) (g.W.Sink.contents c.print_output.new.writer) c.as_slice.result.now [] (c.in_ok-print.ensures.written plain.style) (c.print_output.ensures.quiet plain.trace)))
           c.next_fate-fate.ensures.its c.next_fate-fate.ensures.others refl);
     }
 
@@ -59,8 +59,8 @@ returns-in-Ok-None g c =
     record {
       prints = λ plain none. (
         c.as_slice.result.now,
-        c.in_ok-print.ensures plain.style,
+        c.in_ok-print.ensures.written plain.style,
         step_told c.args.dev c.args.said c.next_fate-fate.result _ c.clear.new.self.items c.take_step.new.writer.items c.as_slice.result.now told.0 _ _ c.next_fate-fate.ensures.fate none c.clear.ensures.items told.1 c.as_slice.ensures.value told.2,
       );
-      does = did_try c.args.dev c.args.said c.next_fate-fate.result c.args.self.now _ c.clear.new.self.items c.take_step.new.writer.items c.as_slice.result.now told.0 _ _ c.next_fate-fate.ensures.fate c.clear.ensures.items told.1 c.as_slice.ensures.value told.2 (λ plain. c.in_ok-print.ensures plain.style) c.next_fate-fate.ensures.its c.next_fate-fate.ensures.others refl;
+      does = did_try c.args.dev c.args.said c.next_fate-fate.result c.args.self.now _ c.clear.new.self.items c.take_step.new.writer.items c.as_slice.result.now told.0 _ _ c.next_fate-fate.ensures.fate c.clear.ensures.items told.1 c.as_slice.ensures.value told.2 (λ plain. c.in_ok-print.ensures.written plain.style) c.next_fate-fate.ensures.its c.next_fate-fate.ensures.others refl;
     }

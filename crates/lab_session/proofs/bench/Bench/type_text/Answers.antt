@@ -1,3 +1,5 @@
+use Rattle.std.proofs.Common.{◌∙◌}
+use Rattle.lab_session.proofs.DoingLemmas.{err_is}
 use Rattle.std.proofs.Common.{sym}
 use Rattle.lab_session.proofs.DoingLemmas.{typed_more, typed_none}
 use Rattle.lab_session.proofs.bench.Bench.type_text.Goals as goal
@@ -11,4 +13,8 @@ pub returns : goal.returns
 returns g c = record {
   does = c.loop-character.invariant c.loop-character.self (g.W.Sink.contents c.loop-character.writer)
       (typed_none c.args.dev c.loop-character.text.rest.now c.loop-character.self (g.W.Sink.contents c.loop-character.writer) c.in_default.ensures.next);
+  unsettled = λ e. absurd (cc);
 }
+
+pub returns-in_err-click_key-clause-unsettled : goal.returns-in_err-click_key-clause-unsettled
+returns-in_err-click_key-clause-unsettled g c = λ is. c.in_err-click_key.ensures.unsettled (sym (err_is c.from_residual.result _ c.from_residual.ensures.1) ∙ is)

@@ -1,0 +1,88 @@
+use Rattle.std.proofs.Common.{◌++◌, refl, subst, IfNone, Ok}
+use Rattle.std.specs.Str.Lines.{lines}
+use Rattle.std.proofs.KnownBytes.{Appends-nil, Consumes-trans}
+use Rattle.hid_script.specs.declared.fault.Cause.TheVariants as causes
+use Rattle.hid_script.specs.Interpreter.{session_of}
+use Rattle.hid_text.specs.Lines.{IsUnbroken}
+use Rattle.lab_session.specs.Ahead.{unread}
+use Rattle.lab_session.specs.Scripts.{AheadRan}
+use Rattle.lab_session.proofs.DoingLemmas.{err_is}
+use Rattle.lab_session.proofs.RunLemmas.{none_needed, outside_fails, run_asks, run_ends_well, run_fails, runs_lines, runs_read}
+use Rattle.lab_session.proofs.runs.run.Goals as goal
+
+pub returns-in_err-need : goal.returns-in_err-need
+returns-in_err-need g c = record {
+  script = run_fails c.args.bench.now c.loop.bench (g.W.Sink.contents c.args.writer.now) (g.W.Sink.contents c.loop.writer) (g.W.Sink.contents c.run_ahead.new.writer)
+      (g.F.Feed.remaining c.args.feed.now) (g.F.Feed.remaining c.loop.feed) (unread c.args.ahead.now) c.loop.invariant.0 (unread c.loop.ahead) c.args.ahead.now.lines c.loop.ahead.lines
+      c.in_err-need.field-0.0 c.from_residual.result c.loop.invariant.1 c.loop.invariant.2
+      (λ more plain undrawn old. c.in_err-need.ensures.script plain undrawn more old)
+      (err_is c.from_residual.result _ c.from_residual.ensures.1);
+}
+
+pub returns-in-Some : goal.returns-in-Some
+returns-in-Some g c = record {
+  script = run_asks c.args.bench.now c.loop.bench c.run_ahead.new.bench (g.W.Sink.contents c.args.writer.now) (g.W.Sink.contents c.loop.writer) (g.W.Sink.contents c.run_ahead.new.writer)
+      (g.F.Feed.remaining c.args.feed.now) (g.F.Feed.remaining c.loop.feed) (unread c.args.ahead.now) c.loop.invariant.0 c.args.ahead.now.lines c.loop.ahead c.run_ahead.new.ahead
+      c.in-Some.need c.loop.invariant.1 c.loop.invariant.2
+      (λ plain undrawn more old. subst (λ n. AheadRan c.loop.bench c.run_ahead.new.bench (g.W.Sink.contents c.loop.writer) (g.W.Sink.contents c.run_ahead.new.writer) c.loop.ahead c.run_ahead.new.ahead more (Ok n)) c.in-Some.is (c.in_ok-need.ensures.script plain undrawn more old));
+}
+
+pub returns-in_err-read_on : goal.returns-in_err-read_on
+returns-in_err-read_on g c =
+    let U = g.W.Sink.contents c.args.writer.now in
+    let V = g.W.Sink.contents c.loop.writer in
+    let W = g.W.Sink.contents c.run_ahead.new.writer in
+    let X = g.W.Sink.contents c.read_on.new.writer in
+    let none = none_needed c.in_ok-need.field-0 c.in_default.not-Some in
+    let ran = runs_lines c.args.bench.now c.loop.bench c.run_ahead.new.bench U V W (unread c.args.ahead.now) c.loop.invariant.0 c.args.ahead.now.lines c.loop.ahead c.run_ahead.new.ahead c.loop.invariant.2
+    (λ plain undrawn more old. subst (λ n. AheadRan c.loop.bench c.run_ahead.new.bench V W c.loop.ahead c.run_ahead.new.ahead more (Ok n)) none (c.in_ok-need.ensures.script plain undrawn more old)) in
+    let whole = subst (λ n. IfNone n (IsUnbroken (unread c.run_ahead.new.ahead))) none c.in_ok-need.ensures.unbroken in record {
+      script = run_fails c.args.bench.now c.run_ahead.new.bench U W X (g.F.Feed.remaining c.args.feed.now) (g.F.Feed.remaining c.loop.feed) (unread c.args.ahead.now) c.loop.invariant.0
+          (unread c.run_ahead.new.ahead) c.args.ahead.now.lines c.run_ahead.new.ahead.lines c.in_err-read_on.field-0.0 c.from_residual-in_err-read_on.result c.loop.invariant.1 ran
+          (λ more plain undrawn old. c.in_err-read_on.ensures.err (session_of c.run_ahead.new.bench.interpreter) more whole old)
+          (err_is c.from_residual-in_err-read_on.result _ c.from_residual-in_err-read_on.ensures.1);
+    }
+
+pub returns-then-not-branch : goal.returns-then-not-branch
+returns-then-not-branch g c =
+    let U = g.W.Sink.contents c.args.writer.now in
+    let V = g.W.Sink.contents c.loop.writer in
+    let W = g.W.Sink.contents c.run_ahead.new.writer in
+    let X = g.W.Sink.contents c.read_on.new.writer in
+    let none = none_needed c.in_ok-need.field-0 c.in_default.not-Some in
+    let ran = runs_lines c.args.bench.now c.loop.bench c.run_ahead.new.bench U V W (unread c.args.ahead.now) c.loop.invariant.0 c.args.ahead.now.lines c.loop.ahead c.run_ahead.new.ahead c.loop.invariant.2
+    (λ plain undrawn more old. subst (λ n. AheadRan c.loop.bench c.run_ahead.new.bench V W c.loop.ahead c.run_ahead.new.ahead more (Ok n)) none (c.in_ok-need.ensures.script plain undrawn more old)) in
+    let fed = c.in_ok-read_on.ensures.fed in
+    let from = Consumes-trans (g.F.Feed.remaining c.args.feed.now) (g.F.Feed.remaining c.loop.feed) (g.F.Feed.remaining c.read_on.new.feed) c.loop.invariant.0 fed.0 c.loop.invariant.1 fed.1 in
+    let here = runs_read c.args.bench.now c.run_ahead.new.bench U W X (unread c.args.ahead.now) c.loop.invariant.0 fed.0 (unread c.run_ahead.new.ahead) (unread c.read_on.new.self)
+    c.args.ahead.now.lines c.run_ahead.new.ahead.lines c.read_on.new.self.lines c.read_on.ensures.kept fed.2 c.read_on.ensures.lines ran in
+    record {
+      script = run_ends_well c.args.bench.now c.run_ahead.new.bench U X (g.W.Sink.contents c.run_rest.new.writer) (g.F.Feed.remaining c.args.feed.now) (g.F.Feed.remaining c.read_on.new.feed)
+          (unread c.args.ahead.now) (c.loop.invariant.0 ++ fed.0) (unread c.read_on.new.self) c.args.ahead.now.lines c.read_on.new.self.lines c.run_rest.result
+          from (fed.3 c.if-not-branch.true).1 here c.run_rest.ensures.script;
+    }
+
+pub loop-preserved : goal.loop-preserved
+loop-preserved g c =
+    let U = g.W.Sink.contents c.args.writer.now in
+    let V = g.W.Sink.contents c.loop.writer in
+    let W = g.W.Sink.contents c.run_ahead.new.writer in
+    let X = g.W.Sink.contents c.read_on.new.writer in
+    let none = none_needed c.in_ok-need.field-0 c.in_default.not-Some in
+    let ran = runs_lines c.args.bench.now c.loop.bench c.run_ahead.new.bench U V W (unread c.args.ahead.now) c.loop.invariant.0 c.args.ahead.now.lines c.loop.ahead c.run_ahead.new.ahead c.loop.invariant.2
+    (λ plain undrawn more old. subst (λ n. AheadRan c.loop.bench c.run_ahead.new.bench V W c.loop.ahead c.run_ahead.new.ahead more (Ok n)) none (c.in_ok-need.ensures.script plain undrawn more old)) in
+    let fed = c.in_ok-read_on.ensures.fed in
+    let from = Consumes-trans (g.F.Feed.remaining c.args.feed.now) (g.F.Feed.remaining c.loop.feed) (g.F.Feed.remaining c.read_on.new.feed) c.loop.invariant.0 fed.0 c.loop.invariant.1 fed.1 in
+    let here = runs_read c.args.bench.now c.run_ahead.new.bench U W X (unread c.args.ahead.now) c.loop.invariant.0 fed.0 (unread c.run_ahead.new.ahead) (unread c.read_on.new.self)
+    c.args.ahead.now.lines c.run_ahead.new.ahead.lines c.read_on.new.self.lines c.read_on.ensures.kept fed.2 c.read_on.ensures.lines ran in
+    (c.loop.invariant.0 ++ fed.0, from, here)
+
+pub returns : goal.returns
+returns g c = record {
+  script = run_fails c.args.bench.now c.loop.bench (g.W.Sink.contents c.args.writer.now) (g.W.Sink.contents c.loop.writer) (g.W.Sink.contents c.loop.writer)
+      (g.F.Feed.remaining c.args.feed.now) (g.F.Feed.remaining c.loop.feed) (unread c.args.ahead.now) c.loop.invariant.0 (unread c.loop.ahead) c.args.ahead.now.lines c.loop.ahead.lines
+      c.fault.result _ c.loop.invariant.1 c.loop.invariant.2
+      (λ more plain undrawn old. outside_fails (g.W.Sink.contents c.loop.writer) (g.W.Sink.contents c.loop.writer) (session_of c.loop.bench.interpreter) (lines (unread c.loop.ahead ++ more)) c.loop.ahead.lines
+      causes.TooManyReads c.fault.result (Appends-nil _) tt c.fault.ensures.line c.fault.ensures.cause)
+      refl;
+}

@@ -1,0 +1,52 @@
+use Rattle.hid_text.proofs.PieceLemmas.{behind_line, shorter_behind}
+use Rattle.std.proofs.Common.{[], ◌∷◌, ◌++◌, sym, subst, arith, Ok, Err}
+use Rattle.lab_session.specs.Scripts.{IsScripts, LineRan, LinesRan}
+use Rattle.lab_session.proofs.DoingLemmas.{err_is}
+use Rattle.lab_session.proofs.RunLemmas.{behind_more, goes_on, goes_out, next_old}
+use Rattle.lab_session.proofs.runs.run_lines.Goals as goal
+
+pub returns-in_err-asked-clause-script : goal.returns-in_err-asked-clause-script
+returns-in_err-asked-clause-script g c = λ plain undrawn more old.
+    let h = c.loop-last.invariant.2 plain undrawn more old in
+    let U = g.W.Sink.contents c.args.writer.now in
+    let V = g.W.Sink.contents c.loop-last.writer in
+    let W = g.W.Sink.contents c.run_line.new.writer in
+    let is = behind_more c.loop-last.rest.now c.in-Some.last.now c.in-Some.behind.now more c.in-Some.ensures.1 in
+    let line = subst IsScripts (sym c.without_return.ensures) (next_old c.args.bench.now c.loop-last.bench U V (c.args.text.now ++ more) (c.loop-last.rest.now ++ more) c.in-Some.last.now (c.in-Some.behind.now ++ more) c.args.before c.loop-last.count c.in-Some.ensures.0 is h) in
+    let ran = subst (λ l. LineRan c.loop-last.bench c.run_line.new.bench V W l c.loop-last.count (Err c.in_err-asked.field-0.0)) c.without_return.ensures (c.in_err-asked.ensures.script h.0 h.1 line) in
+    subst (λ r. LinesRan c.args.bench.now c.run_line.new.bench U W c.args.text.now c.args.before more r) (sym (err_is c.from_residual.result _ c.from_residual.ensures.1))
+    (goes_out c.args.bench.now c.loop-last.bench c.run_line.new.bench U V W (c.args.text.now ++ more) (c.loop-last.rest.now ++ more) c.in-Some.last.now (c.in-Some.behind.now ++ more) c.args.before c.loop-last.count c.in_err-asked.field-0.0 c.in-Some.ensures.0 is h ran)
+
+pub returns-in-Some-asked-clause-script : goal.returns-in-Some-asked-clause-script
+returns-in-Some-asked-clause-script g c = λ plain undrawn more old.
+    let h = c.loop-last.invariant.2 plain undrawn more old in
+    let U = g.W.Sink.contents c.args.writer.now in
+    let V = g.W.Sink.contents c.loop-last.writer in
+    let bytes = behind_more c.loop-last.rest.now c.in-Some.last.now c.in-Some.behind.now more c.in-Some.ensures.1 in
+    let line = subst IsScripts (sym c.without_return.ensures) (next_old c.args.bench.now c.loop-last.bench U V (c.args.text.now ++ more) (c.loop-last.rest.now ++ more) c.in-Some.last.now (c.in-Some.behind.now ++ more) c.args.before c.loop-last.count c.in-Some.ensures.0 bytes h) in
+    let none = (c.in_ok-asked.ensures.script h.0 h.1 line).0 in
+    let is = c.in-Some-asked.is in
+    absurd (cc)
+
+pub returns-in-Some-asked-clause-rest : goal.returns-in-Some-asked-clause-rest
+returns-in-Some-asked-clause-rest g c =
+    let before = c.loop-last.invariant.1 in (
+      (before.0 ++ (c.in-Some.last.now ++ 10 ∷ []), behind_line c.args.text.now before.0 c.loop-last.rest.now c.in-Some.last.now c.in-Some.behind.now before.1 c.in-Some.ensures.1),
+      omega (arith, c.loop-last.invariant.0, shorter_behind c.loop-last.rest.now c.in-Some.last.now c.in-Some.behind.now c.in-Some.ensures.1),
+    )
+
+pub loop-last-preserved : goal.loop-last-preserved
+loop-last-preserved g c =
+    let before = c.loop-last.invariant.1 in (
+      omega (arith, c.loop-last.invariant.0, shorter_behind c.loop-last.rest.now c.in-Some.last.now c.in-Some.behind.now c.in-Some.ensures.1),
+      (before.0 ++ (c.in-Some.last.now ++ 10 ∷ []), behind_line c.args.text.now before.0 c.loop-last.rest.now c.in-Some.last.now c.in-Some.behind.now before.1 c.in-Some.ensures.1),
+      λ plain undrawn more old.
+          let h = c.loop-last.invariant.2 plain undrawn more old in
+          let U = g.W.Sink.contents c.args.writer.now in
+          let V = g.W.Sink.contents c.loop-last.writer in
+          let W = g.W.Sink.contents c.run_line.new.writer in
+          let is = behind_more c.loop-last.rest.now c.in-Some.last.now c.in-Some.behind.now more c.in-Some.ensures.1 in
+          let line = subst IsScripts (sym c.without_return.ensures) (next_old c.args.bench.now c.loop-last.bench U V (c.args.text.now ++ more) (c.loop-last.rest.now ++ more) c.in-Some.last.now (c.in-Some.behind.now ++ more) c.args.before c.loop-last.count c.in-Some.ensures.0 is h) in
+          let ran = subst (λ l. LineRan c.loop-last.bench c.run_line.new.bench V W l c.loop-last.count (Ok c.in_ok-asked.asked)) c.without_return.ensures (c.in_ok-asked.ensures.script h.0 h.1 line) in
+          goes_on c.args.bench.now c.loop-last.bench c.run_line.new.bench U V W (c.args.text.now ++ more) (c.loop-last.rest.now ++ more) c.in-Some.last.now (c.in-Some.behind.now ++ more) c.args.before c.loop-last.count c.in_ok-asked.asked c.in-Some.ensures.0 is h ran,
+    )

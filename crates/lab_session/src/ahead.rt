@@ -1,0 +1,226 @@
+//! Bytes that were read, of which lines were not carried out yet.
+
+ghost use Rattle.std.specs.Prelude.{◌≡◌, ◌⊎◌, ◌+◌, ◌-◌, ◌^◌, ◌<◌, ◌≤◌, [], true, length, drop, vec_len, IfOk, OnOk, IfErr};
+ghost use Rattle.std.specs.Io.KnownBytes.{Keeps};
+ghost use Rattle.lab_session.specs.Feeds.{Feeds, IsOutside};
+
+use super::fault::LabCause;
+use super::feed::Feed;
+use super::runs::{LabFault, without_return};
+use hid_script::{Cause, Sink};
+use hid_text::split_line;
+use lab_lines::MAX_LAB_LINE;
+use std::alloc::{AllocError, Global};
+
+/// The most bytes of a line with the one carriage return at its end.
+const MAX_BEGUN: usize = MAX_LAB_LINE + 1;
+
+/// How many reads a line asks for at most.
+const MAX_READS: u32 = 1_000_000;
+
+/// The bytes that were read and not taken, and how many lines were taken before them.
+#[derive(Drop)]
+pub struct Ahead {
+    alloc: Global,
+    bytes: Vec<u8>,
+    from: usize,
+    lines: usize,
+    waits: bool,
+    ghost within: { from ≤ vec_len bytes },
+    ghost counted: { lines < 2 ^ 64 - 1 },
+}
+
+impl Ahead {
+    ghost use Rattle.lab_session.specs.Scripts.{StopsHere};
+    ghost use Rattle.lab_session.specs.Ahead.{unread};
+
+    /// Nothing was read. Where a read may have to wait, what was printed is handed on before it.
+    pub fn new(alloc: Global, waits: bool) -> Self
+        ensures unread { unread result ≡ [] }
+        ensures lines { result.lines ≡ 0 }
+    {
+        Ahead {
+            alloc,
+            bytes: Vec::new(alloc),
+            from: 0,
+            lines: 0,
+            waits,
+        }
+    }
+
+    /// How many lines were taken.
+    pub fn lines(&self) -> usize
+        ensures { result ≡ self.now.lines }
+    {
+        self.lines
+    }
+
+    /// What has memory for it.
+    pub(crate) fn alloc(&self) -> Global {
+        self.alloc
+    }
+
+    /// The bytes that were not taken.
+    pub(crate) fn unread(&self) -> &[u8]
+        ensures { result.now ≡ unread self.now }
+    {
+        &self.bytes.as_slice()[self.from..]
+    }
+
+    /// Lines were taken, up to so many in all: so many bytes are left.
+    pub(crate) fn advance(&mut self, lines: usize, left: usize)
+        requires left { left ≤ length (unread self.old) }
+        requires lines { lines < 2 ^ 64 - 1 }
+        ensures unread { unread self.new
+            ≡ drop (length (unread self.old) - left) (unread self.old) }
+        ensures lines { self.new.lines ≡ lines }
+    {
+        self.from = self.bytes.len() - left;
+        self.lines = lines;
+    }
+
+    /// Why the line that comes next is not carried out.
+    pub(crate) fn fault(&self, cause: Cause) -> LabFault
+        ensures line { result.line ≡ self.now.lines + 1 }
+        ensures cause { result.cause ≡ LabCause.Script cause }
+    {
+        LabFault {
+            line: self.lines + 1,
+            cause: LabCause::Script(cause),
+        }
+    }
+
+    /// Takes the bytes away that were taken.
+    fn drop_taken(&mut self) -> Result<(), AllocError>
+        ensures unread { OnOk result (self.new.bytes.items ≡ unread self.old) }
+        ensures from { OnOk result (self.new.from ≡ 0) }
+        ensures lines { self.new.lines ≡ self.old.lines }
+    {
+        let kept = Vec::from_slice(self.alloc, self.unread())?;
+        self.from = 0;
+        self.bytes = kept;
+        Ok(())
+    }
+
+    /// Adds the bytes that come next. Whether more may come.
+    fn refill<F: Feed>(&mut self, feed: &mut F) -> Result<bool, Cause>
+        ensures fed { IfOk result (λ more. Feeds (F.remaining feed.old) (F.remaining feed.new)
+            (unread self.old) (unread self.new) more) }
+        ensures lines { self.new.lines ≡ self.old.lines }
+        ensures err { IfErr result (λ cause. IsOutside cause
+            ⊎ ((cause ≡ Cause.LineTooLong) × (16385 < length (unread self.old)))) }
+    {
+        if self.unread().len() > MAX_BEGUN {
+            return Err(Cause::LineTooLong);
+        }
+        if self.drop_taken().is_err() {
+            return Err(Cause::Memory);
+        }
+        feed.feed(&mut self.bytes)
+    }
+
+    /// Hands on what was printed, where the next read may have to wait.
+    fn hand_on<W: Sink>(&self, writer: &mut W) -> Result<(), Cause>
+        ensures kept { Keeps (W.contents writer.old) (W.contents writer.new) }
+        ensures cause { IfErr result (λ cause. cause ≡ Cause.Write) }
+    {
+        if self.waits && writer.flush().is_err() {
+            return Err(Cause::Write);
+        }
+        Ok(())
+    }
+
+    /// Adds the bytes that come next, once what was printed is handed on. Whether more may come.
+    ///
+    /// # Errors
+    /// X2 where the line that has begun is too long; X5, X6, X7.
+    pub(crate) fn read_on<F: Feed, W: Sink>(
+        &mut self,
+        feed: &mut F,
+        writer: &mut W,
+    ) -> Result<bool, LabFault>
+        ensures fed { IfOk result (λ more. Feeds (F.remaining feed.old) (F.remaining feed.new)
+            (unread self.old) (unread self.new) more) }
+        ensures lines { self.new.lines ≡ self.old.lines }
+        ensures kept { Keeps (W.contents writer.old) (W.contents writer.new) }
+        ensures err { IfErr result (λ fault. StopsHere (W.contents writer.old)
+            (W.contents writer.new) (unread self.old) self.old.lines fault) }
+    {
+        if let Err(cause) = self.hand_on(writer) {
+            return Err(self.fault(cause));
+        }
+        match self.refill(feed) {
+            Ok(more) => Ok(more),
+            Err(cause) => Err(self.fault(cause)),
+        }
+    }
+
+    /// Takes the next line that has come whole, without its end. Whether there is one.
+    fn take_whole(&mut self, line: &mut Vec<u8>) -> Result<bool, AllocError> {
+        let Some((last, behind)) = split_line(self.unread()) else {
+            return Ok(false);
+        };
+        let left = behind.len();
+        line.extend_from_slice(without_return(last))?;
+        self.from = self.bytes.len().saturating_sub(left);
+        Ok(true)
+    }
+
+    /// Takes what stands after the last line feed. Whether anything does.
+    fn take_rest(&mut self, line: &mut Vec<u8>) -> Result<bool, AllocError> {
+        line.extend_from_slice(self.unread())?;
+        self.from = self.bytes.len();
+        Ok(!line.is_empty())
+    }
+
+    /// A line was taken, or none was there.
+    fn count_taken(&mut self, taken: Result<bool, AllocError>) -> Result<bool, LabFault> {
+        match taken {
+            Ok(some) => {
+                if some {
+                    self.lines = (self.lines + 1).min(usize::MAX - 1);
+                }
+                Ok(some)
+            }
+            Err(_) => Err(self.fault(Cause::Memory)),
+        }
+    }
+
+    /// Takes the next line, without its end. Whether there is one.
+    ///
+    /// # Errors
+    /// X2, X5 to X8, at the line that was to come.
+    pub fn next_line<F: Feed, W: Sink>(
+        &mut self,
+        feed: &mut F,
+        line: &mut Vec<u8>,
+        writer: &mut W,
+    ) -> Result<bool, LabFault> {
+        line.clear();
+        for _ in 0..MAX_READS {
+            let taken = self.take_whole(line);
+            if self.count_taken(taken)? {
+                return Ok(true);
+            }
+            if !self.read_on(feed, writer)? {
+                let rest = self.take_rest(line);
+                return self.count_taken(rest);
+            }
+        }
+        Err(self.fault(Cause::TooManyReads))
+    }
+
+    /// The line with this number, of those that were read and not taken.
+    pub fn line_at(&self, number: usize) -> &[u8] {
+        let mut rest = self.unread();
+        let mut at = self.lines;
+        while let Some((last, behind)) = split_line(rest) {
+            at = at.saturating_add(1);
+            if at >= number {
+                return without_return(last);
+            }
+            rest = behind;
+        }
+        rest
+    }
+}
