@@ -1,5 +1,5 @@
 -- What parts give that come one after the other.
-use Rattle.std.proofs.Common.{◌≡◌, ◌⊎◌, ℕ, Bool, List, [], ◌∷◌, ◌++◌, Result, Ok, Err, OnOk, IfErr, refl, subst, sym, inl, inr}
+use Rattle.std.proofs.Common.{◌≡◌, ◌⊎◌, ℕ, List, [], ◌∷◌, ◌++◌, Result, Ok, Err, OnOk, IfErr, refl, subst, sym, inl, inr}
 use Rattle.lab_lines.specs.Keys.{key_of}
 use Rattle.lab_lines.specs.LabLines.{Said}
 use Rattle.usbip_script.specs.declared.fault.LineCause.{LineCause}
@@ -7,6 +7,7 @@ use Rattle.usbip_script.specs.declared.fault.ServeFault.{ServeFault}
 use Rattle.usbip_script.specs.declared.fault.ServeFault.TheVariants.{Memory, Line}
 use Rattle.lab_serving.specs.Parts.{character_lines, typed_lines}
 use Rattle.lab_serving.specs.declared.expecting.Expecting.{Expecting}
+use Rattle.lab_serving.specs.declared.expecting.ExpectedKind.{ExpectedKind}
 use Rattle.lab_serving.specs.Reading.{AllGive, ExpectsMore, IsExpecting, IsRefused, LabRead, PartGives}
 
 -- all of some parts give something, and then all of others
@@ -74,8 +75,8 @@ part_err r number part (Err fault) (inl memory) = inl memory
 part_err r number part (Err fault) (inr found) = inr (found.0, found.1, inl found.2)
 
 -- an expectation that is kept is one more
-pub kept : (r after : LabRead) (number : ℕ) (words : List (List ℕ)) (is_none : Bool) (x : Expecting) (result : Result (Unit {0}) ServeFault)
-    → IsExpecting r number words is_none x → OnOk result (after ≡ record r { expected = r.expected ++ x ∷ [] })
-    → OnOk result (ExpectsMore r number words is_none (Ok after))
-kept r after number words is_none x (Ok _) is given = (x, is, given)
-kept r after number words is_none x (Err _) is given = tt
+pub kept : (r after : LabRead) (number : ℕ) (words : List (List ℕ)) (kind : ExpectedKind) (x : Expecting) (result : Result (Unit {0}) ServeFault)
+    → IsExpecting r number words kind x → OnOk result (after ≡ record r { expected = r.expected ++ x ∷ [] })
+    → OnOk result (ExpectsMore r number words kind (Ok after))
+kept r after number words kind x (Ok _) is given = (x, is, given)
+kept r after number words kind x (Err _) is given = tt

@@ -1,8 +1,10 @@
 -- When the expectations of a script let it go on (our choice: docs/LAB.md).
-use Rattle.std.specs.Prelude.{◌≡◌, ℕ, ◌+◌, ◌-◌, ◌^◌, ◌||◌, nat_le, Bool, true, false, List, [], ◌∷◌, ◌++◌, slice_get, if◌then◌else◌, Option, Some, None}
+use Rattle.std.specs.Prelude.{◌≡◌, ℕ, suc, codes, ◌+◌, ◌-◌, ◌^◌, ◌||◌, nat_le, Bool, true, false, List, [], ◌∷◌, ◌++◌, slice_get, if◌then◌else◌, Option, Some, None}
 use Rattle.lab_expectations.specs.declared.transcript.Transcript.{Transcript}
-use Rattle.lab_expectations.specs.Expectations.{Met, is_expected_at, is_none_at, outcome, parts_of, waits}
+use Rattle.lab_expectations.specs.Expectations.{Answer, Came, Instead, Met, NoLine, TooMuch, answer_at, answer_none, first_required, is_expected_at, is_none_at, last_line, outcome, parts_of, waits}
 use Rattle.lab_serving.specs.declared.expecting.Expecting.{Expecting}
+use Rattle.lab_serving.specs.declared.expecting.ExpectedKind.{ExpectedKind}
+use Rattle.lab_serving.specs.declared.expecting.ExpectedKind.TheVariants.{Report, Nothing, Anything}
 use Rattle.lab_serving.specs.declared.expectations.Advance.{Advance}
 use Rattle.lab_serving.specs.declared.expectations.Advance.TheVariants.{Goes, Waits, Fails}
 use Rattle.lab_serving.specs.declared.expectations.Expectations.{Expectations}
@@ -26,9 +28,16 @@ Takes old new line is_required =
     × (new.transcript.is_cut ≡ false
     → waits new.transcript ≡ waits old.transcript ++ (if is_required then line else 43 ∷ line))
 
--- An expectation is met by what the host set: the first line that isn't passed over is the expected one; or none has to be expected.
+-- An expectation is met by what the host set: the first line that isn't passed over is the expected one; or none has to be expected;
+-- or whatever it was.
+abbrev pub met_by : ExpectedKind → Transcript → List ℕ → Bool
+met_by Report transcript line = is_expected_at transcript line
+met_by Nothing transcript line = is_none_at transcript
+met_by Anything transcript line = true
+
+-- an expectation is met by what the host set
 abbrev pub is_met : Transcript → Expecting → Bool
-is_met transcript x = if x.is_none then is_none_at transcript else is_expected_at transcript x.line.items
+is_met transcript x = met_by x.kind transcript x.line.items
 
 -- the next expectation is met, if there is one
 abbrev pub is_next_met : Transcript → Option Expecting → Bool
@@ -36,15 +45,16 @@ is_next_met transcript None = false
 is_next_met transcript (Some x) = is_met transcript x
 
 -- what an expectation leaves that is met, or isn't
-abbrev pub MeetsBy : Bool → Bool → List ℕ → Transcript → Transcript → Type 0
-MeetsBy false is_none line old new = new ≡ old
-MeetsBy true true line old new = waits new ≡ []
-MeetsBy true false line old new = outcome line (parts_of (waits old)) ≡ Met (parts_of (waits new))
+abbrev pub MeetsBy : Bool → ExpectedKind → List ℕ → Transcript → Transcript → Type 0
+MeetsBy false kind line old new = new ≡ old
+MeetsBy true Report line old new = outcome line (parts_of (waits old)) ≡ Met (parts_of (waits new))
+MeetsBy true Nothing line old new = waits new ≡ []
+MeetsBy true Anything line old new = (waits new ≡ []) × (new.is_cut ≡ false)
 
 -- what an expectation leaves of what the host set: where it is met what it expects goes
 abbrev pub Meets : Option Expecting → Transcript → Transcript → Type 0
 Meets None old new = new ≡ old
-Meets (Some x) old new = MeetsBy (is_met old x) x.is_none x.line.items old new
+Meets (Some x) old new = MeetsBy (is_met old x) x.kind x.line.items old new
 
 -- ---- time
 
@@ -53,9 +63,15 @@ abbrev pub since_by : Option ℕ → ℕ → ℕ
 since_by None now = now
 since_by (Some since) now = since
 
+-- nothing is expected
+abbrev pub is_of_none : ExpectedKind → Bool
+is_of_none Report = false
+is_of_none Nothing = true
+is_of_none Anything = false
+
 -- An expectation fails: ten seconds are over since it is waited for, or what may not be set was.
 abbrev pub fails : Option ℕ → ℕ → Expecting → Bool
-fails since now x = x.is_none || nat_le 10000 (now - since_by since now)
+fails since now x = is_of_none x.kind || nat_le 10000 (now - since_by since now)
 
 -- ---- the next expectation
 
@@ -100,3 +116,41 @@ AdvancesAt old new place now (Some x) =
     × (new.since ≡ since_after (advance_of old place now) old.since now)
     × (new.all ≡ old.all)
     × LeavesBy (is_of_other place x) (Some x) old.transcript new.transcript
+
+-- ---- the end of the connection
+
+-- how many of the first expectations are of other devices than that at a place
+unfoldable pub others : Option ℕ → List Expecting → ℕ
+others place [] = 0
+others place (x ∷ more) = if is_of_other place x then suc (others place more) else 0
+
+-- ---- what came in place of what is expected
+
+-- what comes of an expectation
+abbrev pub answer_by : ExpectedKind → Transcript → List ℕ → Answer
+answer_by Report transcript line = answer_at transcript line
+answer_by Nothing transcript line =
+    if transcript.is_cut then TooMuch else answer_none (first_required (parts_of (waits transcript)))
+answer_by Anything transcript line = Came
+
+-- what comes of the next expectation
+abbrev pub answer_next : Transcript → Option Expecting → Answer
+answer_next transcript None = NoLine
+answer_next transcript (Some x) = answer_by x.kind transcript x.line.items
+
+-- the last report that the host set since those that were expected
+abbrev pub last_set : Transcript → Option (List ℕ)
+last_set transcript = last_line None (parts_of (waits transcript))
+
+-- a line, or the word for none
+abbrev pub line_or_nothing : Option (List ℕ) → List ℕ
+line_or_nothing None = codes "nothing"
+line_or_nothing (Some line) = line
+
+-- What came in place of what is expected: a line that has to be expected, or else the last one. Example: 1 output 0 01, where
+-- 1 output 0 02 is expected
+abbrev pub came_of : Answer → Option (List ℕ) → List ℕ
+came_of Came last = []
+came_of (Instead line) last = line
+came_of NoLine last = line_or_nothing last
+came_of TooMuch last = codes "over 1048576 bytes since the last expect"

@@ -18,6 +18,8 @@ use Rattle.usbip_script.specs.declared.fault.LineCause.{LineCause}
 use Rattle.usbip_script.specs.declared.fault.LineCause.TheVariants.{Text, Change, NotServed, TooLong}
 use Rattle.usbip_script.specs.Scripts.{Read, Attaches, Gives, LineGives, change_found, nothing_read, place_of, read_of, with_action}
 use Rattle.lab_serving.specs.declared.expecting.Expecting.{Expecting}
+use Rattle.lab_serving.specs.declared.expecting.ExpectedKind.{ExpectedKind}
+use Rattle.lab_serving.specs.declared.expecting.ExpectedKind.TheVariants.{Report, Nothing, Anything}
 use Rattle.lab_serving.specs.declared.lab_script.LabScript.{LabScript}
 use Rattle.lab_serving.specs.Expecting.{refusal_of_words}
 use Rattle.lab_serving.specs.Parts.{parts_of}
@@ -87,22 +89,22 @@ AttachesHex r boot (Some bytes) result = Attaches r boot bytes result
 -- ---- lines that expect something
 
 -- Something more is expected, once the actions so far were done.
-pub record IsExpecting (r : LabRead) (number : ℕ) (words : List Word) (is_none : Bool) (x : Expecting) : Type 0 where
+pub record IsExpecting (r : LabRead) (number : ℕ) (words : List Word) (kind : ExpectedKind) (x : Expecting) : Type 0 where
   pub at : x.at ≡ length r.read.actions
   pub number_is : x.number ≡ number
   pub words_are : words_of x.line.items ≡ words
-  pub none_is : x.is_none ≡ is_none
+  pub kind_is : x.kind ≡ kind
 
 -- something more is expected, and nothing else changes
-abbrev pub ExpectsMore : LabRead → ℕ → List Word → Bool → Result LabRead LineCause → Type 0
-ExpectsMore r number words is_none (Err cause) = ⊥
-ExpectsMore r number words is_none (Ok after) =
-    (x : Expecting) × IsExpecting r number words is_none x × (after ≡ record r { expected = r.expected ++ x ∷ [] })
+abbrev pub ExpectsMore : LabRead → ℕ → List Word → ExpectedKind → Result LabRead LineCause → Type 0
+ExpectsMore r number words kind (Err cause) = ⊥
+ExpectsMore r number words kind (Ok after) =
+    (x : Expecting) × IsExpecting r number words kind x × (after ≡ record r { expected = r.expected ++ x ∷ [] })
 
 -- a line is expected, unless it can't be
 abbrev pub Expects : LabRead → ℕ → List Word → Option LineCause → Result LabRead LineCause → Type 0
 Expects r number words (Some cause) result = result ≡ Err cause
-Expects r number words None result = ExpectsMore r number words false result
+Expects r number words None result = ExpectsMore r number words Report result
 
 -- ---- a line
 
@@ -115,7 +117,8 @@ PartGives r number (lab.Device start boot words) result = Reads (AttachesHex r.r
 PartGives r number (lab.Change dev named wanted) result = result ≡ with_read r (read_with_change r.read number dev named wanted)
 PartGives r number (lab.Expect words) result =
     Expects r number words (refusal_of_words (length r.read.devices) words) result
-PartGives r number lab.ExpectNone result = ExpectsMore r number [] true result
+PartGives r number lab.ExpectNone result = ExpectsMore r number [] Nothing result
+PartGives r number lab.ExpectAny result = ExpectsMore r number [] Anything result
 PartGives r number (lab.Layout words) result = result ≡ Err NotServed
 PartGives r number (lab.Values words) result = result ≡ Err NotServed
 PartGives r number (lab.Lose dev percent seed) result = result ≡ Err NotServed

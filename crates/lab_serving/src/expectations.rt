@@ -1,10 +1,11 @@
 //! When the expectations of a script let it go on.
 
-ghost use Rattle.std.specs.Prelude.{◌≡◌, [], OnOk, None, false};
-ghost use Rattle.lab_expectations.specs.Expectations.{waits};
-ghost use Rattle.lab_serving.specs.Advancing.{AdvancesAt, Meets, Takes, advance_of, allowed_by, is_next_met, next_of};
+ghost use Rattle.std.specs.Prelude.{◌≡◌, ◌+◌, [], drop, OnOk, None, false};
+ghost use Rattle.std.specs.Option.{option_map};
+ghost use Rattle.lab_expectations.specs.Expectations.{answer_of, waits};
+ghost use Rattle.lab_serving.specs.Advancing.{AdvancesAt, Meets, Takes, advance_of, allowed_by, answer_next, came_of, is_next_met, last_set, next_of, others};
 
-use crate::expecting::Expecting;
+use crate::expecting::{ExpectedKind, Expecting};
 use lab_expectations::{Expectation, Transcript};
 use std::alloc::{AllocError, Global};
 
@@ -71,35 +72,62 @@ impl Expectations {
         }
     }
 
-    /// The number of the line of the next expectation; 0 where there is none more.
-    pub fn number(&self) -> usize {
+    /// The number of the line of the next expectation; none where there is none more.
+    pub fn number(&self) -> Option<usize>
+        ensures { result ≡ option_map (λ x. x.number) (next_of self.now) }
+    {
         match self.all.get(self.next) {
-            Some(expecting) => expecting.number,
-            None => 0,
+            Some(expecting) => Some(expecting.number),
+            None => None,
         }
     }
 
-    /// The number of the line of the next expectation of the device at a place; none where there is none more.
-    pub fn left(&self, place: Option<usize>) -> Option<usize> {
-        for expecting in self.all.as_slice().get(self.next..).unwrap_or(&[]) {
+    /// The place of the first expectation from the next one on that isn't of another device than that at a place.
+    fn after_others(&self, place: Option<usize>) -> usize
+        ensures { result ≡ self.now.next + others place (drop self.now.next self.now.all.items) }
+    {
+        let mut at = self.next;
+        while let Some(expecting) = self.all.get(at) {
             if !expecting.is_of_other(place) {
-                return Some(expecting.number);
+                return at;
             }
+            at += 1;
         }
-        None
+        at
     }
 
-    /// What the host set in place of what is expected next; `nothing` where it set nothing that has to be expected.
-    pub fn came(&self) -> &[u8] {
-        let answer = match self.all.get(self.next) {
-            Some(expecting) if expecting.is_none => self.transcript.answer_to_none(),
-            Some(expecting) => self.transcript.answer(expecting.line.as_slice()),
+    /// Passes over the next expectations, as long as they are of other devices than that at a place.
+    pub fn pass_others(&mut self, place: Option<usize>)
+        ensures { self.new ≡ record self.old {
+          next = self.old.next + others place (drop self.old.next self.old.all.items);
+        } }
+    {
+        self.next = self.after_others(place);
+    }
+
+    /// What came of the next expectation.
+    fn answer(&self) -> Expectation<'_>
+        ensures { answer_of result ≡ answer_next self.now.transcript (next_of self.now) }
+    {
+        match self.all.get(self.next) {
+            Some(expecting) => match expecting.kind {
+                ExpectedKind::Report => self.transcript.answer(expecting.line.as_slice()),
+                ExpectedKind::Nothing => self.transcript.answer_to_none(),
+                ExpectedKind::Anything => Expectation::Met,
+            },
             None => Expectation::Nothing,
-        };
-        match answer {
+        }
+    }
+
+    /// What the host set in place of what is expected next: the first report that has to be expected, or else the last one that it
+    /// set, or `nothing`. It is empty where what is expected is there.
+    pub fn came(&self) -> &[u8]
+        ensures { result.now ≡ came_of (answer_next self.now.transcript (next_of self.now)) (last_set self.now.transcript) }
+    {
+        match self.answer() {
             Expectation::Met => b"",
             Expectation::Other(line) => line,
-            Expectation::Nothing => b"nothing",
+            Expectation::Nothing => self.transcript.last().unwrap_or(b"nothing"),
             Expectation::TooMuch => b"over 1048576 bytes since the last expect",
         }
     }
@@ -111,8 +139,14 @@ impl Expectations {
         ensures rest { self.new ≡ record self.old { transcript = self.new.transcript } }
     {
         match self.all.get(self.next) {
-            Some(expecting) if expecting.is_none => self.transcript.expect_none(),
-            Some(expecting) => self.transcript.expect(expecting.line.as_slice()),
+            Some(expecting) => match expecting.kind {
+                ExpectedKind::Report => self.transcript.expect(expecting.line.as_slice()),
+                ExpectedKind::Nothing => self.transcript.expect_none(),
+                ExpectedKind::Anything => {
+                    self.transcript.forget();
+                    true
+                }
+            },
             None => false,
         }
     }
@@ -127,7 +161,7 @@ impl Expectations {
         let Some(expecting) = self.all.get(self.next) else {
             return Advance::Waits;
         };
-        let is_none = expecting.is_none;
+        let is_of_none = matches!(expecting.kind, ExpectedKind::Nothing);
         if expecting.is_of_other(place) || self.meet() {
             self.next += 1;
             self.since = None;
@@ -135,7 +169,7 @@ impl Expectations {
         }
         let since = self.since.unwrap_or(now);
         self.since = Some(since);
-        if is_none || now.saturating_sub(since) >= MOST_WAIT {
+        if is_of_none || now.saturating_sub(since) >= MOST_WAIT {
             Advance::Fails
         } else {
             Advance::Waits

@@ -7,6 +7,17 @@ ghost use Rattle.lab_serving.specs.Expecting.{device_said, is_of_other, is_repor
 use hid_text::{first_word, read_device};
 use usbip_script::LineCause;
 
+/// What is expected.
+#[derive(Clone, Copy, Debug, PartialEq, Eq)]
+pub enum ExpectedKind {
+    /// A report.
+    Report,
+    /// Nothing: all that the host set has been expected.
+    Nothing,
+    /// Anything: all that the host set is passed over.
+    Anything,
+}
+
 /// What is expected of the host, once the actions before it were done.
 #[derive(Drop)]
 pub struct Expecting {
@@ -14,10 +25,10 @@ pub struct Expecting {
     pub at: usize,
     /// The number of its line.
     pub number: usize,
-    /// The line that is expected: a report that the host sets. Nothing, where all has been expected that the host set.
+    /// What is expected.
+    pub kind: ExpectedKind,
+    /// The line of the report that is expected; nothing where none is.
     pub line: Vec<u8>,
-    /// Whether all that the host set has to have been expected.
-    pub is_none: bool,
 }
 
 /// Whether a word is one of the kinds of reports that a host sets, or any word.

@@ -12,7 +12,7 @@ ghost use Rattle.lab_serving.specs.Reading.{AttachesHex, ExpectsMore, PartGives,
 ghost use Rattle.usbip_script.specs.Scripts.{read_of};
 ghost use Rattle.usbip_script.specs.declared.fault.LineCause.{LineCause as RefusalCause};
 
-use crate::expecting::{Expecting, expected_refusal};
+use crate::expecting::{ExpectedKind, Expecting, expected_refusal};
 use hid_layout::{ControlId, Usage};
 use hid_requests::Boot;
 use hid_snapshots::{Change, ChangeFault};
@@ -220,9 +220,9 @@ impl LabScript {
         alloc: Global,
         number: usize,
         line: &[u8],
-        is_none: bool,
+        kind: ExpectedKind,
     ) -> Result<(), ServeFault>
-        ensures ok { OnOk result (ExpectsMore (lab_read_of self.old) number (words_of line.now) is_none (Ok (lab_read_of self.new))) }
+        ensures ok { OnOk result (ExpectsMore (lab_read_of self.old) number (words_of line.now) kind (Ok (lab_read_of self.new))) }
         ensures memory { IfErr result (λ fault. fault ≡ ServeFault.Memory) }
     {
         let Ok(line) = Vec::from_slice(alloc, line) else {
@@ -231,8 +231,8 @@ impl LabScript {
         let expecting = Expecting {
             at: self.script.actions.len(),
             number,
+            kind,
             line,
-            is_none,
         };
         self.keep(expecting)
     }
@@ -252,7 +252,7 @@ impl LabScript {
     {
         match expected_refusal(self.script.devices.len(), line) {
             Some(cause) => Err(ServeFault::Line(number, cause)),
-            None => self.add_expectation(alloc, number, line, false),
+            None => self.add_expectation(alloc, number, line, ExpectedKind::Report),
         }
     }
 
@@ -303,7 +303,8 @@ impl LabScript {
             LabLine::Type { dev, text } => self.take_text(number, dev, text),
             LabLine::Wait { count } => self.take_short(number, &ShortLine::Frame { count }),
             LabLine::Expect(line) => self.take_expectation(alloc, number, line),
-            LabLine::ExpectNone => self.add_expectation(alloc, number, b"", true),
+            LabLine::ExpectNone => self.add_expectation(alloc, number, b"", ExpectedKind::Nothing),
+            LabLine::ExpectAny => self.add_expectation(alloc, number, b"", ExpectedKind::Anything),
             LabLine::Layout(_) | LabLine::Values(_) | LabLine::Lose { .. } => Err(ServeFault::Line(
                 number,
                 LineCause::NotServed,

@@ -5,6 +5,7 @@
 //!   type 1 "Hi"              press 1 07:E1, press 1 07:0B, release 1 07:0B, release 1 07:E1, press 1 07:0C, release 1 07:0C
 //!   wait 500                 frame 500
 //!   expect 1 output 0 02     an expectation: the actions after it come once the host has set this report
+//!   expect any               another one: what the host set so far is passed over
 //!   poll 1                   refused: the host polls
 //! ```
 //! The rule to know: a line is lines of a script (`parts_of`), and these are the actions of [`usbip_script`]. An expectation holds
@@ -21,6 +22,6 @@ pub mod laws;
 mod watching;
 
 pub use expectations::{Advance, Expectations, MOST_WAIT};
-pub use expecting::Expecting;
+pub use expecting::{ExpectedKind, Expecting};
 pub use lab_script::{LabScript, MAX_ACTIONS, MAX_EXPECTATIONS};
 pub use watching::Watching;

@@ -13,9 +13,12 @@ pub struct Watching<T> {
     to: Option<T>,
 }
 
-/// Why the session ends at the expectation of a line.
-fn unmet(number: usize) -> ServeFault {
-    ServeFault::Line(number, LineCause::Unmet)
+/// The session ends at the expectation of a line, if there is one.
+fn unmet(number: Option<usize>) -> Result<(), ServeFault> {
+    match number {
+        Some(number) => Err(ServeFault::Line(number, LineCause::Unmet)),
+        None => Ok(()),
+    }
 }
 
 impl<T: Write> Watching<T> {
@@ -28,7 +31,7 @@ impl<T: Write> Watching<T> {
         }
     }
 
-    /// What the host set in place of what is expected next.
+    /// What the host set in place of what is expected next; empty where that is there.
     pub fn came(&self) -> &[u8] {
         self.expectations.came()
     }
@@ -55,14 +58,18 @@ impl<T: Write> Watch for Watching<T> {
         match self.expectations.advance(place, now) {
             Advance::Goes => Ok(true),
             Advance::Waits => Ok(false),
-            Advance::Fails => Err(unmet(self.expectations.number())),
+            Advance::Fails => {
+                unmet(self.expectations.number())?;
+                Ok(false)
+            }
         }
     }
 
     fn end(&mut self, place: Option<usize>) -> Result<(), ServeFault> {
-        match self.expectations.left(place) {
-            Some(number) if place.is_some() => Err(unmet(number)),
-            _ => Ok(()),
+        if place.is_none() {
+            return Ok(());
         }
+        self.expectations.pass_others(place);
+        unmet(self.expectations.number())
     }
 }
