@@ -157,6 +157,7 @@ examples: $(HIDRUN) $(HIDPLAY) $(HIDMAP) $(HIDLAB) $(HIDSERVE) $(HIDATTACH) $(BE
 	tools/check/commands $(HIDRUN) $(HIDPLAY) $(HIDMAP) $(HIDLAB) $(HIDSERVE) $(HIDATTACH) $(BENCH)
 	tools/check/manual $(HIDRUN) $(HIDPLAY) $(HIDMAP) $(HIDLAB) $(HIDSERVE) $(HIDATTACH)
 	tools/check/serve $(HIDSERVE)
+	tools/check/served-lab $(HIDLAB) $(HIDATTACH)
 	tools/check/attach $(HIDATTACH)
 	tools/check/attach $(HIDATTACH) --speed 5000
 	tools/check/failures $(HIDRUN) $(HIDMAP) $(HIDLAB)
@@ -198,16 +199,16 @@ readers: $(READERS)  ## compares both readings of random reports: REPORTS=100000
 	$(READERS) --seed $(SEED) --reports $(REPORTS) $(patsubst %,--descriptor %,$(shell grep -l '^N:' examples/recordings/*.hid))
 
 # Compares hidplay, on the recordings of the examples and on some made from a seed, with Debian's Linux kernel in QEMU and
-# with tshark, and on what QEMU's own keyboard, mouse and tablet send; tries hidserve and hidattach with that kernel:
+# with tshark, and on what QEMU's own keyboard, mouse and tablet send; tries hidserve, hidlab and hidattach with that kernel:
 # docs/COMPARISON.md. Not part of the gate. It needs qemu-system-x86, tshark, socat, gcc and Debian's apt, fetches kernel,
 # busybox and usbip into bin/linux, and says what it leaves out.
-compare-linux: $(HIDPLAY) $(HIDSERVE) $(HIDATTACH)  ## compares hidplay with Linux, tshark and QEMU, USB/IP with Linux: SEED=1
+compare-linux: $(HIDPLAY) $(HIDSERVE) $(HIDATTACH) $(HIDLAB)  ## compares hidplay with Linux, tshark and QEMU, USB/IP with Linux: SEED=1
 	tools/compare/tshark $(HIDPLAY) --seed $(SEED) --self-test
 	tools/compare/linux $(HIDPLAY) --seed $(SEED) --self-test
 	tools/compare/qemu $(HIDPLAY)
 	tools/compare/captures $(HIDPLAY)
-	tools/compare/usbip bin/hidserve bin/hidattach $(HIDPLAY) --self-test
-	tools/compare/usbip bin/hidserve bin/hidattach $(HIDPLAY)
+	tools/compare/usbip bin/hidserve bin/hidattach $(HIDPLAY) bin/hidlab --self-test
+	tools/compare/usbip bin/hidserve bin/hidattach $(HIDPLAY) bin/hidlab
 
 # Runs each example script on the proved program, and each test of calls that take memory, with each of its allocations
 # refused in turn: half a minute. It needs a C compiler, and the test programs that `rt ci` or `rt test` made from the current

@@ -1,4 +1,4 @@
-"""Devices of a script, which hidserve serves and a real Linux imports: each scene has its script and, written by hand, what evdev
+"""Devices of a script, which hidserve or hidlab serves and a real Linux imports: each scene has its script and, written by hand, what evdev
 has to tell of it.
 
 A step of a script waits until its device is asked for a report; then the frames of BEGIN pass, in which the guest opens what the
@@ -93,13 +93,13 @@ def compare(have, want):
 class Served:
     """A device that is served, and imported by attach."""
 
-    def __init__(self, bench, name, script):
+    def __init__(self, bench, name, script, program=None):
         self.guest, self.place = bench.guest, folder(bench.work, name)
         self.script = self.place / "script"
         self.script.write_text(script)
         self.listens, self.began, self.taken, self.imports = free_port(), 0, 0, 0
         run = self.place / "run"
-        run.write_text("#!/bin/sh\n'%s' '%s'\necho status $? >&2\n" % (bench.hidserve, self.script))
+        run.write_text("#!/bin/sh\n%s '%s'\necho status $? >&2\n" % (program or "'%s'" % bench.hidserve, self.script))
         run.chmod(0o755)
         with open(self.place / "told", "w", encoding="utf8") as errors:
             self.server = subprocess.Popen(["socat", "TCP-LISTEN:%d,bind=127.0.0.1,reuseaddr,fork,nodelay,nonblock" % self.listens,
@@ -186,9 +186,9 @@ class Served:
 
 
 @contextlib.contextmanager
-def served(bench, name, script):
+def served(bench, name, script, program=None):
     """A device that is served, imported and watched until it is detached; its server ends by itself then, with status 0."""
-    it = Served(bench, name, script)
+    it = Served(bench, name, script, program)
     try:
         yield it.attach()
         it.detach()
@@ -410,4 +410,31 @@ def planted(bench):
             yield said, spoiled, True
 
 
-SCENES = [listed, keyboard, leds, halted, reset, unbound, detached, interrupted, both, mouse, touch, numbered, long, many]
+def typed(bench):
+    """A sentence that hidlab types, each key once, and an LED that it waits for."""
+    lines = ['type 1 "Hello, Linux. Bookkeeper"', "expect 1 output 0 00", "click 1 Keyboard_Caps_Lock", "expect 1 output 0 02", "click 1 Keyboard_Return"]
+    names = "H E L L O COMMA SPACE L I N U X DOT SPACE B O O K K E E P E R".split()
+    with served(bench, "typed", device(KEYBOARD, *lines), "'%s' --usbip" % bench.hidlab) as it:
+        keys = []
+        for place, name in enumerate(names):
+            shift = place in (0, 7, 14)
+            keys += ["KEY_LEFTSHIFT 1"] * shift + ["KEY_%s 1" % name, "KEY_%s 0" % name] + ["KEY_LEFTSHIFT 0"] * shift
+        it.expect([*keys, "KEY_CAPSLOCK 1", "KEY_CAPSLOCK 0"])
+        it.expect_printed("usbguest led %s %d 1" % (it.node(), CAPS_LOCK), "")
+        it.expect("KEY_ENTER 1, KEY_ENTER 0")
+
+
+def unmet(bench):
+    """An LED that Linux doesn't set: hidlab ends with status 4 after ten seconds, and its keyboard is unplugged."""
+    it = Served(bench, "unmet", device(KEYBOARD, "click 1 07:04", "expect 1 output 0 1F", "click 1 07:05"), "'%s' --usbip" % bench.hidlab)
+    try:
+        it.attach()
+        it.expect("KEY_A 1, KEY_A 0")
+        it.wait_gone()
+        it.expect_lines("line 5: X13: 1 output 0 00 was set", "status 4")
+    finally:
+        it.guest.ran("usbip detach -p 00")
+        it.end()
+
+
+SCENES = [listed, keyboard, typed, unmet, leds, halted, reset, unbound, detached, interrupted, both, mouse, touch, numbered, long, many]

@@ -8,6 +8,8 @@ use std::alloc::{AllocError, Global};
 #[derive(Clone, Copy)]
 pub struct CliArgs<'a> {
     pub options: LabOptions,
+    /// Whether its devices are served over USB/IP.
+    pub is_served: bool,
     /// The script; `-` is standard input.
     pub file: &'a str,
 }
@@ -52,6 +54,21 @@ fn seed<'a>(alloc: Global) -> Result<Arg<'a>, AllocError> {
             .value_parser(value_parser!(u64))
             .help("Draw losses from N, in place of each line's seed"),
     )
+}
+
+/// The option `--usbip`, and those that say what the own hosts print.
+fn usbip<'a>(alloc: Global) -> Result<Arg<'a>, AllocError> {
+    flag(
+        alloc,
+        "usbip",
+        "Serve the devices to a USB/IP host on standard input and output",
+    )
+    .conflicts_with("layout")?
+    .conflicts_with("names")?
+    .conflicts_with("places")?
+    .conflicts_with("json")?
+    .conflicts_with("summary")?
+    .conflicts_with("seed")
 }
 
 /// The argument FILE.
@@ -100,6 +117,7 @@ fn command<'a>(alloc: Global) -> Result<Command<'a>, AllocError> {
         Ok(flag(alloc, "summary", "Print how often what was polled and lost")),
     );
     let command = add(command, seed(alloc));
+    let command = add(command, usbip(alloc));
     add(command, Ok(file(alloc)))
 }
 
@@ -126,6 +144,7 @@ fn read_matches<'a>(matches: &ArgMatches<'a>) -> CliArgs<'a> {
             summary: matches.get_flag("summary"),
             seed: matches.get_one::<u64>("seed"),
         },
+        is_served: matches.get_flag("usbip"),
         file: matches.get_str("FILE").unwrap_or("-"),
     }
 }

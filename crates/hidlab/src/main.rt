@@ -5,13 +5,17 @@
 //!   FILE, or standard input --> lines --> lab_lines --> lab_session: the rig of hidrun --> a buffer --> standard output
 //!     include FILE, repeat .. end -^                       |
 //!                                                          +-- a fault --> standard error, with words, and an exit status
+//!
+//!   --usbip: lines --> lab_serving: devices, actions, expectations --> usbip_script: standard input and output, a host's connection
 //! ```
 //! The exit status is 0, or what [`exit_of`](status::exit_of) gives for the fault, or 2 for a wrong command line.
 #![tactic(auto)]
 
 mod args;
+mod printing;
 mod progress;
 mod run;
+mod served;
 mod source;
 mod status;
 
@@ -19,11 +23,13 @@ use args::{CliArgs, parse_args};
 use clap::error::ErrorKind;
 use hid_input::FileName;
 use hid_script::Cause;
-use lab_session::{Bench, LabCause, cause_words};
+use lab_session::{Bench, LabCause};
+use printing::print_trouble;
 use progress::Progress;
 use run::{Trouble, run_all};
+use served::serve_source;
 use source::LabSource;
-use status::{FINE, OUTSIDE, WRONG_USAGE, exit_of};
+use status::{FINE, OUTSIDE, WRONG_USAGE};
 use std::io::{BufWriter, IsTerminal, Stderr, Write};
 use std::process::ExitCode;
 use std::{env, fs, io};
@@ -39,6 +45,7 @@ fn main(rt: HostRuntime) -> ExitCode {
         return ExitCode::from(OUTSIDE);
     };
     match parse_args(alloc, words.as_slice()) {
+        Ok(asked) if asked.is_served => ExitCode::from(serve_file(&rt, &asked)),
         Ok(asked) => ExitCode::from(run_file(&rt, &asked)),
         Err(error) => ExitCode::from(print_bad_words(&rt, &error)),
     }
@@ -106,6 +113,18 @@ fn run_file(rt: &HostRuntime, asked: &CliArgs<'_>) -> u8 {
     }
 }
 
+/// Serves the devices of the script that the words name, over USB/IP.
+fn serve_file(rt: &HostRuntime, asked: &CliArgs<'_>) -> u8 {
+    if asked.file == "-" {
+        let _ = eprintln!(rt; "hidlab: --usbip takes a FILE: standard input is the connection");
+        return WRONG_USAGE;
+    }
+    match open_source(rt, asked.file) {
+        Some(source) => serve_source(rt, source, asked.options.trace),
+        None => OUTSIDE,
+    }
+}
+
 /// Where the progress is printed: on standard error, if it is a terminal and events go elsewhere.
 fn terminal(rt: &HostRuntime) -> Option<Stderr> {
     if rt.stderr().is_terminal() && !rt.stdout().is_terminal() {
@@ -142,7 +161,7 @@ fn run_sources(
     }
     match end {
         Ok(_) => FINE,
-        Err(trouble) => print_trouble(rt, sources.as_slice(), bench, &trouble),
+        Err(trouble) => print_trouble(rt, sources.as_slice(), &trouble),
     }
 }
 
@@ -152,27 +171,4 @@ fn line_of(end: &Result<usize, Trouble>) -> usize {
         Ok(lines) => lines.saturating_add(1),
         Err(trouble) => trouble.line,
     }
-}
-
-/// Prints what ended a run early: the file if it is an included one, the line, the codes, and words.
-fn print_trouble(rt: &HostRuntime, sources: &[LabSource], bench: &Bench, trouble: &Trouble) -> u8 {
-    let cause = trouble.cause;
-    let number = trouble.line;
-    if let Some(source) = sources.last() {
-        if sources.iter().filter(|source| !source.is_body()).count() > 1 {
-            let name = FileName(source.name.as_str());
-            let _ = eprint!(rt; "{name}: ");
-        }
-    }
-    match &trouble.words {
-        Some(words) => {
-            let words = FileName(words.as_str());
-            let _ = eprintln!(rt; "line {number}: {cause}: {words}");
-        }
-        None => {
-            let words = cause_words(cause, bench.control());
-            let _ = eprintln!(rt; "line {number}: {cause}: {words}");
-        }
-    }
-    exit_of(cause)
 }

@@ -32,7 +32,7 @@ pub struct Trouble {
 }
 
 /// A cause without words of its own.
-fn bare(line: usize, cause: LabCause) -> Trouble {
+pub fn bare(line: usize, cause: LabCause) -> Trouble {
     Trouble {
         line,
         cause,
@@ -59,6 +59,21 @@ fn syntax_words(alloc: Global, line: &[u8]) -> Result<Option<String>, AllocError
         Ok(Some(format!(in alloc; "the line ends: expected is {expected}")?))
     } else {
         Ok(Some(format!(in alloc; "{word}: expected is {expected}")?))
+    }
+}
+
+/// Why a line can't be read: it is too long (X2), or which word of it is wrong (X1), and what was expected there.
+pub fn unread_trouble(alloc: Global, number: usize, line: &[u8]) -> Trouble {
+    if matches!(read_lab_line(line), Err(Unread::TooLong)) {
+        return bare(number, LabCause::Script(Cause::LineTooLong));
+    }
+    match syntax_words(alloc, line) {
+        Ok(words) => Trouble {
+            line: number,
+            cause: LabCause::Script(Cause::Syntax),
+            words,
+        },
+        Err(_) => no_memory(number),
     }
 }
 
@@ -151,16 +166,25 @@ fn file_trouble(
     }
 }
 
-/// Why a source gives no more lines, or a line of it is refused: of a file that can't be read with the system's words.
-fn source_trouble(alloc: Global, bench: &Bench, source: &LabSource, fault: &LabFault) -> Trouble {
+/// Why a source gives no more lines: of a file that can't be read with the system's words.
+pub fn read_trouble(alloc: Global, source: &LabSource, fault: &LabFault) -> Trouble {
+    let number = source.number(fault.line);
     match source.file_failure() {
         Some(error) => file_trouble(
             alloc,
-            source.number(fault.line),
+            number,
             LabCause::Unreadable,
             source.name.as_str(),
             &error,
         ),
+        None => bare(number, fault.cause),
+    }
+}
+
+/// Why a source gives no more lines, or a line of it is refused.
+fn source_trouble(alloc: Global, bench: &Bench, source: &LabSource, fault: &LabFault) -> Trouble {
+    match source.file_failure() {
+        Some(_) => read_trouble(alloc, source, fault),
         None => bench_trouble(alloc, bench, source, fault),
     }
 }
@@ -176,7 +200,6 @@ fn count_sources(sources: &[LabSource], is_body: bool) -> usize {
 /// Takes the lines up to the `end` of a `repeat`, which stands on a line with this number.
 fn take_body<W: Write>(
     alloc: Global,
-    bench: &Bench,
     source: &mut LabSource,
     count: u16,
     writer: &mut W,
@@ -186,7 +209,7 @@ fn take_body<W: Write>(
     let mut line = Vec::new(alloc);
     for _ in 0..MAX_TURNS {
         match source.next_line(&mut line, writer) {
-            Err(fault) => return Err(source_trouble(alloc, bench, source, &fault)),
+            Err(fault) => return Err(read_trouble(alloc, source, &fault)),
             Ok(false) => return Err(bare(before, LabCause::Unpaired)),
             Ok(true) => {}
         }
@@ -196,13 +219,7 @@ fn take_body<W: Write>(
             Ok(Added::Open) => {}
             Ok(Added::Whole) => return Ok(body),
             Ok(Added::TooLong) => return Err(bare(number, LabCause::TooDeep)),
-            Ok(Added::Malformed) => {
-                return Err(Trouble {
-                    line: number,
-                    cause: LabCause::Script(Cause::Syntax),
-                    words: syntax_words(alloc, line.as_slice()).unwrap_or(None),
-                });
-            }
+            Ok(Added::Malformed) => return Err(unread_trouble(alloc, number, line.as_slice())),
         }
     }
     Err(bare(before, LabCause::TooDeep))
@@ -216,11 +233,13 @@ fn push(sources: &mut Vec<LabSource>, source: LabSource, line: usize) -> Result<
     }
 }
 
-/// The lines of a `repeat` come next, so often.
-fn repeat<W: Write>(
+/// The lines of a `repeat`, which is the last line of a source, come next, so often.
+///
+/// # Errors
+/// X11 where too many stand in one another or the lines are too long; X10 without an `end`; X1, X2 and X5 to X8 of a line between.
+pub fn repeat<W: Write>(
     alloc: Global,
     sources: &mut Vec<LabSource>,
-    bench: &Bench,
     last: usize,
     count: u16,
     writer: &mut W,
@@ -231,23 +250,29 @@ fn repeat<W: Write>(
     if count_sources(sources.as_slice(), true) >= MAX_REPEATS {
         return Err(bare(line, LabCause::TooDeep));
     }
-    let body = take_body(alloc, bench, &mut sources[last], count, writer)?;
+    let body = take_body(alloc, &mut sources[last], count, writer)?;
     let Ok(name) = sources[last].name.clone() else {
         return Err(no_memory(line));
     };
     push(sources, LabSource::body(alloc, body, name, line), line)
 }
 
-/// The name of a file that the line of a source names.
-fn path_of(alloc: Global, source: &LabSource, name: &[u8]) -> Result<String, Trouble> {
+/// The name of a file that the last line of a source names.
+///
+/// # Errors
+/// X7.
+pub fn path_of(alloc: Global, source: &LabSource, name: &[u8]) -> Result<String, Trouble> {
     match name_beside(alloc, source.name.as_str(), name) {
         Ok(path) => Ok(path),
         Err(cause) => Err(bare(source.last_number(), cause)),
     }
 }
 
-/// The lines of a file come next.
-fn include(
+/// The lines of a file, which the last line of a source names, come next.
+///
+/// # Errors
+/// X11 where too many files stand in one another; X14 of a file that can't be opened; X7.
+pub fn include(
     rt: &HostRuntime,
     sources: &mut Vec<LabSource>,
     last: usize,
@@ -277,7 +302,10 @@ fn read_file(rt: &HostRuntime, path: &str) -> io::Result<Vec<u8>> {
 }
 
 /// The descriptor in a file, which a line names.
-fn read_descriptor(rt: &HostRuntime, line: usize, path: &str) -> Result<Vec<u8>, Trouble> {
+///
+/// # Errors
+/// X14 of a file that can't be read; X15 of one without a descriptor; X7.
+pub fn read_descriptor(rt: &HostRuntime, line: usize, path: &str) -> Result<Vec<u8>, Trouble> {
     let alloc = rt.alloc();
     let bytes = match read_file(rt, path) {
         Ok(bytes) => bytes,
@@ -326,7 +354,7 @@ fn give<W: Write>(
     let line = sources[last].last_number();
     match need {
         Need::End => Err(bare(line, LabCause::Unpaired)),
-        Need::Repeat { count } => repeat(alloc, sources, bench, last, count, writer),
+        Need::Repeat { count } => repeat(alloc, sources, last, count, writer),
         Need::Include(name) => include(rt, sources, last, name.as_slice()),
         Need::Device { start, boot, name } => {
             let path = path_of(alloc, &sources[last], name.as_slice())?;

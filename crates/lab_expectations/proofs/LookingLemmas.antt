@@ -6,7 +6,7 @@ use Rattle.std.proofs.Math.ListN.{drop_of_length-le}
 use Rattle.hid_text.specs.Lines.{IsUnbroken}
 use Rattle.hid_text.proofs.LineLemmas.{some_part}
 use Rattle.lab_expectations.specs.Matching.{matches}
-use Rattle.lab_expectations.specs.Expectations.{Outcome, Met, Other, Nothing, is_line_feed, parts_of, is_optional, plain, outcome, first_required}
+use Rattle.lab_expectations.specs.Expectations.{Outcome, Met, Other, Nothing, is_line_feed, parts_of, is_optional, plain, outcome, first_required, last_line}
 
 -- a line, and the lines after it
 line_first : (text line more : List ℕ) → IsUnbroken line → text ≡ line ++ 10 ∷ more → parts_of text ≡ line ∷ parts_of more
@@ -104,3 +104,21 @@ end_behind text rest from next within is at =
 pub nothing_behind : (text : List ℕ) (from : ℕ) → length text ≤ from → [] ≡ drop (min from (length text)) text
 nothing_behind text from past =
     let all : length text ≤ min from (length text) = omega (arith, past) in sym (drop_of_length-le text all)
+
+-- ---- the last line
+
+last_step : (before : Option (List ℕ)) (line : List ℕ) (parts : List (List ℕ)) (next : List ℕ) (rest : List (List ℕ)) → parts ≡ next ∷ rest → last_line before (line ∷ parts) ≡ last_line (Some (plain line)) parts
+unfolding last_line
+last_step before line parts next rest is = rw is refl
+
+-- a line that isn't the last one
+pub last_passed : (before : Option (List ℕ)) (text line more : List ℕ) (all : Option (List ℕ)) → last_line before (parts_of text) ≡ all → IsUnbroken line → text ≡ line ++ 10 ∷ more
+    → last_line (Some (plain line)) (parts_of more) ≡ all
+last_passed before text line more all is whole parts =
+    let rest = some_part is_line_feed more in
+    sym (ap (last_line before) (line_first text line more whole parts) ∙ last_step before line (parts_of more) rest.0 rest.1 rest.2) ∙ is
+
+-- no line is left
+pub last_end : (before : Option (List ℕ)) (text : List ℕ) (all : Option (List ℕ)) → last_line before (parts_of text) ≡ all → IsUnbroken text → before ≡ all
+unfolding last_line
+last_end before text all is whole = sym (ap (last_line before) (slice_split_none is_line_feed text whole)) ∙ is

@@ -45,6 +45,12 @@ first_required [] = None
 first_required (last ∷ []) = None
 first_required (line ∷ next ∷ more) = if is_optional line then first_required (next ∷ more) else Some line
 
+-- The last line, if there is one, without its +; before them came another, or none. What stands after the last line feed is no line.
+unfoldable pub last_line : Option (List ℕ) → List (List ℕ) → Option (List ℕ)
+last_line before [] = before
+last_line before (last ∷ []) = before
+last_line before (line ∷ next ∷ more) = last_line (Some (plain line)) (next ∷ more)
+
 -- what was found stands for an outcome
 abbrev pub found_of : Found → Outcome
 found_of (found.Met rest) = Met (parts_of rest.now)

@@ -1,8 +1,8 @@
 //! The first line that isn't passed over.
 
-ghost use Rattle.std.specs.Prelude.{◌≡◌};
+ghost use Rattle.std.specs.Prelude.{◌≡◌, None};
 ghost use Rattle.std.specs.Option.{option_map};
-ghost use Rattle.lab_expectations.specs.Expectations.{parts_of, is_optional, plain, outcome, first_required, found_of, EndsThere};
+ghost use Rattle.lab_expectations.specs.Expectations.{parts_of, is_optional, plain, outcome, first_required, last_line, found_of, EndsThere};
 
 use super::matching::is_expected_line;
 use hid_text::split_line;
@@ -73,4 +73,17 @@ pub(crate) fn first_required(waiting: &[u8]) -> Option<&[u8]>
             }
         }
     }
+}
+
+/// The last line of those that wait.
+pub(crate) fn last_line(waiting: &[u8]) -> Option<&[u8]>
+    ensures { option_map (λ line. line.now) result ≡ last_line None (parts_of waiting.now) }
+{
+    let mut rest = waiting;
+    let mut last = None;
+    while let Some((line, more)) = split_line(rest) {
+        last = Some(plain_line(line));
+        rest = more;
+    }
+    last
 }

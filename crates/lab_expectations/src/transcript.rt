@@ -3,7 +3,7 @@
 ghost use Rattle.std.specs.Prelude.{◌≤◌};
 ghost use Rattle.std.specs.Vec.{vec_len};
 
-use super::looking::{Found, first_required, look};
+use super::looking::{Found, first_required, last_line, look};
 use std::alloc::{AllocError, Global};
 
 /// The most bytes of lines that wait for an `expect`.
@@ -35,8 +35,9 @@ pub struct Transcript {
 }
 
 impl Transcript {
-    ghost use Rattle.std.specs.Prelude.{◌≡◌, ◌+◌, ◌<◌, true, false, [], ◌∷◌, ◌++◌, length, OnOk, if◌then◌else◌};
-    ghost use Rattle.lab_expectations.specs.Expectations.{Met, TooMuch, parts_of, outcome, first_required, waits, is_expected_at, is_none_at, answer_of, answer_at, answer_none};
+    ghost use Rattle.std.specs.Prelude.{◌≡◌, ◌+◌, ◌<◌, true, false, [], ◌∷◌, ◌++◌, None, length, OnOk, if◌then◌else◌};
+    ghost use Rattle.std.specs.Option.{option_map};
+    ghost use Rattle.lab_expectations.specs.Expectations.{Met, TooMuch, parts_of, outcome, first_required, last_line, waits, is_expected_at, is_none_at, answer_of, answer_at, answer_none};
 
     /// Nothing was printed.
     pub fn new(alloc: Global) -> Self
@@ -206,5 +207,12 @@ impl Transcript {
             Some(line) => Expectation::Other(line),
             None => Expectation::Met,
         }
+    }
+
+    /// The last line that waits, also of those that needn't be expected.
+    pub fn last(&self) -> Option<&[u8]>
+        ensures { option_map (λ line. line.now) result ≡ last_line None (parts_of (waits self.now)) }
+    {
+        last_line(self.waiting())
     }
 }

@@ -11,7 +11,7 @@ copies (suc n) text = text ++ copies n text
 abbrev pub text_to_come : Body → List ℕ
 text_to_come body = drop body.at body.text.items ++ copies (body.left - 1) body.text.items
 
--- Text that was to come stands behind what a room had; none came only where none was to come.
+-- Text that was to come stands after what a room had; none came only where none was to come.
 abbrev pub Gives : List ℕ → List ℕ → List ℕ → List ℕ → Bool → Type 0
 Gives before after old new some =
     (given : List ℕ) × (before ≡ given ++ after) × (new ≡ old ++ given) × (length given ≤ 4096)

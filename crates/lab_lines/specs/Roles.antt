@@ -26,7 +26,7 @@ depth_after depth role.Ends = depth - 1
 depth_after depth role.Malformed = depth
 depth_after depth role.Stays = depth
 
--- a line has room behind so many bytes, with its line feed: a body has at most 1,048,576
+-- a line has room after so many bytes, with its line feed: a body has at most 1,048,576
 abbrev pub added_within : ℕ → ℕ → Added
 added_within size length = if nat_lt (size + length) 1048576 then added.Open else added.TooLong
 

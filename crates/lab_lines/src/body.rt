@@ -113,7 +113,7 @@ impl Body {
         // What comes of the line, by what it is to the body and by the room that is left.
         ensures added { IfOk result (λ added. added ≡ added_by self.old.depth
             (role_of (words_of line.now)) (vec_len self.old.text) (length line.now)) }
-        // A line that belongs to the body stands behind the others; any other changes nothing.
+        // A line that belongs to the body stands after the others; any other changes nothing.
         ensures text { IfOk result (λ added. added ≡ Added.Open
             → self.new.text.items ≡ self.old.text.items ++ line.now ++ 10 ∷ []) }
         ensures depth { IfOk result (λ added. added ≡ Added.Open
@@ -163,7 +163,7 @@ impl Body {
         true
     }
 
-    /// Gives the text that comes next, behind that of a room: its lines, as often as they come, 4,096 bytes at a time. Whether any
+    /// Gives the text that comes next, after that of a room: its lines, as often as they come, 4,096 bytes at a time. Whether any
     /// came: none comes where the body was carried out as often as it is to be.
     ///
     /// # Errors

@@ -30,7 +30,7 @@ abbrev pub cause_or : Option LineCause → Option LineCause → Option LineCause
 cause_or (Some cause) other = Some cause
 cause_or None other = other
 
--- Why a line can't be expected of the host of so many devices, if it can't: it sets reports, and gives no events. Example:
+-- Why a line can't be expected of the host of so many devices, if it can't: it sets reports, and reports no events. Example:
 -- 1 down 07:04 is refused, 1 output 0 02 isn't
 abbrev pub refusal_of_words : ℕ → List Word → Option LineCause
 refusal_of_words count [] = Some NotServed

@@ -78,8 +78,8 @@ abbrev pub control_meant : List ExportedDevice → ℕ → Named → Result (ℕ
 control_meant ds dev named = control_by ds named (place_of (length ds) dev)
 
 -- a control changes that a line names
-abbrev pub read_with_change : Read → ℕ → ℕ → Named → ChangeKind → Result Read LineCause
-read_with_change r number dev named wanted = with_action r number (change_found (change_of wanted) (control_meant r.devices dev named))
+abbrev pub read_after_change : Read → ℕ → ℕ → Named → ChangeKind → Result Read LineCause
+read_after_change r number dev named wanted = with_action r number (change_found (change_of wanted) (control_meant r.devices dev named))
 
 -- a device whose descriptor stands in words of hex
 abbrev pub AttachesHex : Read → Boot → Option (List ℕ) → Result Read LineCause → Type 0
@@ -114,7 +114,7 @@ abbrev pub PartGives : LabRead → ℕ → Said → Result LabRead LineCause →
 PartGives r number (lab.Script bytes) result = Reads (LineGives r.read number bytes) r result
 PartGives r number (lab.Short line) result = Reads (Gives r.read number (lines_of.Step line)) r result
 PartGives r number (lab.Device start boot words) result = Reads (AttachesHex r.read boot (hex_of words)) r result
-PartGives r number (lab.Change dev named wanted) result = result ≡ with_read r (read_with_change r.read number dev named wanted)
+PartGives r number (lab.Change dev named wanted) result = result ≡ with_read r (read_after_change r.read number dev named wanted)
 PartGives r number (lab.Expect words) result =
     Expects r number words (refusal_of_words (length r.read.devices) words) result
 PartGives r number lab.ExpectNone result = ExpectsMore r number [] Nothing result

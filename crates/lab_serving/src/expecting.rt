@@ -62,7 +62,7 @@ fn report_refusal(text: &[u8]) -> Option<LineCause>
     }
 }
 
-/// Why a line can't be expected of the host of so many devices, if it can't: it sets reports, and gives no events.
+/// Why a line can't be expected of the host of so many devices, if it can't: it sets reports, and reports no events.
 pub(crate) fn expected_refusal(count: usize, line: &[u8]) -> Option<LineCause>
     ensures { result ≡ refusal_of_words count (words_of line.now) }
 {

@@ -1,6 +1,7 @@
 pub mod DoingLemmas
 pub mod FateLemmas
 pub mod LawLemmas
+pub mod NothingLemmas
 pub mod PrintedLemmas
 pub mod RunLemmas
 pub mod ScriptLineLemmas

@@ -378,6 +378,10 @@ old_read bytes said (Ok new) is h = said_old bytes said (script_said new) is h
 old_read bytes said (Err TooLong) is h = absurd h
 old_read bytes said (Err (Wrong word expected)) is h = refused_old bytes said (is_file expected) is h
 
+-- a line that the bench refuses is refused by hidrun
+pub refused_there : (bytes : List ℕ) (refusal : Refusal) → IsScripts bytes → lab_meaning bytes ≡ Err refusal → meaning_of bytes ≡ Err fault.Syntax
+refused_there bytes refusal old is = (wrong_only bytes refusal (sym (ap is_script is) ∙ old.old) (subst (Agrees bytes) is (line_agrees bytes old.room))).0
+
 -- a line that hidrun reads is read so by the bench
 pub script_old : (bytes : List ℕ) (said : Line) → meaning_of bytes ≡ Ok said → IsScripts bytes
 unfolding meaning_of

@@ -32,7 +32,7 @@ ExpectsNone old new came (Ok _) = (is_none_at old ≡ true) × (waits new ≡ []
 ExpectsNone old new came (Err cause) =
     (is_none_at old ≡ false) × (new ≡ old) × (cause ≡ Unmet → came ≡ came_words (answer_to_none old))
 
--- Lines wait behind those that waited, unless too much was printed since the last expectation.
+-- Lines wait after those that waited, unless too much was printed since the last expectation.
 abbrev pub Keeps : Transcript → Transcript → List ℕ → Type 0
 Keeps old new text = new.is_cut ≡ false → (waits new ≡ waits old ++ text) × (old.is_cut ≡ false)
 

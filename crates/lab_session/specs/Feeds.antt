@@ -8,7 +8,7 @@ use Rattle.lab_lines.specs.LabLines as lab
 use Rattle.lab_session.specs.declared.need.Need.{Need}
 use Rattle.lab_session.specs.declared.need.Need.TheVariants as needs
 
--- Bytes that were to come stand behind what a room had; where no more may come none did, and none is left.
+-- Bytes that were to come stand after what a room had; where no more may come none did, and none is left.
 abbrev pub Feeds : Option (List ℕ) → Option (List ℕ) → List ℕ → List ℕ → Bool → Type 0
 Feeds before after old new more =
     (given : List ℕ) × Consumes before after given × (new ≡ old ++ given)

@@ -131,7 +131,7 @@ GoesOn first u text before now v rest count =
     → RunsAs v w (session_of now.interpreter) (lines rest) count end
     → RunsAs u w (session_of first.interpreter) (lines text) before end)
 
--- the lines that end in a text were carried out, whatever comes behind it
+-- the lines that end in a text were carried out, whatever comes after it
 abbrev pub LinesRan : Bench → Bench → Option (List ℕ) → Option (List ℕ) → List ℕ → ℕ → List ℕ → Result Done LabFault → Type 0
 LinesRan old new u v text before more (Ok (done.Lines count rest)) = GoesOn old u (text ++ more) before new v (rest.now ++ more) count
 LinesRan old new u v text before more (Ok (done.Asks asked count rest)) = ⊥
@@ -143,7 +143,7 @@ Leaves text before (done.Lines count rest) =
     ((front : List ℕ) × (text ≡ front ++ rest.now)) × (count ≤ before + length text) × IsUnbroken rest.now
 Leaves text before (done.Asks asked count rest) = ((front : List ℕ) × (text ≡ front ++ rest.now)) × (count ≤ before + length text)
 
--- the lines that had come whole were carried out, whatever comes behind them
+-- the lines that had come whole were carried out, whatever comes after them
 abbrev pub AheadRan : Bench → Bench → Option (List ℕ) → Option (List ℕ) → Ahead → Ahead → List ℕ → Result (Option Need) LabFault → Type 0
 AheadRan old new u v before after more (Ok None) =
     GoesOn old u (unread before ++ more) before.lines new v (unread after ++ more) after.lines

@@ -29,7 +29,7 @@ use hid_requests::Boot;
 use hid_script::{Cause, Interpreter, Options, Sink, StepFault};
 use hid_snapshots::ChangeFault;
 use hid_stack::{Rig, StackFault, Start, Step, Told};
-use hid_text::{ChangeKind, ShortLine, read_short};
+use hid_text::{ChangeKind, ShortLine, read_short, says_nothing};
 use lab_expectations::Expectation;
 use lab_lines::{
     ControlName, Key, LEFT_SHIFT, LabLine, TypedText, find_control, key_of, read_hex, read_lab_line,
@@ -207,6 +207,9 @@ impl Bench {
         ensures unsettled { end_of result ≡ Err LabCause.Unsettled
             → (dev : ℕ) × StaysUnsettled dev (moment_of self.new) }
     {
+        if says_nothing(line) {
+            return Ok(None);
+        }
         // Most lines are short, and no new line is.
         if let Some(short) = read_short(line) {
             self.short_line(&short, writer)?;
@@ -225,6 +228,7 @@ impl Bench {
     ///
     /// # Errors
     /// Why the line is not carried out; what it printed before stands.
+    #[inline(never)] // most lines are short
     #[tactic(auto, unfolding(crate::specs::Lines::LineDoes))]
     pub fn carry_out<W: Sink>(&mut self, line: &LabLine<'_>, writer: &mut W) -> Result<(), LabCause>
         ensures does { OnOk result (Does (LineDoes self.old.options.seed (said_of line.now))
@@ -288,6 +292,7 @@ impl Bench {
     }
 
     /// A short line of a script, whose fates are those that it says.
+    #[inline(always)] // most lines are short
     fn short_part<W: Sink>(&mut self, short: &ShortLine, writer: &mut W) -> Result<(), Cause>
         ensures prints { IsPlain self.old.options → AppendsOutput (W.contents writer.old)
             (W.contents writer.new)
@@ -406,6 +411,7 @@ impl Bench {
     }
 
     /// A short line of a script, with the fates that are drawn.
+    #[inline(always)] // most lines are short
     #[tactic(auto, unfolding(crate::specs::Lines::ShortLineDoes))]
     fn short_line<W: Sink>(&mut self, short: &ShortLine, writer: &mut W) -> Result<(), Cause>
         ensures prints { IsPlain self.old.options → IsUndrawn (moment_of self.old)
@@ -447,6 +453,7 @@ impl Bench {
     }
 
     /// `poll D FATE N`.
+    #[inline(always)] // most lines poll
     fn poll_line<W: Sink>(
         &mut self,
         dev: u8,
@@ -488,6 +495,7 @@ impl Bench {
     }
 
     /// Polls a device once. Whether it answered that it has nothing to send.
+    #[inline(always)] // a poll of a device that has nothing to send does little
     fn poll<W: Sink>(&mut self, dev: u8, said: Fate, writer: &mut W) -> Result<bool, Cause>
         ensures does { IfOk result (λ idle. Does (PollsOnce dev said idle) self.old self.new
             (W.contents writer.old) (W.contents writer.new)) }

@@ -16,7 +16,7 @@ pub trait Feed {
     // The bytes that will be given from here on, where they are known.
     ghost remaining: { Self → Option (List ℕ) } = { λ _. None };
 
-    /// Adds the bytes that come next behind those of a room. Whether more may come: at the end none do.
+    /// Adds the bytes that come next after those of a room. Whether more may come: at the end none do.
     ///
     /// # Errors
     /// X5 where a read failed; X7.

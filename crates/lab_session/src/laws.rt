@@ -13,7 +13,7 @@ pub fn lines_are_parts()
     ensures any { LinesAreParts }
 {}
 
-/// What lines do in turn is what their parts do, one list behind the other.
+/// What lines do in turn is what their parts do, one list after the other.
 pub fn parts_join()
     ensures { PartsJoin }
 {}

@@ -91,6 +91,7 @@ pub(crate) fn without_return(line: &[u8]) -> &[u8]
 }
 
 /// Carries out a line, with so many lines before it.
+#[inline(always)] // most lines do little
 fn run_line<'a, W: Sink>(
     bench: &mut Bench,
     before: usize,

@@ -8,7 +8,15 @@ use Rattle.lab_lines.specs.LabLines.{said_of, refusal_of}
 use Rattle.lab_session.specs.Scripts.{PrintsAs, end_of}
 use Rattle.lab_session.proofs.DoingLemmas.{err_is, line_unsettled}
 use Rattle.lab_session.proofs.ScriptLineLemmas.{as_script, short_read, unread_refused}
+use Rattle.lab_session.proofs.NothingLemmas.{nothing_done, nothing_prints}
 use Rattle.lab_session.proofs.bench.Bench.line.Goals as goal
+
+pub returns-then-says_nothing-clause-does : goal.returns-then-says_nothing-clause-does
+returns-then-says_nothing-clause-does g c = nothing_done c.args.line.now c.args.self.now (g.W.Sink.contents c.args.writer.now) (c.if-says_nothing.ensures refl)
+
+pub returns-then-says_nothing-clause-prints : goal.returns-then-says_nothing-clause-prints
+returns-then-says_nothing-clause-prints g c = λ plain undrawn old.
+    nothing_prints (g.W.Sink.contents c.args.writer.now) (session_of c.args.self.now.interpreter) c.args.line.now (c.if-says_nothing.ensures refl)
 
 pub returns-in_err-carry_out-in-Ok-clause-prints : goal.returns-in_err-carry_out-in-Ok-clause-prints
 returns-in_err-carry_out-in-Ok-clause-prints g c = λ plain undrawn old.
