@@ -1,6 +1,6 @@
 -- Times are ASCII, and the bytes of words are those of each, joined.
 use Rattle.std.proofs.Common.{◌≡◌, ℕ, ◌+◌, ◌<◌, ◌≤◌, Bool, true, false, cond, List, [], ◌∷◌, ◌++◌, ◌-◌, length, get_or, take, drop, take_all, append_assoc, append-nil, length-append, refl, sym, ap, ◌∙◌, arith, Option, None, Some, Result, Ok, Err, Bor, inl, inr, nat_eq, ⊎_elim}
-use Rattle.std.specs.Prelude.{MatchResult, ◌&&◌, is_ok, is_some, ok_or}
+use Rattle.std.specs.Prelude.{MatchResult, ◌&&◌, not, map, is_ok, is_some, ok_or}
 use Rattle.std.specs.Option.{option_map, option_and_then}
 use Rattle.std.specs.List.{list_all, flat_map}
 use Rattle.hex.specs.Hex.{decode_of, hex_digit_value}
@@ -16,7 +16,7 @@ use Rattle.std.specs.Result.{result_ok, result_unwrap_or}
 use Rattle.std.proofs.lemmas.List.Folds.{list_all_at}
 use Rattle.std.proofs.lemmas.Bool.{cases_Bool, or_cases, and_parts, leb-true, eqb-true, cond-true}
 use Rattle.hid_recording.specs.declared.fault.Refusal.TheVariants.{BadHex}
-use Rattle.hid_recording.specs.Words.{IsNone, IsNoHex, BeginsWithPair, ends_word, bytes_before, bad_byte_from, bad_byte, bytes_of, is_time_byte, is_time, time_of}
+use Rattle.hid_recording.specs.Words.{IsNone, IsNoHex, BeginsWithPair, ends_word, bytes_before, bad_byte_from, bad_byte, bytes_of, is_mark, as_blank, without_prefix, digit_words, is_time_byte, is_time, time_of}
 
 small : (b : ℕ) → is_time_byte b ≡ true → b < 128
 small b e = elim (or_cases _ _ e) [
@@ -169,6 +169,11 @@ pair_between : (high low : ℕ) (rest : List ℕ) → is_blank high ≡ false �
 pair_between high low [] first second ended = rw (first, second) refl
 pair_between high low (next ∷ rest) first second ended = rw (first, second, ended) refl
 
+-- a byte that is no mark is kept
+kept : (b : ℕ) (mark : Bool) → is_mark b ≡ mark → not mark ≡ true → as_blank b ≡ b
+kept b true is none = absurd (cc)
+kept b false is none = rw is refl
+
 -- a text begins with a space and two digits
 pub pair_first : (text : List ℕ) (byte : ℕ) → 3 ≤ length text → get_or text 0 0 ≡ 32 → ends_word (take (length text - 3) (drop 3 text)) ≡ true
     → pair_of (get_or text 1 0) (get_or text 2 0) ≡ Some byte → BeginsWithPair (words_of text) byte (words_of (take (length text - 3) (drop 3 text)))
@@ -182,7 +187,20 @@ pair_first (a ∷ high ∷ low ∷ rest) byte some space ended pair =
       high ∷ low ∷ [],
       ap (λ b. words_of (b ∷ high ∷ low ∷ rest)) space ∙ pair_between high low rest first second (rw left at ended) ∙ ap (λ l. (high ∷ low ∷ []) ∷ words_of l) (sym left),
       pair_alone high low ∙ ap (option_map (λ b. b ∷ [])) pair,
+      refl,
     )
+
+-- a text without commas and colons is as it stands
+pub none_marked : (text : List ℕ) → list_all (λ b. not (is_mark b)) text ≡ true → map as_blank text ≡ text
+none_marked [] plain = refl
+none_marked (b ∷ text) plain =
+    let parts = and_parts _ _ plain in
+    let here : as_blank b ≡ b = kept b (is_mark b) refl parts.0 in
+    rw here (ap (λ l. b ∷ l) (none_marked text parts.1))
+
+-- a word of digits is the first of its text's
+pub first_digits : (text word : List ℕ) (others : List (List ℕ)) → words_of text ≡ word ∷ others → digit_words text ≡ without_prefix word ∷ map without_prefix others
+first_digits text word others first = ap (map without_prefix) first
 
 -- why one word has no bytes is why all have none
 pub no_bytes : (cause : Cause) (words left others : List (List ℕ)) (word bytes : List ℕ) → IsReadTo words bytes left → left ≡ word ∷ others

@@ -2,7 +2,7 @@
 use Rattle.std.specs.Prelude.{◌≡◌, ℕ, ◌==◌, Bool, ◌&&◌, ◌||◌, nat_le, List, [], ◌∷◌, length, if◌then◌else◌, Option, None, Some, option_and_then, ok_or, Result, Ok, Err, MatchResult}
 use Rattle.std.specs.Global.{Vec}
 use Rattle.std.specs.List.{slice_split}
-use Rattle.hid_text.specs.Words.{Word, words_of}
+use Rattle.hid_text.specs.Words.{Word, words_of, after_word}
 use Rattle.hid_recording.specs.declared.dump.Address.{Address}
 use Rattle.hid_recording.specs.declared.dump.Content.{Content}
 use Rattle.hid_recording.specs.declared.dump.Content.TheVariants as contents
@@ -11,7 +11,7 @@ use Rattle.hid_recording.specs.declared.fault.Refusal.{Refusal}
 use Rattle.hid_recording.specs.declared.fault.Refusal.TheVariants.{Syntax, NoCount, BadCount, BadDevice, BadTime}
 use Rattle.hid_recording.specs.declared.record.Record.{Record}
 use Rattle.hid_recording.specs.declared.record.Record.TheVariants as records
-use Rattle.hid_recording.specs.Words.{IsNone, bytes_of, decimal_of, device_of_word, time_of, is_colon, address_of, content_of}
+use Rattle.hid_recording.specs.Words.{IsNone, bytes_of, spelled_bytes, decimal_of, device_of_word, time_of, is_colon, address_of, content_of}
 
 -- what a line says: nothing, or nothing but the end of a dump; which device the next lines are of; its report
 -- descriptor, or why the bytes of one can't be read, with the interface that it is of, if it is a dump; a report and
@@ -62,9 +62,9 @@ abbrev pub bytes_if_counted : Word → Result (List ℕ) Refusal → Result (Lis
 bytes_if_counted count (Ok bytes) = unless_refused (miscount (decimal_of count) (length bytes)) bytes
 bytes_if_counted count (Err refusal) = Err refusal
 
--- the bytes that words encode, if they are as many as a word counts. Example: 2 05 is R4
-abbrev pub counted_bytes : Word → List Word → Result (List ℕ) Refusal
-counted_bytes count hex = bytes_if_counted count (bytes_of hex)
+-- the bytes that a text spells, if they are as many as a word counts. Example: 2 05 is R4
+abbrev pub counted_bytes : Word → List ℕ → Result (List ℕ) Refusal
+counted_bytes count text = bytes_if_counted count (spelled_bytes text)
 
 -- what is said of the bytes that were read, or why there are none
 abbrev pub map_bytes : (List ℕ → LineMeaning) → Result (List ℕ) Refusal → Result LineMeaning Refusal
@@ -85,34 +85,42 @@ abbrev pub descriptor_or_unread : Result (List ℕ) Refusal → LineMeaning
 descriptor_or_unread (Ok bytes) = Descriptor bytes
 descriptor_or_unread (Err refusal) = Unread None refusal
 
--- what the words after `R:` say: COUNT HEX
-abbrev pub descriptor_record : List Word → LineMeaning
-descriptor_record (count ∷ hex) = descriptor_or_unread (counted_bytes count hex)
-descriptor_record [] = Unread None NoCount
+-- the descriptor that a text spells, if it has a count in front: the first of some words
+abbrev pub descriptor_behind : List Word → List ℕ → LineMeaning
+descriptor_behind (count ∷ words) text = descriptor_or_unread (counted_bytes count text)
+descriptor_behind [] text = Unread None NoCount
+
+-- what a text after `R:` says: COUNT BYTES
+abbrev pub descriptor_record : List ℕ → LineMeaning
+descriptor_record text = descriptor_behind (words_of text) (after_word text)
 
 -- what came at a time; BadTime where there is no time
-abbrev pub report_at_time : Option (List ℕ) → Word → List Word → Result LineMeaning Refusal
-report_at_time None count hex = Err BadTime
-report_at_time (Some time) count hex = map_bytes (Report time) (counted_bytes count hex)
+abbrev pub report_at_time : Option (List ℕ) → Word → List ℕ → Result LineMeaning Refusal
+report_at_time None count text = Err BadTime
+report_at_time (Some time) count text = map_bytes (Report time) (counted_bytes count text)
 
--- what the words after `E:` say: TIME COUNT HEX
-abbrev pub report_record : List Word → Result LineMeaning Refusal
-report_record (time ∷ count ∷ hex) = report_at_time (time_of time) count hex
-report_record _ = Err NoCount
+-- the report that a text spells, if it has a time and a count in front: the first two of some words
+abbrev pub report_behind : List Word → List ℕ → Result LineMeaning Refusal
+report_behind (time ∷ count ∷ words) text = report_at_time (time_of time) count text
+report_behind _ text = Err NoCount
 
--- what the words after a letter say: N, P and I name a device, D numbers it, R has its descriptor, E a report
-unfoldable pub words_record : ℕ → List Word → Result LineMeaning Refusal
-words_record letter words =
+-- what a text after `E:` says: TIME COUNT BYTES
+abbrev pub report_record : List ℕ → Result LineMeaning Refusal
+report_record text = report_behind (words_of text) (after_word (after_word text))
+
+-- what a text after a letter says: N, P and I name a device, D numbers it, R has its descriptor, E a report
+unfoldable pub text_record : ℕ → List ℕ → Result LineMeaning Refusal
+text_record letter text =
     if letter == 78 || letter == 80 || letter == 73 then Ok Nothing
-    else if letter == 68 then device_record words
-    else if letter == 82 then Ok (descriptor_record words)
-    else if letter == 69 then report_record words
+    else if letter == 68 then device_record (words_of text)
+    else if letter == 82 then Ok (descriptor_record text)
+    else if letter == 69 then report_record text
     else Err Syntax
 
--- a letter with a colon after it, and words
+-- a letter with a colon after it, and a text
 abbrev pub letter_record : ℕ → List ℕ → Result LineMeaning Refusal
 letter_record letter [] = Err Syntax
-letter_record letter (colon ∷ rest) = if colon == 58 then words_record letter (words_of rest) else Err Syntax
+letter_record letter (colon ∷ rest) = if colon == 58 then text_record letter rest else Err Syntax
 
 -- what the words after a space say: HEX, of a dump
 abbrev pub dump_record : List Word → Result LineMeaning Refusal

@@ -1,5 +1,5 @@
 -- Refusals as they are printed (our choice: docs/RECORDINGS.md).
-use Rattle.std.specs.Prelude.{ℕ, List, [], ◌∷◌, ◌++◌, if◌then◌else◌, codes}
+use Rattle.std.specs.Prelude.{ℕ, ◌==◌, List, [], ◌∷◌, ◌++◌, if◌then◌else◌, codes}
 use Rattle.std.specs.Fmt.{decimal}
 use Rattle.hid_snapshots.specs.declared.fault.ReportFault.{ReportFault}
 use Rattle.hid_snapshots.specs.declared.fault.ReportFault.TheVariants.{Short, UnknownReport}
@@ -18,13 +18,17 @@ abbrev pub report_words : ReportFault → List ℕ
 report_words Short = codes "the report is too short"
 report_words UnknownReport = codes "the device has no such Input report"
 
+-- how many bytes there are, in words
+abbrev pub bytes_text : ℕ → List ℕ
+bytes_text found =
+    if found == 1 then codes ", there is 1 byte" else codes ", there are " ++ (decimal found ++ codes " bytes")
+
 -- a refusal as its code, and words
 abbrev pub refusal_text : Refusal → List ℕ
 refusal_text Syntax = codes "R1: no line of a recording"
 refusal_text (BadHex at) = codes "R3 at " ++ (decimal at ++ codes ": a byte isn't two hex digits")
 refusal_text NoCount = codes "R4: the count is missing, or no number"
-refusal_text (BadCount said found) =
-    codes "R4: the count says " ++ (decimal said ++ (codes ", there are " ++ (decimal found ++ codes " bytes")))
+refusal_text (BadCount said found) = codes "R4: the count says " ++ (decimal said ++ bytes_text found)
 refusal_text Truncated = codes "R4: the frame was cut off when it was captured"
 refusal_text BadDevice = codes "R5: the device isn't a number from 0 to 15"
 refusal_text BadTime = codes "R6: the time isn't digits and points"

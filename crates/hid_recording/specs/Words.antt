@@ -1,6 +1,6 @@
 -- What the words of a recording's lines say (our choice: docs/RECORDINGS.md).
 use Rattle.std.specs.Borrow.{Bor}
-use Rattle.std.specs.Prelude.{⊤, ◌≡◌, ℕ, ◌+◌, ◌==◌, ◌-◌, ◌^◌, Bool, true, ◌&&◌, ◌||◌, nat_le, List, [], ◌∷◌, ◌++◌, length, min, if◌then◌else◌, Option, None, Some, is_some, ok_or, Result, Ok, Err, codes}
+use Rattle.std.specs.Prelude.{⊤, ◌≡◌, ℕ, ◌+◌, ◌==◌, ◌-◌, ◌^◌, Bool, true, ◌&&◌, ◌||◌, nat_le, List, [], ◌∷◌, ◌++◌, length, map, min, if◌then◌else◌, Option, None, Some, is_some, ok_or, Result, Ok, Err, codes}
 use Rattle.std.specs.List.{list_all}
 use Rattle.std.specs.Option.{option_map}
 use Rattle.std.specs.Result.{result_ok}
@@ -51,14 +51,37 @@ abbrev pub IsNoHex : Cause → ℕ → Word → Type 0
 IsNoHex Memory count word = ⊤
 IsNoHex cause count word = (cause ≡ Refused (BadHex (count + bytes_before word))) × (result_ok (decode_of word) ≡ None)
 
+-- a comma or a colon, which may stand between bytes
+abbrev pub is_mark : ℕ → Bool
+is_mark b = b == 44 || b == 58
+
+-- a byte of a text, a blank for a comma or a colon
+abbrev pub as_blank : ℕ → ℕ
+as_blank b = if is_mark b then 32 else b
+
+-- a word without the 0x in front of its digits, if it has one
+abbrev pub without_prefix : Word → Word
+without_prefix (zero' ∷ x ∷ digit ∷ digits) = if zero' == 48 && (x == 120 || x == 88) then digit ∷ digits else zero' ∷ x ∷ digit ∷ digits
+without_prefix word = word
+
+-- the words of a text, without the 0x in front of their digits
+abbrev pub digit_words : List ℕ → List Word
+digit_words text = map without_prefix (words_of text)
+
+-- The bytes that a text spells, or the first that isn't two digits: words of hex with blanks, commas or colons between them, with
+-- 0x in front of each or without. Example: 0x05, 01:a1 is 05 01 A1
+abbrev pub spelled_bytes : List ℕ → Result (List ℕ) Refusal
+spelled_bytes text = bytes_of (digit_words (map as_blank text))
+
 -- a text ends, or a blank comes: a word before it is at its end
 abbrev pub ends_word : List ℕ → Bool
 ends_word [] = true
 ends_word (next ∷ rest) = is_blank next
 
--- words begin with two hex digits that encode a byte, before others
+-- words begin with two hex digits that encode a byte and are no prefix, before others
 abbrev pub BeginsWithPair : List Word → ℕ → List Word → Type 0
-BeginsWithPair words byte others = (word : Word) × (words ≡ word ∷ others) × (result_ok (decode_of word) ≡ Some (byte ∷ []))
+BeginsWithPair words byte others =
+    (word : Word) × (words ≡ word ∷ others) × (result_ok (decode_of word) ≡ Some (byte ∷ [])) × (without_prefix word ≡ word)
 
 -- bytes grew by those that a word encodes; or why they didn't
 abbrev pub AddsBytes : List ℕ → List ℕ → Word → Result (Unit {0}) Cause → Type 0
@@ -71,6 +94,14 @@ AddsFirst old new words (Ok None) = (words ≡ []) × (new ≡ old)
 AddsFirst old new words (Ok (Some text)) =
     (word : Word) × (more : List ℕ) × (words ≡ word ∷ words_of text.now) × (result_ok (decode_of word) ≡ Some more) × (new ≡ old ++ more)
 AddsFirst old new words (Err cause) = (word : Word) × (others : List Word) × (words ≡ word ∷ others) × IsNoHex cause (length old) word
+
+-- bytes grew by those that the first word of digits encodes, before the words of the text that is left; there is no word; or why
+-- they didn't
+abbrev pub AddsDigits : List ℕ → List ℕ → List Word → Result (Option (Bor (List ℕ))) Cause → Type 0
+AddsDigits old new words (Ok None) = (words ≡ []) × (new ≡ old)
+AddsDigits old new words (Ok (Some text)) =
+    (word : Word) × (more : List ℕ) × (words ≡ word ∷ digit_words text.now) × (result_ok (decode_of word) ≡ Some more) × (new ≡ old ++ more)
+AddsDigits old new words (Err cause) = (word : Word) × (others : List Word) × (words ≡ word ∷ others) × IsNoHex cause (length old) word
 
 -- the number that decimal digits encode, 2 to the 64 less 1 at most
 abbrev pub decimal_of : Word → Option ℕ

@@ -28,6 +28,9 @@ impl fmt::Display for Refusal {
                 return write!(f, "R3 at {at}: a byte isn't two hex digits");
             }
             Refusal::NoCount => "R4: the count is missing, or no number",
+            Refusal::BadCount { said, found: 1 } => {
+                return write!(f, "R4: the count says {said}, there is 1 byte");
+            }
             Refusal::BadCount { said, found } => {
                 return write!(f, "R4: the count says {said}, there are {found} bytes");
             }

@@ -60,6 +60,7 @@ mod player;
 mod record;
 mod recording;
 mod runs;
+mod spelled;
 mod summary;
 
 pub use binary::descriptor_line;

@@ -63,7 +63,10 @@ fn add_decoded(alloc: Global, bytes: &mut Vec<u8>, word: &[u8]) -> Result<(), Ca
 }
 
 /// Adds the bytes that a word encodes: two hex digits for each.
-fn add_word(alloc: Global, bytes: &mut Vec<u8>, word: &[u8]) -> Result<(), Cause>
+///
+/// # Errors
+/// R3 at the first byte that isn't two digits, R10 if memory runs out.
+pub fn add_word(alloc: Global, bytes: &mut Vec<u8>, word: &[u8]) -> Result<(), Cause>
     ensures { AddsBytes bytes.old.items bytes.new.items word.now result }
 {
     let [high, low] = word else {
@@ -92,7 +95,7 @@ fn ends_word(text: &[u8]) -> bool
 
 /// The byte of two hex digits between blanks, the first of them a space, and what stands after the digits. It takes a fraction
 /// of the time of [`first_word`]; most words of a recording are such.
-fn next_pair(text: &[u8]) -> Option<(u8, &[u8])>
+pub fn next_pair(text: &[u8]) -> Option<(u8, &[u8])>
     ensures pair { IfSome result (λ found. BeginsWithPair (words_of text.now) found.0 (words_of found.1.now)) }
     ensures room { IfSome result (λ found. length found.1.now < length text.now) }
 {

@@ -4,7 +4,7 @@ ghost use Rattle.std.specs.Prelude.{◌≡◌, ◌≢◌, Ok, Err, IfErr, MatchR
 ghost use Rattle.hid_text.specs.Words.{words_of};
 ghost use Rattle.std.specs.Option.{option_map};
 ghost use Rattle.hid_recording.specs.Words.{IsNone, decimal_of};
-ghost use Rattle.hid_recording.specs.Records.{record_of, words_record, device_record, descriptor_record, report_record, counted_bytes, miscount, only_word, dump_record, header_record, begins_at, dump_begin, time_record, ReadsRecord};
+ghost use Rattle.hid_recording.specs.Records.{record_of, text_record, device_record, descriptor_record, report_record, counted_bytes, miscount, only_word, dump_record, header_record, begins_at, dump_begin, time_record, ReadsRecord};
 ghost use Rattle.hid_recording.specs.MemoryUse.{RunsOutIf, has_words};
 
 use super::dump::{Address, Content};
@@ -13,6 +13,7 @@ use super::line_fields::{
     DeviceNumber, parts_of_word, read_address, read_bytes, read_content, read_count, read_device,
     read_time,
 };
+use super::spelled::read_spelled;
 use hid_text::first_word;
 use std::alloc::Global;
 
@@ -25,14 +26,14 @@ pub enum Record<'a> {
     Blank,
     /// `D: DEVICE`: what follows is of this device.
     Device(DeviceNumber),
-    /// `R: COUNT HEX`: the report descriptor of the device.
+    /// `R: COUNT BYTES`: the report descriptor of the device.
     Descriptor(Vec<u8>),
     /// A report descriptor whose bytes can't be read; or a refused head of a descriptor's dump, with its interface.
     Unread {
         interface: Option<Address>,
         refusal: Refusal,
     },
-    /// `E: TIME COUNT HEX`: a report of the device.
+    /// `E: TIME COUNT BYTES`: a report of the device.
     Report {
         time: &'a str,
         bytes: Vec<u8>,
@@ -67,10 +68,10 @@ pub fn read_record(alloc: Global, line: &[u8]) -> Result<Record<'_>, Cause>
     }
 }
 
-/// Reads the words after the letter.
-#[tactic(auto, unfolding(crate::specs::Records::words_record))]
+/// Reads the text after the letter.
+#[tactic(auto, unfolding(crate::specs::Records::text_record))]
 fn read_words(alloc: Global, letter: u8, text: &[u8]) -> Result<Record<'_>, Cause>
-    ensures { ReadsRecord result (words_record letter (words_of text.now)) }
+    ensures { ReadsRecord result (text_record letter text.now) }
 {
     match letter {
         b'N' | b'P' | b'I' => Ok(Record::Nothing),
@@ -118,22 +119,22 @@ fn miscount(count: &[u8], found: usize) -> Option<Refusal>
     }
 }
 
-/// Reads the bytes that the words of a text encode, if they are as many as the count says.
+/// Reads the bytes that a text spells, if they are as many as the count says.
 fn read_counted(alloc: Global, count: &[u8], text: &[u8]) -> Result<Vec<u8>, Cause>
     ensures { MatchResult result
-        (λ bytes. counted_bytes count.now (words_of text.now) ≡ Ok bytes.items)
-        (λ cause. IsNone cause (counted_bytes count.now (words_of text.now))) }
+        (λ bytes. counted_bytes count.now text.now ≡ Ok bytes.items)
+        (λ cause. IsNone cause (counted_bytes count.now text.now)) }
 {
-    let bytes = read_bytes(alloc, text)?;
+    let bytes = read_spelled(alloc, text)?;
     match miscount(count, bytes.len()) {
         None => Ok(bytes),
         Some(refusal) => Err(Cause::Refused(refusal)),
     }
 }
 
-/// Reads the words after `R:`, which are `COUNT HEX`.
+/// Reads the text after `R:`, which is `COUNT BYTES`.
 fn read_descriptor(alloc: Global, text: &[u8]) -> Result<Record<'_>, Cause>
-    ensures { ReadsRecord result (Ok (descriptor_record (words_of text.now))) }
+    ensures { ReadsRecord result (Ok (descriptor_record text.now)) }
 {
     let Some((count, hex)) = first_word(text) else {
         return Ok(Record::Unread {
@@ -151,9 +152,9 @@ fn read_descriptor(alloc: Global, text: &[u8]) -> Result<Record<'_>, Cause>
     }
 }
 
-/// Reads the words after `E:`, which are `TIME COUNT HEX`.
+/// Reads the text after `E:`, which is `TIME COUNT BYTES`.
 fn read_report(alloc: Global, text: &[u8]) -> Result<Record<'_>, Cause>
-    ensures { ReadsRecord result (report_record (words_of text.now)) }
+    ensures { ReadsRecord result (report_record text.now) }
 {
     let Some((time, behind)) = first_word(text) else {
         return Err(Cause::Refused(Refusal::NoCount));

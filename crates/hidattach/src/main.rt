@@ -23,35 +23,22 @@ mod turns;
 
 use args::{CliArgs, parse_args};
 use clap::error::ErrorKind;
+use command_words::{FileName, print_unread_words, words_of};
 use status::{FINE, OUTSIDE, WRONG_USAGE, exit_of};
+use std::fs;
 use std::process::ExitCode;
-use std::{env, fs, io};
 use turns::{Files, attach, open_requests};
 use usbip_session::End;
 
 fn main(rt: HostRuntime) -> ExitCode {
     let alloc = rt.alloc();
-    let args = match env::args(&rt) {
-        Ok(args) => args,
-        Err(error) => return ExitCode::from(print_no_words(&rt, error.kind())),
-    };
-    let words: Result<Vec<String>, _> = args.collect(alloc);
-    let Ok(words) = words else {
-        return ExitCode::from(OUTSIDE);
+    let words = match words_of(&rt) {
+        Ok(words) => words,
+        Err(fault) => return ExitCode::from(print_unread_words(&rt, "hidattach", &fault, "")),
     };
     match parse_args(alloc, words.as_slice()) {
         Ok(asked) => ExitCode::from(run(&rt, &asked)),
         Err(error) => ExitCode::from(print_bad_words(&rt, &error)),
-    }
-}
-
-/// Why the words of the command line can't be read: memory, or one isn't UTF-8.
-fn print_no_words(rt: &HostRuntime, kind: io::ErrorKind) -> u8 {
-    if kind == io::ErrorKind::InvalidData {
-        let _ = eprintln!(rt; "hidattach: a word of the command line isn't UTF-8");
-        WRONG_USAGE
-    } else {
-        OUTSIDE
     }
 }
 
@@ -96,7 +83,7 @@ fn run(rt: &HostRuntime, asked: &CliArgs<'_>) -> u8 {
         Ok(mut files) => attach(rt, asked, &bus_id, &mut files),
         Err(end) => end,
     };
-    let bus_id = asked.bus_id;
+    let bus_id = FileName(asked.bus_id);
     let _ = eprintln!(rt; "{bus_id}: {end}");
     exit_of(end)
 }

@@ -86,7 +86,7 @@ const TOLD: [Recorded; 31] = [
         "line 2: U9: the device has no such Input report\nline 3: L1 at 0: the descriptor ends in the middle of an item\nline 4: R7: the device has no descriptor\n"),
     ("lines that say nothing known", PLAIN,
         "X: 1\nD: 16\nD: x\nD:\nR:\nR: 2 05\nR: 1 5\nR: 1 0g\nE: 1\nE: x 1 00\nE: 1 1 00\r\n\r\n\nR 1\n",
-        "line 1: R1: no line of a recording\nline 2: R5: the device isn't a number from 0 to 15\nline 3: R5: the device isn't a number from 0 to 15\nline 4: R5: the device isn't a number from 0 to 15\nline 5: R4: the count is missing, or no number\nline 6: R4: the count says 2, there are 1 bytes\nline 7: R3 at 0: a byte isn't two hex digits\nline 8: R3 at 0: a byte isn't two hex digits\nline 9: R4: the count is missing, or no number\nline 10: R6: the time isn't digits and points\nline 11: R7: the device has no descriptor\nline 14: R1: no line of a recording\n"),
+        "line 1: R1: no line of a recording\nline 2: R5: the device isn't a number from 0 to 15\nline 3: R5: the device isn't a number from 0 to 15\nline 4: R5: the device isn't a number from 0 to 15\nline 5: R4: the count is missing, or no number\nline 6: R4: the count says 2, there is 1 byte\nline 7: R3 at 0: a byte isn't two hex digits\nline 8: R3 at 0: a byte isn't two hex digits\nline 9: R4: the count is missing, or no number\nline 10: R6: the time isn't digits and points\nline 11: R7: the device has no descriptor\nline 14: R1: no line of a recording\n"),
     ("a report that is cut off changes nothing", PLAIN,
         "R: 14 05 09 09 01 15 00 25 01 75 01 95 09 81 02\nE: 1 2 01 00\nE: 2 1 00\nE: 3 2 00 00",
         "1 0 down 09:01\nline 3: U8: the report is too short\n3 0 up 09:01\n"),
