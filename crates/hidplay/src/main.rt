@@ -19,7 +19,6 @@ mod end_line;
 mod fault;
 mod file_line;
 mod hidraw;
-mod name;
 mod progress;
 mod source;
 mod status;
@@ -28,46 +27,35 @@ mod watched_reader;
 
 use args::{CliArgs, parse_args};
 use clap::error::ErrorKind;
+use command_words::{FileName, print_unread_words, words_of};
 use end_line::end_line;
 use fault::{FileFault, Why, before_all};
 use file_line::file_line;
 use hid_recording::{Cause, GivenDescriptor, Summary, play_live};
 use hidraw::{ReportFile, descriptor_name, may_have_descriptor, node_of};
-use name::ShownName;
 use progress::Progress;
 use source::{Kind, Manner, play_source, read_descriptor};
 use status::{FINE, OUTSIDE, WRONG_USAGE, ends_all, exit_of, worse};
 use std::alloc::{AllocError, Global};
+use std::fs;
 use std::fs::File;
 use std::io::{self, BufWriter, IsTerminal, Read, Stderr, Write};
 use std::process::ExitCode;
-use std::{env, fs};
 use total::Total;
 use watched_reader::WatchedReader;
 
+/// What can be done where a name isn't UTF-8.
+const ADVICE: &str = ": give the file by < FILE";
+
 fn main(rt: HostRuntime) -> ExitCode {
     let alloc = rt.alloc();
-    let args = match env::args(&rt) {
-        Ok(args) => args,
-        Err(error) => return ExitCode::from(print_no_words(&rt, error.kind())),
-    };
-    let words: Result<Vec<String>, _> = args.collect(alloc);
-    let Ok(words) = words else {
-        return ExitCode::from(OUTSIDE);
+    let words = match words_of(&rt) {
+        Ok(words) => words,
+        Err(fault) => return ExitCode::from(print_unread_words(&rt, "hidplay", &fault, ADVICE)),
     };
     match parse_args(alloc, words.as_slice()) {
         Ok(asked) => ExitCode::from(play_with_descriptor(&rt, &asked)),
         Err(error) => ExitCode::from(print_bad_words(&rt, &error)),
-    }
-}
-
-/// Why the words of the command line can't be read: memory, or one isn't UTF-8.
-fn print_no_words(rt: &HostRuntime, kind: io::ErrorKind) -> u8 {
-    if kind == io::ErrorKind::InvalidData {
-        let _ = eprintln!(rt; "hidplay: a word of the command line isn't UTF-8");
-        WRONG_USAGE
-    } else {
-        OUTSIDE
     }
 }
 
@@ -130,7 +118,7 @@ fn play_without_descriptor(rt: &HostRuntime, asked: &CliArgs<'_>) -> u8 {
     if asked.kind == Kind::Live {
         for name in &asked.files {
             if !may_have_descriptor(rt, *name) {
-                let name = ShownName(*name);
+                let name = FileName(*name);
                 let _ = eprintln!(rt; "hidplay: {name}: no hidraw node: --live needs --descriptor");
                 return WRONG_USAGE;
             }
@@ -153,7 +141,7 @@ fn open_descriptor(rt: &HostRuntime, name: &str) -> Result<Vec<u8>, FileEnd> {
 
 /// Says on standard error what ended a file: its name, its place if it has one, the code, and the system's words.
 fn print_fault(rt: &HostRuntime, name: &str, end: &FileEnd) {
-    let name = ShownName(name);
+    let name = FileName(name);
     let FileFault { place, why, .. } = end.fault;
     let _ = match (place.counted(), end.system) {
         (Some((word, number)), Some(system)) => {
@@ -278,7 +266,7 @@ fn print_file<W: Write>(
         };
         out.write_all(line.as_slice())
     } else {
-        let name = ShownName(name);
+        let name = FileName(name);
         writeln!(out, "file {name}")
     };
     told.map_err(|_| Cause::Write)
