@@ -12,10 +12,10 @@ ghost use Rattle.hid_script.specs.Place.{AppendsOnce, AppendsOutput};
 ghost use Rattle.lab_expectations.specs.Expectations.{answer_of};
 ghost use Rattle.lab_session.specs.Asking.{asked_said};
 ghost use Rattle.lab_session.specs.Expecting.{Expects, ExpectsNone, IsForgotten, LineExpects, came_words};
-ghost use Rattle.lab_session.specs.Lines.{has_nothing};
 ghost use Rattle.lab_session.specs.Parts.{Says, Changes, LaysOut, ShowsValues, Attaches};
 ghost use Rattle.lab_session.specs.Printed.{IsPlain, is_styled, kept_cause};
 
+use super::answers::{ends_transfer, has_nothing, is_repeated};
 use super::asked::{Asked, asked_of, unread_cause};
 use super::counts::Counts;
 use super::draws::Draws;
@@ -28,15 +28,14 @@ use hid_layout::{ControlId, ControlKind, Usage};
 use hid_requests::Boot;
 use hid_script::{Cause, Interpreter, Options, Sink, StepFault};
 use hid_snapshots::ChangeFault;
-use hid_stack::{Rig, StackFault, Start, Step, Told};
+use hid_stack::{Rig, StackFault, Start, Step};
 use hid_text::{ChangeKind, ShortLine, read_short, says_nothing};
 use lab_expectations::Expectation;
 use lab_lines::{
     ControlName, Key, LEFT_SHIFT, LabLine, TypedText, find_control, key_of, read_hex, read_lab_line,
 };
 use std::alloc::{AllocError, Global};
-use usb_control::Progress;
-use usb_transact::{Fate, Took};
+use usb_transact::Fate;
 
 /// How often a change is polled for until the device has nothing to send.
 const MOST_POLLS: u16 = 100;
@@ -62,35 +61,6 @@ pub struct Bench {
 /// The refusal of a control that isn't there.
 fn no_control() -> Cause {
     Cause::Step(StepFault::Stack(StackFault::Refused(ChangeFault::NoSuchControl)))
-}
-
-/// Whether an answer to a poll is that there is nothing to send.
-fn has_nothing(told: &Told) -> bool
-    ensures { result ≡ has_nothing told.now }
-{
-    match told {
-        Told::Polled {
-            took: Took::Nak,
-            ..
-        } => true,
-        _ => false,
-    }
-}
-
-/// Whether an answer to a poll is data that the host had already.
-fn is_repeated(told: &Told) -> bool {
-    matches!(
-        told,
-        Told::Polled {
-            took: Took::Again,
-            ..
-        }
-    )
-}
-
-/// Whether a try was the last one of its transfer, and the transfer is done.
-fn ends_transfer(told: &Told) -> bool {
-    matches!(told, Told::Transfer(Progress::Done))
 }
 
 /// Why a part ended early whose text was kept first: where there was no room to keep it, memory ran out.

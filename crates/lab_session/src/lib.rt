@@ -14,6 +14,7 @@
 #![tactic(auto)]
 
 mod ahead;
+mod answers;
 mod asked;
 mod bench;
 mod counts;
