@@ -1,10 +1,10 @@
 -- Bytes in decimal numbers (our choice: docs/PICTURES.md).
-use Rattle.std.specs.Prelude.{◌≡◌, ℕ, ◌==◌, Bool, not, ◌&&◌, ◌||◌, List, ◌++◌, drop, if◌then◌else◌, Option, None}
-use Rattle.std.specs.List.{list_any, zip, All}
+use Rattle.std.specs.Prelude.{◌≡◌, ℕ, ◌==◌, Bool, not, ◌&&◌, ◌||◌, List, ◌++◌, drop, is_some, if◌then◌else◌, Option, None}
+use Rattle.std.specs.List.{list_any, list_all, zip, All}
 use Rattle.std.specs.Option.{option_to_list}
 use Rattle.std.specs.Char.{is_ascii_whitespace}
 use Rattle.hid_input.specs.declared.words.WordForm.TheVariants.{Number}
-use Rattle.hid_input.specs.Words.{all_bytes, word_bytes}
+use Rattle.hid_input.specs.Words.{all_bytes, word_bytes, marked_digits}
 use Rattle.hid_input.specs.Hex.{words_of}
 use Rattle.hid_input.specs.Dump.{is_blank, dumps_of}
 
@@ -26,10 +26,22 @@ is_narrow three = (not (is_ascii_whitespace three.0.0) && is_blank three.0.1) &&
 abbrev pub has_narrow_gap : List ℕ → Bool
 has_narrow_gap text = list_any is_narrow (threes text)
 
--- a text may be of decimal numbers if it has commas or semicolons, or wide gaps alone
-abbrev pub may_be_decimal : List ℕ → Bool
-may_be_decimal text =
+-- a text has commas or semicolons, or wide gaps alone
+abbrev pub has_columns : List ℕ → Bool
+has_columns text =
     (list_any (λ byte. byte == 44) text || list_any (λ byte. byte == 59) text) || (has_wide_gap text && not (has_narrow_gap text))
+
+-- a word is marked as hex
+abbrev pub is_marked : List ℕ → Bool
+is_marked word = is_some (marked_digits word)
+
+-- some words are marked as hex, and others aren't
+abbrev pub are_mixed : List (List ℕ) → Bool
+are_mixed words = list_any is_marked words && not (list_all is_marked words)
+
+-- a text may be of decimal numbers if it has columns or commas, or if some of its words alone are marked as hex
+abbrev pub may_be_decimal : List ℕ → Bool
+may_be_decimal text = has_columns text || are_mixed (words_of text)
 
 -- the bytes of decimal numbers
 unfoldable pub decimal_bytes : List ℕ → Option (List ℕ)

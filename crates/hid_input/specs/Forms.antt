@@ -1,21 +1,28 @@
 -- The forms of text that have a descriptor (our choice: docs/PICTURES.md).
-use Rattle.std.specs.Prelude.{◌≡◌, ◌⊎◌, ℕ, List, Some, if◌then◌else◌}
+use Rattle.std.specs.Prelude.{◌≡◌, ◌⊎◌, ℕ, true, false, List, Option, None, Some, if◌then◌else◌}
+use Rattle.std.specs.Option.{option_and_then}
 use Rattle.hid_input.specs.declared.fault.InputCause.TheVariants.{Memory}
 use Rattle.hid_input.specs.declared.fault.InputFault.{InputFault}
 use Rattle.hid_input.specs.declared.form.TextForm.{TextForm}
-use Rattle.hid_input.specs.declared.form.TextForm.TheVariants.{Dump, Hex, Recorded, Dumped, Listed, Array, Quoted, Other}
+use Rattle.hid_input.specs.declared.form.TextForm.TheVariants.{Dump, Hex, Recorded, Dumped, Listed, Unavailable, Array, Quoted, Unclear, Other}
 use Rattle.hid_input.specs.Faults.{of_text, IsOfHex}
 use Rattle.hid_input.specs.Hex.{lines_of, first_word, is_offset, is_spelled, spelled_bytes}
 use Rattle.hid_input.specs.Dump.{IsDump, HasNoOthers}
 use Rattle.hid_input.specs.Decimal.{IsOnlyHex}
 use Rattle.hid_input.specs.Recorded.{has_recorded, recorded_bytes, has_dumped, block_below, block_bytes}
-use Rattle.hid_input.specs.Listed.{has_listed, listed_bytes}
+use Rattle.hid_input.specs.Listed.{has_listed, listed_bytes, has_unavailable}
 use Rattle.hid_input.specs.Code.{code_of, has_array, array_bytes}
 use Rattle.hid_input.specs.Strings.{has_string}
 
--- the form of a text without comments: an array of C, a string, or none
-abbrev pub form_of_code : List ℕ → TextForm
-form_of_code code = if has_array code then Array else (if has_string code then Quoted else Other)
+-- the form of a text without comments, by its code with empty strings and with whole ones: an array of C, a string, or none
+abbrev pub form_of_code : List ℕ → List ℕ → TextForm
+form_of_code code strings = if has_array code then Array else (if has_string strings then Quoted else Other)
+
+-- the form of such a text, if it is clear where its comments and strings end
+abbrev pub form_in_code : Option (List ℕ) → Option (List ℕ) → TextForm
+form_in_code None strings = Unclear
+form_in_code (Some code) None = Unclear
+form_in_code (Some code) (Some strings) = form_of_code code strings
 
 -- the first form that a text has: a dump if its first word is an offset by its looks, hex, a line R: of hid-recorder, lines of
 -- usbhid-dump, items of lsusb, or an array or a string of C
@@ -25,7 +32,8 @@ form_of text =
     else (if is_spelled text then Hex
     else (if has_recorded text then Recorded
     else (if has_dumped text then Dumped
-    else (if has_listed text then Listed else form_of_code (code_of text)))))
+    else (if has_listed text then Listed
+    else (if has_unavailable text then Unavailable else form_in_code (code_of false text) (code_of true text))))))
 
 -- a text of a form encodes these bytes; of a string nothing is said, and other text encodes none
 abbrev pub Encodes : List ℕ → List ℕ → TextForm → Type 0
@@ -34,8 +42,10 @@ Encodes text bytes Hex = spelled_bytes text ≡ Some bytes
 Encodes text bytes Recorded = recorded_bytes (lines_of text) ≡ Some bytes
 Encodes text bytes Dumped = block_bytes (block_below (lines_of text)) ≡ Some bytes
 Encodes text bytes Listed = listed_bytes (lines_of text) ≡ Some bytes
-Encodes text bytes Array = array_bytes (code_of text) ≡ Some bytes
+Encodes text bytes Unavailable = ⊥
+Encodes text bytes Array = option_and_then array_bytes (code_of false text) ≡ Some bytes
 Encodes text bytes Quoted = Unit {0}
+Encodes text bytes Unclear = ⊥
 Encodes text bytes Other = ⊥
 
 -- a dump is no dump of other bytes in another way, nor are lines of usbhid-dump one; hex is neither that, nor numbers that are other bytes
@@ -52,8 +62,10 @@ IsFaultOf fault Hex = IsOfHex fault
 IsFaultOf fault Recorded = fault.cause ≡ Memory
 IsFaultOf fault Dumped = IsOfHex fault
 IsFaultOf fault Listed = fault.cause ≡ Memory
+IsFaultOf fault Unavailable = ⊥
 IsFaultOf fault Array = fault ≡ of_text Memory
 IsFaultOf fault Quoted = Unit {0}
+IsFaultOf fault Unclear = ⊥
 IsFaultOf fault Other = ⊥
 
 -- memory ran out; of strings nothing is said

@@ -1,5 +1,5 @@
 -- The items of a report descriptor as lsusb -v prints them (our choice: docs/PICTURES.md).
-use Rattle.std.specs.Prelude.{ℕ, ◌==◌, bit_or, Bool, ◌||◌, List, [], ◌∷◌, length, take, is_some, if◌then◌else◌, Option, None, Some, codes, nat_eq}
+use Rattle.std.specs.Prelude.{ℕ, ◌==◌, ◌-◌, ◌+◌, ◌*◌, bit_or, Bool, false, ◌&&◌, ◌||◌, nat_le, List, [], ◌∷◌, length, slice_index, take, drop, is_some, if◌then◌else◌, Option, None, Some, codes, nat_eq}
 use Rattle.std.specs.List.{list_any, find, ends_with}
 use Rattle.std.specs.Str.{bytes_eq}
 use Rattle.std.specs.Option.{option_map, option_and_then}
@@ -57,10 +57,43 @@ sized_item None body = None
 sized_item (Some prefix) None = None
 sized_item (Some prefix) (Some body) = option_map (λ size. bit_or prefix size ∷ body) (size_code (length body))
 
--- data in brackets: bytes in hex
+-- the number that the bytes of an item's data are, the lowest first (HID 1.11, 5.8)
+abbrev pub data_number : List ℕ → Option ℕ
+data_number (first ∷ []) = Some first
+data_number (first ∷ second ∷ []) = Some (first + second * 256)
+data_number (first ∷ second ∷ third ∷ fourth ∷ []) = Some (first + second * 256 + third * 65536 + fourth * 16777216)
+data_number _ = None
+
+-- a number of 32 bits below zero, in two's complement, without its sign
+abbrev pub negated_number : ℕ → Option ℕ
+negated_number number = if nat_le 1 number && nat_le number 2147483648 then Some (4294967296 - number) else None
+
+-- a decimal number, perhaps below zero, as lsusb prints one of four bytes
+abbrev pub signed_number : List ℕ → Option ℕ
+signed_number word =
+    if nat_le 1 (length word) && (slice_index word 0 == 45) then option_and_then negated_number (number_of 10 (drop 1 word))
+    else number_of 10 word
+
+-- two numbers are there, and the same
+abbrev pub are_same : Option ℕ → Option ℕ → Bool
+are_same None other = false
+are_same (Some one) None = false
+are_same (Some one) (Some other) = one == other
+
+-- bytes, if this is their number
+abbrev pub numbered_bytes : Option (List ℕ) → List ℕ → Option (List ℕ)
+numbered_bytes None word = None
+numbered_bytes (Some bytes) word = if are_same (data_number bytes) (signed_number word) then Some bytes else None
+
+-- data at the place of the bracket that closes it: bytes in hex, and after the bracket their number, and nothing else
+abbrev pub closed_data : List ℕ → Option ℕ → Option (List ℕ)
+closed_data inside None = None
+closed_data inside (Some place) = numbered_bytes (cells_bytes Byte (take place inside)) (trimmed_text (drop (place + 1) inside))
+
+-- data in brackets
 abbrev pub bracketed_data : Option (List ℕ) → Option (List ℕ)
 bracketed_data None = None
-bracketed_data (Some inside) = option_and_then (λ place. cells_bytes Byte (take place inside)) (place_of 93 inside)
+bracketed_data (Some inside) = closed_data inside (place_of 93 inside)
 
 -- the data after the name of an item
 abbrev pub data_bytes : List ℕ → Option (List ℕ)
@@ -112,3 +145,11 @@ listed_bytes (line ∷ lines) = listed_here (length_in line) lines (listed_bytes
 -- some line of a text is one with a length
 abbrev pub has_listed : List ℕ → Bool
 has_listed text = list_any (λ line. is_some (length_in line)) (lines_of text)
+
+-- a line that lsusb prints in place of a report descriptor, where it couldn't read one
+abbrev pub is_unavailable : List ℕ → Bool
+is_unavailable line = bytes_eq (trimmed_text line) (codes "** UNAVAILABLE **")
+
+-- some line of a text is one
+abbrev pub has_unavailable : List ℕ → Bool
+has_unavailable text = list_any is_unavailable (lines_of text)

@@ -64,9 +64,13 @@ byte_of_word word = option_or (byte_of_pair word) (option_and_then byte_of_digit
 abbrev pub is_prefixed : List ℕ → Bool
 is_prefixed word = nat_le 2 (length word) && ((slice_index word 0 == 48) && is_x (slice_index word 1))
 
--- the byte of a number: in hex after 0x, else in decimal
+-- the byte of a number, by the digits that are marked as hex in it, else in decimal
+abbrev pub number_by : Option (List ℕ) → List ℕ → Option ℕ
+number_by (Some digits) word = byte_of_digits digits
+number_by None word = byte_in_base 10 word
+
 abbrev pub number_byte : List ℕ → Option ℕ
-number_byte word = if is_prefixed word then byte_in_base 16 (drop 2 word) else byte_in_base 10 word
+number_byte word = number_by (marked_digits word) word
 
 -- one byte, if two readings give it
 abbrev pub same_byte : Option ℕ → Option ℕ → Option ℕ

@@ -1,13 +1,15 @@
 //! The elements of an array in a source text, or elements alone.
 
-ghost use Rattle.std.specs.Prelude.{◌≡◌, ◌++◌, ◌∷◌, ℕ, List, [], Some, OnOk, IfOk, IfErr, map, drop, if◌then◌else◌};
+ghost use Rattle.std.specs.Prelude.{◌≡◌, ◌==◌, ◌++◌, ◌∷◌, ℕ, false, List, [], Some, OnOk, IfOk, IfErr, map, drop, if◌then◌else◌};
 ghost use Rattle.std.specs.List.{list_any, list_all, zip, slice_split};
-ghost use Rattle.std.specs.Option.{option_map, option_copied};
+ghost use Rattle.std.specs.Option.{option_map, option_and_then, option_copied};
 ghost use Rattle.hid_input.specs.Faults.{of_text};
-ghost use Rattle.hid_input.specs.Code.{place_in_code, place_after, code_part, code_end, code_from, code_of, begins_number, behind_brace, is_hex_mark, has_array, array_text, without_empty, is_comma, elements_bytes, array_bytes};
+ghost use Rattle.hid_input.specs.Words.{IsAdded};
+ghost use Rattle.hid_input.specs.Dump.{place_of};
+ghost use Rattle.hid_input.specs.Code.{place_in_code, is_line_end, is_splice, place_in_quotes, place_in_line, place_after_code, place_after_slash, place_after_splice, place_after_return, place_in_block, place_after_inner, place_after_star, place_after_turn, place_after, bytes_if, code_part, code_end, code_from, code_of, begins_number, behind_brace, is_hex_mark, has_array, is_array_end, ends_array, closed_text, elements_text, array_text, without_empty, is_comma, elements_bytes, array_bytes};
 
 use crate::fault::{InputCause, InputFault};
-use crate::parts::{in_front_of, is_empty_line, place_of, without_space};
+use crate::parts::{is_empty_line, place_of, without_space};
 use crate::words::{WordForm, is_x, read_words};
 use std::alloc::{AllocError, Global};
 
@@ -17,16 +19,26 @@ pub enum Place {
     Code,
     /// After a slash in code, which may begin a comment.
     Slash,
-    /// In a string or a character, which this quote ends, or the end of the line.
+    /// In a string or a character, which this quote ends.
     Quoted(u8),
     /// After a backslash in it.
     Escape(u8),
     /// After `//`.
     Line,
+    /// After a backslash there, and blanks.
+    Splice,
+    /// After a CR there.
+    Return,
     /// After `/*`.
     Block,
+    /// After a slash there, which may begin a comment in the comment.
+    Inner,
     /// After `*` there, which may end the comment.
     Star,
+    /// After a backslash behind that `*`, and ends of lines.
+    Turn,
+    /// After what some read as the end of a comment or a string, and others don't.
+    Unclear,
 }
 
 /// Where the next byte stands after one of code.
@@ -40,16 +52,151 @@ fn place_in_code(byte: u8) -> Place
     }
 }
 
+/// Whether a byte ends a line.
+fn is_line_end(byte: u8) -> bool
+    ensures { result ≡ is_line_end byte }
+{
+    byte == b'\n' || byte == b'\r'
+}
+
+/// Whether a byte may stand between a backslash and the end of its line.
+fn is_splice(byte: u8) -> bool
+    ensures { result ≡ is_splice byte }
+{
+    byte == b'\\' || byte == b' ' || byte == b'\t'
+}
+
 /// Where the next byte stands in a string or a character.
 fn place_in_quotes(quote: u8, byte: u8) -> Place
-    ensures { result ≡ place_after (Place.Quoted quote) byte }
+    ensures { result ≡ place_in_quotes quote byte }
 {
     if byte == b'\\' {
         Place::Escape(quote)
-    } else if byte == quote || byte == b'\n' {
+    } else if byte == quote {
         Place::Code
+    } else if is_line_end(byte) {
+        Place::Unclear
     } else {
         Place::Quoted(quote)
+    }
+}
+
+/// Where the next byte stands after `//`.
+fn place_in_line(byte: u8) -> Place
+    ensures { result ≡ place_in_line byte }
+{
+    if byte == b'\n' {
+        Place::Code
+    } else if byte == b'\r' {
+        Place::Return
+    } else if byte == b'\\' {
+        Place::Splice
+    } else {
+        Place::Line
+    }
+}
+
+/// Where the next byte stands after one of code, which may begin a comment.
+fn place_after_code(byte: u8) -> Place
+    ensures { result ≡ place_after_code byte }
+{
+    if byte == b'/' {
+        Place::Slash
+    } else {
+        place_in_code(byte)
+    }
+}
+
+/// Where the next byte stands after a slash in code.
+fn place_after_slash(byte: u8) -> Place
+    ensures { result ≡ place_after_slash byte }
+{
+    if byte == b'/' {
+        Place::Line
+    } else if byte == b'*' {
+        Place::Block
+    } else if byte == b'\\' {
+        Place::Unclear
+    } else {
+        place_in_code(byte)
+    }
+}
+
+/// Where the next byte stands after a backslash in a comment of `//`, and blanks.
+fn place_after_splice(byte: u8) -> Place
+    ensures { result ≡ place_after_splice byte }
+{
+    if is_line_end(byte) {
+        Place::Unclear
+    } else if is_splice(byte) {
+        Place::Splice
+    } else {
+        Place::Line
+    }
+}
+
+/// Where the next byte stands after a CR there.
+fn place_after_return(byte: u8) -> Place
+    ensures { result ≡ place_after_return byte }
+{
+    if byte == b'\n' {
+        Place::Code
+    } else {
+        Place::Unclear
+    }
+}
+
+/// Where the next byte stands after `/*`.
+fn place_in_block(byte: u8) -> Place
+    ensures { result ≡ place_in_block byte }
+{
+    if byte == b'*' {
+        Place::Star
+    } else if byte == b'/' {
+        Place::Inner
+    } else {
+        Place::Block
+    }
+}
+
+/// Where the next byte stands after a slash there.
+fn place_after_inner(byte: u8) -> Place
+    ensures { result ≡ place_after_inner byte }
+{
+    if byte == b'*' {
+        Place::Unclear
+    } else if byte == b'/' {
+        Place::Inner
+    } else {
+        Place::Block
+    }
+}
+
+/// Where the next byte stands after `*` there.
+fn place_after_star(byte: u8) -> Place
+    ensures { result ≡ place_after_star byte }
+{
+    if byte == b'/' {
+        Place::Code
+    } else if byte == b'*' {
+        Place::Star
+    } else if byte == b'\\' {
+        Place::Turn
+    } else {
+        Place::Block
+    }
+}
+
+/// Where the next byte stands after a backslash behind that, and ends of lines.
+fn place_after_turn(byte: u8) -> Place
+    ensures { result ≡ place_after_turn byte }
+{
+    if byte == b'/' {
+        Place::Unclear
+    } else if is_line_end(byte) || is_splice(byte) {
+        Place::Turn
+    } else {
+        place_in_block(byte)
     }
 }
 
@@ -58,91 +205,113 @@ fn place_after(place: Place, byte: u8) -> Place
     ensures { result ≡ place_after place byte }
 {
     match place {
-        Place::Code if byte == b'/' => Place::Slash,
-        Place::Code => place_in_code(byte),
-        Place::Slash if byte == b'/' => Place::Line,
-        Place::Slash if byte == b'*' => Place::Block,
-        Place::Slash => place_in_code(byte),
+        Place::Code => place_after_code(byte),
+        Place::Slash => place_after_slash(byte),
         Place::Quoted(quote) => place_in_quotes(quote, byte),
         Place::Escape(quote) => Place::Quoted(quote),
-        Place::Line if byte == b'\n' => Place::Code,
-        Place::Line => Place::Line,
-        Place::Block if byte == b'*' => Place::Star,
-        Place::Block => Place::Block,
-        Place::Star if byte == b'/' => Place::Code,
-        Place::Star if byte == b'*' => Place::Star,
-        Place::Star => Place::Block,
+        Place::Line => place_in_line(byte),
+        Place::Splice => place_after_splice(byte),
+        Place::Return => place_after_return(byte),
+        Place::Block => place_in_block(byte),
+        Place::Inner => place_after_inner(byte),
+        Place::Star => place_after_star(byte),
+        Place::Turn => place_after_turn(byte),
+        Place::Unclear => Place::Unclear,
     }
 }
 
-/// Adds a byte, and the slash that stands in front of it.
-fn add_slashed(code: &mut Vec<u8>, byte: u8) -> Result<(), AllocError>
-    ensures { OnOk result (code.new.items ≡ code.old.items ++ code_part Place.Slash byte) }
+/// Adds bytes, if they are to be there.
+fn add_if(code: &mut Vec<u8>, bytes: &[u8], are_there: bool) -> Result<(), AllocError>
+    ensures { OnOk result (code.new.items ≡ code.old.items ++ bytes_if are_there bytes.now) }
 {
-    if byte == b'/' || byte == b'*' {
-        return Ok(());
-    }
-    code.push(b'/')?;
-    code.push(byte)?;
-    Ok(())
-}
-
-/// Adds a byte, if it is to be added.
-fn add_if(code: &mut Vec<u8>, byte: u8, is_added: bool) -> Result<(), AllocError>
-    ensures { OnOk result (code.new.items ≡ code.old.items ++ (if is_added then byte ∷ [] else [])) }
-{
-    if is_added {
-        code.push(byte)?;
+    if are_there {
+        code.extend_from_slice(bytes)?;
     }
     Ok(())
 }
 
-/// Adds what stands for a byte in the text without comments.
-fn add_part(code: &mut Vec<u8>, place: Place, byte: u8) -> Result<(), AllocError>
-    ensures { OnOk result (code.new.items ≡ code.old.items ++ code_part place byte) }
+/// Adds what stands for a byte in the text without comments, with strings that are whole or empty.
+fn add_part(code: &mut Vec<u8>, place: Place, byte: u8, are_whole: bool) -> Result<(), AllocError>
+    ensures { OnOk result (code.new.items ≡ code.old.items ++ code_part are_whole place byte) }
 {
     match place {
-        Place::Code => add_if(code, byte, byte != b'/'),
-        Place::Slash => add_slashed(code, byte),
-        Place::Quoted(_) => add_if(code, byte, true),
-        Place::Escape(_) => add_if(code, byte, true),
-        Place::Line => add_if(code, b'\n', byte == b'\n'),
-        Place::Block => Ok(()),
-        Place::Star => add_if(code, b' ', byte == b'/'),
+        Place::Code => add_if(code, &[byte], byte != b'/'),
+        Place::Slash => add_if(code, &[b'/', byte], byte != b'/' && byte != b'*'),
+        Place::Quoted(quote) => add_if(code, &[byte], are_whole || byte == quote),
+        Place::Escape(_) => add_if(code, &[byte], are_whole),
+        Place::Line | Place::Return => add_if(code, b"\n", byte == b'\n'),
+        Place::Star => add_if(code, b" ", byte == b'/'),
+        Place::Splice | Place::Block | Place::Inner | Place::Turn | Place::Unclear => Ok(()),
     }
 }
 
-/// Adds what stands for the end of the text.
-fn add_end(code: &mut Vec<u8>, place: Place) -> Result<(), AllocError>
-    ensures { OnOk result (code.new.items ≡ code.old.items ++ code_end place) }
+/// Adds what stands for the end of the text; false where it ends in a comment or a string.
+fn add_end(code: &mut Vec<u8>, place: Place) -> Result<bool, AllocError>
+    ensures { IfOk result (λ is_clear. IsAdded code.old.items (code_end place) is_clear code.new.items) }
 {
     match place {
-        Place::Slash => add_if(code, b'/', true),
-        Place::Code
-        | Place::Quoted(_)
+        Place::Code | Place::Line | Place::Splice | Place::Return => Ok(true),
+        Place::Slash => {
+            code.push(b'/')?;
+            Ok(true)
+        }
+        Place::Quoted(_)
         | Place::Escape(_)
-        | Place::Line
         | Place::Block
-        | Place::Star => Ok(()),
+        | Place::Inner
+        | Place::Star
+        | Place::Turn
+        | Place::Unclear => Ok(false),
     }
 }
 
-/// The text of C with a blank or an end of line for each comment. What looks like one in a string is none.
+/// The text of C with a blank or an end of line for each comment, and with strings that are whole, or empty but for their quotes.
+/// What looks like a comment in a string is none. There is no such text where it isn't clear how far a comment or a string goes.
 ///
 /// # Errors
 /// Out of memory.
 #[tactic(auto, unfolding(crate::specs::Code::code_of))]
-pub fn without_comments(alloc: Global, text: &[u8]) -> Result<Vec<u8>, AllocError>
-    ensures { IfOk result (λ code. code.items ≡ code_of text.now) }
+pub fn without_comments(
+    alloc: Global,
+    text: &[u8],
+    are_whole: bool,
+) -> Result<Option<Vec<u8>>, AllocError>
+    ensures { IfOk result (λ read. option_map (λ code. code.items) read ≡ code_of are_whole text.now) }
 {
     let mut code = Vec::new(alloc);
     let mut place = Place::Code;
     for byte in text {
-        add_part(&mut code, place, *byte)?;
+        add_part(&mut code, place, *byte, are_whole)?;
         place = place_after(place, *byte);
     }
-    add_end(&mut code, place)?;
-    Ok(code)
+    if add_end(&mut code, place)? {
+        Ok(Some(code))
+    } else {
+        Ok(None)
+    }
+}
+
+/// Why it isn't clear how far a comment or a string goes: the line in which that is met, or a comment of which the end isn't there.
+pub fn unclear_code(text: &[u8]) -> InputFault {
+    let mut place = Place::Code;
+    let mut line = 1u64;
+    let mut opened = 1;
+    for byte in text {
+        let next = place_after(place, *byte);
+        match (place, next) {
+            (_, Place::Unclear) => return InputFault::of_line(line, InputCause::Unclear),
+            (Place::Slash, Place::Block) => opened = line,
+            _ => {}
+        }
+        if *byte == b'\n' {
+            line = line.saturating_add(1);
+        }
+        place = next;
+    }
+    match place {
+        Place::Quoted(_) | Place::Escape(_) => InputFault::of_line(line, InputCause::Unclear),
+        _ => InputFault::of_line(opened, InputCause::Unclear),
+    }
 }
 
 /// Whether a number stands first.
@@ -184,17 +353,50 @@ pub fn has_array(code: &[u8]) -> bool
     behind_brace(code).is_some() || has_hex_mark(code)
 }
 
-/// What stands between the first brace that a number follows and the one that closes; without such a brace what stands in front
-/// of one that closes, or all.
+/// Whether an array may end in front of this: one of `;`, `,`, `)` and `}`, or nothing.
+fn ends_array(rest: &[u8]) -> bool
+    ensures { result ≡ ends_array rest.now }
+{
+    let rest = without_space(rest);
+    rest.is_empty() || is_array_end(rest[0])
+}
+
+/// Whether a byte may stand after the brace that closes an array.
+fn is_array_end(byte: u8) -> bool
+    ensures { result ≡ is_array_end byte }
+{
+    matches!(byte, b';' | b',' | b')' | b'}')
+}
+
+/// What stands in front of the brace that closes an array.
+fn closed_text(text: &[u8]) -> Option<&[u8]>
+    ensures { option_copied result ≡ closed_text (place_of 125 text.now) text.now }
+{
+    let place = place_of(text, b'}')?;
+    if ends_array(&text[place + 1..]) {
+        Some(&text[..place])
+    } else {
+        None
+    }
+}
+
+/// Elements alone: what stands in front of a brace that closes, or all.
+fn elements_text(code: &[u8]) -> Option<&[u8]>
+    ensures { option_copied result ≡ elements_text (place_of 125 code.now) code.now }
+{
+    match place_of(code, b'}') {
+        Some(_) => closed_text(code),
+        None => Some(code),
+    }
+}
+
+/// What stands between the first brace that a number follows and the one that closes; without such a brace elements alone.
 fn array_text(code: &[u8]) -> Option<&[u8]>
     ensures { option_copied result ≡ array_text (behind_brace code.now) code.now }
 {
     match behind_brace(code) {
-        Some(inside) => match place_of(inside, b'}') {
-            Some(place) => Some(&inside[..place]),
-            None => None,
-        },
-        None => Some(in_front_of(code, b'}')),
+        Some(inside) => closed_text(inside),
+        None => elements_text(code),
     }
 }
 
@@ -224,6 +426,14 @@ fn read_elements(alloc: Global, elements: &[u8]) -> Result<Option<Vec<u8>>, Allo
     read_words(alloc, without_empty(words.as_slice()), WordForm::Element)
 }
 
+/// Why an array isn't read, or that there is none: no brace that a number follows.
+fn array_fault(code: &[u8], cause: InputCause) -> InputFault {
+    match behind_brace(code) {
+        Some(_) => InputFault::of_text(cause),
+        None => InputFault::of_text(InputCause::NoDescriptor),
+    }
+}
+
 /// The bytes of an array in a text without comments.
 #[tactic(auto, unfolding(crate::specs::Code::array_bytes))]
 fn read_code(alloc: Global, code: &[u8]) -> Result<Vec<u8>, InputFault>
@@ -232,23 +442,27 @@ fn read_code(alloc: Global, code: &[u8]) -> Result<Vec<u8>, InputFault>
         → IfErr result (λ fault. fault ≡ of_text InputCause.Memory) }
 {
     let Some(elements) = array_text(code) else {
-        return Err(InputFault::of_text(InputCause::BadArray));
+        return Err(array_fault(code, InputCause::ArrayEnd));
     };
     match read_elements(alloc, elements)? {
         Some(bytes) => Ok(bytes),
-        None => Err(InputFault::of_text(InputCause::BadArray)),
+        None => Err(array_fault(code, InputCause::BadArray)),
     }
 }
 
 /// The bytes of the first array of C, or of its elements alone.
 ///
 /// # Errors
-/// [`InputCause::BadArray`] where an element is no byte, or no brace closes the array; [`InputCause::Memory`].
+/// [`InputCause::BadArray`] where an element is no byte; [`InputCause::ArrayEnd`] where no brace closes the array, or something else
+/// follows it; [`InputCause::NoDescriptor`] of elements alone, which aren't in braces; [`InputCause::Unclear`];
+/// [`InputCause::Memory`].
 pub fn read_array(alloc: Global, text: &[u8]) -> Result<Vec<u8>, InputFault>
-    ensures bytes { IfOk result (λ read. array_bytes (code_of text.now) ≡ Some read.items) }
-    ensures faults { (bytes : List ℕ) → array_bytes (code_of text.now) ≡ Some bytes
+    ensures bytes { IfOk result (λ read. option_and_then array_bytes (code_of false text.now) ≡ Some read.items) }
+    ensures faults { (bytes : List ℕ) → option_and_then array_bytes (code_of false text.now) ≡ Some bytes
         → IfErr result (λ fault. fault ≡ of_text InputCause.Memory) }
 {
-    let code = without_comments(alloc, text)?;
-    read_code(alloc, code.as_slice())
+    match without_comments(alloc, text, false)? {
+        Some(code) => read_code(alloc, code.as_slice()),
+        None => Err(unclear_code(text)),
+    }
 }

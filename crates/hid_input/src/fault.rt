@@ -8,14 +8,18 @@ use std::fmt;
 /// Why no descriptor is read.
 #[derive(Clone, Copy, Debug, PartialEq, Eq)]
 pub enum InputCause {
-    /// A byte isn't two hex digits.
-    BadHex,
+    /// A byte isn't two hex digits; so many bytes stand before it in its line.
+    BadHex { at: u64 },
     /// The count of an `R:` line is missing, or no number.
     NoCount,
     /// The count of an `R:` line, or the length that lsusb prints, isn't that of the bytes.
     BadCount { said: u64, found: u64 },
     /// An element of an array of C is no byte.
     BadArray,
+    /// No brace closes an array of C, or something else follows it than may.
+    ArrayEnd,
+    /// A comment or a string of C has no end, or one that not all programs take for it.
+    Unclear,
     /// An escape of a string of C is no byte, or a digit follows it.
     BadEscape,
     /// A string beside others, of which nothing says whether they belong together; or a single character.
@@ -28,6 +32,8 @@ pub enum InputCause {
     Dump,
     /// An item of lsusb that is none of HID 1.11, 6.2.2.
     BadItem,
+    /// lsusb says that it couldn't read the report descriptor.
+    Unavailable,
     /// Two ways to read it, which give different bytes.
     TwoWays,
     /// Text of UTF-16.
@@ -93,9 +99,11 @@ impl fmt::Display for InputCause {
             InputCause::BadCount { said, found } => {
                 return write!(f, "the count says {said}, there are {found} bytes");
             }
+            InputCause::BadHex { at } => return write!(f, "byte {at} isn't two hex digits"),
             InputCause::NoCount => "the count is missing, or no number",
-            InputCause::BadHex => "a byte isn't two hex digits",
             InputCause::BadArray => "an element of the array is no byte",
+            InputCause::ArrayEnd => "the array has no end: } and nothing, or ; , ) or } after it",
+            InputCause::Unclear => "it isn't clear where a comment or a string ends",
             InputCause::BadEscape => "an escape of the string is no byte, or a digit follows it",
             InputCause::SeveralStrings => {
                 "a string beside others, or a single character: which bytes are meant isn't known"
@@ -106,6 +114,9 @@ impl fmt::Display for InputCause {
             InputCause::Offset => "an offset? The first word doesn't count the bytes before it",
             InputCause::Dump => "a dump with offsets, of which this line can't be read",
             InputCause::BadItem => "no item as lsusb prints them",
+            InputCause::Unavailable => {
+                "lsusb couldn't read the report descriptor (/sys/class/hidraw has those)"
+            }
             InputCause::TwoWays => "it can be read in two ways, which give different bytes",
             InputCause::Utf16 => "text of UTF-16: write it as UTF-8",
             InputCause::NoDescriptor => {

@@ -1,13 +1,14 @@
 //! The form of a text that has a descriptor.
 
-ghost use Rattle.std.specs.Prelude.{◌≡◌, ◌==◌, ◌-◌, ◌&&◌, nat_le, length, slice_index, take, IfOk};
+ghost use Rattle.std.specs.Prelude.{◌≡◌, ◌==◌, ◌-◌, ◌&&◌, true, false, nat_le, length, slice_index, take, IfOk};
 ghost use Rattle.std.specs.List.{list_all};
 ghost use Rattle.std.specs.Char.{is_ascii_hexdigit};
 ghost use Rattle.hid_input.specs.Hex.{is_offset};
-ghost use Rattle.hid_input.specs.Forms.{form_of_code, form_of};
+ghost use Rattle.hid_input.specs.Code.{code_of};
+ghost use Rattle.hid_input.specs.Forms.{form_of_code, form_in_code, form_of};
 
 use crate::code::{has_array, without_comments};
-use crate::items::has_listed;
+use crate::items::{has_listed, has_unavailable};
 use crate::parts::first_word;
 use crate::recorded::{has_dumped, has_recorded};
 use crate::spelled::is_spelled;
@@ -27,10 +28,14 @@ pub enum TextForm {
     Dumped,
     /// Items as `lsusb -v` prints them.
     Listed,
+    /// What lsusb prints where it couldn't read a report descriptor.
+    Unavailable,
     /// An array of C, or elements of one.
     Array,
     /// A string of C with escapes.
     Quoted,
+    /// Text in which it isn't clear how far a comment or a string of C goes.
+    Unclear,
     /// None of these.
     Other,
 }
@@ -73,16 +78,29 @@ fn is_zero(word: &[u8]) -> bool
     word.len() >= 4 && are_zeros(word)
 }
 
-/// The form of a text without comments.
-fn form_of_code(code: &[u8]) -> TextForm
-    ensures { result ≡ form_of_code code.now }
+/// The form of a text without comments, by its code with empty strings and with whole ones.
+fn form_of_code(code: &[u8], strings: &[u8]) -> TextForm
+    ensures { result ≡ form_of_code code.now strings.now }
 {
     if has_array(code) {
         TextForm::Array
-    } else if has_string(code) {
+    } else if has_string(strings) {
         TextForm::Quoted
     } else {
         TextForm::Other
+    }
+}
+
+/// The form of a text that may be of C.
+fn form_in_code(alloc: Global, text: &[u8]) -> Result<TextForm, AllocError>
+    ensures { IfOk result (λ form. form ≡ form_in_code (code_of false text.now) (code_of true text.now)) }
+{
+    let Some(code) = without_comments(alloc, text, false)? else {
+        return Ok(TextForm::Unclear);
+    };
+    match without_comments(alloc, text, true)? {
+        Some(strings) => Ok(form_of_code(code.as_slice(), strings.as_slice())),
+        None => Ok(TextForm::Unclear),
     }
 }
 
@@ -109,6 +127,8 @@ pub fn form_of(alloc: Global, text: &[u8]) -> Result<TextForm, AllocError>
     if has_listed(text) {
         return Ok(TextForm::Listed);
     }
-    let code = without_comments(alloc, text)?;
-    Ok(form_of_code(code.as_slice()))
+    if has_unavailable(text) {
+        return Ok(TextForm::Unavailable);
+    }
+    form_in_code(alloc, text)
 }

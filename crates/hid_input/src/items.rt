@@ -3,8 +3,9 @@
 ghost use Rattle.std.specs.Prelude.{◌≡◌, ℕ, List, Some, IfOk, IfErr, map};
 ghost use Rattle.std.specs.Option.{option_map};
 ghost use Rattle.hid_input.specs.Words.{IsAdded};
+ghost use Rattle.hid_input.specs.Dump.{cells_bytes};
 ghost use Rattle.hid_input.specs.Hex.{lines_of};
-ghost use Rattle.hid_input.specs.Listed.{item_name, prefix_of, size_code, sized_item, data_bytes, item_bytes, line_bytes, length_in, ends_items, items_bytes, listed_bytes, has_listed};
+ghost use Rattle.hid_input.specs.Listed.{item_name, prefix_of, size_code, sized_item, data_number, negated_number, signed_number, are_same, numbered_bytes, is_unavailable, has_unavailable, data_bytes, item_bytes, line_bytes, length_in, ends_items, items_bytes, listed_bytes, has_listed};
 ghost use Rattle.hid_input.specs.Recorded.{if_counted};
 
 use crate::cells::read_cells;
@@ -85,6 +86,69 @@ fn size_code(count: usize) -> Option<u8>
     }
 }
 
+/// The number that the bytes of an item's data are, the lowest first (HID 1.11, 5.8).
+fn data_number(bytes: &[u8]) -> Option<u64>
+    ensures { result ≡ data_number bytes.now }
+{
+    match bytes {
+        [first] => Some(u64::from(*first)),
+        [first, second] => Some(u64::from(*first) + u64::from(*second) * 0x100),
+        [first, second, third, fourth] => Some(
+            u64::from(*first)
+                + u64::from(*second) * 0x100
+                + u64::from(*third) * 0x10000
+                + u64::from(*fourth) * 0x1000000,
+        ),
+        _ => None,
+    }
+}
+
+/// A number of 32 bits below zero, in two's complement, without its sign.
+fn negated_number(number: u64) -> Option<u64>
+    ensures { result ≡ negated_number number }
+{
+    if 1 <= number && number <= 0x8000_0000 {
+        Some(0x1_0000_0000 - number)
+    } else {
+        None
+    }
+}
+
+/// A decimal number, perhaps below zero, as lsusb prints one of four bytes.
+fn signed_number(word: &[u8]) -> Option<u64>
+    ensures { result ≡ signed_number word.now }
+{
+    if word.len() >= 1 && word[0] == b'-' {
+        negated_number(number_of(&word[1..], 10)?)
+    } else {
+        number_of(word, 10)
+    }
+}
+
+/// Whether two numbers are there, and the same.
+fn are_same(one: Option<u64>, other: Option<u64>) -> bool
+    ensures { result ≡ are_same one other }
+{
+    match (one, other) {
+        (Some(one), Some(other)) => one == other,
+        _ => false,
+    }
+}
+
+/// The bytes of cells, if this is their number.
+fn read_numbered(alloc: Global, cells: &[u8], word: &[u8]) -> Result<Option<Vec<u8>>, AllocError>
+    ensures { IfOk result (λ read. option_map (λ bytes. bytes.items) read ≡ numbered_bytes (cells_bytes WordForm.Byte cells.now) word.now) }
+{
+    let Some(bytes) = read_cells(alloc, cells, WordForm::Byte)? else {
+        return Ok(None);
+    };
+    if are_same(data_number(bytes.as_slice()), signed_number(word)) {
+        Ok(Some(bytes))
+    } else {
+        Ok(None)
+    }
+}
+
 /// The data after the name of an item; none where it is another text.
 fn read_data(alloc: Global, text: &[u8]) -> Result<Option<Vec<u8>>, AllocError>
     ensures { IfOk result (λ read. option_map (λ bytes. bytes.items) read ≡ data_bytes text.now) }
@@ -96,7 +160,7 @@ fn read_data(alloc: Global, text: &[u8]) -> Result<Option<Vec<u8>>, AllocError>
         return Ok(None);
     };
     match place_of(inside, b']') {
-        Some(place) => read_cells(alloc, &inside[..place], WordForm::Byte),
+        Some(place) => read_numbered(alloc, &inside[..place], trimmed_text(&inside[place + 1..])),
         None => Ok(None),
     }
 }
@@ -154,6 +218,20 @@ pub fn has_listed(text: &[u8]) -> bool
 {
     text.split(|byte| *byte == b'\n')
         .any(|line| length_in(line).is_some())
+}
+
+/// Whether lsusb says in a line that it couldn't read a report descriptor.
+fn is_unavailable(line: &[u8]) -> bool
+    ensures { result ≡ is_unavailable line.now }
+{
+    trimmed_text(line) == b"** UNAVAILABLE **".as_slice()
+}
+
+/// Whether lsusb says so in some line of a text.
+pub fn has_unavailable(text: &[u8]) -> bool
+    ensures { result ≡ has_unavailable text.now }
+{
+    text.split(|byte| *byte == b'\n').any(is_unavailable)
 }
 
 /// Whether a line begins another descriptor.

@@ -1,7 +1,7 @@
 //! Descriptors in the files that people have: binary, hex, arrays of C, dumps with offsets, and what the tools of Linux print.
 //! ```text
 //!   bytes --> control bytes? --> the descriptor itself
-//!         --> text --> dump | R: line | usbhid-dump | lsusb -v | hex | array or string of C --> its bytes, or an InputFault
+//!         --> text --> dump | hex | R: line | usbhid-dump | lsusb -v | array or string of C --> its bytes, or an InputFault
 //!
 //!   00000000: 0501 0902 a101 0901 a100 0509 1901 2903  ..............).     xxd
 //!   00000000  05 01 09 02 a1 01 09 01  a1 00 05 09 19 01 29 03  |......).|   hexdump -C

@@ -9,7 +9,7 @@ ghost use Rattle.hid_input.specs.Forms.{form_of, Encodes, IsAlone, IsFaultOf, Is
 ghost use Rattle.hid_input.specs.Faults.{of_text, IsOfHex};
 ghost use Rattle.hid_input.specs.Text.{is_space, is_text_byte, has_printed, is_text, is_utf16, without_mark};
 
-use crate::code::read_array;
+use crate::code::{has_array, read_array, unclear_code};
 use crate::decimal::add_decimal;
 use crate::fault::{InputCause, InputFault};
 use crate::form::{TextForm, are_digits, form_of};
@@ -17,7 +17,7 @@ use crate::items::read_listed;
 use crate::parts::line_number;
 use crate::recorded::{has_record, read_dumped, read_recorded};
 use crate::spelled::read_spelled;
-use crate::strings::read_string;
+use crate::strings::{has_string, read_string};
 use crate::ways::{add_dumps, agreed, are_all};
 use std::alloc::Global;
 
@@ -135,6 +135,16 @@ fn read_hex(alloc: Global, text: &[u8]) -> Result<Vec<u8>, InputFault>
     Ok(spelled)
 }
 
+/// Why text isn't read of which it isn't clear where a comment or a string ends: that, if it has an array or a string of bytes; else
+/// it has no descriptor.
+fn unclear_fault(text: &[u8]) -> InputFault {
+    if has_array(text) || has_string(text) {
+        unclear_code(text)
+    } else {
+        InputFault::of_text(InputCause::NoDescriptor)
+    }
+}
+
 /// The descriptor in text of this form.
 fn read_form(alloc: Global, text: &[u8], form: TextForm) -> Result<Vec<u8>, InputFault>
     ensures text { IfOk result (λ read. Encodes text.now read.items form) }
@@ -149,8 +159,10 @@ fn read_form(alloc: Global, text: &[u8], form: TextForm) -> Result<Vec<u8>, Inpu
         TextForm::Recorded => read_recorded(alloc, text),
         TextForm::Dumped => read_dumped(alloc, text),
         TextForm::Listed => read_listed(alloc, text),
+        TextForm::Unavailable => Err(InputFault::of_text(InputCause::Unavailable)),
         TextForm::Array => read_array(alloc, text),
         TextForm::Quoted => read_string(alloc, text),
+        TextForm::Unclear => Err(unclear_fault(text)),
         TextForm::Other => Err(InputFault::of_text(InputCause::NoDescriptor)),
     }
 }
@@ -169,7 +181,7 @@ fn descriptor_in_text(alloc: Global, text: &[u8]) -> Result<Vec<u8>, InputFault>
 }
 
 /// The descriptor in the bytes of a file. Text is read as the first of these that it has: a dump whose first word is an offset,
-/// a line `R:` of hid-recorder, a descriptor of usbhid-dump or of lsusb, hex, an array or a string of C. Other bytes are taken as
+/// hex, a line `R:` of hid-recorder, a descriptor of usbhid-dump or of lsusb, an array or a string of C. Other bytes are taken as
 /// they are.
 ///
 /// # Errors

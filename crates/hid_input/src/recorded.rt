@@ -1,6 +1,6 @@
 //! Descriptors in what hid-recorder and usbhid-dump print.
 
-ghost use Rattle.std.specs.Prelude.{◌≡◌, ◌<◌, [], ℕ, List, Some, length, IfOk, IfSome, IfErr, map};
+ghost use Rattle.std.specs.Prelude.{◌≡◌, ◌<◌, [], ℕ, List, None, Some, length, IfOk, IfSome, IfErr, map};
 ghost use Rattle.std.specs.List.{slice_split, position};
 ghost use Rattle.std.specs.Option.{option_map, option_copied, option_and_then};
 ghost use Rattle.std.specs.Char.{is_ascii_whitespace};
@@ -16,7 +16,7 @@ use crate::parts::{
     before_space, first_word, from_space, is_empty_line, line_number, lines_of, trimmed_text,
     without_space,
 };
-use crate::spelled::{is_spelled, read_spelled};
+use crate::spelled::{is_spelled, read_spelled, unspelled_fault};
 use crate::ways::has_no_others;
 use crate::words::{WordForm, read_words};
 use std::alloc::{AllocError, Global};
@@ -86,7 +86,8 @@ fn read_runs(alloc: Global, hex: &[u8]) -> Result<Option<Vec<u8>>, AllocError>
 #[tactic(auto, unfolding(crate::specs::Recorded::ordered_bytes))]
 fn read_digits(alloc: Global, hex: &[u8]) -> Result<Vec<u8>, InputFault>
     ensures bytes { IfOk result (λ read. ordered_bytes hex.now ≡ Some read.items) }
-    ensures faults { (bytes : List ℕ) → ordered_bytes hex.now ≡ Some bytes → IfErr result (λ fault. fault.cause ≡ InputCause.Memory) }
+    ensures faults { (bytes : List ℕ) → ordered_bytes hex.now ≡ Some bytes
+        → IfErr result (λ fault. fault ≡ of_text InputCause.Memory) }
 {
     match read_runs(alloc, hex)? {
         Some(bytes) => Ok(bytes),
@@ -236,7 +237,7 @@ pub fn has_dumped(alloc: Global, text: &[u8]) -> Result<bool, AllocError>
     Ok(block.len() != 0)
 }
 
-/// The bytes of lines of usbhid-dump. A line of them has another number in the text, so none is named.
+/// The bytes of lines of usbhid-dump.
 #[tactic(auto, unfolding(crate::specs::Recorded::block_bytes))]
 fn read_hex_block(alloc: Global, block: &[u8]) -> Result<Vec<u8>, InputFault>
     ensures bytes { IfOk result (λ read. block_bytes block.now ≡ Some read.items) }
@@ -244,12 +245,9 @@ fn read_hex_block(alloc: Global, block: &[u8]) -> Result<Vec<u8>, InputFault>
         → IfErr result (λ fault. fault ≡ of_text InputCause.Memory) }
 {
     if !is_spelled(block) {
-        return Err(InputFault::of_text(InputCause::BadHex));
+        return Err(unspelled_fault(block));
     }
-    match read_digits(alloc, block) {
-        Ok(bytes) => Ok(bytes),
-        Err(fault) => Err(InputFault::of_text(fault.cause)),
-    }
+    read_digits(alloc, block)
 }
 
 /// The bytes of lines of usbhid-dump, if no way reads them as a dump of other bytes.
@@ -268,6 +266,26 @@ fn read_block(alloc: Global, block: &[u8]) -> Result<Vec<u8>, InputFault>
     }
 }
 
+/// How many lines stand in front of those below the first heading of usbhid-dump that has some.
+fn block_front(lines: &[&[u8]]) -> u64 {
+    for (before, line) in lines.iter().enumerate() {
+        if is_heading(line) && before + 1 < lines.len() && !is_empty_line(lines[before + 1]) {
+            return line_number(before);
+        }
+    }
+    0
+}
+
+/// A fault of lines with so many in front of them.
+fn below(fault: InputFault, front: u64) -> InputFault
+    ensures whole { fault.line ≡ None → result ≡ fault }
+{
+    match fault.line {
+        Some(line) => InputFault::of_line(line.saturating_add(front), fault.cause),
+        None => fault,
+    }
+}
+
 /// The bytes of the lines after the first heading of usbhid-dump that has some, up to an empty one.
 ///
 /// # Errors
@@ -282,5 +300,8 @@ pub fn read_dumped(alloc: Global, text: &[u8]) -> Result<Vec<u8>, InputFault>
 {
     let lines = lines_of(alloc, text)?;
     let block = block_below(alloc, lines.as_slice())?;
-    read_block(alloc, block.as_slice())
+    match read_block(alloc, block.as_slice()) {
+        Ok(bytes) => Ok(bytes),
+        Err(fault) => Err(below(fault, block_front(lines.as_slice()))),
+    }
 }

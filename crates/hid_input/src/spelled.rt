@@ -27,20 +27,50 @@ fn is_run(word: &[u8]) -> bool {
     word.len() % 2 == 0 && word.iter().all(|byte| byte.is_ascii_hexdigit())
 }
 
+/// With how many bytes a word begins: one, or one for each two digits.
+fn bytes_before(word: &[u8]) -> u64 {
+    if byte_in(word).is_some() {
+        return 1;
+    }
+    let digits = word.iter().position(|byte| !byte.is_ascii_hexdigit());
+    digits.unwrap_or(word.len()) as u64 / 2
+}
+
+/// How many bytes stand in a line before the first that isn't hex: a byte, or a run of digits. None where all are.
+fn bad_byte(line: &[u8]) -> Option<u64> {
+    let mut bytes = 0u64;
+    for word in line.split(|byte| is_separator(*byte)) {
+        bytes = bytes.saturating_add(bytes_before(word));
+        if byte_in(word).is_none() && !is_run(word) {
+            return Some(bytes);
+        }
+    }
+    None
+}
+
 /// Sees that each word is hex: a byte, or a run of digits.
 ///
 /// # Errors
 /// [`InputCause::BadHex`] of the first line with another word.
 fn check_words(text: &[u8]) -> Result<(), InputFault> {
     for (before, line) in text.split(|byte| *byte == b'\n').enumerate() {
-        let are_hex = line
-            .split(|byte| is_separator(*byte))
-            .all(|word| byte_in(word).is_some() || is_run(word));
-        if !are_hex {
-            return Err(InputFault::of_line(line_number(before), InputCause::BadHex));
+        if let Some(at) = bad_byte(line) {
+            return Err(InputFault::of_line(line_number(before), InputCause::BadHex { at }));
         }
     }
     Ok(())
+}
+
+/// Why lines aren't hex alone: the first one that isn't.
+pub fn unspelled_fault(text: &[u8]) -> InputFault {
+    for (before, line) in text.split(|byte| *byte == b'\n').enumerate() {
+        let at = bad_byte(line);
+        if at.is_some() || !is_spelled(line) {
+            let at = at.unwrap_or(0);
+            return InputFault::of_line(line_number(before), InputCause::BadHex { at });
+        }
+    }
+    InputFault::of_text(InputCause::BadHex { at: 0 })
 }
 
 /// Whether a line has one word at most.

@@ -3,7 +3,7 @@
 ghost use Rattle.std.specs.Prelude.{◌≡◌};
 ghost use Rattle.hid_input.specs.Strings.{has_string};
 
-use crate::code::without_comments;
+use crate::code::{unclear_code, without_comments};
 use crate::digits::digit_of;
 use crate::fault::{InputCause, InputFault};
 use std::alloc::{AllocError, Global};
@@ -179,9 +179,11 @@ pub fn has_string(code: &[u8]) -> bool
 /// # Errors
 /// [`InputCause::BadEscape`] where an escape is no byte or a third hex digit follows it, and where a string has no end in its line;
 /// [`InputCause::SeveralStrings`] where another string stands beside it or has an escape, and of a single character;
-/// [`InputCause::NoDescriptor`] where there is none; [`InputCause::Memory`].
+/// [`InputCause::NoDescriptor`] where there is none; [`InputCause::Unclear`]; [`InputCause::Memory`].
 pub fn read_string(alloc: Global, text: &[u8]) -> Result<Vec<u8>, InputFault> {
-    let code = without_comments(alloc, text)?;
+    let Some(code) = without_comments(alloc, text, true)? else {
+        return Err(unclear_code(text));
+    };
     let code = code.as_slice();
     let place = match string_place(code) {
         Some(place) if place < code.len() => place,

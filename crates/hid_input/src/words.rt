@@ -1,8 +1,8 @@
 //! Words and cells of digits, and the bytes that they encode.
 
-ghost use Rattle.std.specs.Prelude.{◌≡◌, IfOk, map, reverse};
+ghost use Rattle.std.specs.Prelude.{◌≡◌, IfOk, map, reverse, is_some};
 ghost use Rattle.std.specs.Option.{option_map, option_copied};
-ghost use Rattle.hid_input.specs.Words.{all_bytes, IsAdded, single_byte, byte_of_digits, is_x, is_h, marked_digits, byte_of_word, is_prefixed, number_byte, same_byte, constant_byte, without_suffix, element_byte, run_bytes, word_bytes};
+ghost use Rattle.hid_input.specs.Words.{all_bytes, IsAdded, single_byte, byte_of_digits, is_x, is_h, marked_digits, byte_of_word, is_prefixed, number_by, number_byte, same_byte, constant_byte, without_suffix, element_byte, run_bytes, word_bytes};
 
 use crate::digits::{byte_of, column_byte, octal_byte, pair_of};
 use crate::parts::trimmed_text;
@@ -25,7 +25,7 @@ pub enum WordForm {
     Decimal,
     /// One byte: a decimal number in five columns, perhaps with a sign.
     Signed,
-    /// One byte: a decimal number, or hex after `0x`.
+    /// One byte: a decimal number, or hex that is marked.
     Number,
     /// One byte: an element of an array of C.
     Element,
@@ -87,15 +87,21 @@ fn is_prefixed(word: &[u8]) -> bool
     word.len() >= 2 && word[0] == b'0' && is_x(word[1])
 }
 
-/// The byte of a number: in hex after `0x`, else in decimal.
+/// The byte of a number: in hex where it is marked, else in decimal.
 fn number_byte(word: &[u8]) -> Option<u8>
     ensures { result ≡ number_byte word.now }
 {
-    if is_prefixed(word) {
-        byte_of(&word[2..], 16)
-    } else {
-        byte_of(word, 10)
+    match marked_digits(word) {
+        Some(digits) => byte_of_digits(digits),
+        None => byte_of(word, 10),
     }
+}
+
+/// Whether a word is marked as hex.
+pub fn is_marked(word: &[u8]) -> bool
+    ensures { result ≡ is_some (marked_digits word.now) }
+{
+    marked_digits(word).is_some()
 }
 
 /// A byte that two readings give.
