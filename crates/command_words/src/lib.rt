@@ -1,7 +1,8 @@
 //! The words of a command line, and names as they are printed.
 //! ```text
-//!   the system --> words_of --> the words, as text
-//!                     |
+//!   the system --> words_of --> Words: as given, and as printed --> matches_of --> what clap finds in them
+//!                     |                                                |
+//!                     |                                                +-- a word that is refused --> print_refused_words
 //!                     +-- WordsFault: out of memory, or the first word that isn't UTF-8 --> print_unread_words
 //! ```
 //! The rule to know: paths are text, so a file whose name isn't UTF-8 can't be opened by its name. Standard input can have it.
@@ -11,7 +12,9 @@
 #![tactic(auto)]
 
 mod names;
+mod refused;
 mod words;
 
 pub use names::{FileName, ShownBytes, is_escaped};
-pub use words::{WordsFault, print_unread_words, word_of, words_of};
+pub use refused::{matches_of, print_refused_words};
+pub use words::{Words, WordsFault, print_unread_words, word_of, words_of};

@@ -3,15 +3,15 @@
 ghost use Rattle.std.specs.Prelude.{◌≡◌, IsOk, IfOk, IfErr, string_bytes};
 ghost use Rattle.std.specs.Str.{IsUtf8};
 
-use crate::names::ShownBytes;
+use crate::names::{FileName, ShownBytes};
 use std::alloc::{AllocError, Global};
 use std::env::{Env, FillError};
 
 /// The command line is wrong.
-const WRONG_USAGE: u8 = 2;
+pub const WRONG_USAGE: u8 = 2;
 
-/// Memory failed.
-const OUTSIDE: u8 = 3;
+/// Memory or standard output failed.
+pub const OUTSIDE: u8 = 3;
 
 /// In bytes, the room for a word at first.
 const ROOM: usize = 256;
@@ -84,17 +84,44 @@ pub fn word_of(bytes: Vec<u8>) -> Result<String, WordsFault>
     }
 }
 
-/// The words of the command line, of which the first is the name of the program.
+/// The words of a command line, of which the first is the name of the program.
+#[derive(Drop)]
+pub struct Words {
+    /// As they were given.
+    pub given: Vec<String>,
+    /// As they are printed: with control characters as numbers.
+    pub shown: Vec<String>,
+}
+
+impl Words {
+    /// No word.
+    fn new(alloc: Global) -> Words {
+        Words {
+            given: Vec::new(alloc),
+            shown: Vec::new(alloc),
+        }
+    }
+
+    /// Adds a word.
+    fn push(&mut self, alloc: Global, word: String) -> Result<(), AllocError> {
+        let name = FileName(word.as_str());
+        let shown = format!(in alloc; "{name}")?;
+        self.shown.push(shown).map_err(AllocError::from)?;
+        self.given.push(word).map_err(AllocError::from)
+    }
+}
+
+/// The words of the command line.
 ///
 /// # Errors
 /// A [`WordsFault`]: memory ran out, or the first word that isn't UTF-8.
-pub fn words_of(rt: &HostRuntime) -> Result<Vec<String>, WordsFault> {
-    let mut words = Vec::new(rt.alloc());
+pub fn words_of(rt: &HostRuntime) -> Result<Words, WordsFault> {
+    let mut words = Words::new(rt.alloc());
     for place in 0..usize::MAX {
         let Some(bytes) = read_word(rt, place)? else {
             break;
         };
-        words.push(word_of(bytes)?).map_err(AllocError::from)?;
+        words.push(rt.alloc(), word_of(bytes)?)?;
     }
     Ok(words)
 }

@@ -3,6 +3,7 @@
 use super::codes::CODES;
 use clap::error::ErrorKind;
 use clap::{Arg, ArgAction, ArgMatches, Command, Error};
+use command_words::{Words, matches_of};
 use hid_recording::Options;
 use std::alloc::{AllocError, Global};
 
@@ -120,8 +121,8 @@ fn command<'a>(alloc: Global) -> Result<Command<'a>, AllocError> {
 ///
 /// # Errors
 /// The error of clap: words that it refuses, help or version that they ask for, or out of memory.
-pub fn parse_args<'a>(alloc: Global, words: &'a [String]) -> Result<CliArgs<'a>, Error> {
-    let matches = command(alloc)?.try_get_matches_from(words)?;
+pub fn parse_args<'a>(alloc: Global, words: &'a Words) -> Result<CliArgs<'a>, Error> {
+    let matches = matches_of(command(alloc)?, words)?;
     let asked = read_matches(alloc, &matches);
     drop(matches);
     asked

@@ -22,9 +22,8 @@ mod status;
 mod turns;
 
 use args::{CliArgs, parse_args};
-use clap::error::ErrorKind;
-use command_words::{FileName, print_unread_words, words_of};
-use status::{FINE, OUTSIDE, WRONG_USAGE, exit_of};
+use command_words::{FileName, print_refused_words, print_unread_words, words_of};
+use status::{WRONG_USAGE, exit_of};
 use std::fs;
 use std::process::ExitCode;
 use turns::{Files, attach, open_requests};
@@ -36,27 +35,9 @@ fn main(rt: HostRuntime) -> ExitCode {
         Ok(words) => words,
         Err(fault) => return ExitCode::from(print_unread_words(&rt, "hidattach", &fault, "")),
     };
-    match parse_args(alloc, words.as_slice()) {
+    match parse_args(alloc, &words) {
         Ok(asked) => ExitCode::from(run(&rt, &asked)),
-        Err(error) => ExitCode::from(print_bad_words(&rt, &error)),
-    }
-}
-
-/// Help and version go to standard output, and what is wrong with the words to standard error.
-fn print_bad_words(rt: &HostRuntime, error: &clap::Error) -> u8 {
-    match error.kind() {
-        ErrorKind::DisplayHelp | ErrorKind::DisplayVersion => {
-            if print!(rt; "{error}").is_ok() {
-                FINE
-            } else {
-                OUTSIDE
-            }
-        }
-        ErrorKind::OutOfMemory => OUTSIDE,
-        _ => {
-            let _ = eprint!(rt; "{error}");
-            WRONG_USAGE
-        }
+        Err(error) => ExitCode::from(print_refused_words(&rt, "hidattach", &error)),
     }
 }
 

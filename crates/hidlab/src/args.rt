@@ -1,6 +1,7 @@
 //! The words of the command line.
 
 use clap::{Arg, ArgAction, ArgMatches, Command, Error, value_parser};
+use command_words::{Words, matches_of};
 use lab_session::LabOptions;
 use std::alloc::{AllocError, Global};
 
@@ -125,8 +126,8 @@ fn command<'a>(alloc: Global) -> Result<Command<'a>, AllocError> {
 ///
 /// # Errors
 /// The error of clap: words that it refuses, help or version that they ask for, or out of memory.
-pub fn parse_args<'a>(alloc: Global, words: &'a [String]) -> Result<CliArgs<'a>, Error> {
-    let matches = command(alloc)?.try_get_matches_from(words)?;
+pub fn parse_args<'a>(alloc: Global, words: &'a Words) -> Result<CliArgs<'a>, Error> {
+    let matches = matches_of(command(alloc)?, words)?;
     let asked = read_matches(&matches);
     drop(matches);
     Ok(asked)

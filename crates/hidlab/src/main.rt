@@ -20,8 +20,7 @@ mod source;
 mod status;
 
 use args::{CliArgs, parse_args};
-use clap::error::ErrorKind;
-use hid_input::FileName;
+use command_words::{FileName, print_refused_words, print_unread_words, words_of};
 use hid_script::Cause;
 use lab_session::{Bench, LabCause};
 use printing::print_trouble;
@@ -30,52 +29,23 @@ use run::{Trouble, run_all};
 use served::serve_source;
 use source::LabSource;
 use status::{FINE, OUTSIDE, WRONG_USAGE};
+use std::fs;
 use std::io::{BufWriter, IsTerminal, Stderr, Write};
 use std::process::ExitCode;
-use std::{env, fs, io};
+
+/// What can be done where a name isn't UTF-8.
+const ADVICE: &str = ": give the script by < FILE";
 
 fn main(rt: HostRuntime) -> ExitCode {
     let alloc = rt.alloc();
-    let args = match env::args(&rt) {
-        Ok(args) => args,
-        Err(error) => return ExitCode::from(print_no_words(&rt, error.kind())),
+    let words = match words_of(&rt) {
+        Ok(words) => words,
+        Err(fault) => return ExitCode::from(print_unread_words(&rt, "hidlab", &fault, ADVICE)),
     };
-    let words: Result<Vec<String>, _> = args.collect(alloc);
-    let Ok(words) = words else {
-        return ExitCode::from(OUTSIDE);
-    };
-    match parse_args(alloc, words.as_slice()) {
+    match parse_args(alloc, &words) {
         Ok(asked) if asked.is_served => ExitCode::from(serve_file(&rt, &asked)),
         Ok(asked) => ExitCode::from(run_file(&rt, &asked)),
-        Err(error) => ExitCode::from(print_bad_words(&rt, &error)),
-    }
-}
-
-/// Why the words of the command line can't be read: memory, or one isn't UTF-8.
-fn print_no_words(rt: &HostRuntime, kind: io::ErrorKind) -> u8 {
-    if kind == io::ErrorKind::InvalidData {
-        let _ = eprintln!(rt; "hidlab: a word of the command line isn't UTF-8");
-        WRONG_USAGE
-    } else {
-        OUTSIDE
-    }
-}
-
-/// Help and version go to standard output, and what is wrong with the words to standard error.
-fn print_bad_words(rt: &HostRuntime, error: &clap::Error) -> u8 {
-    match error.kind() {
-        ErrorKind::DisplayHelp | ErrorKind::DisplayVersion => {
-            if print!(rt; "{error}").is_ok() {
-                FINE
-            } else {
-                OUTSIDE
-            }
-        }
-        ErrorKind::OutOfMemory => OUTSIDE,
-        _ => {
-            let _ = eprint!(rt; "{error}");
-            WRONG_USAGE
-        }
+        Err(error) => ExitCode::from(print_refused_words(&rt, "hidlab", &error)),
     }
 }
 

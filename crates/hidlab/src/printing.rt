@@ -3,7 +3,7 @@
 use super::run::Trouble;
 use super::source::LabSource;
 use super::status::exit_of;
-use hid_input::FileName;
+use command_words::FileName;
 use lab_session::cause_words;
 
 /// Whether the last source is in a file that is included.

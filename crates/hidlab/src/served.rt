@@ -7,7 +7,7 @@ use super::run::{
     Trouble, bare, include, path_of, read_descriptor, read_trouble, repeat, unread_trouble,
 };
 use super::source::LabSource;
-use hid_input::FileName;
+use command_words::FileName;
 use hid_requests::Boot;
 use hid_script::Cause;
 use hid_text::LineFault;

@@ -18,8 +18,7 @@ mod args;
 mod status;
 
 use args::{CliArgs, parse_args};
-use clap::error::ErrorKind;
-use command_words::{FileName, print_unread_words, words_of};
+use command_words::{FileName, print_refused_words, print_unread_words, words_of};
 use hid_input::{InputCause, InputFault, KnownFile, descriptor_in, known_file};
 use hid_layout::{Cause, Layout, LayoutFault, Limits, MAX_DESCRIPTOR, long_report};
 use hid_notation::RefusalText;
@@ -55,9 +54,9 @@ fn main(rt: HostRuntime) -> ExitCode {
         Ok(words) => words,
         Err(fault) => return ExitCode::from(print_unread_words(&rt, "hidmap", &fault, ADVICE)),
     };
-    match parse_args(alloc, words.as_slice(), terminal_columns(&rt)) {
+    match parse_args(alloc, &words, terminal_columns(&rt)) {
         Ok(asked) => ExitCode::from(draw_file(&rt, &asked)),
-        Err(error) => ExitCode::from(print_bad_words(&rt, &error)),
+        Err(error) => ExitCode::from(print_refused_words(&rt, "hidmap", &error)),
     }
 }
 
@@ -69,24 +68,6 @@ fn terminal_columns(rt: &HostRuntime) -> u16 {
     match env::var(rt, "COLUMNS") {
         Ok(text) => text.as_str().parse::<u16>().unwrap_or(COLUMNS),
         Err(_) => COLUMNS,
-    }
-}
-
-/// Help and version go to standard output, and what is wrong with the words to standard error.
-fn print_bad_words(rt: &HostRuntime, error: &clap::Error) -> u8 {
-    match error.kind() {
-        ErrorKind::DisplayHelp | ErrorKind::DisplayVersion => {
-            if print!(rt; "{error}").is_ok() {
-                FINE
-            } else {
-                print_outside_fault(rt, UNWRITTEN)
-            }
-        }
-        ErrorKind::OutOfMemory => OUTSIDE,
-        _ => {
-            let _ = eprint!(rt; "{error}");
-            WRONG_USAGE
-        }
     }
 }
 

@@ -4,6 +4,7 @@ use super::codes::CODES;
 use super::source::Kind;
 use clap::error::ErrorKind;
 use clap::{Arg, ArgAction, ArgMatches, Command, Error};
+use command_words::{Words, matches_of};
 use hid_recording::{EndpointAddress, Options};
 use std::alloc::{AllocError, Global};
 
@@ -195,8 +196,8 @@ fn kind_of(is_text: bool, is_binary: bool, is_live: bool) -> Kind {
 ///
 /// # Errors
 /// The error of clap: words that it refuses, help or version that they ask for, or out of memory.
-pub fn parse_args<'a>(alloc: Global, words: &'a [String]) -> Result<CliArgs<'a>, Error> {
-    let matches = command(alloc)?.try_get_matches_from(words)?;
+pub fn parse_args<'a>(alloc: Global, words: &'a Words) -> Result<CliArgs<'a>, Error> {
+    let matches = matches_of(command(alloc)?, words)?;
     let asked = read_matches(alloc, &matches);
     drop(matches);
     asked

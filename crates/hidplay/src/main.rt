@@ -26,8 +26,7 @@ mod total;
 mod watched_reader;
 
 use args::{CliArgs, parse_args};
-use clap::error::ErrorKind;
-use command_words::{FileName, print_unread_words, words_of};
+use command_words::{FileName, print_refused_words, print_unread_words, words_of};
 use end_line::end_line;
 use fault::{FileFault, Why, before_all};
 use file_line::file_line;
@@ -53,9 +52,9 @@ fn main(rt: HostRuntime) -> ExitCode {
         Ok(words) => words,
         Err(fault) => return ExitCode::from(print_unread_words(&rt, "hidplay", &fault, ADVICE)),
     };
-    match parse_args(alloc, words.as_slice()) {
+    match parse_args(alloc, &words) {
         Ok(asked) => ExitCode::from(play_with_descriptor(&rt, &asked)),
-        Err(error) => ExitCode::from(print_bad_words(&rt, &error)),
+        Err(error) => ExitCode::from(print_refused_words(&rt, "hidplay", &error)),
     }
 }
 
@@ -151,24 +150,6 @@ fn print_fault(rt: &HostRuntime, name: &str, end: &FileEnd) {
         (None, Some(system)) => eprintln!(rt; "{name}: {why}: {system}"),
         (None, None) => eprintln!(rt; "{name}: {why}"),
     };
-}
-
-/// Help and version go to standard output, and what is wrong with the words to standard error.
-fn print_bad_words(rt: &HostRuntime, error: &clap::Error) -> u8 {
-    match error.kind() {
-        ErrorKind::DisplayHelp | ErrorKind::DisplayVersion => {
-            if print!(rt; "{error}").is_ok() {
-                FINE
-            } else {
-                OUTSIDE
-            }
-        }
-        ErrorKind::OutOfMemory => OUTSIDE,
-        _ => {
-            let _ = eprint!(rt; "{error}");
-            WRONG_USAGE
-        }
-    }
 }
 
 /// Plays each file, or standard input where none is named, and prints the summary.

@@ -28,7 +28,7 @@ fn main(rt: HostRuntime) -> ExitCode {
         Ok(words) => words,
         Err(fault) => return ExitCode::from(print_unread_words(&rt, "hidrun", &fault, "")),
     };
-    match options_of(alloc, words.as_slice()) {
+    match options_of(alloc, words.given.as_slice()) {
         Ok(options) => run_script(&rt, options),
         Err(error) => ExitCode::from(print_bad_words(&rt, &error)),
     }

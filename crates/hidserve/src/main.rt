@@ -15,54 +15,20 @@
 mod args;
 
 use args::{CliArgs, parse_args};
-use clap::error::ErrorKind;
+use command_words::{FileName, print_refused_words, print_unread_words, words_of};
 use std::process::ExitCode;
-use std::{env, fs, io};
-use usbip_script::{
-    FINE, OUTSIDE, Script, ServeFault, Telling, WRONG_USAGE, exit_of, read_script, serve,
-};
+use std::{fs, io};
+use usbip_script::{FINE, Script, ServeFault, Telling, exit_of, read_script, serve};
 
 fn main(rt: HostRuntime) -> ExitCode {
     let alloc = rt.alloc();
-    let args = match env::args(&rt) {
-        Ok(args) => args,
-        Err(error) => return ExitCode::from(print_no_words(&rt, error.kind())),
+    let words = match words_of(&rt) {
+        Ok(words) => words,
+        Err(fault) => return ExitCode::from(print_unread_words(&rt, "hidserve", &fault, "")),
     };
-    let words: Result<Vec<String>, _> = args.collect(alloc);
-    let Ok(words) = words else {
-        return ExitCode::from(OUTSIDE);
-    };
-    match parse_args(alloc, words.as_slice()) {
+    match parse_args(alloc, &words) {
         Ok(asked) => ExitCode::from(serve_asked(&rt, &asked)),
-        Err(error) => ExitCode::from(print_bad_words(&rt, &error)),
-    }
-}
-
-/// Why the words of the command line can't be read: memory, or one isn't UTF-8.
-fn print_no_words(rt: &HostRuntime, kind: io::ErrorKind) -> u8 {
-    if kind == io::ErrorKind::InvalidData {
-        let _ = eprintln!(rt; "hidserve: a word of the command line isn't UTF-8");
-        WRONG_USAGE
-    } else {
-        OUTSIDE
-    }
-}
-
-/// Help and version go to standard output, and what is wrong with the words to standard error.
-fn print_bad_words(rt: &HostRuntime, error: &clap::Error) -> u8 {
-    match error.kind() {
-        ErrorKind::DisplayHelp | ErrorKind::DisplayVersion => {
-            if print!(rt; "{error}").is_ok() {
-                FINE
-            } else {
-                OUTSIDE
-            }
-        }
-        ErrorKind::OutOfMemory => OUTSIDE,
-        _ => {
-            let _ = eprint!(rt; "{error}");
-            WRONG_USAGE
-        }
+        Err(error) => ExitCode::from(print_refused_words(&rt, "hidserve", &error)),
     }
 }
 
@@ -101,7 +67,7 @@ fn serve_asked(rt: &HostRuntime, asked: &CliArgs<'_>) -> u8 {
     match serve_file(rt, asked) {
         Ok(()) => FINE,
         Err(fault) => {
-            let name = asked.script;
+            let name = FileName(asked.script);
             let _ = eprintln!(rt; "{name}: {fault}");
             exit_of(&fault)
         }
