@@ -4,6 +4,7 @@ mod DumpLemmas
 mod ListedLemmas
 mod NumberLemmas
 mod RecordLemmas
+mod StringLemmas
 mod Vectors
 mod WayLemmas
 mod WordLemmas

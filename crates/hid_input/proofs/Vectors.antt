@@ -1,8 +1,10 @@
 -- Values worked out by hand.
-use Rattle.std.proofs.Common.{◌≡◌, [], ◌∷◌, refl, Some, None, true, false}
+use Rattle.std.proofs.Common.{◌≡◌, [], ◌∷◌, ◌++◌, refl, Some, None, true, false}
 use Rattle.std.specs.Prelude.{codes}
 use Rattle.hid_input.specs.declared.words.WordForm.TheVariants.{Pair, Run, Swapped, Octal, Decimal, Signed}
 use Rattle.hid_input.specs.Numbers.{number_of}
+use Rattle.hid_input.specs.Characters.{characters_bytes}
+use Rattle.hid_input.specs.Strings.{parts_of, strings_bytes}
 use Rattle.hid_input.specs.Hex.{spelled_bytes, is_spelled, first_word, is_offset}
 use Rattle.hid_input.specs.Dump.{dump_of, dumps_of, dumps_in, line_below, row_bytes, words_row, enclosed_bytes, parted_bytes, shown_bytes, cells_bytes}
 
@@ -150,3 +152,25 @@ a_star_in_front = refl
 a_short_offset : dumps_of (codes "00 05 01") ≡ (0x05 ∷ 0x01 ∷ []) ∷ []
 unfolding dumps_of dumps_in dump_of line_below row_bytes words_row enclosed_bytes parted_bytes shown_bytes cells_bytes number_of
 a_short_offset = refl
+
+-- Strings and characters of C11, 6.4.4.4 and 6.4.5: their examples.
+
+-- two strings of one character each
+two_strings : strings_bytes (codes "\"\\x12\" \"3\"") ≡ Some (0x12 ∷ 0x33 ∷ [])
+unfolding strings_bytes parts_of characters_bytes number_of
+two_strings = refl
+
+-- three octal digits, and a digit as it is
+octal_and_a_digit : characters_bytes (codes "\\0223") ≡ Some (0x12 ∷ 0x33 ∷ [])
+unfolding characters_bytes number_of
+octal_and_a_digit = refl
+
+-- a character of three hex digits is no byte
+three_hex_digits : characters_bytes (codes "\\x123") ≡ None
+unfolding characters_bytes number_of
+three_hex_digits = refl
+
+-- a line that a backslash ends, in the middle of an escape
+over_two_lines : strings_bytes (codes "\"\\x0\\" ++ 10 ∷ codes "5\"") ≡ Some (0x05 ∷ [])
+unfolding strings_bytes parts_of characters_bytes number_of
+over_two_lines = refl

@@ -35,7 +35,7 @@ place_in_line byte = if byte == 10 then Code else (if byte == 13 then Return els
 abbrev pub place_after_code : ℕ → Place
 place_after_code byte = if byte == 47 then Slash else place_in_code byte
 
--- after a slash: // and /* begin a comment, and behind a backslash the rest of such a mark may stand in the next line
+-- after a slash: // and /* begin a comment, and after a backslash the rest of such a mark may stand in the next line
 abbrev pub place_after_slash : ℕ → Place
 place_after_slash byte =
     if byte == 47 then Line else (if byte == 42 then Block else (if byte == 92 then Unclear else place_in_code byte))
@@ -56,7 +56,7 @@ place_in_block byte = if byte == 42 then Star else (if byte == 47 then Inner els
 abbrev pub place_after_inner : ℕ → Place
 place_after_inner byte = if byte == 42 then Unclear else (if byte == 47 then Inner else Block)
 
--- after a star there: a slash ends the comment, and behind a backslash the next line goes on
+-- after a star there: a slash ends the comment, and after a backslash the next line goes on
 abbrev pub place_after_star : ℕ → Place
 place_after_star byte =
     if byte == 47 then Code else (if byte == 42 then Star else (if byte == 92 then Turn else Block))
@@ -137,9 +137,18 @@ has_array code = is_some (behind_brace code) || list_any is_hex_mark (zip code (
 abbrev pub is_array_end : ℕ → Bool
 is_array_end byte = (byte == 59) || ((byte == 44) || ((byte == 41) || (byte == 125)))
 
--- an array ends in front of this: one of ; , ) and }, or nothing
+-- a comma and a brace first, perhaps with white space between them: another row of a table of arrays
+abbrev pub begins_row : List ℕ → Bool
+begins_row rest =
+    nat_le 1 (length rest)
+    && ((slice_index rest 0 == 44) && (nat_le 1 (length (without_space (drop 1 rest))) && (slice_index (without_space (drop 1 rest)) 0 == 123)))
+
+-- an array ends in front of this, without white space: one of ; , ) and }, and no other row, or nothing
+abbrev pub is_array_behind : List ℕ → Bool
+is_array_behind rest = (length rest == 0) || (is_array_end (slice_index rest 0) && not (begins_row rest))
+
 abbrev pub ends_array : List ℕ → Bool
-ends_array rest = (length (without_space rest) == 0) || is_array_end (slice_index (without_space rest) 0)
+ends_array rest = is_array_behind (without_space rest)
 
 -- what stands in front of the brace that closes an array
 abbrev pub closed_text : Option ℕ → List ℕ → Option (List ℕ)

@@ -2,7 +2,7 @@
 use Rattle.std.specs.Prelude.{◌≡◌, ◌==◌, ◌⊎◌, ℕ, if◌then◌else◌, List, [], ◌++◌, Option, None, Some, codes}
 use Rattle.std.specs.Fmt.{decimal}
 use Rattle.hid_input.specs.declared.fault.InputCause.{InputCause}
-use Rattle.hid_input.specs.declared.fault.InputCause.TheVariants.{BadHex, NoCount, BadCount, BadArray, ArrayEnd, Unclear, BadEscape, SeveralStrings, WordOrder, Offset, Dump, BadItem, Unavailable, TwoWays, Utf16, NoDescriptor, Memory}
+use Rattle.hid_input.specs.declared.fault.InputCause.TheVariants.{BadHex, NoCount, BadCount, BadArray, ArrayEnd, SeveralArrays, Unclear, BadEscape, SeveralStrings, WordOrder, Offset, Dump, BadItem, Unavailable, TwoWays, Utf16, NoDescriptor, Memory}
 use Rattle.hid_input.specs.declared.fault.InputFault.{InputFault}
 
 -- what is wrong with the whole text
@@ -29,6 +29,7 @@ cause_text NoCount = codes "the count is missing, or no number"
 cause_text (BadCount said found) = codes "the count says " ++ (decimal said ++ bytes_text found)
 cause_text BadArray = codes "an element of the array is no byte"
 cause_text ArrayEnd = codes "the array has no end: } and nothing, or ; , ) or } after it"
+cause_text SeveralArrays = codes "a table of arrays: which of them is meant isn't known"
 cause_text Unclear = codes "it isn't clear where a comment or a string ends"
 cause_text BadEscape = codes "an escape of the string is no byte, or a digit follows it"
 cause_text SeveralStrings = codes "a string beside others, or a single character: which bytes are meant isn't known"

@@ -12,7 +12,7 @@ use Rattle.hid_input.specs.Decimal.{IsOnlyHex}
 use Rattle.hid_input.specs.Recorded.{has_recorded, recorded_bytes, has_dumped, block_below, block_bytes}
 use Rattle.hid_input.specs.Listed.{has_listed, listed_bytes, has_unavailable}
 use Rattle.hid_input.specs.Code.{code_of, has_array, array_bytes}
-use Rattle.hid_input.specs.Strings.{has_string}
+use Rattle.hid_input.specs.Strings.{has_string, strings_bytes}
 
 -- the form of a text without comments, by its code with empty strings and with whole ones: an array of C, a string, or none
 abbrev pub form_of_code : List ℕ → List ℕ → TextForm
@@ -35,7 +35,7 @@ form_of text =
     else (if has_listed text then Listed
     else (if has_unavailable text then Unavailable else form_in_code (code_of false text) (code_of true text))))))
 
--- a text of a form encodes these bytes; of a string nothing is said, and other text encodes none
+-- a text of a form encodes these bytes; other text encodes none
 abbrev pub Encodes : List ℕ → List ℕ → TextForm → Type 0
 Encodes text bytes Dump = IsDump text bytes
 Encodes text bytes Hex = spelled_bytes text ≡ Some bytes
@@ -44,7 +44,7 @@ Encodes text bytes Dumped = block_bytes (block_below (lines_of text)) ≡ Some b
 Encodes text bytes Listed = listed_bytes (lines_of text) ≡ Some bytes
 Encodes text bytes Unavailable = ⊥
 Encodes text bytes Array = option_and_then array_bytes (code_of false text) ≡ Some bytes
-Encodes text bytes Quoted = Unit {0}
+Encodes text bytes Quoted = option_and_then strings_bytes (code_of true text) ≡ Some bytes
 Encodes text bytes Unclear = ⊥
 Encodes text bytes Other = ⊥
 
@@ -64,11 +64,10 @@ IsFaultOf fault Dumped = IsOfHex fault
 IsFaultOf fault Listed = fault.cause ≡ Memory
 IsFaultOf fault Unavailable = ⊥
 IsFaultOf fault Array = fault ≡ of_text Memory
-IsFaultOf fault Quoted = Unit {0}
+IsFaultOf fault Quoted = fault ≡ of_text Memory
 IsFaultOf fault Unclear = ⊥
 IsFaultOf fault Other = ⊥
 
--- memory ran out; of strings nothing is said
-abbrev pub IsMemoryOf : InputFault → TextForm → Type 0
-IsMemoryOf fault Quoted = Unit {0}
-IsMemoryOf fault form = fault.cause ≡ Memory
+-- memory ran out
+abbrev pub IsMemory : InputFault → Type 0
+IsMemory fault = fault.cause ≡ Memory

@@ -1,5 +1,5 @@
 -- Hex: bytes of two digits, with separators between them or without (our choice: docs/PICTURES.md).
-use Rattle.std.specs.Prelude.{ℕ, ◌==◌, ◌-◌, Bool, not, ◌&&◌, ◌||◌, nat_le, nat_lt, List, [], length, slice_index, slice_index_or, take, if◌then◌else◌, Option, None, Some}
+use Rattle.std.specs.Prelude.{ℕ, ◌==◌, ◌-◌, ◌+◌, Bool, false, not, ◌&&◌, ◌||◌, nat_le, nat_lt, List, [], length, slice_index, slice_index_or, take, if◌then◌else◌, Option, None, Some}
 use Rattle.std.specs.List.{slice_split, list_all, list_any, position}
 use Rattle.std.specs.Option.{option_or}
 use Rattle.std.specs.Char.{is_ascii_whitespace, is_ascii_hexdigit}
@@ -56,29 +56,6 @@ spelled_bytes text = option_or (all_bytes (word_bytes Byte) (words_of text)) (ru
 abbrev pub is_spelled_byte : ℕ → Bool
 is_spelled_byte byte = is_ascii_hexdigit byte || (is_separator byte || (is_x byte || is_h byte))
 
--- a colon first, as in Intel HEX
-abbrev pub begins_with_colon : List ℕ → Bool
-begins_with_colon text = nat_le 1 (length text) && (slice_index text 0 == 58)
-
--- one character and a colon first, and white space or nothing after them, as hid-recorder writes
-abbrev pub begins_with_letter : List ℕ → Bool
-begins_with_letter text =
-    nat_le 2 (length text) && ((slice_index text 1 == 58) && ((length text == 2) || is_ascii_whitespace (slice_index text 2)))
-
--- a line that has such a mark says what its digits are, which are no bytes alone
-abbrev pub is_marked_line : List ℕ → Bool
-is_marked_line line = begins_with_colon (without_space line) || begins_with_letter (without_space line)
-
--- some line of a text has such a mark
-abbrev pub has_marked_line : List ℕ → Bool
-has_marked_line text = list_any is_marked_line (lines_of text)
-
--- text of hex alone: with a digit, without a dash beside a blank, as in numbers such as 7e-45, and without such lines
-abbrev pub is_spelled : List ℕ → Bool
-is_spelled text =
-    list_any is_ascii_hexdigit text
-    && (not (list_any (λ byte. byte == 45) text && list_any (λ byte. byte == 32) text) && (not (has_marked_line text) && list_all is_spelled_byte text))
-
 -- what stands in front of a place, or all where there is none
 abbrev pub in_front : Option ℕ → List ℕ → List ℕ
 in_front None text = text
@@ -91,6 +68,33 @@ before_space text = in_front (position is_ascii_whitespace text) text
 -- the first word of a text, up to white space
 abbrev pub first_word : List ℕ → List ℕ
 first_word text = before_space (without_space text)
+
+-- a colon first, as in Intel HEX
+abbrev pub begins_with_colon : List ℕ → Bool
+begins_with_colon text = nat_le 1 (length text) && (slice_index text 0 == 58)
+
+-- the first colon of a word is its last character
+abbrev pub is_last : Option ℕ → List ℕ → Bool
+is_last None word = false
+is_last (Some place) word = place + 1 == length word
+
+-- a label: a word with a colon at its end alone, as hid-recorder's letters, and offsets
+abbrev pub is_label : List ℕ → Bool
+is_label word = is_last (position (λ byte. byte == 58) word) word
+
+-- a line that begins with such a mark says what its digits are, which are no bytes alone
+abbrev pub is_marked_line : List ℕ → Bool
+is_marked_line line = begins_with_colon (without_space line) || is_label (first_word line)
+
+-- some line of a text has such a mark
+abbrev pub has_marked_line : List ℕ → Bool
+has_marked_line text = list_any is_marked_line (lines_of text)
+
+-- text of hex alone: with a digit, without a dash beside a blank, as in numbers such as 7e-45, and without such lines
+abbrev pub is_spelled : List ℕ → Bool
+is_spelled text =
+    list_any is_ascii_hexdigit text
+    && (not (list_any (λ byte. byte == 45) text && list_any (λ byte. byte == 32) text) && (not (has_marked_line text) && list_all is_spelled_byte text))
 
 -- a word that is an offset by its looks: two hex digits or more and a colon, or four zeros or more
 abbrev pub is_offset : List ℕ → Bool

@@ -1,3 +1,4 @@
+pub mod Characters
 pub mod Code
 pub mod Decimal
 pub mod Dump

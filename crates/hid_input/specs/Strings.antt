@@ -1,6 +1,14 @@
--- Strings of C with escapes (our choice: docs/PICTURES.md).
-use Rattle.std.specs.Prelude.{ℕ, ◌==◌, Bool, ◌&&◌, ◌||◌, List, drop}
-use Rattle.std.specs.List.{list_any, zip}
+-- Strings of C that begin with an escape (C11, 5.1.1.2, 6.4.4.4 and 6.4.5; which of them are read is our choice: docs/PICTURES.md).
+use Rattle.std.specs.Prelude.{ℕ, ◌==◌, ◌-◌, Bool, not, true, false, ◌&&◌, ◌||◌, nat_le, List, [], ◌∷◌, ◌++◌, length, slice_index, take, drop, if◌then◌else◌, Option, None, Some}
+use Rattle.std.specs.List.{list_any, list_all, suffix_len, zip}
+use Rattle.std.specs.Option.{option_and_then}
+use Rattle.std.specs.Char.{is_ascii_whitespace, is_ascii_alphanumeric}
+use Rattle.hid_input.specs.declared.code.Place.{Place}
+use Rattle.hid_input.specs.declared.code.Place.TheVariants.{Code, Slash, Quoted}
+use Rattle.hid_input.specs.Words.{both}
+use Rattle.hid_input.specs.Hex.{lines_of}
+use Rattle.hid_input.specs.Code.{place_after}
+use Rattle.hid_input.specs.Characters.{characters_bytes}
 
 -- a quote, and a backslash after it
 abbrev pub is_escaped_quote : ℕ × ℕ → Bool
@@ -9,3 +17,117 @@ is_escaped_quote pair = ((pair.0 == 34) || (pair.0 == 39)) && (pair.1 == 92)
 -- some string or character begins with an escape
 abbrev pub has_string : List ℕ → Bool
 has_string code = list_any is_escaped_quote (zip code (drop 1 code))
+
+-- a line without the white space at its end
+abbrev pub line_front : List ℕ → List ℕ
+line_front line = take (length line - suffix_len is_ascii_whitespace line) line
+
+-- a line that a backslash ends goes on in the next one (5.1.1.2)
+abbrev pub goes_on : List ℕ → Bool
+goes_on front = nat_le 1 (length front) && (slice_index front (length front - 1) == 92)
+
+abbrev pub joined_line : List ℕ → List ℕ
+joined_line line = if goes_on (line_front line) then take (length (line_front line) - 1) (line_front line) else line ++ 10 ∷ []
+
+-- lines one after the other
+abbrev pub joined_lines : List (List ℕ) → List ℕ
+joined_lines [] = []
+joined_lines (line ∷ lines) = joined_line line ++ joined_lines lines
+
+-- a quote that begins a string or a character, or that ends it
+abbrev pub opens : Place → ℕ → Bool
+opens Code byte = (byte == 34) || (byte == 39)
+opens Slash byte = (byte == 34) || (byte == 39)
+opens place byte = false
+
+abbrev pub closes : Place → ℕ → Bool
+closes (Quoted quote) byte = byte == quote
+closes place byte = false
+
+-- parts with more in front of the first one
+abbrev pub with_front : List ℕ → List (List ℕ) → List (List ℕ)
+with_front front [] = front ∷ []
+with_front front (part ∷ parts) = (front ++ part) ∷ parts
+
+-- one more byte in front of parts: a quote parts them, and the one that begins a string stays in front of it
+abbrev pub cut_parts : Place → ℕ → List (List ℕ) → List (List ℕ)
+cut_parts place byte parts =
+    if opens place byte then [] ∷ with_front (byte ∷ []) parts
+    else (if closes place byte then [] ∷ parts else with_front (byte ∷ []) parts)
+
+-- the parts of a text that begins in this place: in turn code, and a string with the quote in front of it
+abbrev pub parts_from : Place → List ℕ → List (List ℕ)
+parts_from place [] = [] ∷ []
+parts_from place (byte ∷ text) = cut_parts place byte (parts_from (place_after place byte) text)
+
+-- the parts of a text in which lines go on in the next
+unfoldable pub parts_of : List ℕ → List (List ℕ)
+parts_of code = parts_from Code (joined_lines (lines_of code))
+
+-- a byte of a part
+abbrev pub has_byte : ℕ → List ℕ → Bool
+has_byte wanted part = list_any (λ byte. byte == wanted) part
+
+-- a string whose first character is an escape
+abbrev pub begins_with_escape : List ℕ → Bool
+begins_with_escape string = nat_le 2 (length string) && (slice_index string 1 == 92)
+
+-- one of ; = ( { [ # and :, after which a string is another's than those in front
+abbrev pub begins_value : ℕ → Bool
+begins_value byte =
+    (byte == 59) || ((byte == 61) || ((byte == 40) || ((byte == 123) || ((byte == 91) || ((byte == 35) || (byte == 58))))))
+
+-- code ends with no letter and no digit
+abbrev pub ends_word : List ℕ → Bool
+ends_word code = (length code == 0) || not (is_ascii_alphanumeric (slice_index code (length code - 1)))
+
+-- in front of a string stands no letter but one b, as in Python and in Rust: others may say that a backslash is no escape, or that a
+-- character has several bytes (6.4.5)
+abbrev pub ends_with_b : List ℕ → Bool
+ends_with_b code =
+    nat_le 1 (length code)
+    && (((slice_index code (length code - 1) == 98) || (slice_index code (length code - 1) == 66)) && ends_word (take (length code - 1) code))
+
+-- a string with this code in front of it stands alone, where another one may stand in front of that
+abbrev pub stands_alone : Bool → List ℕ → Bool
+stands_alone has_other code = (ends_word code || ends_with_b code) && (not has_other || list_any begins_value code)
+
+-- the bytes of a string, if this quote is in front of it
+abbrev pub string_bytes : ℕ → List ℕ → Option (List ℕ)
+string_bytes quote string =
+    if nat_le 1 (length string) && (slice_index string 0 == quote) then characters_bytes (drop 1 string) else None
+
+-- code after which other strings may follow: a semicolon, and no backslash in all that follows
+abbrev pub ends_strings : List ℕ → List (List ℕ) → Bool
+ends_strings code parts = has_byte 59 code && not (list_any (has_byte 92) (code ∷ parts))
+
+-- the bytes of strings that belong together: white space alone stands between them (5.1.1.2)
+abbrev pub more_bytes : ℕ → List (List ℕ) → Option (List ℕ)
+more_bytes quote (code ∷ string ∷ parts) =
+    if list_all is_ascii_whitespace code then both (string_bytes quote string) (more_bytes quote parts)
+    else (if ends_strings code (string ∷ parts) then Some [] else None)
+more_bytes quote _ = Some []
+
+-- bytes, if they are no single character in single quotes
+abbrev pub if_several : ℕ → List ℕ → Option (List ℕ)
+if_several quote bytes = if (quote == 39) && nat_le (length bytes) 1 then None else Some bytes
+
+-- the bytes of a string and of those that belong to it, if they are no single character
+abbrev pub first_bytes : List ℕ → List (List ℕ) → Option (List ℕ)
+first_bytes string parts =
+    option_and_then (if_several (slice_index string 0))
+    (both (string_bytes (slice_index string 0) string) (more_bytes (slice_index string 0) parts))
+
+-- the bytes of a string and of those that belong to it, if it stands alone
+abbrev pub alone_bytes : Bool → List ℕ → List ℕ → List (List ℕ) → Option (List ℕ)
+alone_bytes has_other code string parts = if stands_alone has_other code then first_bytes string parts else None
+
+-- the bytes of the first string that begins with an escape, and of those that belong to it; where another string may stand in front
+abbrev pub bytes_from : Bool → List (List ℕ) → Option (List ℕ)
+bytes_from has_other (code ∷ string ∷ parts) =
+    if begins_with_escape string then alone_bytes has_other code string parts else bytes_from true parts
+bytes_from has_other _ = None
+
+-- the bytes of the strings of a text without comments
+unfoldable pub strings_bytes : List ℕ → Option (List ℕ)
+strings_bytes code = bytes_from false (parts_of code)

@@ -27,7 +27,9 @@ has_mark bytes =
 abbrev pub without_mark : List ℕ → List ℕ
 without_mark bytes = if has_mark bytes then drop 3 bytes else bytes
 
--- bytes begin with the byte order mark of UTF-16, its lowest byte first, and a character below 256 (Unicode, 23.8)
+-- bytes begin with the byte order mark of UTF-16, in either order of bytes, and a character below 256 (Unicode, 23.8)
 abbrev pub is_utf16 : List ℕ → Bool
 is_utf16 bytes =
-    nat_le 4 (length bytes) && ((slice_index bytes 0 == 0xFF) && ((slice_index bytes 1 == 0xFE) && (slice_index bytes 3 == 0)))
+    nat_le 4 (length bytes)
+    && (((slice_index bytes 0 == 0xFF) && ((slice_index bytes 1 == 0xFE) && (slice_index bytes 3 == 0)))
+    || ((slice_index bytes 0 == 0xFE) && ((slice_index bytes 1 == 0xFF) && (slice_index bytes 2 == 0))))

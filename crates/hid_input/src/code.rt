@@ -6,7 +6,7 @@ ghost use Rattle.std.specs.Option.{option_map, option_and_then, option_copied};
 ghost use Rattle.hid_input.specs.Faults.{of_text};
 ghost use Rattle.hid_input.specs.Words.{IsAdded};
 ghost use Rattle.hid_input.specs.Dump.{place_of};
-ghost use Rattle.hid_input.specs.Code.{place_in_code, is_line_end, is_splice, place_in_quotes, place_in_line, place_after_code, place_after_slash, place_after_splice, place_after_return, place_in_block, place_after_inner, place_after_star, place_after_turn, place_after, bytes_if, code_part, code_end, code_from, code_of, begins_number, behind_brace, is_hex_mark, has_array, is_array_end, ends_array, closed_text, elements_text, array_text, without_empty, is_comma, elements_bytes, array_bytes};
+ghost use Rattle.hid_input.specs.Code.{place_in_code, is_line_end, is_splice, place_in_quotes, place_in_line, place_after_code, place_after_slash, place_after_splice, place_after_return, place_in_block, place_after_inner, place_after_star, place_after_turn, place_after, bytes_if, code_part, code_end, code_from, code_of, begins_number, behind_brace, is_hex_mark, has_array, is_array_end, begins_row, is_array_behind, ends_array, closed_text, elements_text, array_text, without_empty, is_comma, elements_bytes, array_bytes};
 
 use crate::fault::{InputCause, InputFault};
 use crate::parts::{is_empty_line, place_of, without_space};
@@ -35,7 +35,7 @@ pub enum Place {
     Inner,
     /// After `*` there, which may end the comment.
     Star,
-    /// After a backslash behind that `*`, and ends of lines.
+    /// After a backslash that follows that `*`, and ends of lines.
     Turn,
     /// After what some read as the end of a comment or a string, and others don't.
     Unclear,
@@ -187,7 +187,7 @@ fn place_after_star(byte: u8) -> Place
     }
 }
 
-/// Where the next byte stands after a backslash behind that, and ends of lines.
+/// Where the next byte stands after a backslash that follows `*`, and ends of lines.
 fn place_after_turn(byte: u8) -> Place
     ensures { result ≡ place_after_turn byte }
 {
@@ -201,7 +201,7 @@ fn place_after_turn(byte: u8) -> Place
 }
 
 /// Where the next byte stands.
-fn place_after(place: Place, byte: u8) -> Place
+pub fn place_after(place: Place, byte: u8) -> Place
     ensures { result ≡ place_after place byte }
 {
     match place {
@@ -353,12 +353,24 @@ pub fn has_array(code: &[u8]) -> bool
     behind_brace(code).is_some() || has_hex_mark(code)
 }
 
-/// Whether an array may end in front of this: one of `;`, `,`, `)` and `}`, or nothing.
+/// Whether a comma and a brace are first, as in front of another row of a table of arrays.
+fn begins_row(rest: &[u8]) -> bool
+    ensures { result ≡ begins_row rest.now }
+{
+    if rest.len() >= 1 && rest[0] == b',' {
+        let row = without_space(&rest[1..]);
+        row.len() >= 1 && row[0] == b'{'
+    } else {
+        false
+    }
+}
+
+/// Whether an array may end in front of this: one of `;`, `,`, `)` and `}`, and no other row, or nothing.
 fn ends_array(rest: &[u8]) -> bool
     ensures { result ≡ ends_array rest.now }
 {
     let rest = without_space(rest);
-    rest.is_empty() || is_array_end(rest[0])
+    rest.is_empty() || (is_array_end(rest[0]) && !begins_row(rest))
 }
 
 /// Whether a byte may stand after the brace that closes an array.
@@ -426,6 +438,17 @@ fn read_elements(alloc: Global, elements: &[u8]) -> Result<Option<Vec<u8>>, Allo
     read_words(alloc, without_empty(words.as_slice()), WordForm::Element)
 }
 
+/// Why no end of an array is found: another row of a table follows it, or it has none.
+fn end_cause(code: &[u8]) -> InputCause {
+    let Some(inside) = behind_brace(code) else {
+        return InputCause::ArrayEnd;
+    };
+    match place_of(inside, b'}') {
+        Some(place) if begins_row(without_space(&inside[place + 1..])) => InputCause::SeveralArrays,
+        _ => InputCause::ArrayEnd,
+    }
+}
+
 /// Why an array isn't read, or that there is none: no brace that a number follows.
 fn array_fault(code: &[u8], cause: InputCause) -> InputFault {
     match behind_brace(code) {
@@ -442,7 +465,7 @@ fn read_code(alloc: Global, code: &[u8]) -> Result<Vec<u8>, InputFault>
         → IfErr result (λ fault. fault ≡ of_text InputCause.Memory) }
 {
     let Some(elements) = array_text(code) else {
-        return Err(array_fault(code, InputCause::ArrayEnd));
+        return Err(array_fault(code, end_cause(code)));
     };
     match read_elements(alloc, elements)? {
         Some(bytes) => Ok(bytes),
@@ -454,8 +477,8 @@ fn read_code(alloc: Global, code: &[u8]) -> Result<Vec<u8>, InputFault>
 ///
 /// # Errors
 /// [`InputCause::BadArray`] where an element is no byte; [`InputCause::ArrayEnd`] where no brace closes the array, or something else
-/// follows it; [`InputCause::NoDescriptor`] of elements alone, which aren't in braces; [`InputCause::Unclear`];
-/// [`InputCause::Memory`].
+/// follows it; [`InputCause::SeveralArrays`] of a row of a table; [`InputCause::NoDescriptor`] of elements alone, which aren't in
+/// braces; [`InputCause::Unclear`]; [`InputCause::Memory`].
 pub fn read_array(alloc: Global, text: &[u8]) -> Result<Vec<u8>, InputFault>
     ensures bytes { IfOk result (λ read. option_and_then array_bytes (code_of false text.now) ≡ Some read.items) }
     ensures faults { (bytes : List ℕ) → option_and_then array_bytes (code_of false text.now) ≡ Some bytes

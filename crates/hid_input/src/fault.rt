@@ -18,6 +18,8 @@ pub enum InputCause {
     BadArray,
     /// No brace closes an array of C, or something else follows it than may.
     ArrayEnd,
+    /// An array of C is a row of a table, of which nothing says which row is meant.
+    SeveralArrays,
     /// A comment or a string of C has no end, or one that not all programs take for it.
     Unclear,
     /// An escape of a string of C is no byte, or a digit follows it.
@@ -103,6 +105,7 @@ impl fmt::Display for InputCause {
             InputCause::NoCount => "the count is missing, or no number",
             InputCause::BadArray => "an element of the array is no byte",
             InputCause::ArrayEnd => "the array has no end: } and nothing, or ; , ) or } after it",
+            InputCause::SeveralArrays => "a table of arrays: which of them is meant isn't known",
             InputCause::Unclear => "it isn't clear where a comment or a string ends",
             InputCause::BadEscape => "an escape of the string is no byte, or a digit follows it",
             InputCause::SeveralStrings => {

@@ -11,11 +11,11 @@
 //! bytes of their line. Dumps and hex are read in each way in which they can be, and where two ways differ the text is refused.
 //!
 //! The promise: what is read of a text is what the definition of its form says, and what it encodes is read (`text`, `alone`,
-//! `complete` and `one_way` on [`descriptor_in`]). Bytes that aren't text are the descriptor, byte for byte. What is read of strings
-//! of C is tested.
+//! `complete` and `one_way` on [`descriptor_in`]). Bytes that aren't text are the descriptor, byte for byte.
 #![tactic(auto)]
 
 mod cells;
+mod characters;
 mod code;
 mod columns;
 mod decimal;

@@ -4,8 +4,8 @@ ghost use Rattle.std.specs.Prelude.{◌≡◌, ℕ, false, true, List, Some, IfO
 ghost use Rattle.std.specs.List.{list_all};
 ghost use Rattle.hid_input.specs.Hex.{spelled_bytes};
 ghost use Rattle.hid_input.specs.Dump.{IsDump, HasNoOthers};
-ghost use Rattle.hid_input.specs.Decimal.{IsOnlyHex};
-ghost use Rattle.hid_input.specs.Forms.{form_of, Encodes, IsAlone, IsFaultOf, IsMemoryOf};
+ghost use Rattle.hid_input.specs.Decimal.{begins_with_count, HasNoOtherHex, IsOnlyHex};
+ghost use Rattle.hid_input.specs.Forms.{form_of, Encodes, IsAlone, IsFaultOf, IsMemory};
 ghost use Rattle.hid_input.specs.Faults.{of_text, IsOfHex};
 ghost use Rattle.hid_input.specs.Text.{is_space, is_text_byte, has_printed, is_text, is_utf16, without_mark};
 
@@ -67,11 +67,13 @@ fn without_mark(bytes: &[u8]) -> &[u8]
     }
 }
 
-/// Whether the bytes begin with the mark of UTF-16, lowest byte first, and a character below 256.
+/// Whether the bytes begin with the mark of UTF-16, in either order of bytes, and a character below 256.
 fn is_utf16(bytes: &[u8]) -> bool
     ensures { result ≡ is_utf16 bytes.now }
 {
-    bytes.len() >= 4 && bytes[0] == 0xFF && bytes[1] == 0xFE && bytes[3] == 0
+    bytes.len() >= 4
+        && ((bytes[0] == 0xFF && bytes[1] == 0xFE && bytes[3] == 0)
+            || (bytes[0] == 0xFE && bytes[1] == 0xFF && bytes[2] == 0))
 }
 
 /// Whether a word is hex digits of several bytes.
@@ -116,13 +118,20 @@ fn read_offset_dump(alloc: Global, text: &[u8]) -> Result<Vec<u8>, InputFault>
     }
 }
 
+/// Whether the first byte begins no item of a descriptor, but may be an offset, or the number of a line or of a column.
+fn begins_with_count(bytes: &[u8]) -> bool
+    ensures { result ≡ begins_with_count bytes.now }
+{
+    bytes.len() >= 1 && bytes[0] <= 3
+}
+
 /// The bytes of hex, which may be decimal, and of which a first column may count the bytes: in each way in which the text can be
 /// read they are the same.
-fn read_hex(alloc: Global, text: &[u8]) -> Result<Vec<u8>, InputFault>
+fn read_one_way(alloc: Global, text: &[u8]) -> Result<Vec<u8>, InputFault>
     ensures spelled { IfOk result (λ read. spelled_bytes text.now ≡ Some read.items) }
     ensures faults { (bytes : List ℕ) → spelled_bytes text.now ≡ Some bytes → IfErr result IsOfHex }
-    ensures others { IfOk result (λ read. IsOnlyHex text.now read.items) }
-    ensures read { (bytes : List ℕ) → spelled_bytes text.now ≡ Some bytes → IsOnlyHex text.now bytes
+    ensures others { IfOk result (λ read. HasNoOtherHex text.now read.items) }
+    ensures read { (bytes : List ℕ) → spelled_bytes text.now ≡ Some bytes → HasNoOtherHex text.now bytes
         → IfErr result (λ fault. fault ≡ of_text InputCause.Memory) }
 {
     let spelled = read_spelled(alloc, text)?;
@@ -133,6 +142,21 @@ fn read_hex(alloc: Global, text: &[u8]) -> Result<Vec<u8>, InputFault>
         return Err(InputFault::of_text(InputCause::TwoWays));
     }
     Ok(spelled)
+}
+
+/// The bytes of hex alone.
+fn read_hex(alloc: Global, text: &[u8]) -> Result<Vec<u8>, InputFault>
+    ensures spelled { IfOk result (λ read. spelled_bytes text.now ≡ Some read.items) }
+    ensures faults { (bytes : List ℕ) → spelled_bytes text.now ≡ Some bytes → IfErr result IsOfHex }
+    ensures others { IfOk result (λ read. IsOnlyHex text.now read.items) }
+    ensures read { (bytes : List ℕ) → spelled_bytes text.now ≡ Some bytes → IsOnlyHex text.now bytes
+        → IfErr result (λ fault. fault ≡ of_text InputCause.Memory) }
+{
+    let bytes = read_one_way(alloc, text)?;
+    if begins_with_count(bytes.as_slice()) {
+        return Err(InputFault::of_text(InputCause::TwoWays));
+    }
+    Ok(bytes)
 }
 
 /// Why text isn't read of which it isn't clear where a comment or a string ends: that, if it has an array or a string of bytes; else
@@ -151,7 +175,7 @@ fn read_form(alloc: Global, text: &[u8], form: TextForm) -> Result<Vec<u8>, Inpu
     ensures alone { IfOk result (λ read. IsAlone text.now read.items form) }
     ensures complete { (whole : List ℕ) → Encodes text.now whole form → IfErr result (λ fault. IsFaultOf fault form) }
     ensures one_way { (whole : List ℕ) → Encodes text.now whole form → IsAlone text.now whole form
-        → IfErr result (λ fault. IsMemoryOf fault form) }
+        → IfErr result IsMemory }
 {
     match form {
         TextForm::Dump => read_offset_dump(alloc, text),
@@ -174,7 +198,7 @@ fn descriptor_in_text(alloc: Global, text: &[u8]) -> Result<Vec<u8>, InputFault>
     ensures complete { (whole : List ℕ) → Encodes text.now whole (form_of text.now)
         → IfErr result (λ fault. IsFaultOf fault (form_of text.now)) }
     ensures one_way { (whole : List ℕ) → Encodes text.now whole (form_of text.now)
-        → IsAlone text.now whole (form_of text.now) → IfErr result (λ fault. IsMemoryOf fault (form_of text.now)) }
+        → IsAlone text.now whole (form_of text.now) → IfErr result IsMemory }
 {
     let form = form_of(alloc, text)?;
     read_form(alloc, text, form)
@@ -200,7 +224,7 @@ pub fn descriptor_in(alloc: Global, bytes: &[u8]) -> Result<Vec<u8>, InputFault>
     ensures one_way { (whole : List ℕ) → is_utf16 bytes.now ≡ false → is_text (without_mark bytes.now) ≡ true
         → Encodes (without_mark bytes.now) whole (form_of (without_mark bytes.now))
         → IsAlone (without_mark bytes.now) whole (form_of (without_mark bytes.now))
-        → IfErr result (λ fault. IsMemoryOf fault (form_of (without_mark bytes.now))) }
+        → IfErr result IsMemory }
 
     // Other bytes.
     ensures binary { is_text (without_mark bytes.now) ≡ false → IfOk result (λ read. read.items ≡ bytes.now) }

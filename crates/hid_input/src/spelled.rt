@@ -5,10 +5,10 @@ ghost use Rattle.hid_input.specs.Faults.{of_text};
 ghost use Rattle.std.specs.List.{list_any, list_all};
 ghost use Rattle.std.specs.Option.{option_map};
 ghost use Rattle.std.specs.Char.{is_ascii_hexdigit};
-ghost use Rattle.hid_input.specs.Hex.{is_separator, words_of, lines_of, is_one_word, is_long, are_long, is_bare, are_runs, runs_bytes, spelled_bytes, is_spelled_byte, begins_with_colon, begins_with_letter, is_marked_line, has_marked_line, is_spelled};
+ghost use Rattle.hid_input.specs.Hex.{is_separator, words_of, lines_of, is_one_word, is_long, are_long, is_bare, are_runs, runs_bytes, spelled_bytes, is_spelled_byte, begins_with_colon, is_last, is_label, is_marked_line, has_marked_line, is_spelled};
 
 use crate::fault::{InputCause, InputFault};
-use crate::parts::{line_number, without_space};
+use crate::parts::{first_word, line_number, place_of, without_space};
 use crate::words::{WordForm, byte_in, is_h, is_x, read_words};
 use std::alloc::{AllocError, Global};
 
@@ -236,13 +236,11 @@ fn are_spelled_bytes(text: &[u8]) -> bool
     text.iter().all(|byte| is_spelled_byte(*byte))
 }
 
-/// Whether a line begins with a colon, as Intel HEX, or with one character and a colon that stand alone, as in hid-recorder's
-/// text.
+/// Whether a line begins with a colon, as Intel HEX, or with a label: a letter of hid-recorder, or an offset.
 fn is_marked_line(line: &[u8]) -> bool
     ensures { result ≡ is_marked_line line.now }
 {
-    let text = without_space(line);
-    begins_with_colon(text) || begins_with_letter(text)
+    begins_with_colon(without_space(line)) || is_label(first_word(line))
 }
 
 /// Whether a colon is first.
@@ -252,11 +250,14 @@ fn begins_with_colon(text: &[u8]) -> bool
     text.len() >= 1 && text[0] == b':'
 }
 
-/// Whether one character and a colon are first, and white space or nothing after them.
-fn begins_with_letter(text: &[u8]) -> bool
-    ensures { result ≡ begins_with_letter text.now }
+/// Whether a word has a colon at its end alone.
+fn is_label(word: &[u8]) -> bool
+    ensures { result ≡ is_label word.now }
 {
-    text.len() >= 2 && text[1] == b':' && (text.len() == 2 || text[2].is_ascii_whitespace())
+    match place_of(word, b':') {
+        Some(place) => place + 1 == word.len(),
+        None => false,
+    }
 }
 
 /// Whether some line of a text has such a mark.

@@ -1,167 +1,20 @@
 //! The bytes of a string in a source text, as its escapes say them.
 
-ghost use Rattle.std.specs.Prelude.{◌≡◌};
-ghost use Rattle.hid_input.specs.Strings.{has_string};
+ghost use Rattle.std.specs.Prelude.{◌≡◌, ◌≤◌, length, ℕ, ◌++◌, ◌∷◌, [], Bool, false, true, List, Some, None, OnOk, IfOk, IfErr, map};
+ghost use Rattle.std.specs.List.{list_any, list_all};
+ghost use Rattle.std.specs.Option.{option_map, option_and_then};
+ghost use Rattle.hid_input.specs.Code.{code_of};
+ghost use Rattle.hid_input.specs.Faults.{of_text};
+ghost use Rattle.hid_input.specs.Strings.{has_string, line_front, goes_on, joined_line, joined_lines, opens, closes, with_front, cut_parts, parts_from, parts_of, has_byte, begins_with_escape, begins_value, ends_word, ends_with_b, stands_alone, string_bytes, ends_strings, more_bytes, if_several, first_bytes, alone_bytes, bytes_from, strings_bytes};
+ghost use Rattle.hid_input.specs.Words.{both, IsAdded};
 
-use crate::code::{unclear_code, without_comments};
-use crate::digits::digit_of;
+use crate::characters::read_characters;
+use crate::code::{Place, place_after, unclear_code, without_comments};
 use crate::fault::{InputCause, InputFault};
+use crate::parts::{is_empty_line, lines_of};
+use crate::spelled::has_byte;
 use std::alloc::{AllocError, Global};
-
-/// Where a character stands.
-#[derive(Clone, Copy)]
-enum Inside {
-    /// Between two strings, or after the last one.
-    Gap,
-    /// After a backslash there, which may end a line.
-    Continued,
-    Plain,
-    /// After a backslash in a string.
-    Escape,
-    /// After `\x` and so many digits.
-    Hex(u8, u8),
-    /// After a backslash and so many octal digits.
-    Octal(u16, u8),
-    /// After the strings that belong together; whether a semicolon has come.
-    Rest(bool),
-}
-
-/// The byte of an escape of one letter (C11, 6.4.4.4).
-fn letter_byte(letter: u8) -> Option<u8> {
-    match letter {
-        b'a' => Some(7),
-        b'b' => Some(8),
-        b't' => Some(9),
-        b'n' => Some(10),
-        b'v' => Some(11),
-        b'f' => Some(12),
-        b'r' => Some(13),
-        b'\\' | b'"' | b'\'' | b'?' => Some(letter),
-        _ => None,
-    }
-}
-
-/// The bytes of strings that stand one after the other.
-#[derive(Drop)]
-struct StringBytes {
-    bytes: Vec<u8>,
-    quote: u8,
-    inside: Inside,
-}
-
-impl StringBytes {
-    /// Adds a byte, after which a string goes on.
-    fn put(&mut self, byte: u8) -> Result<(), InputFault> {
-        self.inside = Inside::Plain;
-        self.bytes.push(byte).map_err(AllocError::from)?;
-        Ok(())
-    }
-
-    /// Takes a digit of an escape, or adds the byte of one that ends: whether the character was a digit of it.
-    fn take_digit(&mut self, character: u8) -> Result<bool, InputFault> {
-        match self.inside {
-            Inside::Hex(value, count) => match digit_of(character, 16) {
-                Some(digit) if count < 2 => {
-                    let value = (u32::from(value) * 16 + (digit & 0xF)) & 0xFF;
-                    self.inside = Inside::Hex(value as u8, count + 1);
-                    Ok(true)
-                }
-                None if count > 0 => {
-                    self.put(value)?;
-                    Ok(false)
-                }
-                _ => Err(InputFault::of_text(InputCause::BadEscape)),
-            },
-            Inside::Octal(value, count) => match digit_of(character, 8) {
-                Some(digit) if count < 3 => {
-                    let value = (u32::from(value) * 8 + (digit & 0x7)) & 0xFFFF;
-                    self.inside = Inside::Octal(value as u16, count + 1);
-                    Ok(true)
-                }
-                _ => {
-                    if value > 0xFF {
-                        return Err(InputFault::of_text(InputCause::BadEscape));
-                    }
-                    self.put((value & 0xFF) as u8)?;
-                    Ok(false)
-                }
-            },
-            _ => Ok(false),
-        }
-    }
-
-    /// Takes the character after a backslash.
-    fn take_escape(&mut self, character: u8) -> Result<(), InputFault> {
-        match character {
-            b'x' => self.inside = Inside::Hex(0, 0),
-            b'0'..=b'7' => self.inside = Inside::Octal(u16::from(character - b'0'), 1),
-            b'\n' => self.inside = Inside::Plain,
-            _ => match letter_byte(character) {
-                Some(byte) => self.put(byte)?,
-                None => return Err(InputFault::of_text(InputCause::BadEscape)),
-            },
-        }
-        Ok(())
-    }
-
-    /// Takes a character that is in no string. After a string whose bytes are read no other one may come, but one without an escape
-    /// after a semicolon.
-    fn take_outside(&mut self, character: u8) -> Result<(), InputFault> {
-        self.inside = match (self.inside, character) {
-            (Inside::Gap, _) if character == self.quote => Inside::Plain,
-            (Inside::Gap, b'\\') => Inside::Continued,
-            (Inside::Gap | Inside::Continued, _) if character.is_ascii_whitespace() => Inside::Gap,
-            (Inside::Rest(true), b'"' | b'\'') => Inside::Rest(true),
-            (Inside::Continued, _) | (_, b'"' | b'\'' | b'\\') => {
-                return Err(InputFault::of_text(InputCause::SeveralStrings));
-            }
-            (Inside::Rest(true), _) | (_, b';') => Inside::Rest(true),
-            _ => Inside::Rest(false),
-        };
-        Ok(())
-    }
-
-    /// Takes a character of the text.
-    fn take(&mut self, character: u8) -> Result<(), InputFault> {
-        if self.take_digit(character)? {
-            return Ok(());
-        }
-        match (self.inside, character) {
-            (Inside::Gap | Inside::Continued | Inside::Rest(_), _) => self.take_outside(character),
-            (Inside::Escape, _) => self.take_escape(character),
-            (_, b'\n' | b'\r') => Err(InputFault::of_text(InputCause::BadEscape)),
-            (_, b'\\') => {
-                self.inside = Inside::Escape;
-                Ok(())
-            }
-            _ if character == self.quote => {
-                self.inside = Inside::Gap;
-                Ok(())
-            }
-            _ => self.put(character),
-        }
-    }
-}
-
-/// Where the first string begins with a backslash.
-fn string_place(text: &[u8]) -> Option<usize> {
-    text.windows(2)
-        .position(|pair| matches!(pair, [b'"' | b'\'', b'\\']))
-}
-
-/// Whether a text ends after a string with which the next one may belong together: it stands after the last character that
-/// begins a statement or a value.
-fn ends_after_string(text: &[u8]) -> bool {
-    let mut has_string = false;
-    for byte in text {
-        match *byte {
-            b'"' | b'\'' => has_string = true,
-            b';' | b'=' | b'(' | b'{' | b'[' | b'#' | b':' => has_string = false,
-            _ => {}
-        }
-    }
-    has_string
-}
+use std::mem;
 
 /// Whether a text without comments has a string that begins with an escape.
 pub fn has_string(code: &[u8]) -> bool
@@ -174,40 +27,372 @@ pub fn has_string(code: &[u8]) -> bool
         && *next == b'\\')
 }
 
-/// The bytes of the first string that begins with an escape, and of those after it, with blanks and comments between them.
+/// A line without the white space at its end.
+fn line_front(line: &[u8]) -> &[u8]
+    ensures { result.now ≡ line_front line.now }
+{
+    line.trim_ascii_end()
+}
+
+/// Whether a line goes on in the next one.
+fn goes_on(front: &[u8]) -> bool
+    ensures { result ≡ goes_on front.now }
+{
+    front.len() >= 1 && front[front.len() - 1] == b'\\'
+}
+
+/// Adds a line, and its end if it doesn't go on in the next one.
+fn add_line(text: &mut Vec<u8>, line: &[u8]) -> Result<(), AllocError>
+    ensures { OnOk result (text.new.items ≡ text.old.items ++ joined_line line.now) }
+{
+    let front = line_front(line);
+    if goes_on(front) {
+        text.extend_from_slice(&front[..front.len() - 1])?;
+    } else {
+        text.extend_from_slice(line)?;
+        text.push(b'\n')?;
+    }
+    Ok(())
+}
+
+/// Lines one after the other.
+fn joined_lines(alloc: Global, lines: &[&[u8]]) -> Result<Vec<u8>, AllocError>
+    ensures { IfOk result (λ text. text.items ≡ joined_lines (map (λ line. line.now) lines.now)) }
+{
+    let mut text = Vec::new(alloc);
+    for line in lines {
+        add_line(&mut text, line)?;
+    }
+    Ok(text)
+}
+
+/// Whether a byte is a quote that begins a string or a character.
+fn opens(place: Place, byte: u8) -> bool
+    ensures { result ≡ opens place byte }
+{
+    match place {
+        Place::Code | Place::Slash => byte == b'"' || byte == b'\'',
+        Place::Quoted(_)
+        | Place::Escape(_)
+        | Place::Line
+        | Place::Splice
+        | Place::Return
+        | Place::Block
+        | Place::Inner
+        | Place::Star
+        | Place::Turn
+        | Place::Unclear => false,
+    }
+}
+
+/// Whether a byte is the quote that ends a string or a character.
+fn closes(place: Place, byte: u8) -> bool
+    ensures { result ≡ closes place byte }
+{
+    match place {
+        Place::Quoted(quote) => byte == quote,
+        Place::Code
+        | Place::Slash
+        | Place::Escape(_)
+        | Place::Line
+        | Place::Splice
+        | Place::Return
+        | Place::Block
+        | Place::Inner
+        | Place::Star
+        | Place::Turn
+        | Place::Unclear => false,
+    }
+}
+
+/// The parts of a text: in turn code, and a string with the quote in front of it.
+#[derive(Drop)]
+struct Parts {
+    /// Those that are whole.
+    whole: Vec<Vec<u8>>,
+    /// The last one so far.
+    last: Vec<u8>,
+}
+
+impl Parts {
+    /// Begins another part.
+    fn cut(&mut self, alloc: Global) -> Result<(), AllocError>
+        ensures whole { OnOk result (map (λ part. part.items) self.new.whole.items
+            ≡ map (λ part. part.items) self.old.whole.items ++ (self.old.last.items ∷ [])) }
+        ensures last { OnOk result (self.new.last.items ≡ []) }
+    {
+        let part = mem::replace(&mut self.last, Vec::new(alloc));
+        self.whole.push(part)?;
+        Ok(())
+    }
+
+    /// Takes a byte of the text.
+    fn take(&mut self, alloc: Global, place: Place, byte: u8) -> Result<(), AllocError>
+        ensures { (parts : List (List ℕ)) → 1 ≤ length parts → OnOk result (
+            map (λ part. part.items) self.new.whole.items ++ with_front self.new.last.items parts
+            ≡ map (λ part. part.items) self.old.whole.items ++ with_front self.old.last.items (cut_parts place byte parts)) }
+    {
+        if opens(place, byte) {
+            self.cut(alloc)?;
+            self.last.push(byte)?;
+            return Ok(());
+        }
+        if closes(place, byte) {
+            return self.cut(alloc);
+        }
+        self.last.push(byte)?;
+        Ok(())
+    }
+}
+
+/// The parts of a text in which no line goes on in the next.
+fn parts_in(alloc: Global, text: &[u8]) -> Result<Vec<Vec<u8>>, AllocError>
+    ensures { IfOk result (λ parts. map (λ part. part.items) parts.items ≡ parts_from Place.Code text.now) }
+{
+    let mut parts = Parts {
+        whole: Vec::new(alloc),
+        last: Vec::new(alloc),
+    };
+    let mut place = Place::Code;
+    for byte in text {
+        parts.take(alloc, place, *byte)?;
+        place = place_after(place, *byte);
+    }
+    parts.cut(alloc)?;
+    Ok(parts.whole)
+}
+
+/// The parts of a text without comments.
+#[tactic(auto, unfolding(crate::specs::Strings::parts_of))]
+fn parts_of(alloc: Global, code: &[u8]) -> Result<Vec<Vec<u8>>, AllocError>
+    ensures { IfOk result (λ parts. map (λ part. part.items) parts.items ≡ parts_of code.now) }
+{
+    let lines = lines_of(alloc, code)?;
+    let text = joined_lines(alloc, lines.as_slice())?;
+    parts_in(alloc, text.as_slice())
+}
+
+/// Whether the first character of a string is an escape.
+fn begins_with_escape(string: &[u8]) -> bool
+    ensures is { result ≡ begins_with_escape string.now }
+    ensures some { result ≡ true → 1 ≤ length string.now }
+{
+    string.len() >= 2 && string[1] == b'\\'
+}
+
+/// Whether a string after this is another's than those in front of it.
+fn begins_value(byte: u8) -> bool
+    ensures { result ≡ begins_value byte }
+{
+    matches!(byte, b';' | b'=' | b'(' | b'{' | b'[' | b'#' | b':')
+}
+
+/// Whether code ends with no letter and no digit.
+fn ends_word(code: &[u8]) -> bool
+    ensures { result ≡ ends_word code.now }
+{
+    code.is_empty() || !code[code.len() - 1].is_ascii_alphanumeric()
+}
+
+/// Whether code ends with the letter b alone.
+fn ends_with_b(code: &[u8]) -> bool
+    ensures { result ≡ ends_with_b code.now }
+{
+    code.len() >= 1
+        && (code[code.len() - 1] == b'b' || code[code.len() - 1] == b'B')
+        && ends_word(&code[..code.len() - 1])
+}
+
+/// Whether code has a character after which a string is another's.
+fn has_value(code: &[u8]) -> bool
+    ensures { result ≡ list_any begins_value code.now }
+{
+    code.iter().any(|byte| begins_value(*byte))
+}
+
+/// Whether a string with this code in front of it stands alone.
+fn stands_alone(has_other: bool, code: &[u8]) -> bool
+    ensures { result ≡ stands_alone has_other code.now }
+{
+    (ends_word(code) || ends_with_b(code)) && (!has_other || has_value(code))
+}
+
+/// The bytes of a string, if this quote is in front of it.
+fn read_string_part(alloc: Global, quote: u8, string: &[u8]) -> Result<Option<Vec<u8>>, AllocError>
+    ensures { IfOk result (λ read. option_map (λ bytes. bytes.items) read ≡ string_bytes quote string.now) }
+{
+    if string.len() >= 1 && string[0] == quote {
+        read_characters(alloc, &string[1..])
+    } else {
+        Ok(None)
+    }
+}
+
+/// Whether some part has a backslash.
+fn have_backslash(parts: &[Vec<u8>]) -> bool
+    ensures { result ≡ list_any (has_byte 92) (map (λ part. part.items) parts.now) }
+{
+    parts.iter().any(|part| has_byte(part.as_slice(), b'\\'))
+}
+
+/// Adds the bytes of a string; false where it has none.
+fn add_string(
+    alloc: Global,
+    bytes: &mut Vec<u8>,
+    quote: u8,
+    string: &[u8],
+) -> Result<bool, AllocError>
+    ensures { IfOk result (λ is_read. IsAdded bytes.old.items (string_bytes quote string.now) is_read bytes.new.items) }
+{
+    match read_string_part(alloc, quote, string)? {
+        Some(more) => {
+            bytes.extend_from_slice(more.as_slice())?;
+            Ok(true)
+        }
+        None => Ok(false),
+    }
+}
+
+/// Whether other strings may follow the first of these parts, which is code.
+fn ends_strings(code: &[u8], parts: &[Vec<u8>]) -> bool
+    ensures { result ≡ ends_strings code.now (map (λ part. part.items) parts.now) }
+{
+    has_byte(code, b';') && !has_byte(code, b'\\') && !have_backslash(parts)
+}
+
+/// Adds the bytes of the strings that belong to one in front of these parts; false where that isn't known, or one has none.
+fn add_more(
+    alloc: Global,
+    bytes: &mut Vec<u8>,
+    quote: u8,
+    parts: &[Vec<u8>],
+) -> Result<bool, AllocError>
+    ensures { IfOk result (λ is_read. IsAdded bytes.old.items (more_bytes quote (map (λ part. part.items) parts.now)) is_read bytes.new.items) }
+{
+    let mut rest = parts;
+    while rest.len() >= 2 {
+        let code = rest[0].as_slice();
+        if !is_empty_line(code) {
+            let (_code, others) = rest.split_at(1);
+            return Ok(ends_strings(code, others));
+        }
+        if !add_string(alloc, bytes, quote, rest[1].as_slice())? {
+            return Ok(false);
+        }
+        let (_taken, more) = rest.split_at(2);
+        rest = more;
+    }
+    Ok(true)
+}
+
+/// The bytes of a string and of those that belong to it, which stand in the parts after it.
+fn read_together(
+    alloc: Global,
+    quote: u8,
+    string: &[u8],
+    parts: &[Vec<u8>],
+) -> Result<Option<Vec<u8>>, AllocError>
+    ensures { IfOk result (λ read. option_map (λ bytes. bytes.items) read
+        ≡ both (string_bytes quote string.now) (more_bytes quote (map (λ part. part.items) parts.now))) }
+{
+    let Some(mut bytes) = read_string_part(alloc, quote, string)? else {
+        return Ok(None);
+    };
+    if add_more(alloc, &mut bytes, quote, parts)? {
+        Ok(Some(bytes))
+    } else {
+        Ok(None)
+    }
+}
+
+/// The bytes of a string that begins with an escape, and of those that belong to it; none of a single character.
+fn read_first(
+    alloc: Global,
+    string: &[u8],
+    parts: &[Vec<u8>],
+) -> Result<Option<Vec<u8>>, AllocError>
+    requires { 1 ≤ length string.now }
+    ensures { IfOk result (λ read. option_map (λ bytes. bytes.items) read ≡ first_bytes string.now (map (λ part. part.items) parts.now)) }
+{
+    let quote = string[0];
+    match read_together(alloc, quote, string, parts)? {
+        Some(bytes) if quote == b'\'' && bytes.len() <= 1 => Ok(None),
+        Some(bytes) => Ok(Some(bytes)),
+        None => Ok(None),
+    }
+}
+
+/// The bytes of a string, and of the strings that belong to it, if it stands alone.
+fn read_alone(
+    alloc: Global,
+    has_other: bool,
+    code: &[u8],
+    string: &[u8],
+    parts: &[Vec<u8>],
+) -> Result<Option<Vec<u8>>, AllocError>
+    requires { 1 ≤ length string.now }
+    ensures { IfOk result (λ read. option_map (λ bytes. bytes.items) read
+        ≡ alone_bytes has_other code.now string.now (map (λ part. part.items) parts.now)) }
+{
+    if stands_alone(has_other, code) {
+        read_first(alloc, string, parts)
+    } else {
+        Ok(None)
+    }
+}
+
+/// The bytes of the first string that begins with an escape, and of those that belong to it.
+fn read_parts(alloc: Global, parts: &[Vec<u8>]) -> Result<Option<Vec<u8>>, AllocError>
+    ensures { IfOk result (λ read. option_map (λ bytes. bytes.items) read ≡ bytes_from false (map (λ part. part.items) parts.now)) }
+{
+    let mut rest = parts;
+    let mut has_other = false;
+    while rest.len() >= 2 {
+        let (_taken, more) = rest.split_at(2);
+        let code = rest[0].as_slice();
+        let string = rest[1].as_slice();
+        if begins_with_escape(string) {
+            return read_alone(alloc, has_other, code, string, more);
+        }
+        has_other = true;
+        rest = more;
+    }
+    Ok(None)
+}
+
+/// Why no string is read: none begins with an escape, the first that does has one that is no byte, or others stand beside it.
+fn string_fault(alloc: Global, parts: &[Vec<u8>]) -> InputFault {
+    let Some(string) = parts
+        .iter()
+        .find(|part| begins_with_escape(part.as_slice()))
+    else {
+        return InputFault::of_text(InputCause::NoDescriptor);
+    };
+    match read_characters(alloc, &string.as_slice()[1..]) {
+        Ok(None) => InputFault::of_text(InputCause::BadEscape),
+        Ok(Some(_)) => InputFault::of_text(InputCause::SeveralStrings),
+        Err(error) => InputFault::from(error),
+    }
+}
+
+/// The bytes of the first string that begins with an escape, and of those after it, with white space and comments between them.
 ///
 /// # Errors
-/// [`InputCause::BadEscape`] where an escape is no byte or a third hex digit follows it, and where a string has no end in its line;
-/// [`InputCause::SeveralStrings`] where another string stands beside it or has an escape, and of a single character;
+/// [`InputCause::BadEscape`] where an escape is no byte or a third hex digit follows it; [`InputCause::SeveralStrings`] where another
+/// string stands beside it or has an escape, where a letter is in front of it that isn't b, and of a single character;
 /// [`InputCause::NoDescriptor`] where there is none; [`InputCause::Unclear`]; [`InputCause::Memory`].
-pub fn read_string(alloc: Global, text: &[u8]) -> Result<Vec<u8>, InputFault> {
+#[tactic(auto, unfolding(crate::specs::Strings::strings_bytes))]
+pub fn read_string(alloc: Global, text: &[u8]) -> Result<Vec<u8>, InputFault>
+    ensures bytes { IfOk result (λ read. option_and_then strings_bytes (code_of true text.now) ≡ Some read.items) }
+    ensures faults { (bytes : List ℕ) → option_and_then strings_bytes (code_of true text.now) ≡ Some bytes
+        → IfErr result (λ fault. fault ≡ of_text InputCause.Memory) }
+{
     let Some(code) = without_comments(alloc, text, true)? else {
         return Err(unclear_code(text));
     };
-    let code = code.as_slice();
-    let place = match string_place(code) {
-        Some(place) if place < code.len() => place,
-        _ => return Err(InputFault::of_text(InputCause::NoDescriptor)),
-    };
-    if ends_after_string(&code[..place]) {
-        return Err(InputFault::of_text(InputCause::SeveralStrings));
+    let parts = parts_of(alloc, code.as_slice())?;
+    match read_parts(alloc, parts.as_slice())? {
+        Some(bytes) => Ok(bytes),
+        None => Err(string_fault(alloc, parts.as_slice())),
     }
-    let mut string = StringBytes {
-        bytes: Vec::new(alloc),
-        quote: code[place],
-        inside: Inside::Gap,
-    };
-    for character in &code[place..] {
-        string.take(*character)?;
-    }
-    if !matches!(
-        string.inside,
-        Inside::Gap | Inside::Continued | Inside::Rest(_)
-    ) {
-        return Err(InputFault::of_text(InputCause::BadEscape));
-    }
-    if string.quote == b'\'' && string.bytes.len() == 1 {
-        return Err(InputFault::of_text(InputCause::SeveralStrings));
-    }
-    Ok(string.bytes)
 }

@@ -1,7 +1,7 @@
 use Rattle.std.proofs.Common.{ℕ, List, subst}
 use Rattle.std.specs.Prelude.{IfErr}
 use Rattle.hid_input.specs.declared.form.TextForm.{TextForm}
-use Rattle.hid_input.specs.Forms.{Encodes, IsAlone, IsFaultOf, IsMemoryOf}
+use Rattle.hid_input.specs.Forms.{Encodes, IsAlone, IsFaultOf, IsMemory}
 use Rattle.hid_input.proofs.reading.descriptor_in_text.Goals as goal
 
 pub returns-clause-complete : goal.returns-clause-complete
@@ -11,5 +11,5 @@ returns-clause-complete c =
 
 pub returns-clause-one_way : goal.returns-clause-one_way
 returns-clause-one_way c =
-    subst (λ (form : TextForm). (whole : List ℕ) → Encodes c.args.text.now whole form → IsAlone c.args.text.now whole form → IfErr c.read_form.result (λ fault. IsMemoryOf fault form))
+    subst (λ (form : TextForm). (whole : List ℕ) → Encodes c.args.text.now whole form → IsAlone c.args.text.now whole form → IfErr c.read_form.result IsMemory)
     c.in_ok-form.ensures c.read_form.ensures.one_way

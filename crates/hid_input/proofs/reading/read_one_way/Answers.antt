@@ -4,10 +4,10 @@ use Rattle.std.specs.Option.{option_to_list}
 use Rattle.std.proofs.lemmas.Bool.{false≢true}
 use Rattle.std.proofs.lemmas.Option.{same_Some}
 use Rattle.hid_input.specs.Readings.{AreAll}
-use Rattle.hid_input.specs.Decimal.{decimal_bytes, others_of, IsOnlyHex}
+use Rattle.hid_input.specs.Decimal.{decimal_bytes, others_of, HasNoOtherHex}
 use Rattle.hid_input.specs.Dump.{dumps_of}
 use Rattle.hid_input.proofs.WayLemmas.{items_of, items_all, all_items}
-use Rattle.hid_input.proofs.reading.read_hex.Goals as goal
+use Rattle.hid_input.proofs.reading.read_one_way.Goals as goal
 
 pub returns-clause-others : goal.returns-clause-others
 unfolding others_of
@@ -35,7 +35,7 @@ returns-then-not-are_all-clause-read c = λ bytes spells only.
     ∙ ap (λ (others : List (List ℕ)). others ++ dumps_of text)
     (c.in_ok-add_decimal.ensures.added ∙ ap (λ (others : List (Vec ℕ)). map items_of others ++ option_to_list (decimal_bytes text)) c.new-others.ensures.items) in
     let same : bytes ≡ spelled = same_Some bytes spelled (sym spells ∙ c.in_ok-spelled.ensures.bytes) in
-    let all : AreAll readings spelled = all_items readings (others_of text) spelled is (subst (λ (b : List ℕ). IsOnlyHex text b) same only) in
+    let all : AreAll readings spelled = all_items readings (others_of text) spelled is (subst (λ (b : List ℕ). HasNoOtherHex text b) same only) in
     let shown : AreAll c.as_slice.result.now c.as_slice-2.result.now =
     subst (λ (others : List (Vec ℕ)). AreAll others c.as_slice-2.result.now) (sym c.as_slice.ensures.value)
     (subst (λ (b : List ℕ). AreAll readings b) (sym c.as_slice-2.ensures.value) all) in

@@ -1,0 +1,13 @@
+use Rattle.std.proofs.Common.{ℕ, List, ◌∙◌, rules, tests}
+use Rattle.std.specs.Global.{Vec}
+use Rattle.std.proofs.lemmas.Iterator.{YieldsList-from_slice}
+use Rattle.std.proofs.lemmas.Iterator.Search.{any_from_yields_List}
+use Rattle.hid_input.specs.Strings.{has_byte}
+use Rattle.hid_input.proofs.DecimalLemmas.{any_now}
+use Rattle.hid_input.proofs.WayLemmas.{items_of}
+use Rattle.hid_input.proofs.strings.have_backslash.Goals as goal
+
+pub returns : goal.returns
+returns c =
+    any_from_yields_List (λ (part : Vec ℕ). has_byte 92 part.items) _ _ _ c.any.ensures.ran (YieldsList-from_slice c.args.parts.now (cc)) (λ x b q k. search (rules, tests))
+    ∙ any_now (has_byte 92) items_of c.args.parts.now

@@ -1,0 +1,72 @@
+-- The characters of a string of C, and the bytes that they are (C11, 6.4.4.4 and 6.4.5).
+use Rattle.std.specs.Prelude.{ℕ, ◌==◌, ◌-◌, ◌+◌, Bool, not, ◌&&◌, ◌||◌, nat_le, List, [], ◌∷◌, length, slice_index, take, drop, if◌then◌else◌, Option, None, Some, zero, suc}
+use Rattle.std.specs.List.{position}
+use Rattle.hid_input.specs.Numbers.{is_digit_of, byte_in_base}
+use Rattle.hid_input.specs.Words.{both, single_byte}
+use Rattle.hid_input.specs.Hex.{in_front}
+
+-- the byte of a backslash and one character: \a \b \t \n \v \f \r, and \\ \" \' \? themselves
+abbrev pub letter_byte : ℕ → Option ℕ
+letter_byte letter =
+    if letter == 97 then Some 7
+    else (if letter == 98 then Some 8
+    else (if letter == 116 then Some 9
+    else (if letter == 110 then Some 10
+    else (if letter == 118 then Some 11
+    else (if letter == 102 then Some 12
+    else (if letter == 114 then Some 13
+    else (if (letter == 92) || ((letter == 34) || ((letter == 39) || (letter == 63))) then Some letter else None)))))))
+
+-- the digits of this base with which a text begins
+abbrev pub digits_front : ℕ → List ℕ → List ℕ
+digits_front base text = in_front (position (λ byte. not (is_digit_of base byte)) text) text
+
+-- an escape is known by what stands after its backslash: x and hex digits, up to three octal digits, or one character
+abbrev pub is_hex_escape : List ℕ → Bool
+is_hex_escape text = nat_le 1 (length text) && (slice_index text 0 == 120)
+
+abbrev pub hex_digits : List ℕ → List ℕ
+hex_digits text = digits_front 16 (drop 1 text)
+
+abbrev pub octal_digits : List ℕ → List ℕ
+octal_digits text = digits_front 8 (take 3 text)
+
+-- the byte of hex digits: of more than two C takes all, and other languages the first two, so that they are none (our choice)
+abbrev pub hex_byte : List ℕ → Option ℕ
+hex_byte digits = if nat_le (length digits) 2 then byte_in_base 16 digits else None
+
+-- the byte of an escape of octal digits, or of one character
+abbrev pub octal_or_letter : List ℕ → List ℕ → Option ℕ
+octal_or_letter digits text =
+    if nat_le 1 (length digits) then byte_in_base 8 digits
+    else (if nat_le 1 (length text) then letter_byte (slice_index text 0) else None)
+
+abbrev pub escape_byte : List ℕ → Option ℕ
+escape_byte text = if is_hex_escape text then hex_byte (hex_digits text) else octal_or_letter (octal_digits text) text
+
+-- how many characters spell an escape after its backslash
+abbrev pub at_least_one : ℕ → ℕ
+at_least_one count = if nat_le 1 count then count else 1
+
+abbrev pub escape_length : List ℕ → ℕ
+escape_length text =
+    if is_hex_escape text then 1 + length (hex_digits text) else at_least_one (length (octal_digits text))
+
+-- the byte of the character with which a text begins, and how many characters spell it
+abbrev pub character_byte : List ℕ → Option ℕ
+character_byte text = if slice_index text 0 == 92 then escape_byte (drop 1 text) else Some (slice_index text 0)
+
+abbrev pub character_length : List ℕ → ℕ
+character_length text =
+    if nat_le 2 (length text) && (slice_index text 0 == 92) then 1 + escape_length (drop 1 text) else 1
+
+-- the bytes of the characters of a text without this number of its first ones
+abbrev pub bytes_after : ℕ → List ℕ → Option (List ℕ)
+bytes_after skipped [] = Some []
+bytes_after (suc skipped) (byte ∷ text) = bytes_after skipped text
+bytes_after zero (byte ∷ text) =
+    both (single_byte (character_byte (byte ∷ text))) (bytes_after (character_length (byte ∷ text) - 1) text)
+
+-- the bytes of all characters of a text
+unfoldable pub characters_bytes : List ℕ → Option (List ℕ)
+characters_bytes text = bytes_after 0 text

@@ -1,0 +1,170 @@
+//! The characters of a string of C, and the bytes that they are.
+
+ghost use Rattle.std.specs.Prelude.{◌≡◌, ◌≤◌, ◌<◌, length, not, IfOk, IfSome, drop};
+ghost use Rattle.std.specs.List.{position};
+ghost use Rattle.std.specs.Option.{option_map};
+ghost use Rattle.hid_input.specs.Numbers.{is_digit_of};
+ghost use Rattle.hid_input.specs.Characters.{letter_byte, digits_front, is_hex_escape, hex_digits, octal_digits, hex_byte, octal_or_letter, escape_byte, at_least_one, escape_length, character_byte, character_length, characters_bytes};
+
+use crate::digits::{byte_of, digit_of};
+use std::alloc::{AllocError, Global};
+
+/// The byte of a backslash and this letter.
+fn letter_byte(letter: u8) -> Option<u8>
+    ensures { result ≡ letter_byte letter }
+{
+    match letter {
+        b'a' => Some(7),
+        b'b' => Some(8),
+        b't' => Some(9),
+        b'n' => Some(10),
+        b'v' => Some(11),
+        b'f' => Some(12),
+        b'r' => Some(13),
+        b'\\' | b'"' | b'\'' | b'?' => Some(letter),
+        _ => None,
+    }
+}
+
+/// Where the digits end with which a text begins.
+fn digits_end(text: &[u8], base: u32) -> Option<usize>
+    ensures place { result ≡ position (λ byte. not (is_digit_of base byte)) text.now }
+    ensures bound { IfSome result (λ place. place < length text.now) }
+{
+    text.iter().position(|byte| digit_of(*byte, base).is_none())
+}
+
+/// The digits with which a text begins.
+fn digits_front(text: &[u8], base: u32) -> &[u8]
+    ensures front { result.now ≡ digits_front base text.now }
+    ensures bound { length result.now ≤ length text.now }
+{
+    match digits_end(text, base) {
+        Some(end) => &text[..end],
+        None => text,
+    }
+}
+
+/// Whether an escape is one of hex digits, by what stands after its backslash.
+fn is_hex_escape(text: &[u8]) -> bool
+    ensures { result ≡ is_hex_escape text.now }
+{
+    text.len() >= 1 && text[0] == b'x'
+}
+
+/// The digits after `x`.
+fn hex_digits(text: &[u8]) -> &[u8]
+    requires { 1 ≤ length text.now }
+    ensures digits { result.now ≡ hex_digits text.now }
+    ensures bound { length result.now < length text.now }
+{
+    digits_front(&text[1..], 16)
+}
+
+/// The octal digits of an escape, of which it has three at most.
+fn octal_digits(text: &[u8]) -> &[u8]
+    ensures digits { result.now ≡ octal_digits text.now }
+    ensures bound { length result.now ≤ length text.now }
+{
+    if text.len() <= 3 {
+        digits_front(text, 8)
+    } else {
+        digits_front(&text[..3], 8)
+    }
+}
+
+/// The byte of hex digits; none of more than two.
+fn hex_byte(digits: &[u8]) -> Option<u8>
+    ensures { result ≡ hex_byte digits.now }
+{
+    if digits.len() <= 2 {
+        byte_of(digits, 16)
+    } else {
+        None
+    }
+}
+
+/// The byte of an escape of octal digits, or of one letter.
+fn octal_or_letter(digits: &[u8], text: &[u8]) -> Option<u8>
+    ensures { result ≡ octal_or_letter digits.now text.now }
+{
+    if digits.len() >= 1 {
+        byte_of(digits, 8)
+    } else if text.len() >= 1 {
+        letter_byte(text[0])
+    } else {
+        None
+    }
+}
+
+/// The byte of an escape, by what stands after its backslash.
+fn escape_byte(text: &[u8]) -> Option<u8>
+    ensures { result ≡ escape_byte text.now }
+{
+    if is_hex_escape(text) {
+        hex_byte(hex_digits(text))
+    } else {
+        octal_or_letter(octal_digits(text), text)
+    }
+}
+
+/// How many characters spell an escape after its backslash.
+fn escape_length(text: &[u8]) -> usize
+    requires { 1 ≤ length text.now }
+    ensures length { result ≡ escape_length text.now }
+    ensures some { 1 ≤ result }
+    ensures bound { result ≤ length text.now }
+{
+    if is_hex_escape(text) {
+        1 + hex_digits(text).len()
+    } else {
+        octal_digits(text).len().max(1)
+    }
+}
+
+/// The byte of the character with which a text begins.
+fn character_byte(text: &[u8]) -> Option<u8>
+    requires { 1 ≤ length text.now }
+    ensures { result ≡ character_byte text.now }
+{
+    if text[0] == b'\\' {
+        escape_byte(&text[1..])
+    } else {
+        Some(text[0])
+    }
+}
+
+/// How many characters spell it.
+fn character_length(text: &[u8]) -> usize
+    requires { 1 ≤ length text.now }
+    ensures length { result ≡ character_length text.now }
+    ensures some { 1 ≤ result }
+    ensures bound { result ≤ length text.now }
+{
+    if text.len() >= 2 && text[0] == b'\\' {
+        1 + escape_length(&text[1..])
+    } else {
+        1
+    }
+}
+
+/// The bytes of the characters of a string; none where an escape is no byte.
+///
+/// # Errors
+/// Out of memory.
+#[tactic(auto, unfolding(crate::specs::Characters::characters_bytes))]
+pub fn read_characters(alloc: Global, text: &[u8]) -> Result<Option<Vec<u8>>, AllocError>
+    ensures { IfOk result (λ read. option_map (λ bytes. bytes.items) read ≡ characters_bytes text.now) }
+{
+    let mut bytes = Vec::new(alloc);
+    let mut rest = text;
+    while !rest.is_empty() {
+        let Some(byte) = character_byte(rest) else {
+            return Ok(None);
+        };
+        bytes.push(byte)?;
+        let (_taken, more) = rest.split_at(character_length(rest));
+        rest = more;
+    }
+    Ok(Some(bytes))
+}
