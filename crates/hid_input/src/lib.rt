@@ -22,7 +22,6 @@ mod decimal;
 mod digits;
 mod dump;
 mod fault;
-mod file_name;
 mod form;
 mod items;
 mod known;
@@ -35,7 +34,6 @@ mod ways;
 mod words;
 
 pub use fault::{InputCause, InputFault};
-pub use file_name::FileName;
 pub use known::{KnownFile, known_file};
 pub use reading::{descriptor_in, is_recording};
 pub use recorded::begins_recording;
