@@ -26,19 +26,19 @@ const DEVICE_GONE: u32 = 0xC000_7000;
 pub enum Content {
     /// Nothing.
     Nothing,
-    /// Its data are a report descriptor of the interface with this number.
+    /// The data are a report descriptor of the interface with this number.
     Descriptor { interface: u8 },
-    /// Its data are a report descriptor of which some bytes weren't captured; the interface keeps the one that it has.
+    /// The data are a report descriptor of which some bytes weren't captured; the interface keeps the one that it has.
     TruncatedDescriptor,
-    /// Its data are a report descriptor of a seventeenth interface.
+    /// The data are a report descriptor of a seventeenth interface.
     TooManyInterfaces,
-    /// Its data are a report of the interface with this number.
+    /// The data are a report of the interface with this number.
     Report { interface: u8 },
-    /// Its data are a report of the interface with this number, of which some bytes weren't captured.
+    /// The data are a report of the interface with this number, of which some bytes weren't captured.
     TruncatedReport { interface: u8 },
-    /// Its data came from a HID interface of which no descriptor is known.
+    /// The data came from a HID interface of which no descriptor is known.
     Undescribed,
-    /// Its data came by an interrupt transfer, and aren't known to be a report: no configuration was read that has the endpoint,
+    /// The data came by an interrupt transfer, and aren't known to be a report: no configuration was read that has the endpoint,
     /// or the interface is in the boot protocol.
     Unknown,
     /// The interface with this number has no descriptor any more: its endpoint is gone.

@@ -27,7 +27,7 @@ pub struct Way {
 pub struct DumpBytes {
     /// The bytes of the rows so far.
     pub bytes: Vec<u8>,
-    /// Those of the last row.
+    /// The bytes of the last row.
     last: Vec<u8>,
     /// Whether `*` stands in front of the next row: rows like the last one are left out.
     is_squeezed: bool,
@@ -141,11 +141,11 @@ impl DumpBytes {
     }
 }
 
-/// Where a dump ends to be one.
+/// What comes of reading a dump.
 pub enum DumpEnd {
     /// All its lines are read.
     Read(Vec<u8>),
-    /// This line, from 1 on, isn't of the dump.
+    /// The line of this number, from 1 on, isn't of the dump.
     Line(u64),
 }
 

@@ -108,9 +108,9 @@ fn closes(place: Place, byte: u8) -> bool
 /// The parts of a text: in turn code, and a string with the quote in front of it.
 #[derive(Drop)]
 struct Parts {
-    /// Those that are whole.
+    /// The parts that are whole.
     whole: Vec<Vec<u8>>,
-    /// The last one so far.
+    /// The last part so far.
     last: Vec<u8>,
 }
 

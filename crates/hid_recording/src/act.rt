@@ -6,19 +6,19 @@ use super::line_fields::DeviceNumber;
 /// What a frame of a capture says of a device.
 #[derive(Clone, Copy)]
 pub enum Act<'a> {
-    /// These are its report descriptor.
+    /// The bytes are the report descriptor of a device.
     Descriptor {
         device: DeviceNumber,
         bytes: &'a [u8],
     },
-    /// These are a report of it.
+    /// The bytes are a report of a device.
     Report {
         device: DeviceNumber,
         bytes: &'a [u8],
     },
     /// The frame is refused.
     RefusedFrame(Refusal),
-    /// It is gone, and has no descriptor any more.
+    /// The device is gone, and has no descriptor any more.
     Disconnection {
         device: DeviceNumber,
     },

@@ -39,7 +39,7 @@ pub struct CapturePlayer<'a> {
 /// How a content is played.
 #[derive(Clone, Copy)]
 enum Handling {
-    /// It says something by itself, or nothing.
+    /// The content says something by itself, or nothing.
     Alone,
     /// Data of an interface without a descriptor, which may be of the class HID.
     Stray { is_hid: bool },

@@ -42,9 +42,9 @@ pub enum Joined {
     Unknown,
     /// A part of the report may be missing.
     Doubtful,
-    /// More of it comes.
+    /// More of the report comes.
     Begun,
-    /// These are its bytes.
+    /// The report is whole, with its bytes.
     Whole(Vec<u8>),
 }
 
@@ -97,7 +97,7 @@ impl RecordedDevice {
     /// A device of which no report came yet.
     ///
     /// # Errors
-    /// Those of [`Layout::parse_within`] at [`Limits::Real`], L1 to L16, or L17 if memory runs out.
+    /// The faults of [`Layout::parse_within`] at [`Limits::Real`], L1 to L16, or L17 if memory runs out.
     pub fn new(alloc: Global, descriptor: &[u8]) -> Result<RecordedDevice, LayoutFault>
         ensures ok { IfOk result (λ recorded. (before : List EncodedItem) × Accepts descriptor.now before
             × (recorded ≡ fresh_device (layout_of before))) }

@@ -32,7 +32,7 @@ pub enum Received {
     Report { length: usize, time: u64 },
     /// No report comes any more since the device is gone, at this time.
     Gone { time: u64 },
-    /// It can't be read.
+    /// The device can't be read.
     Failed,
 }
 

@@ -22,7 +22,7 @@ const PIECE: usize = 4096;
 
 /// Sees how far a run has come.
 pub trait Watch {
-    /// This many bytes were read, and this was played of them.
+    /// Takes how many bytes were read, and what was played of them.
     fn see(&mut self, bytes: u64, summary: &Summary);
 }
 

@@ -13,11 +13,11 @@ use std::alloc::Global;
 /// What came of the block that is kept.
 #[derive(Clone, Copy, Debug)]
 enum Part {
-    /// It isn't whole; it has no byte where none has come.
+    /// The block isn't whole; it has no byte where none has come.
     Begun,
-    /// It is whole and accepted, with its frame where it has one.
+    /// The block is whole and accepted, with its frame where it has one.
     Whole(Option<FrameHead>),
-    /// It is refused.
+    /// The block is refused.
     Refused(CaptureFault),
 }
 

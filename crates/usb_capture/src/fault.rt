@@ -6,7 +6,7 @@ use std::alloc::AllocError;
 use thiserror::Error;
 
 /// Why no further frame can be read: the first of these that applies to a block, and of its options the first that is wrong.
-/// It is printed as its code, and in words.
+/// A cause is printed as its code, and in words.
 #[derive(Clone, Copy, Debug, PartialEq, Eq)]
 pub enum Cause {
     /// K1: the first four bytes are those of neither pcap nor pcapng.

@@ -42,11 +42,11 @@ pub enum Direction {
 pub enum UrbEvent {
     /// The host hands it over; the data of an OUT transfer are there.
     Submitted,
-    /// It is done; the data of an IN transfer are there.
+    /// The transfer is done; the data of an IN transfer are there.
     Completed,
     /// The device answered STALL.
     Stalled,
-    /// It failed otherwise, and some data may be there. The status as the capture has it: usbmon has a negative number of
+    /// The transfer failed otherwise, and some data may be there. The status as the capture has it: usbmon has a negative number of
     /// Linux, in two's complement; USBPcap has a USBD status.
     Failed { status: u32 },
 }
