@@ -360,17 +360,26 @@ fn read_parts(alloc: Global, parts: &[Vec<u8>]) -> Result<Option<Vec<u8>>, Alloc
     Ok(None)
 }
 
-/// Why no string is read: none begins with an escape, the first that does has one that is no byte, or others stand beside it.
+/// Whether some string has an escape that is no byte.
+fn have_bad_escape(alloc: Global, parts: &[Vec<u8>]) -> Result<bool, AllocError> {
+    for part in parts {
+        let part = part.as_slice();
+        let is_string = part.len() >= 1 && matches!(part[0], b'"' | b'\'');
+        if is_string && read_characters(alloc, &part[1..])?.is_none() {
+            return Ok(true);
+        }
+    }
+    Ok(false)
+}
+
+/// Why no string is read: none begins with an escape, one has an escape that is no byte, or others stand beside the first that does.
 fn string_fault(alloc: Global, parts: &[Vec<u8>]) -> InputFault {
-    let Some(string) = parts
-        .iter()
-        .find(|part| begins_with_escape(part.as_slice()))
-    else {
+    if !parts.iter().any(|part| begins_with_escape(part.as_slice())) {
         return InputFault::of_text(InputCause::NoDescriptor);
-    };
-    match read_characters(alloc, &string.as_slice()[1..]) {
-        Ok(None) => InputFault::of_text(InputCause::BadEscape),
-        Ok(Some(_)) => InputFault::of_text(InputCause::SeveralStrings),
+    }
+    match have_bad_escape(alloc, parts) {
+        Ok(true) => InputFault::of_text(InputCause::BadEscape),
+        Ok(false) => InputFault::of_text(InputCause::SeveralStrings),
         Err(error) => InputFault::from(error),
     }
 }
