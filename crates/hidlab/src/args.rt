@@ -53,7 +53,7 @@ fn seed<'a>(alloc: Global) -> Result<Arg<'a>, AllocError> {
             .long("seed")
             .value_name("N")
             .value_parser(value_parser!(u64))
-            .help("Draw losses from N, in place of each line's seed"),
+            .help("Draw losses from N, 0 to 18446744073709551615,\nin place of each line's seed"),
     )
 }
 

@@ -4,10 +4,12 @@ ghost use Rattle.std.specs.Prelude.{◌<◌, vec_len};
 
 use super::progress::Progress;
 use super::source::{LabSource, name_beside};
-use hid_input::{InputCause, InputFault, descriptor_in};
+use hid_input::{InputCause, InputFault, KnownFile, descriptor_in, known_file};
+use hid_layout::{Layout, Limits};
 use hid_script::{Cause, StepFault};
 use hid_snapshots::ChangeFault;
 use hid_stack::StackFault;
+use lab_expectations::unknown_usage;
 use lab_lines::{
     Added, Body, ControlName, LabLine, MAX_REPEATS, Unread, diagnose, is_any_name, read_lab_line,
 };
@@ -38,6 +40,28 @@ pub fn bare(line: usize, cause: LabCause) -> Trouble {
         cause,
         words: None,
     }
+}
+
+/// A cause, in words that say more than its own.
+fn in_words(alloc: Global, line: usize, cause: LabCause, words: &str) -> Trouble {
+    match String::from_str(alloc, words) {
+        Ok(words) => Trouble {
+            line,
+            cause,
+            words: Some(words),
+        },
+        Err(_) => no_memory(line),
+    }
+}
+
+/// X11: the lines of a `repeat` are too long.
+fn too_long(alloc: Global, line: usize) -> Trouble {
+    in_words(
+        alloc,
+        line,
+        LabCause::TooDeep,
+        "over 1 MiB between repeat and end",
+    )
 }
 
 /// Memory ran out.
@@ -77,27 +101,28 @@ pub fn unread_trouble(alloc: Global, number: usize, line: &[u8]) -> Trouble {
     }
 }
 
-/// The name by which a line names a control, if it does.
-fn name_in(line: &[u8]) -> Option<&[u8]> {
+/// The name of no usage by which a line names a control, if it does.
+fn misspelt_name(line: &[u8]) -> Option<&[u8]> {
     let control = match read_lab_line(line) {
         Ok(LabLine::Change { control, .. }) => control,
         Ok(LabLine::Click { control, .. }) => control,
+        Ok(LabLine::Expect(expected)) => return unknown_usage(expected),
         _ => return None,
     };
     match control {
-        ControlName::Named { name, .. } => Some(name),
+        ControlName::Named { name, .. } if !is_any_name(name) => Some(name),
         _ => None,
     }
 }
 
-/// That no usage has the name by which a line names a control, in words, where none has.
-fn name_words(alloc: Global, line: &[u8]) -> Result<Option<String>, AllocError> {
-    match name_in(line) {
-        Some(name) if !is_any_name(name) => {
+/// That no usage has the name that stands in a line, in words, where none has.
+pub fn name_words(alloc: Global, line: &[u8]) -> Result<Option<String>, AllocError> {
+    match misspelt_name(line) {
+        Some(name) => {
             let name = String::from_utf8_lossy(alloc, name)?;
             Ok(Some(format!(in alloc; "{name}: no usage has this name")?))
         }
-        _ => Ok(None),
+        None => Ok(None),
     }
 }
 
@@ -117,14 +142,14 @@ fn bench_words(
     Ok(Some(format!(in alloc; "{words}")?))
 }
 
+/// The cause of a control that isn't there.
+pub fn no_control() -> Cause {
+    Cause::Step(StepFault::Stack(StackFault::Refused(ChangeFault::NoSuchControl)))
+}
+
 /// Whether a control isn't there.
 fn is_no_control(cause: LabCause) -> bool {
-    matches!(
-        cause,
-        LabCause::Script(Cause::Step(StepFault::Stack(StackFault::Refused(
-            ChangeFault::NoSuchControl
-        ))))
-    )
+    cause == LabCause::Script(no_control())
 }
 
 /// Why the bench refuses a line.
@@ -167,7 +192,7 @@ fn file_trouble(
 }
 
 /// Why a source gives no more lines: of a file that can't be read with the system's words.
-pub fn read_trouble(alloc: Global, source: &LabSource, fault: &LabFault) -> Trouble {
+fn read_trouble(alloc: Global, source: &LabSource, fault: &LabFault) -> Trouble {
     let number = source.number(fault.line);
     match source.file_failure() {
         Some(error) => file_trouble(
@@ -181,11 +206,47 @@ pub fn read_trouble(alloc: Global, source: &LabSource, fault: &LabFault) -> Trou
     }
 }
 
-/// Why a source gives no more lines, or a line of it is refused.
-fn source_trouble(alloc: Global, bench: &Bench, source: &LabSource, fault: &LabFault) -> Trouble {
-    match source.file_failure() {
-        Some(_) => read_trouble(alloc, source, fault),
-        None => bench_trouble(alloc, bench, source, fault),
+/// Takes an included file away of which nothing could be read, as a folder: the line that names it is refused then.
+fn drop_unread(alloc: Global, sources: &mut Vec<LabSource>) -> Option<Trouble> {
+    let count = sources.len();
+    if count < 2 || !sources[count - 1].is_unread() {
+        return None;
+    }
+    let error = sources[count - 1].file_failure()?;
+    let line = sources[count - 2].last_number();
+    let source = sources.pop()?;
+    Some(file_trouble(
+        alloc,
+        line,
+        LabCause::Unreadable,
+        source.name.as_str(),
+        &error,
+    ))
+}
+
+/// Why the last source gives no more lines.
+pub fn last_trouble(alloc: Global, sources: &mut Vec<LabSource>, fault: &LabFault) -> Trouble {
+    match drop_unread(alloc, sources) {
+        Some(trouble) => trouble,
+        None => match sources.last() {
+            Some(source) => read_trouble(alloc, source, fault),
+            None => bare(fault.line, fault.cause),
+        },
+    }
+}
+
+/// Why the last source gives no more lines, or a line of it is refused.
+fn source_trouble(
+    alloc: Global,
+    bench: &Bench,
+    sources: &mut Vec<LabSource>,
+    fault: &LabFault,
+) -> Trouble {
+    match sources.last() {
+        Some(source) if source.file_failure().is_none() => {
+            bench_trouble(alloc, bench, source, fault)
+        }
+        _ => last_trouble(alloc, sources, fault),
     }
 }
 
@@ -218,11 +279,11 @@ fn take_body<W: Write>(
             Err(_) => return Err(no_memory(number)),
             Ok(Added::Open) => {}
             Ok(Added::Whole) => return Ok(body),
-            Ok(Added::TooLong) => return Err(bare(number, LabCause::TooDeep)),
+            Ok(Added::TooLong) => return Err(too_long(alloc, number)),
             Ok(Added::Malformed) => return Err(unread_trouble(alloc, number, line.as_slice())),
         }
     }
-    Err(bare(before, LabCause::TooDeep))
+    Err(too_long(alloc, before))
 }
 
 /// Adds a source, which comes first from now on.
@@ -248,7 +309,8 @@ pub fn repeat<W: Write>(
 {
     let line = sources[last].last_number();
     if count_sources(sources.as_slice(), true) >= MAX_REPEATS {
-        return Err(bare(line, LabCause::TooDeep));
+        let words = "over eight repeat in one another";
+        return Err(in_words(alloc, line, LabCause::TooDeep, words));
     }
     let body = take_body(alloc, &mut sources[last], count, writer)?;
     let Ok(name) = sources[last].name.clone() else {
@@ -280,11 +342,12 @@ pub fn include(
 ) -> Result<(), Trouble>
     requires { last < vec_len sources.old }
 {
+    let alloc = rt.alloc();
     let line = sources[last].last_number();
     if count_sources(sources.as_slice(), false) > MAX_REPEATS {
-        return Err(bare(line, LabCause::TooDeep));
+        let words = "over eight files in one another";
+        return Err(in_words(alloc, line, LabCause::TooDeep, words));
     }
-    let alloc = rt.alloc();
     let path = path_of(alloc, &sources[last], name)?;
     match fs::open(rt, path.as_str()) {
         Ok(file) => push(sources, LabSource::file(alloc, file, path), line),
@@ -301,6 +364,15 @@ fn read_file(rt: &HostRuntime, path: &str) -> io::Result<Vec<u8>> {
     Ok(bytes)
 }
 
+/// What a file is whose descriptor is refused or has no reports, if it is known for another one.
+fn known_as(alloc: Global, descriptor: &[u8]) -> Option<KnownFile> {
+    let known = known_file(descriptor)?;
+    match Layout::parse_within(alloc, Limits::Real, descriptor) {
+        Ok(layout) if !layout.reports().is_empty() => None,
+        _ => Some(known),
+    }
+}
+
 /// The descriptor in a file, which a line names.
 ///
 /// # Errors
@@ -315,7 +387,10 @@ pub fn read_descriptor(rt: &HostRuntime, line: usize, path: &str) -> Result<Vec<
     };
     let words = match descriptor_in(alloc, bytes.as_slice()) {
         Ok(descriptor) if descriptor.is_empty() => format!(in alloc; "{path}: no descriptor"),
-        Ok(descriptor) => return Ok(descriptor),
+        Ok(descriptor) => match known_as(alloc, descriptor.as_slice()) {
+            Some(known) => format!(in alloc; "{path}: {known}"),
+            None => return Ok(descriptor),
+        },
         Err(
             InputFault {
                 cause: InputCause::Memory,
@@ -392,7 +467,7 @@ pub fn run_all<W: Write, T: Write>(
                 drop(sources.pop());
             }
             Ok(RunEnd::Asks(need)) => give(rt, sources, bench, last, need, writer)?,
-            Err(fault) => return Err(source_trouble(rt.alloc(), bench, &sources[last], &fault)),
+            Err(fault) => return Err(source_trouble(rt.alloc(), bench, sources, &fault)),
         }
     }
     Err(bare(lines, LabCause::TooDeep))

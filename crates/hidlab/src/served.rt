@@ -4,12 +4,14 @@ ghost use Rattle.std.specs.Prelude.{◌<◌, vec_len};
 
 use super::printing::{is_included, print_last_place, print_place, print_trouble};
 use super::run::{
-    Trouble, bare, include, path_of, read_descriptor, read_trouble, repeat, unread_trouble,
+    Trouble, bare, include, last_trouble, name_words, no_control, path_of, read_descriptor, repeat,
+    unread_trouble,
 };
 use super::source::LabSource;
 use command_words::FileName;
 use hid_requests::Boot;
 use hid_script::Cause;
+use hid_snapshots::ChangeFault;
 use hid_text::LineFault;
 use lab_lines::{LabLine, read_lab_line};
 use lab_serving::{LabScript, Watching};
@@ -97,11 +99,27 @@ impl Reading {
     }
 }
 
+/// The refusal of a line for a control that isn't there, with the name that no usage has where the line has one.
+fn control_refusal(alloc: Global, number: usize, line: &[u8], fault: ServeFault) -> Refusal {
+    match name_words(alloc, line) {
+        Ok(Some(words)) => Refusal::Line(Trouble {
+            line: number,
+            cause: LabCause::Script(no_control()),
+            words: Some(words),
+        }),
+        Ok(None) => Refusal::Served(fault),
+        Err(_) => Refusal::Served(ServeFault::Memory),
+    }
+}
+
 /// The cause of a line that the bench refuses too, by its number in its file; else that of one that isn't served.
 fn refusal_of(alloc: Global, number: usize, line: &[u8], fault: ServeFault) -> Refusal {
     let cause = match fault {
         ServeFault::Line(_, LineCause::Text(LineFault::Syntax)) => {
             return Refusal::Line(unread_trouble(alloc, number, line));
+        }
+        ServeFault::Line(_, LineCause::Change(ChangeFault::NoSuchControl)) => {
+            return control_refusal(alloc, number, line, fault);
         }
         ServeFault::Line(_, LineCause::Text(LineFault::LineTooLong)) => Cause::LineTooLong,
         ServeFault::Line(_, LineCause::Text(LineFault::BadHex)) => Cause::BadHex,
@@ -125,7 +143,7 @@ fn take_line(
         match sources[count - 1].next_line(line, &mut quiet) {
             Ok(true) => return Ok(true),
             Ok(false) => drop(sources.pop()),
-            Err(fault) => return Err(read_trouble(alloc, &sources[count - 1], &fault)),
+            Err(fault) => return Err(last_trouble(alloc, sources, &fault)),
         }
     }
     Ok(false)

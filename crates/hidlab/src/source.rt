@@ -30,7 +30,7 @@ impl LabSource {
     /// The lines of standard input.
     pub fn input(alloc: Global, reader: Stdin, name: String) -> Self {
         LabSource {
-            lines: Lines::Input(Incoming::new(reader)),
+            lines: Lines::Input(Incoming::new(alloc, reader)),
             ahead: Ahead::new(alloc, true),
             name,
             before: 0,
@@ -40,7 +40,7 @@ impl LabSource {
     /// The lines of a file.
     pub fn file(alloc: Global, reader: File, name: String) -> Self {
         LabSource {
-            lines: Lines::File(Incoming::new(reader)),
+            lines: Lines::File(Incoming::new(alloc, reader)),
             ahead: Ahead::new(alloc, true),
             name,
             before: 0,
@@ -86,6 +86,11 @@ impl LabSource {
     /// The line of its file that was taken last.
     pub fn last_number(&self) -> usize {
         self.number(self.ahead.lines())
+    }
+
+    /// Whether nothing of it was read.
+    pub fn is_unread(&self) -> bool {
+        self.ahead.lines() == 0 && self.ahead.line_at(1).is_empty()
     }
 
     /// How many lines were taken.

@@ -1,5 +1,5 @@
 -- Which lines are those that are expected (our choice: docs/LAB.md).
-use Rattle.std.specs.Prelude.{ℕ, Bool, true, false, ◌&&◌, ◌||◌, List, [], ◌∷◌, Option, None, Some, codes}
+use Rattle.std.specs.Prelude.{ℕ, Bool, true, false, ◌&&◌, ◌||◌, List, [], ◌∷◌, Option, None, Some, if◌then◌else◌, codes}
 use Rattle.std.specs.Str.{bytes_eq}
 use Rattle.hid_report_descriptor.specs.declared.usage.Usage.{Usage}
 use Rattle.hid_text.specs.Words.{Word, words_of}
@@ -33,3 +33,17 @@ are_words (expected ∷ others) (word ∷ more) = is_word expected word && are_w
 -- a line that was printed is the one that is expected, word by word. Example: 1 down * is 1 down 07:04
 unfoldable pub matches : List ℕ → List ℕ → Bool
 matches expected line = are_words (words_of expected) (words_of line)
+
+-- the word of an event, before its usage
+abbrev pub is_event : Word → Bool
+is_event word =
+    bytes_eq word (codes "down") || bytes_eq word (codes "up") || bytes_eq word (codes "value")
+    || bytes_eq word (codes "null") || bytes_eq word (codes "motion") || bytes_eq word (codes "dropped")
+
+-- The word of an expected line in which the usage of an event stands: the third one, after the word of the event. Example: of
+-- 1 down Keyboard_A it is Keyboard_A
+unfoldable pub usage_place : List Word → Option Word
+usage_place (device ∷ event ∷ usage ∷ more) = if is_event event then Some usage else None
+usage_place (device ∷ event ∷ []) = None
+usage_place (device ∷ []) = None
+usage_place [] = None

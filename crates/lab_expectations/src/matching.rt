@@ -1,11 +1,13 @@
 //! Whether a line that was printed is the one that is expected.
 
-ghost use Rattle.std.specs.Prelude.{◌≡◌};
+ghost use Rattle.std.specs.Prelude.{◌≡◌, IfSome, None, Some};
+ghost use Rattle.std.specs.Option.{option_map};
+ghost use Rattle.hid_text.specs.Words.{words_of};
 ghost use Rattle.hid_text.specs.Numbers.{usage_of_word};
-ghost use Rattle.lab_expectations.specs.Matching.{is_usage_of, is_word, matches};
+ghost use Rattle.lab_expectations.specs.Matching.{is_event, is_usage_of, is_word, matches, usage_place};
 
 use hid_text::{first_word, read_usage};
-use lab_lines::is_name_of;
+use lab_lines::{is_any_name, is_name_of};
 
 /// Whether a word that was printed is a usage that another word says: in other digits, or by its name.
 fn is_usage_of(expected: &[u8], word: &[u8]) -> bool
@@ -50,4 +52,43 @@ pub fn is_expected_line(expected: &[u8], line: &[u8]) -> bool
             },
         }
     }
+}
+
+/// Whether a word is that of an event.
+fn is_event(word: &[u8]) -> bool
+    ensures { result ≡ is_event word.now }
+{
+    word == b"down".as_slice()
+        || word == b"up".as_slice()
+        || word == b"value".as_slice()
+        || word == b"null".as_slice()
+        || word == b"motion".as_slice()
+        || word == b"dropped".as_slice()
+}
+
+/// The word of an expected line in which the usage of an event stands, if the line is one of an event.
+#[tactic(auto, unfolding(crate::specs::Matching::usage_place))]
+fn usage_place(expected: &[u8]) -> Option<&[u8]>
+    ensures { option_map (λ word. word.now) result ≡ usage_place (words_of expected.now) }
+{
+    let (_, rest) = first_word(expected)?;
+    let (event, rest) = first_word(rest)?;
+    if !is_event(event) {
+        return None;
+    }
+    let (usage, _) = first_word(rest)?;
+    Some(usage)
+}
+
+/// The word of an expected line in which the usage of an event stands and that says none, if it is so: no line that is printed is
+/// that one. It takes some milliseconds.
+pub fn unknown_usage(expected: &[u8]) -> Option<&[u8]>
+    ensures place { IfSome result (λ word. usage_place (words_of expected.now) ≡ Some word.now) }
+    ensures none { IfSome result (λ word. usage_of_word word.now ≡ None) }
+{
+    let word = usage_place(expected)?;
+    if word == b"*".as_slice() || read_usage(word).is_some() || is_any_name(word) {
+        return None;
+    }
+    Some(word)
 }

@@ -1,7 +1,7 @@
 -- The text that is to come of a body, round by round.
 use Rattle.std.proofs.Common.{◌≡◌, ℕ, zero, suc, ◌+◌, ◌-◌, ◌<◌, ◌≤◌, Bool, true, false, List, [], ◌∷◌, ◌++◌, length, drop, take, refl, sym, ap, ◌∙◌, subst, arith, append-nil, append_assoc, length-append, drop_of_length-le, slice_range}
 use Rattle.std.proofs.lemmas.List.{drop-drop, take-append-drop}
-use Rattle.lab_lines.specs.Bodies.{copies, Gives}
+use Rattle.lab_lines.specs.Copies.{copies}
 
 -- after the last byte of a round the next one comes
 pub next_round : (at left : ℕ) (text : List ℕ) → length text ≤ at → 1 < left
@@ -46,3 +46,24 @@ part_of at end text others order within =
     take_drop_range a b xs h =
         let same : a + (b - a) ≡ b = omega (arith, h) in
         ap (λ l. slice_range xs a b ++ l) (sym (drop-drop (b - a) a xs ∙ ap (λ n. drop n xs) same)) ∙ take-append-drop (b - a) (drop a xs)
+
+-- a text so often, in two parts
+pub copies_sum : (a b : ℕ) (text : List ℕ) → copies (a + b) text ≡ copies a text ++ copies b text
+unfolding copies
+copies_sum zero b text = let e : 0 + b ≡ b = omega arith in ap (λ n. copies n text) e
+copies_sum (suc a) b text =
+    let e : suc a + b ≡ suc (a + b) = omega arith in
+    ap (λ n. copies n text) e ∙ ap (λ l. text ++ l) (copies_sum a b text) ∙ sym (append_assoc text (copies a text) (copies b text))
+
+-- a text once
+pub copies_once : (text : List ℕ) → text ≡ copies 1 text
+unfolding copies
+copies_once text = sym (append-nil text)
+
+-- whole rounds come first, where several are to come
+pub rounds_first : (left rounds : ℕ) (text : List ℕ) → rounds < left
+    → drop 0 text ++ copies (left - 1) text ≡ copies rounds text ++ (drop 0 text ++ copies ((left - rounds) - 1) text)
+unfolding copies
+rounds_first left rounds text less =
+    let e : suc (left - 1) ≡ rounds + suc ((left - rounds) - 1) = omega (arith, less) in
+    ap (λ n. copies n text) e ∙ copies_sum rounds (suc ((left - rounds) - 1)) text

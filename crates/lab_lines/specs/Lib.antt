@@ -1,5 +1,6 @@
 pub mod Bodies
 pub mod ControlNames
+pub mod Copies
 pub mod Fates
 pub mod Keys
 pub mod LabLines

@@ -1,5 +1,5 @@
 -- How a script writes the name of a usage (our choice: docs/LAB.md).
-use Rattle.std.specs.Prelude.{ℕ, ◌+◌, ◌==◌, ◌&&◌, ◌||◌, nat_le, nat_eq, suc, Bool, false, List, [], ◌∷◌, ◌++◌, length, take, drop, map, codes, if◌then◌else◌, Option, None, Some, position}
+use Rattle.std.specs.Prelude.{◌≡◌, ℕ, ◌+◌, ◌==◌, ◌&&◌, ◌||◌, nat_le, nat_eq, suc, Bool, true, false, List, [], ◌∷◌, ◌++◌, length, take, drop, map, codes, if◌then◌else◌, Option, None, Some, position}
 use Rattle.std.specs.List.{starts_with}
 use Rattle.std.specs.Option.{option_map}
 use Rattle.std.specs.Str.{bytes_eq}
@@ -66,3 +66,7 @@ is_called (Some (Instance number)) word = spells_number (codes "Instance ") numb
 -- a word names a usage
 abbrev pub names : Usage → List ℕ → Bool
 names usage word = is_called (name_of usage.page usage.id) word
+
+-- a word names some usage
+abbrev pub IsName : List ℕ → Type 0
+IsName word = (usage : Usage) × (names usage word ≡ true)

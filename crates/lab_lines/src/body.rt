@@ -2,9 +2,10 @@
 
 ghost use Rattle.std.specs.Prelude.{◌≡◌, ◌≢◌, ◌+◌, ◌^◌, ◌≤◌, ◌<◌, [], ◌∷◌, ◌++◌, true, false, length, IfOk, OnOk, vec_len};
 ghost use Rattle.hid_text.specs.Words.{words_of};
-ghost use Rattle.lab_lines.specs.Roles.{role_of, depth_after, added_by};
+ghost use Rattle.lab_lines.specs.Copies.{copies};
+ghost use Rattle.lab_lines.specs.Roles.{repeat_role, role_of, depth_after, added_by};
 
-use hid_text::{first_word, split_line};
+use hid_text::{first_word, read_count};
 use std::alloc::{AllocError, Global};
 
 /// The most bytes of a body, line feeds included.
@@ -20,7 +21,7 @@ pub enum Added {
     Open,
     /// It was the `end` of the body, which doesn't belong to it.
     Whole,
-    /// Words stand after an `end`: no line of the bench is so (X1).
+    /// Words stand after an `end`, or after `repeat` not just a count: no line of the bench is so (X1).
     Malformed,
     /// The body would have over [`MAX_BODY`] bytes.
     TooLong,
@@ -35,6 +36,23 @@ pub(crate) enum Role {
     Stays,
 }
 
+/// What a `repeat` is, by what stands after it: a count, and nothing else.
+fn repeat_role(rest: &[u8]) -> Role
+    ensures { result ≡ repeat_role (words_of rest.now) }
+{
+    let Some((count, more)) = first_word(rest) else {
+        return Role::Malformed;
+    };
+    if first_word(more).is_some() {
+        return Role::Malformed;
+    }
+    if read_count(count).is_some() {
+        Role::Opens
+    } else {
+        Role::Malformed
+    }
+}
+
 /// What a line is to the body in which it stands, by its words.
 fn role_of(line: &[u8]) -> Role
     ensures { result ≡ role_of (words_of line.now) }
@@ -43,7 +61,7 @@ fn role_of(line: &[u8]) -> Role
         return Role::Stays;
     };
     if first == b"repeat".as_slice() {
-        return Role::Opens;
+        return repeat_role(rest);
     }
     if first != b"end".as_slice() {
         return Role::Stays;
@@ -66,6 +84,24 @@ fn depth_after(depth: usize, role: Role) -> usize
     }
 }
 
+/// A text so often, as fits into a piece and most: twice, four times and on. How often.
+fn rounds_of(alloc: Global, text: &[u8], most: u16) -> Result<(Vec<u8>, u16), AllocError>
+    requires most { 0 < most }
+    requires text { (0 < length text.now) × (length text.now ≤ 4096) }
+    ensures text { IfOk result (λ r. r.0.items ≡ copies r.1 text.now) }
+    ensures count { IfOk result (λ r. (0 < r.1) × (r.1 ≤ most)) }
+    ensures room { IfOk result (λ r. (0 < length r.0.items) × (length r.0.items ≤ 4096)) }
+{
+    let mut rounds = Vec::from_slice(alloc, text)?;
+    let mut count = 1;
+    while count <= most / 2 && rounds.len() <= PIECE / 2 {
+        let half = Vec::from_slice(alloc, rounds.as_slice())?;
+        rounds.extend_from_slice(half.as_slice())?;
+        count += count;
+    }
+    Ok((rounds, count))
+}
+
 /// The lines of a body, with their line feeds, and where it goes on.
 #[derive(Debug, Drop)]
 pub struct Body {
@@ -73,7 +109,6 @@ pub struct Body {
     lines: u64,
     depth: usize,
     at: usize,
-    line: u64,
     left: u16,
     ghost short: { vec_len text ≤ 2 ^ 20 },
     ghost nested: { depth ≤ vec_len text },
@@ -95,7 +130,6 @@ impl Body {
             lines: 0,
             depth: 0,
             at: 0,
-            line: 0,
             left: count,
         }
     }
@@ -159,8 +193,29 @@ impl Body {
         }
         self.left -= 1;
         self.at = 0;
-        self.line = 0;
         true
+    }
+
+    /// Whether several short rounds are to come, from the first byte of one on.
+    fn has_rounds(&self) -> bool
+        ensures { result ≡ true → (self.now.at ≡ 0) × (1 < self.now.left)
+            × (0 < vec_len self.now.text) × (vec_len self.now.text ≤ 2048) }
+    {
+        self.at == 0 && self.left > 2 && !self.text.is_empty() && self.text.len() <= PIECE / 2
+    }
+
+    /// Gives whole rounds, of which several are to come.
+    fn give_rounds(&mut self, room: &mut Vec<u8>) -> Result<(), AllocError>
+        requires { (self.old.at ≡ 0) × (1 < self.old.left) × (0 < vec_len self.old.text)
+            × (vec_len self.old.text ≤ 2048) }
+        ensures { OnOk result (Gives (text_to_come self.old) (text_to_come self.new)
+            room.old.items room.new.items true) }
+    {
+        let alloc = *self.text.allocator();
+        let (rounds, count) = rounds_of(alloc, self.text.as_slice(), self.left - 1)?;
+        room.extend_from_slice(rounds.as_slice())?;
+        self.left -= count;
+        Ok(())
     }
 
     /// Gives the text that comes next, after that of a room: its lines, as often as they come, 4,096 bytes at a time. Whether any
@@ -169,6 +224,18 @@ impl Body {
     /// # Errors
     /// Out of memory.
     pub fn give(&mut self, room: &mut Vec<u8>) -> Result<bool, AllocError>
+        ensures { IfOk result (λ some. Gives (text_to_come self.old) (text_to_come self.new)
+            room.old.items room.new.items some) }
+    {
+        if self.has_rounds() {
+            self.give_rounds(room)?;
+            return Ok(true);
+        }
+        self.give_part(room)
+    }
+
+    /// Gives the text that comes next, round by round.
+    fn give_part(&mut self, room: &mut Vec<u8>) -> Result<bool, AllocError>
         ensures { IfOk result (λ some. Gives (text_to_come self.old) (text_to_come self.new)
             room.old.items room.new.items some) }
     {
@@ -183,23 +250,5 @@ impl Body {
             some = true;
         }
         Ok(some)
-    }
-
-    /// Takes the next line, and its number in the body, from 1; none where the body was carried out as often as it is to be.
-    ///
-    /// # Errors
-    /// Out of memory.
-    pub fn next_line(&mut self, line: &mut Vec<u8>) -> Result<Option<u64>, AllocError> {
-        if !self.has_more() {
-            return Ok(None);
-        }
-        let Some((front, _)) = split_line(&self.text.as_slice()[self.at..]) else {
-            return Ok(None);
-        };
-        line.clear();
-        line.extend_from_slice(front)?;
-        self.at += front.len() + 1;
-        self.line = self.line.saturating_add(1);
-        Ok(Some(self.line))
     }
 }

@@ -1,7 +1,7 @@
 //! Usages by their names, as a script writes them.
 
-ghost use Rattle.std.specs.Prelude.{◌≡◌, ◌+◌, ◌≤◌, ◌++◌, length, position, codes, IfSome};
-ghost use Rattle.lab_lines.specs.Names.{fold, spells, place_of, spells_before, spells_second, is_space, calls, are_number, spells_number, names};
+ghost use Rattle.std.specs.Prelude.{◌≡◌, ◌+◌, ◌≤◌, ◌++◌, length, position, codes, IfSome, true};
+ghost use Rattle.lab_lines.specs.Names.{fold, spells, place_of, spells_before, spells_second, is_space, calls, are_number, spells_number, names, IsName};
 ghost use Rattle.hid_text.specs.Numbers.{number_of};
 
 use hid_layout::Usage;
@@ -139,12 +139,22 @@ pub fn is_name_of(usage: Usage, word: &[u8]) -> bool
 /// The last page of the tables that has names.
 const LAST_PAGE: u16 = 0xF0;
 
-/// The greatest ID that is looked at on a page.
-const LAST_ID: u16 = 0x1FFF;
+/// The greatest ID of the tables' rows: Sensors go up to `0x1FFF`.
+const LAST_ROW: u16 = 0x1FFF;
 
-/// Whether a word names a usage on a page.
-fn names_on_page(page: u16, word: &[u8]) -> bool {
-    for id in 0..=LAST_ID {
+/// The greatest ID that has a name on a page: buttons and instances are numbered (HID Usage Tables, 12 and 13).
+fn last_id(page: u16) -> u16 {
+    match page {
+        0x09 | 0x0A => u16::MAX,
+        _ => LAST_ROW,
+    }
+}
+
+/// Whether a word names a usage on a page, up to this ID.
+fn names_on_page(page: u16, last: u16, word: &[u8]) -> bool
+    ensures { result ≡ true → IsName word.now }
+{
+    for id in 0..=last {
         if is_name_of(Usage { page, id }, word) {
             return true;
         }
@@ -153,9 +163,11 @@ fn names_on_page(page: u16, word: &[u8]) -> bool {
 }
 
 /// Whether a word names any usage of the tables, which takes some milliseconds: a word that doesn't is misspelt.
-pub fn is_any_name(word: &[u8]) -> bool {
+pub fn is_any_name(word: &[u8]) -> bool
+    ensures { result ≡ true → IsName word.now }
+{
     for page in 0..=LAST_PAGE {
-        if page_name(page).is_some() && names_on_page(page, word) {
+        if page_name(page).is_some() && names_on_page(page, last_id(page), word) {
             return true;
         }
     }

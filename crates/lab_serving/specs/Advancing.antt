@@ -153,4 +153,4 @@ abbrev pub came_of : Answer → Option (List ℕ) → List ℕ
 came_of Came last = []
 came_of (Instead line) last = line
 came_of NoLine last = line_or_nothing last
-came_of TooMuch last = codes "over 1048576 bytes since the last expect"
+came_of TooMuch last = codes "over 1 MiB since the last expect"

@@ -150,11 +150,13 @@ PartsGive r number parts (Ok after) = AllGive r number parts after
 PartsGive r number parts (Err cause) = IsRefused r number parts cause
 
 -- over 1,048,576 actions were read, or over 16,384 expectations
-abbrev pub is_full : LabRead → Bool
-is_full r = nat_lt 1048576 (length r.read.actions) || nat_lt 16384 (length r.expected)
+abbrev pub is_over : LabRead → Bool
+is_over r = nat_lt 1048576 (length r.read.actions) || nat_lt 16384 (length r.expected)
 
--- What a line gives, by what it says and its number, after what was read before it: what its parts give; or it is refused, since
--- too much was read.
+-- What a line gives, by what it says and its number, after what was read before it: what its parts give; or it is refused, as one
+-- of them is, or since too much is read with it.
 abbrev pub SaidGives : LabRead → ℕ → Said → Result LabRead LineCause → Type 0
-SaidGives r number said result =
-    ((is_full r ≡ true) × (result ≡ Err TooLong)) ⊎ ((is_full r ≡ false) × PartsGive r number (parts_of said) result)
+SaidGives r number said (Ok after) = PartsGive r number (parts_of said) (Ok after) × (is_over after ≡ false)
+SaidGives r number said (Err cause) =
+    PartsGive r number (parts_of said) (Err cause)
+    ⊎ ((cause ≡ TooLong) × (after : LabRead) × PartsGive r number (parts_of said) (Ok after) × (is_over after ≡ true))

@@ -128,7 +128,7 @@ impl Expectations {
             Expectation::Met => b"",
             Expectation::Other(line) => line,
             Expectation::Nothing => self.transcript.last().unwrap_or(b"nothing"),
-            Expectation::TooMuch => b"over 1048576 bytes since the last expect",
+            Expectation::TooMuch => b"over 1 MiB since the last expect",
         }
     }
 

@@ -8,7 +8,7 @@ ghost use Rattle.lab_lines.specs.LabLines.{said_of};
 ghost use Rattle.lab_lines.specs.LabLines as lab;
 ghost use Rattle.lab_lines.specs.Typing.{characters_of};
 ghost use Rattle.lab_serving.specs.Parts.{character_lines, parts_of, plain_lines, shifted_lines, typed_lines};
-ghost use Rattle.lab_serving.specs.Reading.{AttachesHex, ExpectsMore, PartGives, PartsGive, Reads, SaidGives, change_of, control_meant, is_full, lab_read_of, nothing_read_yet};
+ghost use Rattle.lab_serving.specs.Reading.{AttachesHex, ExpectsMore, PartGives, PartsGive, Reads, SaidGives, change_of, control_meant, is_over, lab_read_of, nothing_read_yet};
 ghost use Rattle.usbip_script.specs.Scripts.{read_of};
 ghost use Rattle.usbip_script.specs.declared.fault.LineCause.{LineCause as RefusalCause};
 
@@ -23,7 +23,7 @@ use usbip_export::ExportedDevice;
 use usbip_script::{LineCause, Script, ServeFault, place_of};
 use usbip_serving::Action;
 
-/// How many actions are read at most, give or take one line's: all lines are read before anything is served.
+/// How many actions are read at most: all lines are read before anything is served.
 pub const MAX_ACTIONS: usize = 1 << 20;
 
 /// How many expectations are read at most.
@@ -75,9 +75,9 @@ impl LabScript {
         }
     }
 
-    /// Whether too much was read for a further line.
-    fn is_full(&self) -> bool
-        ensures { result ≡ is_full (lab_read_of self.now) }
+    /// Whether too much was read.
+    fn is_over(&self) -> bool
+        ensures { result ≡ is_over (lab_read_of self.now) }
     {
         self.script.actions.len() > MAX_ACTIONS || self.expectations.len() > MAX_EXPECTATIONS
     }
@@ -260,7 +260,7 @@ impl LabScript {
     /// nothing by themselves.
     ///
     /// # Errors
-    /// The line is refused, by its number: E1 where the host does it, and E11 where too much was read before; or memory ran out.
+    /// The line is refused, by its number: E1 where the host does it, and E11 where too much is read with it; or memory ran out.
     pub fn take(
         &mut self,
         alloc: Global,
@@ -272,13 +272,14 @@ impl LabScript {
             × (fault ≡ ServeFault.Line number cause)
             × SaidGives (lab_read_of self.old) number (said_of line.entry) (Err cause))) }
     {
-        if self.is_full() {
+        self.take_said(alloc, number, line)?;
+        if self.is_over() {
             return Err(ServeFault::Line(number, LineCause::TooLong));
         }
-        self.take_said(alloc, number, line)
+        Ok(())
     }
 
-    /// Takes what a line says, where not too much was read before it.
+    /// Takes what a line says, however much that is.
     fn take_said(
         &mut self,
         alloc: Global,

@@ -17,7 +17,7 @@ abbrev pub came_words : Answer → List ℕ
 came_words Came = []
 came_words (Instead line) = line
 came_words NoLine = codes "nothing"
-came_words TooMuch = codes "over 1048576 bytes since the last expect"
+came_words TooMuch = codes "over 1 MiB since the last expect"
 
 -- An expectation is met, and takes the line; or it isn't, and the lines that wait stay. What came is kept, unless memory ran out.
 abbrev pub Expects : List ℕ → Transcript → Transcript → List ℕ → Result (Unit {0}) LabCause → Type 0

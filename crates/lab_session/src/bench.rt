@@ -30,7 +30,7 @@ use hid_script::{Cause, Interpreter, Options, Sink, StepFault};
 use hid_snapshots::ChangeFault;
 use hid_stack::{Rig, StackFault, Start, Step};
 use hid_text::{ChangeKind, ShortLine, read_short, says_nothing};
-use lab_expectations::Expectation;
+use lab_expectations::{Expectation, unknown_usage};
 use lab_lines::{
     ControlName, Key, LEFT_SHIFT, LabLine, TypedText, find_control, key_of, read_hex, read_lab_line,
 };
@@ -164,6 +164,7 @@ impl Bench {
     ///
     /// # Errors
     /// X1 or X2 where no line of the bench stands there; else why it is not carried out. What it printed before stands.
+    #[inline(always)] // a comment does nothing
     pub fn line<'a, W: Sink>(
         &mut self,
         line: &'a [u8],
@@ -180,11 +181,48 @@ impl Bench {
         if says_nothing(line) {
             return Ok(None);
         }
-        // Most lines are short, and no new line is.
-        if let Some(short) = read_short(line) {
-            self.short_line(&short, writer)?;
-            return Ok(None);
+        self.some_line(line, writer)
+    }
+
+    /// Reads any line, and carries it out: no new line is a short one.
+    #[inline(never)] // an empty line makes no room for what a line says
+    fn some_line<'a, W: Sink>(
+        &mut self,
+        line: &'a [u8],
+        writer: &mut W,
+    ) -> Result<Option<Asked<'a>>, LabCause>
+        ensures does { IfOk result (λ asked. DoesLine line.now (option_map asked_said asked) self.old
+            self.new (W.contents writer.old) (W.contents writer.new)) }
+        ensures prints { IsPlain self.old.options → IsUndrawn (moment_of self.old) → IsScripts line.now
+            → PrintsAs (W.contents writer.old) (W.contents writer.new) (meaning_of line.now)
+            (session_of self.old.interpreter) (end_of result) (session_of self.new.interpreter) }
+        ensures unsettled { end_of result ≡ Err LabCause.Unsettled
+            → (dev : ℕ) × StaysUnsettled dev (moment_of self.new) }
+    {
+        match read_short(line) {
+            Some(short) => {
+                self.short_line(&short, writer)?;
+                Ok(None)
+            }
+            None => self.long_line(line, writer),
         }
+    }
+
+    /// Reads a line that isn't short, or any other, and carries it out.
+    #[inline(never)] // a short line makes no room for what another one says
+    fn long_line<'a, W: Sink>(
+        &mut self,
+        line: &'a [u8],
+        writer: &mut W,
+    ) -> Result<Option<Asked<'a>>, LabCause>
+        ensures does { IfOk result (λ asked. DoesLine line.now (option_map asked_said asked) self.old
+            self.new (W.contents writer.old) (W.contents writer.new)) }
+        ensures prints { IsPlain self.old.options → IsUndrawn (moment_of self.old) → IsScripts line.now
+            → PrintsAs (W.contents writer.old) (W.contents writer.new) (meaning_of line.now)
+            (session_of self.old.interpreter) (end_of result) (session_of self.new.interpreter) }
+        ensures unsettled { end_of result ≡ Err LabCause.Unsettled
+            → (dev : ℕ) × StaysUnsettled dev (moment_of self.new) }
+    {
         match read_lab_line(line) {
             Ok(said) => {
                 self.carry_out(&said, writer)?;
@@ -198,7 +236,6 @@ impl Bench {
     ///
     /// # Errors
     /// Why the line is not carried out; what it printed before stands.
-    #[inline(never)] // most lines are short
     #[tactic(auto, unfolding(crate::specs::Lines::LineDoes))]
     pub fn carry_out<W: Sink>(&mut self, line: &LabLine<'_>, writer: &mut W) -> Result<(), LabCause>
         ensures does { OnOk result (Does (LineDoes self.old.options.seed (said_of line.now))
@@ -448,6 +485,7 @@ impl Bench {
     }
 
     /// Polls a device so often, with what is lost of each.
+    #[inline(never)] // most polls are not made singly
     fn polls<W: Sink>(
         &mut self,
         dev: u8,
@@ -488,6 +526,7 @@ impl Bench {
     }
 
     /// Makes so many tries of the transfer that runs, with what is lost of each.
+    #[inline(never)] // most lines are no tries
     fn tries<W: Sink>(
         &mut self,
         dev: u8,
@@ -716,7 +755,7 @@ impl Bench {
         Ok(())
     }
 
-    /// Whether the next line that was printed is this one.
+    /// Whether the next line that was printed is this one. The name of no usage is refused as in other lines.
     fn expect(&mut self, expected: &[u8]) -> Result<(), LabCause>
         ensures moment { moment_of self.new ≡ moment_of self.old }
         ensures options { self.new.options ≡ self.old.options }
@@ -726,6 +765,9 @@ impl Bench {
     {
         if self.printer.expect(expected) {
             return Ok(());
+        }
+        if unknown_usage(expected).is_some() {
+            return Err(LabCause::Script(no_control()));
         }
         match keep_answer(self.printer.answer(expected), &mut self.came) {
             Ok(()) => Err(LabCause::Unmet),
@@ -769,6 +811,6 @@ fn keep_answer(answer: Expectation<'_>, came: &mut Vec<u8>) -> Result<(), AllocE
         Expectation::Met => Ok(()),
         Expectation::Other(line) => came.extend_from_slice(line),
         Expectation::Nothing => came.extend_from_slice(b"nothing"),
-        Expectation::TooMuch => came.extend_from_slice(b"over 1048576 bytes since the last expect"),
+        Expectation::TooMuch => came.extend_from_slice(b"over 1 MiB since the last expect"),
     }
 }

@@ -6,6 +6,7 @@ ghost use Rattle.lab_lines.specs.Bodies.{text_to_come};
 
 use hid_script::Cause;
 use lab_lines::Body;
+use std::alloc::Global;
 use std::io::{self, ErrorKind, Read};
 
 /// How many bytes a read is asked for.
@@ -30,14 +31,17 @@ pub trait Feed {
 #[derive(Drop)]
 pub struct Incoming<R> {
     reader: R,
+    /// Room for a read, which is used again; none before the first.
+    piece: Vec<u8>,
     failure: Option<io::Error>,
 }
 
 impl<R> Incoming<R> {
     /// A reader of which nothing was read.
-    pub fn new(reader: R) -> Self {
+    pub fn new(alloc: Global, reader: R) -> Self {
         Incoming {
             reader,
+            piece: Vec::new(alloc),
             failure: None,
         }
     }
@@ -52,11 +56,13 @@ impl<R: Read> Feed for Incoming<R> {
     ghost remaining = { λ incoming. R.remaining incoming.reader };
 
     fn feed(&mut self, room: &mut Vec<u8>) -> Result<bool, Cause> {
-        let mut piece = [0u8; PIECE];
-        match self.reader.read(&mut piece) {
+        if self.piece.is_empty() {
+            self.piece.resize(PIECE, 0)?;
+        }
+        match self.reader.read(self.piece.as_mut_slice()) {
             Ok(0) => Ok(false),
             Ok(count) => {
-                room.extend_from_slice(&piece[..count])?;
+                room.extend_from_slice(&self.piece.as_slice()[..count])?;
                 Ok(true)
             }
             Err(error) if error.kind() == ErrorKind::Interrupted => Ok(true),

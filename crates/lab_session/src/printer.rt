@@ -99,10 +99,11 @@ impl Printer {
         ensures kept { OnOk result (Keeps self.old.transcript self.new.transcript text.now) }
     {
         match part {
+            Ok(()) => self.print(options, text, events, writer),
             Err(Cause::Write) => Err(Cause::Memory),
-            _ => {
+            Err(cause) => {
                 self.print(options, text, events, writer)?;
-                part
+                Err(cause)
             }
         }
     }

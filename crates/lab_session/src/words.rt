@@ -128,7 +128,7 @@ impl fmt::Display for CauseWords {
             LabCause::Script(cause) => script_words(cause),
             LabCause::Unpaired => "repeat and end stand in pairs, in one file",
             LabCause::TooDeep => {
-                "over eight repeat or files in one another, or a body of over 1048576 bytes"
+                "over eight repeat or files in one another, or over 1 MiB between repeat and end"
             }
             LabCause::Unsettled => "after 100 polls the device still has something to send",
             LabCause::Unmet => "another line is expected",

@@ -37,7 +37,7 @@ line_cause_text NoDevice = codes "X4 S1: no device has this number"
 line_cause_text (Change fault) = codes "X4 S3 " ++ change_code fault ++ codes ": " ++ change_words fault
 line_cause_text (Device fault) = codes "X4 S5 " ++ device_fault_text fault.cause fault.at ++ codes ": there can be no such device"
 line_cause_text TooManyDevices = codes "X4 S7: there are seven devices already"
-line_cause_text NotServed = codes "E1: the host does this, or hidrun prints it"
+line_cause_text NotServed = codes "E1: not with a real host, which polls and asks by itself"
 line_cause_text TooLong = codes "E11: the script is too long"
 line_cause_text Unmet = codes "X13: the host set another report, or none"
 

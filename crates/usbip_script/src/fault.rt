@@ -21,7 +21,7 @@ pub enum LineCause {
     Device(DeviceFault),
     /// X4 S7: there are seven devices already.
     TooManyDevices,
-    /// E1: the host that has a device polls it and begins requests, and `hidrun` prints layouts and values.
+    /// E1: a real host polls and begins requests by itself, and tells no events; layouts and values are printed without one.
     NotServed,
     /// E11: over 1,048,576 lines or actions, or over 16,384 expectations, those of bodies each time.
     TooLong,
@@ -95,7 +95,9 @@ impl fmt::Display for LineCause {
             }
             LineCause::Device(fault) => write!(f, "X4 S5 {fault}: there can be no such device"),
             LineCause::TooManyDevices => f.write_str("X4 S7: there are seven devices already"),
-            LineCause::NotServed => f.write_str("E1: the host does this, or hidrun prints it"),
+            LineCause::NotServed => f.write_str(
+                "E1: not with a real host, which polls and asks by itself",
+            ),
             LineCause::TooLong => f.write_str("E11: the script is too long"),
             LineCause::Unmet => f.write_str("X13: the host set another report, or none"),
         }

@@ -1,7 +1,7 @@
 use Rattle.std.proofs.Common.{arith, ◌-◌, ◌+◌}
 use Rattle.hid_layout.specs.Controls.{items_of, form_at}
 use Rattle.lab_lines.specs.ControlNames.{place_count}
-use Rattle.lab_lines.proofs.ControlLemmas.{found_from, place_passed, place_found, place_counted, places_end}
+use Rattle.lab_lines.proofs.ControlLemmas.{place_passed, place_found, place_counted, places_end}
 use Rattle.lab_lines.proofs.control_name.control_in_item.Goals as goal
 
 pub loop-index-preserved-then-not-is_found : goal.loop-index-preserved-then-not-is_found

@@ -1,4 +1,4 @@
-use Rattle.std.proofs.Common.{sym, arith}
+use Rattle.std.proofs.Common.{arith}
 use Rattle.std.proofs.lemmas.Grind.{common_steps}
 use Rattle.lab_lines.proofs.NameLemmas.{place_found, place_passed, place_end}
 use Rattle.lab_lines.proofs.names.place_of.Goals as goal

@@ -1,0 +1,28 @@
+use Rattle.std.proofs.Common.{◌≡◌, ◌++◌, length, ap, sym, ◌∙◌, arith, length-append}
+use Rattle.lab_lines.proofs.BodyLemmas.{copies_once, copies_sum}
+use Rattle.lab_lines.proofs.body.rounds_of.Goals as goal
+
+pub loop-count-init : goal.loop-count-init
+loop-count-init c =
+    let size = ap length c.in_ok-rounds.ensures.items in (
+      c.in_ok-rounds.ensures.items ∙ copies_once c.args.text.now,
+      omega arith,
+      omega (arith, c.requires.most),
+      omega (arith, size, c.requires.text.0),
+      omega (arith, size, c.requires.text.1),
+    )
+
+pub loop-count-preserved : goal.loop-count-preserved
+loop-count-preserved c =
+    let before = c.loop-count.invariant in
+    let R = c.loop-count.rounds.items in
+    let n = c.loop-count.count in
+    let is : c.extend_from_slice.new.self.items ≡ R ++ R =
+    c.in_ok-extend_from_slice.ensures.items ∙ ap (λ l. R ++ l) (c.as_slice-in-loop-count.ensures.value ∙ c.in_ok-half.ensures.items ∙ c.as_slice.ensures.value) in
+    let size = ap length is in (
+      is ∙ ap (λ l. l ++ l) before.0 ∙ sym (copies_sum n n c.args.text.now),
+      omega (arith, before.1),
+      omega (arith, c.loop-count-test.true),
+      omega (arith, size, length-append R R, before.3),
+      omega (arith, size, length-append R R, c.if-len.true),
+    )

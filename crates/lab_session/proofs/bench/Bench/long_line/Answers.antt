@@ -1,0 +1,28 @@
+use Rattle.lab_session.specs.Bench.{moment_of}
+use Rattle.std.proofs.Common.{sym, ap, ◌∙◌, subst, Ok, Err}
+use Rattle.hid_text.specs.Line.{meaning_of}
+use Rattle.hid_script.specs.Interpreter.{session_of}
+use Rattle.lab_lines.specs.LabLines.{said_of, refusal_of}
+use Rattle.lab_session.specs.Scripts.{PrintsAs, end_of}
+use Rattle.lab_session.proofs.DoingLemmas.{err_is, line_unsettled}
+use Rattle.lab_session.proofs.ScriptLineLemmas.{as_script, unread_refused}
+use Rattle.lab_session.proofs.bench.Bench.long_line.Goals as goal
+
+pub returns-in_err-carry_out-in-Ok-clause-prints : goal.returns-in_err-carry_out-in-Ok-clause-prints
+returns-in_err-carry_out-in-Ok-clause-prints g c = λ plain undrawn old.
+    subst (λ r. PrintsAs (g.W.Sink.contents c.args.writer.now) (g.W.Sink.contents c.carry_out.new.writer) (meaning_of c.args.line.now) (session_of c.args.self.now.interpreter) (end_of r) (session_of c.carry_out.new.self.interpreter))
+    (sym (err_is c.from_residual.result _ c.from_residual.ensures.1))
+    (as_script _ _ c.args.line.now (said_of c.in-Ok.said) _ _ (Err c.in_err-carry_out-in-Ok.field-0.0) old (sym c.in-Ok.ensures.exact) (c.in_err-carry_out-in-Ok.ensures.prints plain undrawn))
+
+pub returns-in_ok-carry_out-in-Ok-clause-prints : goal.returns-in_ok-carry_out-in-Ok-clause-prints
+returns-in_ok-carry_out-in-Ok-clause-prints g c = λ plain undrawn old.
+    as_script _ _ c.args.line.now (said_of c.in-Ok.said) _ _ (Ok tt) old (sym c.in-Ok.ensures.exact) (c.in_ok-carry_out-in-Ok.ensures.prints plain undrawn)
+
+pub returns-in-Err-clause-prints : goal.returns-in-Err-clause-prints
+returns-in-Err-clause-prints g c = λ plain undrawn old.
+    unread_refused _ c.args.line.now (refusal_of c.in-Err.unread) c.unread_cause.result _ _ old (sym c.in-Err.ensures.exact) c.unread_cause.ensures
+
+pub returns-in_err-carry_out-in-Ok-clause-unsettled : goal.returns-in_err-carry_out-in-Ok-clause-unsettled
+returns-in_err-carry_out-in-Ok-clause-unsettled g c = λ is.
+    line_unsettled (said_of c.in-Ok.said) (Err c.in_err-carry_out-in-Ok.field-0.0) (moment_of c.carry_out.new.self) c.in_err-carry_out-in-Ok.ensures.unsettled
+    (sym (ap end_of (err_is c.from_residual.result _ c.from_residual.ensures.1)) ∙ is)
