@@ -1,5 +1,5 @@
 -- What a player gathers of a line, and what it writes.
-use Rattle.std.proofs.Common.{◌≡◌, ℕ, ◌<◌, ◌≤◌, zero, suc, Bool, true, false, List, [], ◌∷◌, ◌++◌, length, refl, sym, ap, ◌∙◌, subst, inr, append_assoc, Option, None, Some, Result, Ok, Err, OnOk, IfErr, IsErrAnd}
+use Rattle.std.proofs.Common.{◌≡◌, ℕ, ◌<◌, ◌≤◌, zero, suc, Bool, true, false, List, [], ◌∷◌, ◌++◌, length, refl, sym, ap, ◌∙◌, subst, inr, append_assoc, arith, ◌-◌, get_or, take, drop, take_all, Option, None, Some, Result, Ok, Err, OnOk, IfErr, IsErrAnd}
 use Rattle.std.specs.Prelude.{slice_get, set, if◌then◌else◌}
 use Rattle.std.specs.Io.KnownBytes.{Appends}
 use Rattle.std.proofs.KnownBytes.{Appends-nil}
@@ -28,7 +28,7 @@ use Rattle.hid_recording.specs.declared.dump.Address.{Address}
 use Rattle.hid_recording.specs.declared.dump.Content.{Content}
 use Rattle.hid_recording.specs.declared.dump.Content.TheVariants as contents
 use Rattle.hid_recording.specs.Session.{Session, PlayedDevice, Outcome, success, failure, saturating_sum}
-use Rattle.hid_recording.specs.Records.{LineMeaning, record_of}
+use Rattle.hid_recording.specs.Records.{LineMeaning, record_of, text_record, report_record}
 use Rattle.hid_recording.specs.EventLines.{event_lines}
 use Rattle.hid_recording.specs.declared.device.Joined.{Joined}
 use Rattle.hid_recording.specs.declared.device.Joined.TheVariants.{Unknown, Doubtful, Begun, Whole}
@@ -154,6 +154,22 @@ pub said_meant : (session : Session) (meant : Result LineMeaning Why) (said : Li
     (r : Result (Unit {0}) Cause) (text : List ℕ) (next : Session) → meant ≡ Ok said
     → Gathers (RecordGives session said) r text next → Gathers (MeaningGives session meant) r text next
 said_meant session meant said r text next e h = subst (λ m. Gathers (MeaningGives session m) r text next) (sym e) h
+
+-- a line that begins with `E:` is a report
+report_line : (line rest : List ℕ) → 2 ≤ length line → get_or line 0 0 ≡ 69 → get_or line 1 0 ≡ 58 → rest ≡ take (length line - 2) (drop 2 line)
+    → record_of line ≡ report_record rest
+unfolding record_of text_record
+report_line [] rest long letter colon is = absurd (omega arith)
+report_line (a ∷ []) rest long letter colon is = absurd (omega arith)
+report_line (a ∷ b ∷ line) rest long letter colon is =
+    let all : rest ≡ line = is ∙ take_all (length (a ∷ b ∷ line) - 2) line (omega arith) in
+    ap (λ c. record_of (c ∷ b ∷ line)) letter ∙ ap (λ c. record_of (69 ∷ c ∷ line)) colon ∙ ap report_record (sym all)
+
+pub report_meant : (session : Session) (line rest : List ℕ) (r : Result (Unit {0}) Cause) (text : List ℕ) (next : Session) → 2 ≤ length line
+    → get_or line 0 0 ≡ 69 → get_or line 1 0 ≡ 58 → rest ≡ take (length line - 2) (drop 2 line)
+    → Gathers (MeaningGives session (report_record rest)) r text next → Gathers (MeaningGives session (record_of line)) r text next
+report_meant session line rest r text next long letter colon is h =
+    subst (λ m. Gathers (MeaningGives session m) r text next) (sym (report_line line rest long letter colon is)) h
 
 -- ---- reports
 

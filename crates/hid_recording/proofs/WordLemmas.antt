@@ -1,12 +1,22 @@
 -- Times are ASCII, and the bytes of words are those of each, joined.
-use Rattle.std.proofs.Common.{◌≡◌, ℕ, ◌+◌, ◌<◌, ◌≤◌, Bool, true, false, cond, List, [], ◌∷◌, ◌++◌, ◌-◌, length, get_or, take, drop, take_all, append_assoc, append-nil, length-append, refl, sym, ap, ◌∙◌, arith, Option, None, Some, Result, Ok, Err, Bor, inl, inr, nat_eq, ⊎_elim}
-use Rattle.std.specs.Prelude.{MatchResult, ◌&&◌, not, map, is_ok, is_some, ok_or}
-use Rattle.std.specs.Option.{option_map, option_and_then}
-use Rattle.std.specs.List.{list_all, flat_map}
+use Rattle.std.proofs.Common.{◌≡◌, ℕ, ◌+◌, ◌<◌, ◌≤◌, ◌^◌, min, subst, not, Bool, true, false, cond, nat_lt, List, [], ◌∷◌, ◌++◌, ◌-◌, length, get_or, take, drop, take_all, append_assoc, append-nil, length-append, refl, sym, ap, ◌∙◌, arith, Option, None, Some, Result, Ok, Err, Bor, inl, inr, nat_eq, ⊎_elim}
+use Rattle.std.specs.Prelude.{MatchResult, filter, position, map, ◌&&◌, is_ok, is_some, ok_or}
+use Rattle.std.specs.Option.{option_map, option_and_then, unwrap_or}
+use Rattle.std.specs.List.{All, list_all, flat_map, position_or_len}
 use Rattle.hex.specs.Hex.{decode_of, hex_digit_value}
 use Rattle.hex.specs.declared.error.FromHexError.{FromHexError}
-use Rattle.hid_text.specs.Words.{is_blank, words_of, hex_of, byte_from, pair_of}
+use Rattle.hid_text.specs.Words.{is_blank, is_no_blank, words_of, after_word, hex_of, byte_from, pair_of}
+use Rattle.hid_text.specs.Numbers.{number_of}
 use Rattle.hid_text.proofs.WordLemmas.{pair_alone}
+use Rattle.std.specs.Char.{digit_value}
+use Rattle.std.specs.Str.Parse.{digits_value}
+use Rattle.std.proofs.lemmas.Str.{digit_value_digit}
+use Rattle.std.proofs.lemmas.Int.Digits.{digits_value_push}
+use Rattle.hid_text.proofs.PartLemmas.{some_byte}
+use Rattle.std.proofs.lemmas.List.{take-append-drop, length-take-le, length-drop}
+use Rattle.std.proofs.lemmas.List.Sums.{prefix_len-le-length}
+use Rattle.std.proofs.lemmas.List.Splits.{slice_split_at, slice_split_none}
+use Rattle.std.proofs.Math.Numerals.{one-add}
 use Rattle.hid_recording.specs.declared.fault.Cause.{Cause}
 use Rattle.hid_recording.specs.declared.fault.Cause.TheVariants.{Refused, LineTooLong, Read, Write, Memory, TooManyReads, Unended}
 use Rattle.std.specs.Str.{IsUtf8, IsAscii}
@@ -14,9 +24,9 @@ use Rattle.std.proofs.lemmas.Str.{IsUtf8-from_ascii}
 use Rattle.std.proofs.lemmas.Str.Ascii.{IsAscii-from_reads}
 use Rattle.std.specs.Result.{result_ok, result_unwrap_or}
 use Rattle.std.proofs.lemmas.List.Folds.{list_all_at}
-use Rattle.std.proofs.lemmas.Bool.{cases_Bool, or_cases, and_parts, leb-true, eqb-true, cond-true}
+use Rattle.std.proofs.lemmas.Bool.{cases_Bool, cases_lt, le-leb, lt-ltb, le-ltb, cond-false, or_cases, and_parts, leb-true, eqb-true, ne_eqb, cond-true}
 use Rattle.hid_recording.specs.declared.fault.Refusal.TheVariants.{BadHex}
-use Rattle.hid_recording.specs.Words.{IsNone, IsNoHex, BeginsWithPair, ends_word, bytes_before, bad_byte_from, bad_byte, bytes_of, is_mark, as_blank, without_prefix, digit_words, is_time_byte, is_time, time_of}
+use Rattle.hid_recording.specs.Words.{IsNone, IsNoHex, BeginsWithPair, ends_word, bytes_before, bad_byte_from, bad_byte, bytes_of, is_mark, as_blank, without_prefix, digit_words, BeginsWithDigit, BeginsWithTime, decimal_of, is_time_byte, is_no_time_byte, is_time, time_of}
 
 small : (b : ℕ) → is_time_byte b ≡ true → b < 128
 small b e = elim (or_cases _ _ e) [
@@ -190,6 +200,55 @@ pair_first (a ∷ high ∷ low ∷ rest) byte some space ended pair =
       refl,
     )
 
+-- a comma and a colon are no digits
+mark_high : (high low : ℕ) → is_mark high ≡ true → pair_of high low ≡ None
+mark_high high low mark = ⊎_elim
+    (λ (comma : nat_eq high 44 ≡ true). rw (eqb-true high 44 comma) refl)
+    (λ (other : nat_eq high 44 ≡ false). let colon : nat_eq high 58 ≡ true = rw other at mark in rw (eqb-true high 58 colon) refl)
+    (cases_Bool (nat_eq high 44))
+
+mark_low : (high low : ℕ) → is_mark low ≡ true → pair_of high low ≡ None
+mark_low high low mark = ⊎_elim
+    (λ (comma : nat_eq low 44 ≡ true). rw (eqb-true low 44 comma) (no_low (hex_digit_value high)))
+    (λ (other : nat_eq low 44 ≡ false). let colon : nat_eq low 58 ≡ true = rw other at mark in rw (eqb-true low 58 colon) (no_low (hex_digit_value high)))
+    (cases_Bool (nat_eq low 44))
+
+-- a blank is kept at the end of a word
+blank_kept : (rest : List ℕ) → ends_word rest ≡ true → ends_word (map as_blank rest) ≡ true
+blank_kept [] ended = ended
+blank_kept (next ∷ rest) ended = ⊎_elim
+    (λ (space : nat_eq next 32 ≡ true). rw (eqb-true next 32 space) refl)
+    (λ (other : nat_eq next 32 ≡ false). let tab : nat_eq next 9 ≡ true = rw other at ended in rw (eqb-true next 9 tab) refl)
+    (cases_Bool (nat_eq next 32))
+
+-- a text begins with a space and two digits, with blanks for its commas and colons too
+pub pair_marked : (text : List ℕ) (byte : ℕ) → 3 ≤ length text → get_or text 0 0 ≡ 32 → ends_word (take (length text - 3) (drop 3 text)) ≡ true
+    → pair_of (get_or text 1 0) (get_or text 2 0) ≡ Some byte
+    → BeginsWithPair (words_of (map as_blank text)) byte (words_of (map as_blank (take (length text - 3) (drop 3 text))))
+pair_marked [] byte some space ended pair = absurd (omega arith)
+pair_marked (a ∷ []) byte some space ended pair = absurd (omega arith)
+pair_marked (a ∷ high ∷ []) byte some space ended pair = absurd (omega arith)
+pair_marked (a ∷ high ∷ low ∷ rest) byte some space ended pair =
+    let left : take (length (a ∷ high ∷ low ∷ rest) - 3) rest ≡ rest = take_all (length (a ∷ high ∷ low ∷ rest) - 3) rest (omega arith) in
+    let first = not_so (is_blank high) (pair_of high low) byte (blank_high high low) pair in
+    let second = not_so (is_blank low) (pair_of high low) byte (blank_low high low) pair in
+    let one = kept high false (not_so (is_mark high) (pair_of high low) byte (mark_high high low) pair) refl in
+    let two = kept low false (not_so (is_mark low) (pair_of high low) byte (mark_low high low) pair) refl in (
+      high ∷ low ∷ [],
+      ap (λ b. words_of (as_blank b ∷ as_blank high ∷ as_blank low ∷ map as_blank rest)) space
+          ∙ ap (λ b. words_of (32 ∷ b ∷ as_blank low ∷ map as_blank rest)) one
+          ∙ ap (λ b. words_of (32 ∷ high ∷ b ∷ map as_blank rest)) two
+          ∙ pair_between high low (map as_blank rest) first second (blank_kept rest (rw left at ended))
+          ∙ ap (λ l. (high ∷ low ∷ []) ∷ words_of (map as_blank l)) (sym left),
+      pair_alone high low ∙ ap (option_map (λ b. b ∷ [])) pair,
+      refl,
+    )
+
+-- nothing is left
+pub none_left : (rest : List ℕ) → length rest ≡ 0 → rest ≡ []
+none_left [] none = refl
+none_left (b ∷ rest) none = absurd (omega (arith, none))
+
 -- a text without commas and colons is as it stands
 pub none_marked : (text : List ℕ) → list_all (λ b. not (is_mark b)) text ≡ true → map as_blank text ≡ text
 none_marked [] plain = refl
@@ -220,3 +279,121 @@ pub time_read : {E : Type 0} (word : List ℕ) (r : Result (Bor (List ℕ)) E) (
     → MatchResult r (λ s. (s.now ≡ word) × IsUtf8 word) (λ e. (IsUtf8 word → ⊥) × P e) → o ≡ result_ok r → option_map (λ t. t.now) o ≡ time_of word
 time_read word (Ok s) o P timed cases is = rw is (ap Some cases.0 ∙ sym (cond-true (is_time word) (Some word) None timed))
 time_read word (Err e) o P timed cases is = absurd (cases.0 (time_is_text word timed))
+
+-- a digit or a point is no blank
+from_point : (b : ℕ) → is_time_byte b ≡ true → 46 ≤ b
+from_point b e = elim (or_cases _ _ e) [
+  | inl h ↦ omega (arith, leb-true 48 b (and_parts _ _ h).0)
+  | inr h ↦ omega (arith, eqb-true b 46 h)
+]
+
+no_blank : (b : ℕ) → is_time_byte b ≡ true → is_blank b ≡ false
+no_blank b e =
+    let above : 46 ≤ b = from_point b e in
+    rw (ne_eqb b 32 (λ same. omega (arith, above, same)), ne_eqb b 9 (λ same. omega (arith, above, same))) refl
+
+passes_at : (word : List ℕ) (k other : ℕ) (b : Bool) → is_time word ≡ true → k < length word → is_time_byte (get_or word k other) ≡ b
+    → is_time_byte (get_or word k other) ≡ true
+passes_at word k other true all below e = e
+passes_at word k other false all below e = let none = list_all_at is_time_byte word k other below e in absurd (cc)
+
+no_blanks : (word : List ℕ) → is_time word ≡ true → All (λ b. is_blank b ≡ false) word
+no_blanks word all = λ k other below. no_blank (get_or word k other) (passes_at word k other (is_time_byte (get_or word k other)) all below refl)
+
+-- a time between a space and a blank or the end is the first word
+first_time : (time rest : List ℕ) → is_time time ≡ true → 0 < length time → ends_word rest ≡ true → words_of (32 ∷ (time ++ rest)) ≡ time ∷ words_of rest
+first_time time [] timed some ended =
+    ap (λ l. words_of (32 ∷ l)) (append-nil time) ∙ ap (λ parts. filter (λ word. not (nat_eq (length word) 0)) parts) (slice_split_none is_blank time (no_blanks time timed))
+    ∙ cond-true (not (nat_eq (length time) 0)) _ _ (some_byte time some)
+first_time time (next ∷ rest) timed some ended =
+    ap (λ parts. filter (λ word. not (nat_eq (length word) 0)) parts) (slice_split_at is_blank time next rest (no_blanks time timed) ended)
+    ∙ cond-true (not (nat_eq (length time) 0)) _ _ (some_byte time some) ∙ ap (λ words. time ∷ words) (sym (rw ended refl))
+
+-- digits and points up to the first byte that is neither are a time
+time_front : (text : List ℕ) → is_time (take (position_or_len is_no_time_byte text) text) ≡ true
+time_front [] = refl
+time_front (b ∷ text) = ⊎_elim
+    (λ (timed : is_time_byte b ≡ true).
+    rw timed (subst (λ k. is_time (take k (b ∷ text)) ≡ true) (sym (one-add (position_or_len is_no_time_byte text))) (rw timed (time_front text))))
+    (λ (other : is_time_byte b ≡ false). rw other refl) (cases_Bool (is_time_byte b))
+
+-- where these end
+time_end : (text : List ℕ) (end : ℕ) → end ≡ unwrap_or (position is_no_time_byte text) (length text) → end ≡ position_or_len is_no_time_byte text
+time_end text end is =
+    let n = position_or_len is_no_time_byte text in
+    ⊎_elim (λ (below : n < length text). is ∙ ap (λ o. unwrap_or o (length text)) (cond-true (nat_lt n (length text)) (Some n) None (lt-ltb n (length text) below)))
+    (λ (all : length text ≤ n). is ∙ ap (λ o. unwrap_or o (length text)) (cond-false (nat_lt n (length text)) (Some n) None (le-ltb n (length text) all)) ∙ (omega (arith, all, prefix_len-le-length (λ b. not (is_no_time_byte b)) text)))
+    (cases_lt n (length text))
+
+-- what stands after a time
+after_digits : (time rest : List ℕ) → is_time time ≡ true → ends_word rest ≡ true → drop (position_or_len is_blank (time ++ rest)) (time ++ rest) ≡ rest
+after_digits [] [] timed ended = refl
+after_digits [] (next ∷ rest) timed ended = rw ended refl
+after_digits (b ∷ time) rest timed ended =
+    let parts = and_parts (is_time_byte b) (is_time time) timed in
+    rw (no_blank b parts.0) (
+    subst (λ k. drop k (b ∷ (time ++ rest)) ≡ rest) (sym (one-add (position_or_len is_blank (time ++ rest)))) (after_digits time rest parts.1 ended)
+    )
+
+after_time : (time rest : List ℕ) → is_time time ≡ true → 0 < length time → ends_word rest ≡ true → after_word (32 ∷ (time ++ rest)) ≡ rest
+after_time [] rest timed some ended = absurd (omega arith)
+after_time (b ∷ time) rest timed some ended =
+    let parts = and_parts (is_time_byte b) (is_time time) timed in
+    let first : drop (position_or_len is_no_blank (32 ∷ b ∷ (time ++ rest))) (32 ∷ b ∷ (time ++ rest)) ≡ b ∷ (time ++ rest) =
+    rw (no_blank b parts.0) refl in
+    ap (λ word. drop (position_or_len is_blank word) word) first ∙ after_digits (b ∷ time) rest timed ended
+
+-- a text begins with a space and a time
+pub time_first : (text rest time left : List ℕ) (end stop : ℕ) → 1 ≤ length text → get_or text 0 0 ≡ 32 → rest ≡ take (length text - 1) (drop 1 text)
+    → end ≡ unwrap_or (position is_no_time_byte rest) (length rest) → 0 < end → time ≡ take stop rest → stop ≡ end → left ≡ take (length rest - end) (drop end rest) → ends_word left ≡ true
+    → BeginsWithTime text time left
+time_first [] rest time left end stop long space is found some stopped same lefts ended = absurd (omega arith)
+time_first (a ∷ text) rest time left end stop long space is found some stopped same lefts ended =
+    let at = time_end rest end found in
+    let times : time ≡ take end rest = stopped ∙ ap (λ n. take n rest) same in
+    let all : rest ≡ text = is ∙ take_all (length (a ∷ text) - 1) text (omega arith) in
+    let within : end ≤ length rest = omega (arith, at, prefix_len-le-length (λ b. not (is_no_time_byte b)) rest) in
+    let more : left ≡ drop end rest = lefts ∙ take_all (length rest - end) (drop end rest) (omega (arith, length-drop end rest)) in
+    let timed : is_time time ≡ true = rw (times, at) (time_front rest) in
+    let long_time : 0 < length time = omega (arith, ap length times, length-take-le end rest within, some) in
+    let joined : text ≡ time ++ left = sym all ∙ sym (rw (times, more) (take-append-drop end rest)) in
+    let whole : a ∷ text ≡ 32 ∷ (time ++ left) = ap (λ b. b ∷ text) space ∙ ap (λ l. 32 ∷ l) joined in (
+      ap words_of whole ∙ first_time time left timed long_time ended,
+      ap after_word whole ∙ after_time time left timed long_time ended,
+      cond-true (is_time time) (Some time) None timed,
+    )
+
+-- a digit is a time too, and a number
+digit_timed : (b : ℕ) → 48 ≤ b → b ≤ 57 → is_time (b ∷ []) ≡ true
+digit_timed b low high = rw (le-leb 48 b low, le-leb b 57 high) refl
+
+digit_decimal : (b : ℕ) → 48 ≤ b → b ≤ 57 → decimal_of (b ∷ []) ≡ Some (b - 48)
+unfolding number_of
+digit_decimal b low high =
+    let value : digit_value b ≡ b - 48 = omega (arith, digit_value_digit b (low, high)) in
+    let small : nat_lt (digit_value b) 10 ≡ true = lt-ltb (digit_value b) 10 (omega (arith, value, low, high)) in
+    let none : digits_value 10 [] ≡ 0 = refl in
+    let digits : digits_value 10 (b ∷ []) ≡ b - 48 = omega (arith, digits_value_push 10 [] b, none, value) in
+    let number : number_of 10 (b ∷ []) ≡ Some (b - 48) = rw small (ap (λ n. Some n) digits) in
+    let whole : min (b - 48) (2 ^ 64 - 1) ≡ b - 48 = omega (arith, high) in
+    ap (option_map (λ n. min n (2 ^ 64 - 1))) number ∙ ap (λ n. Some n) whole
+
+pub digit_first : (text left : List ℕ) (digit : ℕ) → 2 ≤ length text → get_or text 0 0 ≡ 32 → 48 ≤ get_or text 1 0 → get_or text 1 0 ≤ 57
+    → digit ≡ get_or text 1 0 - 48 → left ≡ take (length text - 2) (drop 2 text) → ends_word left ≡ true → BeginsWithDigit text digit left
+digit_first [] left digit long space low high is lefts ended = absurd (omega arith)
+digit_first (a ∷ []) left digit long space low high is lefts ended = absurd (omega arith)
+digit_first (a ∷ b ∷ text) left digit long space low high is lefts ended =
+    let all : left ≡ text = lefts ∙ take_all (length (a ∷ b ∷ text) - 2) text (omega arith) in
+    let timed = digit_timed b low high in
+    let whole : a ∷ b ∷ text ≡ 32 ∷ b ∷ left = ap (λ c. c ∷ b ∷ text) space ∙ ap (λ l. 32 ∷ b ∷ l) (sym all) in (
+      b ∷ [],
+      ap words_of whole ∙ first_time (b ∷ []) left timed (omega arith) ended,
+      ap after_word whole ∙ after_time (b ∷ []) left timed (omega arith) ended,
+      digit_decimal b low high ∙ ap (λ n. Some n) (sym is),
+    )
+
+-- the text of bytes that were read as text
+pub text_read : {E : Type 0} (word : List ℕ) (r : Result (Bor (List ℕ)) E) (o : Option (Bor (List ℕ))) (text : Bor (List ℕ)) (P : E → Type 0)
+    → MatchResult r (λ s. (s.now ≡ word) × IsUtf8 word) (λ e. (IsUtf8 word → ⊥) × P e) → o ≡ result_ok r → o ≡ Some text → text.now ≡ word
+text_read word (Ok s) o text P cases is some = let same : s ≡ text = cc in ap (λ b. b.now) (sym same) ∙ cases.0
+text_read word (Err e) o text P cases is some = absurd (cc)

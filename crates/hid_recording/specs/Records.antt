@@ -57,14 +57,14 @@ abbrev pub unless_refused : Option Refusal → List ℕ → Result (List ℕ) Re
 unless_refused None bytes = Ok bytes
 unless_refused (Some refusal) bytes = Err refusal
 
--- the bytes that were read, where they are as many as a word counts
-abbrev pub bytes_if_counted : Word → Result (List ℕ) Refusal → Result (List ℕ) Refusal
-bytes_if_counted count (Ok bytes) = unless_refused (miscount (decimal_of count) (length bytes)) bytes
-bytes_if_counted count (Err refusal) = Err refusal
+-- the bytes that were read, where they are as many as a count, if there is one, says
+abbrev pub bytes_if_counted : Option ℕ → Result (List ℕ) Refusal → Result (List ℕ) Refusal
+bytes_if_counted said (Ok bytes) = unless_refused (miscount said (length bytes)) bytes
+bytes_if_counted said (Err refusal) = Err refusal
 
 -- the bytes that a text spells, if they are as many as a word counts. Example: 2 05 is R4
 abbrev pub counted_bytes : Word → List ℕ → Result (List ℕ) Refusal
-counted_bytes count text = bytes_if_counted count (spelled_bytes text)
+counted_bytes count text = bytes_if_counted (decimal_of count) (spelled_bytes text)
 
 -- what is said of the bytes that were read, or why there are none
 abbrev pub map_bytes : (List ℕ → LineMeaning) → Result (List ℕ) Refusal → Result LineMeaning Refusal
@@ -93,6 +93,15 @@ descriptor_behind [] text = Unread None NoCount
 -- what a text after `R:` says: COUNT BYTES
 abbrev pub descriptor_record : List ℕ → LineMeaning
 descriptor_record text = descriptor_behind (words_of text) (after_word text)
+
+-- the bytes that a text spells, if they have a count in front: the first of some words
+abbrev pub counted_behind : List Word → List ℕ → Result (List ℕ) Refusal
+counted_behind (count ∷ words) text = counted_bytes count text
+counted_behind [] text = Err NoCount
+
+-- the bytes of a text after a time: COUNT BYTES
+abbrev pub bytes_record : List ℕ → Result (List ℕ) Refusal
+bytes_record text = counted_behind (words_of text) (after_word text)
 
 -- what came at a time; BadTime where there is no time
 abbrev pub report_at_time : Option (List ℕ) → Word → List ℕ → Result LineMeaning Refusal

@@ -1,13 +1,13 @@
 -- What the words of a recording's lines say (our choice: docs/RECORDINGS.md).
 use Rattle.std.specs.Borrow.{Bor}
-use Rattle.std.specs.Prelude.{⊤, ◌≡◌, ℕ, ◌+◌, ◌==◌, ◌-◌, ◌^◌, Bool, true, ◌&&◌, ◌||◌, nat_le, List, [], ◌∷◌, ◌++◌, length, map, min, if◌then◌else◌, Option, None, Some, is_some, ok_or, Result, Ok, Err, codes}
+use Rattle.std.specs.Prelude.{⊤, ◌≡◌, ℕ, ◌+◌, ◌==◌, ◌-◌, ◌^◌, Bool, true, not, ◌&&◌, ◌||◌, nat_le, List, [], ◌∷◌, ◌++◌, length, map, min, if◌then◌else◌, Option, None, Some, is_some, ok_or, Result, Ok, Err, codes}
 use Rattle.std.specs.List.{list_all}
 use Rattle.std.specs.Option.{option_map}
 use Rattle.std.specs.Result.{result_ok}
 use Rattle.std.specs.Str.{bytes_eq}
 use Rattle.hex.specs.Hex.{decode_of}
 use Rattle.hex.specs.declared.error.FromHexError.{FromHexError}
-use Rattle.hid_text.specs.Words.{Word, is_blank, words_of, hex_of, pair_of}
+use Rattle.hid_text.specs.Words.{Word, is_blank, words_of, after_word, hex_of, pair_of}
 use Rattle.hid_text.specs.Numbers.{number_of}
 use Rattle.hid_recording.specs.declared.dump.Address.{Address}
 use Rattle.hid_recording.specs.declared.dump.Content.{Content}
@@ -120,6 +120,10 @@ device_of_word word = in_devices (decimal_of word)
 abbrev pub is_time_byte : ℕ → Bool
 is_time_byte b = (nat_le 48 b && nat_le b 57) || b == 46
 
+-- the byte is neither a digit nor a point
+abbrev pub is_no_time_byte : ℕ → Bool
+is_no_time_byte b = not (is_time_byte b)
+
 -- a word of digits and points
 abbrev pub is_time : Word → Bool
 is_time word = list_all is_time_byte word
@@ -127,6 +131,16 @@ is_time word = list_all is_time_byte word
 -- the time that a word encodes, as it stands
 abbrev pub time_of : Word → Option (List ℕ)
 time_of word = if is_time word then Some word else None
+
+-- a text begins with a time, before what is left
+abbrev pub BeginsWithTime : List ℕ → List ℕ → List ℕ → Type 0
+BeginsWithTime text time left =
+    (words_of text ≡ time ∷ words_of left) × (after_word text ≡ left) × (time_of time ≡ Some time)
+
+-- a text begins with a word of one digit, which is a number, before what is left
+abbrev pub BeginsWithDigit : List ℕ → ℕ → List ℕ → Type 0
+BeginsWithDigit text digit left =
+    (word : Word) × (words_of text ≡ word ∷ words_of left) × (after_word text ≡ left) × (decimal_of word ≡ Some digit)
 
 -- what parts the numbers of an address
 abbrev pub is_colon : ℕ → Bool

@@ -16,7 +16,7 @@ ghost use Rattle.hid_recording.specs.MemoryUse.{RunsOutIf, is_joined};
 ghost use Rattle.hid_recording.specs.Joining.{is_long, has_long, member_after_doubt, Joins, IsRefusedAs};
 ghost use Rattle.hid_usages.specs.Reading.{report_named};
 
-use super::event_line::{Source, print_events};
+use super::event_line::{Source, print_events, print_source};
 use super::fault::{Cause, Refusal};
 use hid_fields::WordCodec;
 use hid_layout::{Layout, LayoutFault, Limits, Report, ReportKind};
@@ -275,8 +275,8 @@ fn print_report(
     match input_report(layout, bytes) {
         Err(_) => Ok(()),
         Ok(report) => {
-            let Source { time, device, .. } = *source;
-            writeln!(text, "{time} {device} report")?;
+            print_source(text, source)?;
+            text.push_str(" report\n")?;
             print_shown_values(text, source.options.names, layout, report, bytes)
         }
     }

@@ -1,7 +1,7 @@
 //! Events of a report, as they are printed.
 
 ghost use Rattle.std.specs.Prelude.{◌≡◌, ◌++◌, ◌∷◌, [], OnOk, string_bytes};
-ghost use Rattle.std.specs.Fmt.{signed_decimal};
+ghost use Rattle.std.specs.Fmt.{decimal, signed_decimal};
 ghost use Rattle.hid_recording.specs.EventJson.{event_word};
 ghost use Rattle.hid_recording.specs.EventLines.{name_words, place_words, amount_words, shown_words, shown_event, plain_line, event_line, event_lines};
 
@@ -32,17 +32,17 @@ fn print_name(text: &mut String, usage: Usage) -> Result<(), AllocError>
     }
 }
 
-/// What happened, as a word between spaces.
-fn spaced_word(event: &Event) -> &'static str
-    ensures { result.now ≡ 32 ∷ event_word event.now ++ 32 ∷ [] }
+/// Adds what happened, as a word between spaces. To add each word by itself costs less: its length is known.
+fn print_spaced_word(text: &mut String, event: &Event) -> Result<(), AllocError>
+    ensures { OnOk result (string_bytes text.new ≡ string_bytes text.old ++ 32 ∷ event_word event.now ++ 32 ∷ []) }
 {
     match event {
-        Event::Down { .. } => " down ",
-        Event::Up { .. } => " up ",
-        Event::Value { .. } => " value ",
-        Event::Null { .. } => " null ",
-        Event::Motion { .. } => " motion ",
-        Event::Dropped { .. } => " dropped ",
+        Event::Down { .. } => text.push_str(" down "),
+        Event::Up { .. } => text.push_str(" up "),
+        Event::Value { .. } => text.push_str(" value "),
+        Event::Null { .. } => text.push_str(" null "),
+        Event::Motion { .. } => text.push_str(" motion "),
+        Event::Dropped { .. } => text.push_str(" dropped "),
     }
 }
 
@@ -82,10 +82,20 @@ fn print_amount(text: &mut String, event: &Event) -> Result<(), AllocError>
 fn print_event_words(text: &mut String, places: bool, event: &Event) -> Result<(), AllocError>
     ensures { OnOk result (string_bytes text.new ≡ string_bytes text.old ++ shown_words places event.now) }
 {
-    text.push_str(spaced_word(event))?;
+    print_spaced_word(text, event)?;
     print_usage(text, usage_in(event))?;
     print_place(text, places, control_in(event))?;
     print_amount(text, event)
+}
+
+/// Adds when a report came, and of which device it is.
+pub fn print_source(text: &mut String, source: &Source<'_>) -> Result<(), AllocError>
+    ensures { OnOk result (string_bytes text.new
+        ≡ string_bytes text.old ++ source.now.time.now ++ 32 ∷ decimal source.now.device) }
+{
+    text.push_str(source.time)?;
+    text.push(' ')?;
+    print_number(text, u64::from(source.device))
 }
 
 /// Adds when an event is, and the event, with its control if places are asked for.
@@ -93,9 +103,7 @@ fn print_shown(text: &mut String, source: &Source<'_>, event: &Event) -> Result<
     ensures { OnOk result (string_bytes text.new ≡ string_bytes text.old ++ source.now.time.now
         ++ 32 ∷ shown_event source.now.options.places source.now.device event.now) }
 {
-    text.push_str(source.time)?;
-    text.push(' ')?;
-    print_number(text, u64::from(source.device))?;
+    print_source(text, source)?;
     print_event_words(text, source.options.places, event)
 }
 

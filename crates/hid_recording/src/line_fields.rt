@@ -1,11 +1,11 @@
 //! What a word says by itself: bytes, a count, a device, a time, whose dump it is.
 
-ghost use Rattle.std.specs.Prelude.{◌≡◌, ◌+◌, ◌*◌, ◌<◌, ◌≤◌, Some, Ok, IfOk, IfSome, MatchResult, length, map};
+ghost use Rattle.std.specs.Prelude.{◌≡◌, ◌+◌, ◌*◌, ◌<◌, ◌≤◌, Some, Ok, IfOk, IfSome, MatchResult, length, map, position};
 ghost use Rattle.std.specs.List.{slice_split};
 ghost use Rattle.std.specs.Option.{option_map};
 ghost use Rattle.hid_text.specs.Words.{words_of};
 ghost use Rattle.hid_recording.specs.declared.line_fields.TheConstants.{MAX_DEVICES};
-ghost use Rattle.hid_recording.specs.Words.{AddsBytes, AddsFirst, BeginsWithPair, IsNone, ends_word, bytes_before, bytes_of, decimal_of, in_devices, device_of_word, is_time, time_of, is_colon, address_of, content_of};
+ghost use Rattle.hid_recording.specs.Words.{AddsBytes, AddsFirst, BeginsWithDigit, BeginsWithPair, BeginsWithTime, IsNone, as_blank, ends_word, bytes_before, bytes_of, decimal_of, in_devices, device_of_word, is_time_byte, is_no_time_byte, is_time, time_of, is_colon, address_of, content_of};
 
 use super::dump::{Address, Content};
 use super::fault::{Cause, Refusal};
@@ -97,6 +97,8 @@ fn ends_word(text: &[u8]) -> bool
 /// of the time of [`first_word`]; most words of a recording are such.
 pub fn next_pair(text: &[u8]) -> Option<(u8, &[u8])>
     ensures pair { IfSome result (λ found. BeginsWithPair (words_of text.now) found.0 (words_of found.1.now)) }
+    ensures marked { IfSome result (λ found. BeginsWithPair (words_of (map as_blank text.now)) found.0
+        (words_of (map as_blank found.1.now))) }
     ensures room { IfSome result (λ found. length found.1.now < length text.now) }
 {
     let [b' ', high, low, more @ ..] = text else {
@@ -160,6 +162,20 @@ pub fn read_count(word: &[u8]) -> Option<u64>
     read_number(10, word)
 }
 
+/// The count of one digit between blanks, the first of them a space, and what stands after it. It takes a fraction of the time of
+/// [`first_word`] and [`read_count`]; most reports have fewer than ten bytes.
+pub fn next_digit(text: &[u8]) -> Option<(u64, &[u8])>
+    ensures { IfSome result (λ found. BeginsWithDigit text.now found.0 found.1.now) }
+{
+    let [b' ', digit @ b'0'..=b'9', more @ ..] = text else {
+        return None;
+    };
+    if !ends_word(more) {
+        return None;
+    }
+    Some((u64::from(*digit - b'0'), more))
+}
+
 /// The number of a device.
 #[derive(Clone, Copy)]
 pub struct DeviceNumber {
@@ -190,11 +206,18 @@ pub fn read_device(word: &[u8]) -> Option<DeviceNumber>
     }
 }
 
+/// Whether a byte is a digit or a point.
+fn is_time_byte(byte: u8) -> bool
+    ensures { result ≡ is_time_byte byte }
+{
+    matches!(byte, b'0'..=b'9' | b'.')
+}
+
 /// Whether a word is digits and points alone.
 fn is_time(word: &[u8]) -> bool
     ensures { result ≡ is_time word.now }
 {
-    word.iter().all(|byte| matches!(*byte, b'0'..=b'9' | b'.'))
+    word.iter().all(|byte| is_time_byte(*byte))
 }
 
 /// The time that a word encodes: digits and points.
@@ -205,6 +228,29 @@ pub fn read_time(word: &[u8]) -> Option<&str>
         return None;
     }
     std::str::from_utf8(word).ok()
+}
+
+/// Where the first byte of a text stands that is neither a digit nor a point.
+fn time_end(text: &[u8]) -> Option<usize>
+    ensures { result ≡ position is_no_time_byte text.now }
+{
+    text.iter().position(|byte| !is_time_byte(*byte))
+}
+
+/// The time of a text that begins with a space and a time, and what stands after it. It takes half the time of [`first_word`] and
+/// [`read_time`]; nearly every report of a recording begins so.
+pub fn next_time(text: &[u8]) -> Option<(&str, &[u8])>
+    ensures { IfSome result (λ found. BeginsWithTime text.now found.0.now found.1.now) }
+{
+    let [b' ', rest @ ..] = text else {
+        return None;
+    };
+    let end = time_end(rest).unwrap_or(rest.len());
+    if end == 0 || !ends_word(&rest[end..]) {
+        return None;
+    }
+    let time = std::str::from_utf8(&rest[..end]).ok()?;
+    Some((time, &rest[end..]))
 }
 
 /// What stands between the colons of a word.

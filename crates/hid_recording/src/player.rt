@@ -4,7 +4,7 @@ ghost use Rattle.std.specs.Prelude.{◌≡◌, ◌≢◌, ◌++◌, [], ◌∷�
 ghost use Rattle.std.specs.Option.{option_map};
 ghost use Rattle.hid_report_descriptor.specs.Real.{Explains};
 ghost use Rattle.hid_recording.specs.Session.{at_first, at_time, with_options};
-ghost use Rattle.hid_recording.specs.Records.{record_of, items_of};
+ghost use Rattle.hid_recording.specs.Records.{record_of, report_record, items_of};
 ghost use Rattle.hid_recording.specs.LineOutput.{layout_shown, described_text, LineGives, LineBegins, MeaningGives, DescriptorGives, DescriptionGives, DumpEndGives, with_device, outcome_of_device, session_refusal_line, with_refusal, outcome_of_refusal, DescriptorIsRefused, named_text_back, without_named, with_dropped_dump, dropped_dump_text, outcome_of_dropped_dump, described_by, with_interface, outcome_of_unread_descriptor, outcome_of_dump_head, outcome_of_dump_bytes, outcome_of_stray_bytes, with_line_counted, chunk_outcome, stream_outcome, report_outcome};
 ghost use Rattle.hid_recording.specs.Words.{time_of};
 ghost use Rattle.hid_recording.specs.Player.{summary_of};
@@ -26,7 +26,7 @@ use super::fault::{Cause, Refusal};
 use super::line_fields::{DeviceNumber, read_time};
 use super::options::Options;
 use super::output::write_text;
-use super::record::{Record, read_record};
+use super::record::{Record, read_record, read_report};
 use super::summary::Summary;
 use hid_layout::{Layout, LayoutFault, Limits, long_report};
 use hid_text::{print_layout, print_named_layout};
@@ -54,6 +54,8 @@ pub struct Player {
     events: u64,
     refused: u64,
     text: String,
+    /// Room for the bytes of a report, kept from one line to the next.
+    room: Vec<u8>,
 }
 
 /// Adds the number of a device and its layout, where layouts are asked for.
@@ -132,6 +134,7 @@ impl Player {
             events: 0,
             refused: 0,
             text: String::new(alloc),
+            room: Vec::new(alloc),
         })
     }
 
@@ -175,8 +178,44 @@ impl Player {
         write_text(writer, self.text.as_bytes())
     }
 
-    /// Gathers the output of a line, in place of that of the line before.
+    /// Gathers the output of a line, in place of that of the line before. The bytes of a report are read into room that is kept.
     fn play_line(&mut self, line: &[u8]) -> Result<(), Cause>
+        ensures outcome { Gathers (MeaningGives (session_of self.old) (record_of line.now)) result
+            (string_bytes self.new.text) (session_of self.new) }
+        ensures memory { RunsOutIf (short_line_allocates (session_of self.old) line.now) result }
+    {
+        match line {
+            [b'E', b':', words @ ..] => self.play_report(words),
+            _ => self.play_record(line),
+        }
+    }
+
+    /// Gathers the output of a report: of the text after `E:`.
+    fn play_report(&mut self, text: &[u8]) -> Result<(), Cause>
+        ensures outcome { Gathers (MeaningGives (session_of self.old) (report_record text.now))
+            result (string_bytes self.new.text) (session_of self.new) }
+    {
+        let mut bytes = mem::replace(&mut self.room, Vec::new(self.alloc));
+        let played = self.play_words(&mut bytes, text);
+        self.room = bytes;
+        played
+    }
+
+    /// Gathers the output of a report, whose bytes are put in place of those that were there.
+    fn play_words(&mut self, bytes: &mut Vec<u8>, text: &[u8]) -> Result<(), Cause>
+        ensures outcome { Gathers (MeaningGives (session_of self.old) (report_record text.now))
+            result (string_bytes self.new.text) (session_of self.new) }
+    {
+        match read_report(self.alloc, bytes, text) {
+            Ok(time) => self.report(time, bytes.as_slice()),
+            Err(Cause::Refused(refusal)) => self.drop_dump(refusal),
+            Err(cause) => Err(cause),
+        }
+    }
+
+    /// Gathers the output of a line of any kind.
+    #[inline(never)] // so that the line of a report costs less
+    fn play_record(&mut self, line: &[u8]) -> Result<(), Cause>
         ensures outcome { Gathers (MeaningGives (session_of self.old) (record_of line.now)) result
             (string_bytes self.new.text) (session_of self.new) }
         ensures memory { RunsOutIf (short_line_allocates (session_of self.old) line.now) result }

@@ -3,17 +3,17 @@
 ghost use Rattle.std.specs.Prelude.{◌≡◌, ◌≢◌, Ok, Err, IfErr, MatchResult, map};
 ghost use Rattle.hid_text.specs.Words.{words_of};
 ghost use Rattle.std.specs.Option.{option_map};
-ghost use Rattle.hid_recording.specs.Words.{IsNone, decimal_of};
-ghost use Rattle.hid_recording.specs.Records.{record_of, text_record, device_record, descriptor_record, report_record, counted_bytes, miscount, only_word, dump_record, header_record, begins_at, dump_begin, time_record, ReadsRecord};
+ghost use Rattle.hid_recording.specs.Words.{IsNone, decimal_of, spelled_bytes};
+ghost use Rattle.hid_recording.specs.Records.{record_of, text_record, device_record, descriptor_record, bytes_record, report_record, Report, counted_bytes, bytes_if_counted, miscount, only_word, dump_record, header_record, begins_at, dump_begin, time_record, ReadsRecord};
 ghost use Rattle.hid_recording.specs.MemoryUse.{RunsOutIf, has_words};
 
 use super::dump::{Address, Content};
 use super::fault::{Cause, Refusal};
 use super::line_fields::{
-    DeviceNumber, parts_of_word, read_address, read_bytes, read_content, read_count, read_device,
-    read_time,
+    DeviceNumber, next_digit, next_time, parts_of_word, read_address, read_bytes, read_content,
+    read_count, read_device, read_time,
 };
-use super::spelled::read_spelled;
+use super::spelled::put_spelled;
 use hid_text::first_word;
 use std::alloc::Global;
 
@@ -77,7 +77,7 @@ fn read_words(alloc: Global, letter: u8, text: &[u8]) -> Result<Record<'_>, Caus
         b'N' | b'P' | b'I' => Ok(Record::Nothing),
         b'D' => read_selection(text),
         b'R' => read_descriptor(alloc, text),
-        b'E' => read_report(alloc, text),
+        b'E' => read_reported(alloc, text),
         _ => Err(Cause::Refused(Refusal::Syntax)),
     }
 }
@@ -108,14 +108,32 @@ fn read_selection(text: &[u8]) -> Result<Record<'_>, Cause>
     }
 }
 
-/// Why so many bytes aren't as many as a word counts, if they aren't.
-fn miscount(count: &[u8], found: usize) -> Option<Refusal>
-    ensures { result ≡ miscount (decimal_of count.now) found }
+/// Why a count, if there is one, isn't that of the bytes that were found.
+fn miscount(said: Option<u64>, found: usize) -> Option<Refusal>
+    ensures { result ≡ miscount said found }
 {
-    match read_count(count) {
+    match said {
         None => Some(Refusal::NoCount),
         Some(said) if said == found as u64 => None,
         Some(said) => Some(Refusal::BadCount { said, found }),
+    }
+}
+
+/// Puts the bytes that a text spells in place of those that were there, if they are as many as were counted.
+fn put_counted(
+    alloc: Global,
+    bytes: &mut Vec<u8>,
+    said: Option<u64>,
+    text: &[u8],
+) -> Result<(), Cause>
+    ensures { MatchResult result
+        (λ _. bytes_if_counted said (spelled_bytes text.now) ≡ Ok bytes.new.items)
+        (λ cause. IsNone cause (bytes_if_counted said (spelled_bytes text.now))) }
+{
+    put_spelled(alloc, bytes, text)?;
+    match miscount(said, bytes.len()) {
+        None => Ok(()),
+        Some(refusal) => Err(Cause::Refused(refusal)),
     }
 }
 
@@ -125,10 +143,10 @@ fn read_counted(alloc: Global, count: &[u8], text: &[u8]) -> Result<Vec<u8>, Cau
         (λ bytes. counted_bytes count.now text.now ≡ Ok bytes.items)
         (λ cause. IsNone cause (counted_bytes count.now text.now)) }
 {
-    let bytes = read_spelled(alloc, text)?;
-    match miscount(count, bytes.len()) {
-        None => Ok(bytes),
-        Some(refusal) => Err(Cause::Refused(refusal)),
+    let mut bytes = Vec::new(alloc);
+    match put_counted(alloc, &mut bytes, read_count(count), text) {
+        Ok(()) => Ok(bytes),
+        Err(cause) => Err(cause),
     }
 }
 
@@ -152,9 +170,27 @@ fn read_descriptor(alloc: Global, text: &[u8]) -> Result<Record<'_>, Cause>
     }
 }
 
-/// Reads the text after `E:`, which is `TIME COUNT BYTES`.
-fn read_report(alloc: Global, text: &[u8]) -> Result<Record<'_>, Cause>
-    ensures { ReadsRecord result (report_record text.now) }
+/// Reads the text after the time of a report, which is `COUNT BYTES`, and puts the bytes in place of those that were there.
+fn put_bytes(alloc: Global, bytes: &mut Vec<u8>, text: &[u8]) -> Result<(), Cause>
+    ensures { MatchResult result
+        (λ _. bytes_record text.now ≡ Ok bytes.new.items)
+        (λ cause. IsNone cause (bytes_record text.now)) }
+{
+    if let Some((said, hex)) = next_digit(text) {
+        return put_counted(alloc, bytes, Some(said), hex);
+    }
+    match first_word(text) {
+        Some((count, hex)) => put_counted(alloc, bytes, read_count(count), hex),
+        None => Err(Cause::Refused(Refusal::NoCount)),
+    }
+}
+
+/// Reads the text after `E:`, whatever blanks stand in it.
+#[inline(never)] // so that a report whose time is found at once costs less
+fn read_any_report<'a>(alloc: Global, bytes: &mut Vec<u8>, text: &'a [u8]) -> Result<&'a str, Cause>
+    ensures { MatchResult result
+        (λ time. report_record text.now ≡ Ok (Report time.now bytes.new.items))
+        (λ cause. IsNone cause (report_record text.now)) }
 {
     let Some((time, behind)) = first_word(text) else {
         return Err(Cause::Refused(Refusal::NoCount));
@@ -165,8 +201,39 @@ fn read_report(alloc: Global, text: &[u8]) -> Result<Record<'_>, Cause>
     let Some(time) = read_time(time) else {
         return Err(Cause::Refused(Refusal::BadTime));
     };
-    let bytes = read_counted(alloc, count, hex)?;
-    Ok(Record::Report { time, bytes })
+    match put_counted(alloc, bytes, read_count(count), hex) {
+        Ok(()) => Ok(time),
+        Err(cause) => Err(cause),
+    }
+}
+
+/// Reads the text after `E:`, which is `TIME COUNT BYTES`: gives the time, and puts the bytes in place of those that were there.
+///
+/// # Errors
+/// R3 to R6: the first refusal of what the text says, or R10 if memory runs out for the bytes.
+pub fn read_report<'a>(alloc: Global, bytes: &mut Vec<u8>, text: &'a [u8]) -> Result<&'a str, Cause>
+    ensures { MatchResult result
+        (λ time. report_record text.now ≡ Ok (Report time.now bytes.new.items))
+        (λ cause. IsNone cause (report_record text.now)) }
+{
+    match next_time(text) {
+        Some((time, behind)) => match put_bytes(alloc, bytes, behind) {
+            Ok(()) => Ok(time),
+            Err(cause) => Err(cause),
+        },
+        None => read_any_report(alloc, bytes, text),
+    }
+}
+
+/// Reads the text after `E:`, as a record of its own.
+fn read_reported(alloc: Global, text: &[u8]) -> Result<Record<'_>, Cause>
+    ensures { ReadsRecord result (report_record text.now) }
+{
+    let mut bytes = Vec::new(alloc);
+    match read_report(alloc, &mut bytes, text) {
+        Ok(time) => Ok(Record::Report { time, bytes }),
+        Err(cause) => Err(cause),
+    }
 }
 
 /// Reads the words after a space, which are bytes of a dump.

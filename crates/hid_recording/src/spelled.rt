@@ -9,6 +9,7 @@ use super::fault::Cause;
 use super::line_fields::{add_word, next_pair};
 use hid_text::first_word;
 use std::alloc::{AllocError, Global};
+use std::mem;
 
 /// Whether a byte is a comma or a colon.
 fn is_mark(byte: u8) -> bool
@@ -95,10 +96,8 @@ fn read_digits(alloc: Global, text: &[u8]) -> Result<Vec<u8>, Cause>
 }
 
 /// The bytes that a text spells, joined.
-///
-/// # Errors
-/// R3 at the first byte that isn't two digits, R10 if memory runs out.
-pub fn read_spelled(alloc: Global, text: &[u8]) -> Result<Vec<u8>, Cause>
+#[inline(never)] // so that bytes of two digits between spaces cost less
+fn read_spelled(alloc: Global, text: &[u8]) -> Result<Vec<u8>, Cause>
     ensures { MatchResult result
         (λ bytes. spelled_bytes text.now ≡ Ok bytes.items)
         (λ cause. IsNone cause (spelled_bytes text.now)) }
@@ -108,4 +107,29 @@ pub fn read_spelled(alloc: Global, text: &[u8]) -> Result<Vec<u8>, Cause>
     }
     let plain = with_blanks(alloc, text)?;
     read_digits(alloc, plain.as_slice())
+}
+
+/// Puts the bytes that a text spells, joined, in place of those that were there. Two digits after each space are read at once.
+///
+/// # Errors
+/// R3 at the first byte that isn't two digits, R10 if memory runs out. Some of the bytes may be there then.
+pub fn put_spelled(alloc: Global, bytes: &mut Vec<u8>, text: &[u8]) -> Result<(), Cause>
+    ensures { MatchResult result
+        (λ _. spelled_bytes text.now ≡ Ok bytes.new.items)
+        (λ cause. IsNone cause (spelled_bytes text.now)) }
+{
+    bytes.clear();
+    let mut rest = text;
+    while let Some((byte, more)) = next_pair(rest) {
+        if bytes.push(byte).is_err() {
+            return Err(Cause::Memory);
+        }
+        rest = more;
+    }
+    if rest.is_empty() {
+        return Ok(());
+    }
+    let spelled = read_spelled(alloc, text)?;
+    drop(mem::replace(bytes, spelled));
+    Ok(())
 }

@@ -6,7 +6,7 @@ use Rattle.hid_recording.specs.declared.fault.Cause.{Cause}
 use Rattle.hid_recording.specs.declared.fault.Cause.TheVariants.{Refused, LineTooLong, Read, Write, Memory, TooManyReads, Unended}
 use Rattle.hidplay.specs.declared.fault.FileFault.{FileFault}
 use Rattle.hidplay.specs.declared.fault.Why.{Why}
-use Rattle.hidplay.specs.declared.fault.Why.TheVariants.{Recording, Capture, Descriptor}
+use Rattle.hidplay.specs.declared.fault.Why.TheVariants.{Recording, Capture, Descriptor, Other}
 use Rattle.hidplay.specs.FileFault.{place_of_file, why_text}
 
 -- a count of refusals, one more if what ended the file is one; it stops at the greatest number of 64 bits
@@ -19,11 +19,13 @@ with_cause Write count = count
 with_cause Memory count = count
 with_cause TooManyReads count = count
 
--- a count of refusals, with what ended the file: a capture or a descriptor that can't be read is one more
+-- a count of refusals, with what ended the file: a capture or a descriptor that can't be read is one more, and so is a file that
+-- isn't played
 abbrev pub with_why : Why → ℕ → ℕ
 with_why (Recording cause) count = with_cause cause count
 with_why (Capture cause) count = min (count + 1) (2 ^ 64 - 1)
 with_why (Descriptor cause) count = min (count + 1) (2 ^ 64 - 1)
+with_why (Other file) count = min (count + 1) (2 ^ 64 - 1)
 
 -- how many lines and frames were refused, with what ended the file
 abbrev pub refusals_of : FileFault → ℕ

@@ -11,11 +11,12 @@ use Rattle.hid_recording.specs.declared.live.LiveFault.{LiveFault}
 use Rattle.hid_recording.specs.Refusals.{cause_text}
 use Rattle.hid_input.specs.Faults as input
 use Rattle.usb_capture.specs.FaultText as capture
+use Rattle.hidplay.specs.Other.{other_text}
 use Rattle.hidplay.specs.declared.fault.FileFault.{FileFault}
 use Rattle.hidplay.specs.declared.fault.Place.{Place}
 use Rattle.hidplay.specs.declared.fault.Place.TheVariants.{Start, Line, Frame, Byte, Report}
 use Rattle.hidplay.specs.declared.fault.Why.{Why}
-use Rattle.hidplay.specs.declared.fault.Why.TheVariants.{Recording, Capture, Descriptor}
+use Rattle.hidplay.specs.declared.fault.Why.TheVariants.{Recording, Capture, Descriptor, Other}
 
 -- what a place counts, and its number; none at the start of a file
 abbrev pub place_of_file : Place → Option (List ℕ × ℕ)
@@ -25,11 +26,12 @@ place_of_file (Frame n) = Some (codes "frame", n)
 place_of_file (Byte n) = Some (codes "byte", n)
 place_of_file (Report n) = Some (codes "report", n)
 
--- why a file ended, as its code and words; of a descriptor that can't be read, in words
+-- why a file ended, as its code and words; of a descriptor that can't be read, and of a file that isn't played, in words
 abbrev pub why_text : Why → List ℕ
 why_text (Recording cause) = cause_text cause
 why_text (Capture cause) = capture.cause_text cause
 why_text (Descriptor cause) = input.cause_text cause
+why_text (Other file) = other_text file
 
 -- what ended a recording, at its line
 abbrev pub at_line : RecordingFault → FileFault

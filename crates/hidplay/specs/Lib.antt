@@ -1,4 +1,5 @@
 pub mod Status
+pub mod Other
 pub mod FileFault
 pub mod FileLine
 pub mod EndLine

@@ -5,7 +5,7 @@ use Rattle.hid_recording.specs.declared.fault.Cause.{Cause}
 use Rattle.hid_recording.specs.declared.fault.Cause.TheVariants.{Refused, LineTooLong, Read, Write, Memory, TooManyReads, Unended}
 use Rattle.hidplay.specs.declared.fault.FileFault.{FileFault}
 use Rattle.hidplay.specs.declared.fault.Why.{Why}
-use Rattle.hidplay.specs.declared.fault.Why.TheVariants.{Recording, Capture, Descriptor}
+use Rattle.hidplay.specs.declared.fault.Why.TheVariants.{Recording, Capture, Descriptor, Other}
 
 -- the exit status of a cause: 1 if a line is refused, 3 if the cause lies outside of the recording
 abbrev pub cause_status : Cause → ℕ
@@ -17,11 +17,12 @@ cause_status Memory = 3
 cause_status TooManyReads = 3
 cause_status Unended = 1
 
--- the exit status of what ended a file: 1 if it is a capture or a descriptor that can't be read
+-- the exit status of what ended a file: 1 if it is a capture or a descriptor that can't be read, or a file that isn't played
 abbrev pub why_status : Why → ℕ
 why_status (Recording cause) = cause_status cause
 why_status (Capture cause) = 1
 why_status (Descriptor cause) = 1
+why_status (Other file) = 1
 
 -- the exit status of a run: 0 if nothing was refused, 1 if a line is refused or too long, a dump isn't ended or a capture can't
 -- be read, 3 if the file, the writer or memory failed
@@ -44,6 +45,7 @@ abbrev pub ends_all_for : Bool → Why → Bool
 ends_all_for strict (Recording cause) = ends_all_by strict cause
 ends_all_for strict (Capture cause) = strict
 ends_all_for strict (Descriptor cause) = strict
+ends_all_for strict (Other file) = strict
 
 -- whether no further file is begun: standard output failed, or a strict run met a refusal
 abbrev pub ends_all : Bool → Result Summary FileFault → Bool

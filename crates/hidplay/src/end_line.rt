@@ -27,7 +27,9 @@ pub fn refusals_of(fault: &FileFault) -> u64
 {
     match fault.why {
         Why::Recording(cause) => with_cause(cause, fault.played.refused),
-        Why::Capture(_) | Why::Descriptor(_) => fault.played.refused.saturating_add(1),
+        Why::Capture(_) | Why::Descriptor(_) | Why::Other(_) => {
+            fault.played.refused.saturating_add(1)
+        }
     }
 }
 

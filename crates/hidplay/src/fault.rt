@@ -4,6 +4,7 @@ ghost use Rattle.std.specs.Prelude.{◌≡◌, Some};
 ghost use Rattle.std.specs.Option.{option_map};
 ghost use Rattle.hidplay.specs.FileFault.{place_of_file, why_text};
 
+use super::other::OtherFile;
 use hid_input::{InputCause, InputFault};
 use hid_recording::{
     CaptureCause, CaptureRunFault, Cause, LiveFault, RecordingFault, Refusal, Summary,
@@ -35,6 +36,8 @@ pub enum Why {
     Capture(FormatCause),
     /// The file has a report descriptor that can't be read.
     Descriptor(InputCause),
+    /// The file is one that isn't played.
+    Other(OtherFile),
 }
 
 /// Where and why a file ended early, and what was played of it.
@@ -66,6 +69,15 @@ pub fn unread_descriptor(fault: InputFault) -> FileFault {
     FileFault {
         place,
         why: Why::Descriptor(fault.cause),
+        played: Summary::none(),
+    }
+}
+
+/// What ended a file that isn't played.
+pub fn other_file(other: OtherFile) -> FileFault {
+    FileFault {
+        place: Place::Start,
+        why: Why::Other(other),
         played: Summary::none(),
     }
 }
@@ -144,6 +156,7 @@ impl fmt::Display for Why {
             Why::Recording(cause) => write!(f, "{cause}"),
             Why::Capture(cause) => write!(f, "{cause}"),
             Why::Descriptor(cause) => write!(f, "{cause}"),
+            Why::Other(other) => write!(f, "{other}"),
         }
     }
 }

@@ -19,6 +19,7 @@ mod end_line;
 mod fault;
 mod file_line;
 mod hidraw;
+mod other;
 mod progress;
 mod source;
 mod status;

@@ -1,6 +1,7 @@
 //! What a file is: the text of a recording, a capture, or a report descriptor in any of its forms.
 
-use super::fault::{FileFault, before_all, unread_descriptor};
+use super::fault::{FileFault, before_all, other_file, unread_descriptor};
+use super::other::{OtherFile, is_script, other_of};
 use hid_input::{InputCause, begins_recording, descriptor_in, is_recording};
 use hid_recording::{
     Cause, GivenDescriptor, Options, Summary, Watch, descriptor_line, play, play_capture,
@@ -76,8 +77,16 @@ fn read_front<R: Read>(alloc: Global, reader: &mut R, most: usize) -> Result<Vec
 pub fn read_descriptor<R: Read>(alloc: Global, reader: &mut R) -> Result<Vec<u8>, FileFault> {
     let bytes = read_front(alloc, reader, LONGEST)?;
     match descriptor_in(alloc, bytes.as_slice()) {
-        Ok(descriptor) => Ok(descriptor),
+        Ok(descriptor) => known_for_itself(alloc, descriptor),
         Err(fault) => Err(unread_descriptor(fault)),
+    }
+}
+
+/// A descriptor, if its bytes aren't those of another file.
+fn known_for_itself(alloc: Global, descriptor: Vec<u8>) -> Result<Vec<u8>, FileFault> {
+    match other_of(alloc, descriptor.as_slice()) {
+        None => Ok(descriptor),
+        Some(other) => Err(other_file(other)),
     }
 }
 
@@ -168,12 +177,18 @@ fn play_other<R: Read, W: Write, H: Watch>(
     let front = read_front(alloc, reader, LONGEST)?;
     if !is_recording(front.as_slice()) {
         match descriptor_in(alloc, front.as_slice()) {
-            Ok(bytes) => return play_descriptor(alloc, bytes.as_slice(), out, options, watch),
+            Ok(bytes) => {
+                let bytes = known_for_itself(alloc, bytes)?;
+                return play_descriptor(alloc, bytes.as_slice(), out, options, watch);
+            }
             Err(fault) => {
                 if fault.cause != InputCause::NoDescriptor {
                     return Err(unread_descriptor(fault));
                 }
             }
+        }
+        if is_script(front.as_slice()) {
+            return Err(other_file(OtherFile::Script));
         }
     }
     let mut recording = front.as_slice().chain(reader);

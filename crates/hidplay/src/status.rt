@@ -37,7 +37,7 @@ pub fn exit_of(end: &Result<Summary, FileFault>) -> u8
         Ok(_) => FINE,
         Err(fault) => match fault.why {
             Why::Recording(cause) => cause_status(cause),
-            Why::Capture(_) | Why::Descriptor(_) => REFUSED,
+            Why::Capture(_) | Why::Descriptor(_) | Why::Other(_) => REFUSED,
         },
     }
 }
@@ -61,7 +61,7 @@ pub fn ends_all(strict: bool, end: &Result<Summary, FileFault>) -> bool
         Ok(_) => false,
         Err(fault) => match fault.why {
             Why::Recording(cause) => ends_all_by(strict, cause),
-            Why::Capture(_) | Why::Descriptor(_) => strict,
+            Why::Capture(_) | Why::Descriptor(_) | Why::Other(_) => strict,
         },
     }
 }

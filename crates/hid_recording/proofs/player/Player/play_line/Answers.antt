@@ -1,12 +1,9 @@
-use Rattle.std.proofs.Common.{rules}
+use Rattle.std.proofs.Common.{arith, rules, tests, refl}
 use Rattle.hid_recording.specs.Player.{session_of}
-use Rattle.hid_recording.specs.Records.{record_of, Descriptor}
-use Rattle.hid_recording.proofs.PlayerLemmas.{said_meant}
+use Rattle.hid_recording.proofs.PlayerLemmas.{report_meant}
 use Rattle.hid_recording.proofs.player.Player.play_line.Goals as goal
 
-pub select-requires : goal.select-requires
-select-requires c = c.in-Ok-Device.device.small
-
-pub returns-in-Ok-Descriptor-clause-outcome : goal.returns-in-Ok-Descriptor-clause-outcome
-returns-in-Ok-Descriptor-clause-outcome c =
-    said_meant (session_of c.args.self.now) (record_of c.args.line.now) (Descriptor c.in-Ok-Descriptor.bytes.items) _ _ _ (search rules) (rw c.as_slice.ensures.value at c.redescribe.ensures.outcome)
+pub returns-in-69-clause-outcome : goal.returns-in-69-clause-outcome
+returns-in-69-clause-outcome c =
+    report_meant (session_of c.args.self.now) c.args.line.now _ _ _ _ (omega (arith, c.in-69.len_at_least)) (search (rules, tests)) (search (rules, tests)) refl
+    c.play_report.ensures.outcome

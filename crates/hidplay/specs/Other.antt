@@ -1,0 +1,43 @@
+-- Files that aren't played, and what they are (our choice: docs/RECORDINGS.md).
+use Rattle.std.specs.Prelude.{ℕ, ◌==◌, Bool, false, List, [], ◌∷◌, if◌then◌else◌, codes}
+use Rattle.std.specs.List.{slice_split, list_any}
+use Rattle.std.specs.Str.{bytes_eq}
+use Rattle.hid_input.specs.Known.{known_text}
+use Rattle.hid_text.specs.Words.{Word, words_of}
+use Rattle.hidplay.specs.declared.other.OtherFile.{OtherFile}
+use Rattle.hidplay.specs.declared.other.OtherFile.TheVariants.{Known, Script}
+
+-- what a file is, and which program reads it, in words
+abbrev pub other_text : OtherFile → List ℕ
+other_text (Known file) = known_text file
+other_text Script = codes "a script: hidrun and hidlab run it"
+
+-- the words that lines of scripts begin with (docs/SCRIPT.md and docs/LAB.md)
+abbrev pub keywords : List Word
+keywords =
+    codes "layout" ∷ codes "values" ∷ codes "device" ∷ codes "press" ∷ codes "release" ∷ codes "set" ∷ codes "null"
+    ∷ codes "move" ∷ codes "frame" ∷ codes "poll" ∷ codes "begin" ∷ codes "control" ∷ codes "reset" ∷ codes "halt"
+    ∷ codes "click" ∷ codes "type" ∷ codes "lose" ∷ codes "repeat" ∷ codes "expect" ∷ codes "wait" ∷ codes "include" ∷ []
+
+-- a word is one of others
+abbrev pub is_one_of : List Word → Word → Bool
+is_one_of words word = list_any (λ known. bytes_eq known word) words
+
+-- a word that begins with #
+abbrev pub is_comment : Word → Bool
+is_comment [] = false
+is_comment (first ∷ rest) = first == 35
+
+-- whether a line of these words begins a script; where it says nothing, what comes later
+abbrev pub begins_script : List Word → Bool → Bool
+begins_script [] later = later
+begins_script (word ∷ words) later = if is_comment word then later else is_one_of keywords word
+
+-- the first of some lines that says something begins with a keyword
+unfoldable pub are_script : List (List ℕ) → Bool
+are_script [] = false
+are_script (line ∷ lines) = begins_script (words_of line) (are_script lines)
+
+-- a text is a script by its first word, comments left out
+abbrev pub is_script : List ℕ → Bool
+is_script text = are_script (slice_split (λ b. b == 10) text)
