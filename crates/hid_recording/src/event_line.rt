@@ -89,6 +89,9 @@ fn print_event_words(text: &mut String, places: bool, event: &Event) -> Result<(
 }
 
 /// Adds when a report came, and of which device it is.
+///
+/// # Errors
+/// Out of memory.
 pub fn print_source(text: &mut String, source: &Source<'_>) -> Result<(), AllocError>
     ensures { OnOk result (string_bytes text.new
         ≡ string_bytes text.old ++ source.now.time.now ++ 32 ∷ decimal source.now.device) }

@@ -116,6 +116,9 @@ fn misspelt_name(line: &[u8]) -> Option<&[u8]> {
 }
 
 /// That no usage has the name that stands in a line, in words, where none has.
+///
+/// # Errors
+/// Out of memory.
 pub fn name_words(alloc: Global, line: &[u8]) -> Result<Option<String>, AllocError> {
     match misspelt_name(line) {
         Some(name) => {

@@ -17,6 +17,7 @@ ghost use Rattle.lab_session.specs.Printed.{IsPlain, is_styled, kept_cause};
 
 use super::answers::{ends_transfer, has_nothing, is_repeated};
 use super::asked::{Asked, asked_of, unread_cause};
+use super::controls::{kind_of, kind_of_usage, no_control};
 use super::counts::Counts;
 use super::draws::Draws;
 use super::fault::LabCause;
@@ -26,9 +27,8 @@ use super::printer::Printer;
 use super::shown::is_styled;
 use hid_layout::{ControlId, ControlKind, Usage};
 use hid_requests::Boot;
-use hid_script::{Cause, Interpreter, Options, Sink, StepFault};
-use hid_snapshots::ChangeFault;
-use hid_stack::{Rig, StackFault, Start, Step};
+use hid_script::{Cause, Interpreter, Options, Sink};
+use hid_stack::{StackFault, Start, Step};
 use hid_text::{ChangeKind, ShortLine, read_short, says_nothing};
 use lab_expectations::{Expectation, unknown_usage};
 use lab_lines::{
@@ -58,11 +58,6 @@ pub struct Bench {
     came: Vec<u8>,
 }
 
-/// The refusal of a control that isn't there.
-fn no_control() -> Cause {
-    Cause::Step(StepFault::Stack(StackFault::Refused(ChangeFault::NoSuchControl)))
-}
-
 /// Why a part ended early whose text was kept first: where there was no room to keep it, memory ran out.
 fn kept_cause(cause: Cause) -> Cause
     ensures { result ≡ kept_cause cause }
@@ -71,19 +66,6 @@ fn kept_cause(cause: Cause) -> Cause
         Cause::Write => Cause::Memory,
         _ => cause,
     }
-}
-
-/// What a control is, if there is such a control.
-fn kind_of(rig: &Rig, dev: u8, control: ControlId) -> Option<(Usage, ControlKind)> {
-    let device = rig.device(dev).ok()?;
-    let control = device.layout().control(control)?;
-    Some((control.usage, control.kind))
-}
-
-/// What the least control with a usage is, if there is such a control.
-fn kind_of_usage(rig: &Rig, dev: u8, usage: Usage) -> Option<(Usage, ControlKind)> {
-    let control = rig.find(dev, usage).ok()?;
-    kind_of(rig, dev, control)
 }
 
 impl Bench {

@@ -17,6 +17,7 @@ mod ahead;
 mod answers;
 mod asked;
 mod bench;
+mod controls;
 mod counts;
 mod draws;
 mod fault;

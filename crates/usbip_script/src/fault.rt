@@ -21,7 +21,7 @@ pub enum LineCause {
     Device(DeviceFault),
     /// X4 S7: there are seven devices already.
     TooManyDevices,
-    /// E1: a real host polls and begins requests by itself, and tells no events; layouts and values are printed without one.
+    /// E1: a real host polls and begins requests by itself, and reports no events; layouts and values are printed without one.
     NotServed,
     /// E11: over 1,048,576 lines or actions, or over 16,384 expectations, those of bodies each time.
     TooLong,
