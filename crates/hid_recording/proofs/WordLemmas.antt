@@ -23,10 +23,11 @@ use Rattle.std.specs.Str.{IsUtf8, IsAscii}
 use Rattle.std.proofs.lemmas.Str.{IsUtf8-from_ascii}
 use Rattle.std.proofs.lemmas.Str.Ascii.{IsAscii-from_reads}
 use Rattle.std.specs.Result.{result_ok, result_unwrap_or}
+use Rattle.std.specs.Bool.{OnTrue}
 use Rattle.std.proofs.lemmas.List.Folds.{list_all_at}
 use Rattle.std.proofs.lemmas.Bool.{cases_Bool, cases_lt, le-leb, lt-ltb, le-ltb, cond-false, or_cases, and_parts, leb-true, eqb-true, ne_eqb, cond-true}
 use Rattle.hid_recording.specs.declared.fault.Refusal.TheVariants.{BadHex}
-use Rattle.hid_recording.specs.Words.{IsNone, IsNoHex, BeginsWithPair, ends_word, bytes_before, bad_byte_from, bad_byte, bytes_of, is_mark, as_blank, without_prefix, digit_words, BeginsWithDigit, BeginsWithTime, decimal_of, is_time_byte, is_no_time_byte, is_time, time_of}
+use Rattle.hid_recording.specs.Words.{IsNone, IsNoHex, BeginsWithPair, ends_word, bytes_before, bad_byte_from, bad_byte, bytes_of, is_mark, as_blank, without_prefix, digit_words, spelled_bytes, BeginsWithCount, BeginsWithTime, decimal_of, is_time_byte, is_no_time_byte, is_time, time_of}
 
 small : (b : ℕ) → is_time_byte b ≡ true → b < 128
 small b e = elim (or_cases _ _ e) [
@@ -245,9 +246,17 @@ pair_marked (a ∷ high ∷ low ∷ rest) byte some space ended pair =
     )
 
 -- nothing is left
-pub none_left : (rest : List ℕ) → length rest ≡ 0 → rest ≡ []
+none_left : (rest : List ℕ) → length rest ≡ 0 → rest ≡ []
 none_left [] none = refl
 none_left (b ∷ rest) none = absurd (omega (arith, none))
+
+-- where nothing is left, all is read
+pub all_read : (text rest bytes : List ℕ) (none : Bool) → none ≡ nat_eq (length rest) 0
+    → IsReadTo (digit_words (map as_blank text)) bytes (digit_words (map as_blank rest)) → OnTrue none (spelled_bytes text ≡ Ok bytes)
+all_read text rest bytes true is read =
+    hex_whole (digit_words (map as_blank text)) (digit_words (map as_blank rest)) bytes read
+    (ap (λ l. digit_words (map as_blank l)) (none_left rest (eqb-true (length rest) 0 (sym is))))
+all_read text rest bytes false is read = tt
 
 -- a text without commas and colons is as it stands
 pub none_marked : (text : List ℕ) → list_all (λ b. not (is_mark b)) text ≡ true → map as_blank text ≡ text
@@ -379,7 +388,7 @@ digit_decimal b low high =
     ap (option_map (λ n. min n (2 ^ 64 - 1))) number ∙ ap (λ n. Some n) whole
 
 pub digit_first : (text left : List ℕ) (digit : ℕ) → 2 ≤ length text → get_or text 0 0 ≡ 32 → 48 ≤ get_or text 1 0 → get_or text 1 0 ≤ 57
-    → digit ≡ get_or text 1 0 - 48 → left ≡ take (length text - 2) (drop 2 text) → ends_word left ≡ true → BeginsWithDigit text digit left
+    → digit ≡ get_or text 1 0 - 48 → left ≡ take (length text - 2) (drop 2 text) → ends_word left ≡ true → BeginsWithCount text digit left
 digit_first [] left digit long space low high is lefts ended = absurd (omega arith)
 digit_first (a ∷ []) left digit long space low high is lefts ended = absurd (omega arith)
 digit_first (a ∷ b ∷ text) left digit long space low high is lefts ended =

@@ -94,15 +94,6 @@ descriptor_behind [] text = Unread None NoCount
 abbrev pub descriptor_record : List ℕ → LineMeaning
 descriptor_record text = descriptor_behind (words_of text) (after_word text)
 
--- the bytes that a text spells, if they have a count in front: the first of some words
-abbrev pub counted_behind : List Word → List ℕ → Result (List ℕ) Refusal
-counted_behind (count ∷ words) text = counted_bytes count text
-counted_behind [] text = Err NoCount
-
--- the bytes of a text after a time: COUNT BYTES
-abbrev pub bytes_record : List ℕ → Result (List ℕ) Refusal
-bytes_record text = counted_behind (words_of text) (after_word text)
-
 -- what came at a time; BadTime where there is no time
 abbrev pub report_at_time : Option (List ℕ) → Word → List ℕ → Result LineMeaning Refusal
 report_at_time None count text = Err BadTime

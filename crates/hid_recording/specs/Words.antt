@@ -137,10 +137,10 @@ abbrev pub BeginsWithTime : List ℕ → List ℕ → List ℕ → Type 0
 BeginsWithTime text time left =
     (words_of text ≡ time ∷ words_of left) × (after_word text ≡ left) × (time_of time ≡ Some time)
 
--- a text begins with a word of one digit, which is a number, before what is left
-abbrev pub BeginsWithDigit : List ℕ → ℕ → List ℕ → Type 0
-BeginsWithDigit text digit left =
-    (word : Word) × (words_of text ≡ word ∷ words_of left) × (after_word text ≡ left) × (decimal_of word ≡ Some digit)
+-- a text begins with a word that says a count, before what is left
+abbrev pub BeginsWithCount : List ℕ → ℕ → List ℕ → Type 0
+BeginsWithCount text count left =
+    (word : Word) × (words_of text ≡ word ∷ words_of left) × (after_word text ≡ left) × (decimal_of word ≡ Some count)
 
 -- what parts the numbers of an address
 abbrev pub is_colon : ℕ → Bool

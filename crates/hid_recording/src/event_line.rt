@@ -92,6 +92,7 @@ fn print_event_words(text: &mut String, places: bool, event: &Event) -> Result<(
 ///
 /// # Errors
 /// Out of memory.
+#[inline(always)]
 pub fn print_source(text: &mut String, source: &Source<'_>) -> Result<(), AllocError>
     ensures { OnOk result (string_bytes text.new
         ≡ string_bytes text.old ++ source.now.time.now ++ 32 ∷ decimal source.now.device) }

@@ -5,7 +5,7 @@ ghost use Rattle.std.specs.List.{slice_split};
 ghost use Rattle.std.specs.Option.{option_map};
 ghost use Rattle.hid_text.specs.Words.{words_of};
 ghost use Rattle.hid_recording.specs.declared.line_fields.TheConstants.{MAX_DEVICES};
-ghost use Rattle.hid_recording.specs.Words.{AddsBytes, AddsFirst, BeginsWithDigit, BeginsWithPair, BeginsWithTime, IsNone, as_blank, ends_word, bytes_before, bytes_of, decimal_of, in_devices, device_of_word, is_time_byte, is_no_time_byte, is_time, time_of, is_colon, address_of, content_of};
+ghost use Rattle.hid_recording.specs.Words.{AddsBytes, AddsFirst, BeginsWithCount, BeginsWithPair, BeginsWithTime, IsNone, as_blank, ends_word, bytes_before, bytes_of, decimal_of, in_devices, device_of_word, is_time_byte, is_no_time_byte, is_time, time_of, is_colon, address_of, content_of};
 
 use super::dump::{Address, Content};
 use super::fault::{Cause, Refusal};
@@ -162,10 +162,9 @@ pub fn read_count(word: &[u8]) -> Option<u64>
     read_number(10, word)
 }
 
-/// The count of one digit between blanks, the first of them a space, and what stands after it. It takes a fraction of the time of
-/// [`first_word`] and [`read_count`]; most reports have fewer than ten bytes.
-pub fn next_digit(text: &[u8]) -> Option<(u64, &[u8])>
-    ensures { IfSome result (λ found. BeginsWithDigit text.now found.0 found.1.now) }
+/// The count of one digit between blanks, the first of them a space, and what stands after it.
+fn next_digit(text: &[u8]) -> Option<(u64, &[u8])>
+    ensures { IfSome result (λ found. BeginsWithCount text.now found.0 found.1.now) }
 {
     let [b' ', digit @ b'0'..=b'9', more @ ..] = text else {
         return None;
@@ -174,6 +173,21 @@ pub fn next_digit(text: &[u8]) -> Option<(u64, &[u8])>
         return None;
     }
     Some((u64::from(*digit - b'0'), more))
+}
+
+/// The count that the first word of a text says, and what stands after it. Most reports have fewer than ten bytes: one digit takes a
+/// fraction of the time of a word.
+pub fn next_count(text: &[u8]) -> Option<(u64, &[u8])>
+    ensures { IfSome result (λ found. BeginsWithCount text.now found.0 found.1.now) }
+{
+    if let Some(found) = next_digit(text) {
+        return Some(found);
+    }
+    let (word, more) = first_word(text)?;
+    match read_count(word) {
+        Some(count) => Some((count, more)),
+        None => None,
+    }
 }
 
 /// The number of a device.

@@ -1,19 +1,19 @@
 //! What a line of a recording says.
 
-ghost use Rattle.std.specs.Prelude.{◌≡◌, ◌≢◌, Ok, Err, IfErr, MatchResult, map};
+ghost use Rattle.std.specs.Prelude.{◌≡◌, ◌≢◌, Ok, Err, IfErr, IfSome, MatchResult, map};
 ghost use Rattle.hid_text.specs.Words.{words_of};
 ghost use Rattle.std.specs.Option.{option_map};
 ghost use Rattle.hid_recording.specs.Words.{IsNone, decimal_of, spelled_bytes};
-ghost use Rattle.hid_recording.specs.Records.{record_of, text_record, device_record, descriptor_record, bytes_record, report_record, Report, counted_bytes, bytes_if_counted, miscount, only_word, dump_record, header_record, begins_at, dump_begin, time_record, ReadsRecord};
+ghost use Rattle.hid_recording.specs.Records.{record_of, text_record, device_record, descriptor_record, report_record, Report, counted_bytes, bytes_if_counted, miscount, only_word, dump_record, header_record, begins_at, dump_begin, time_record, ReadsRecord};
 ghost use Rattle.hid_recording.specs.MemoryUse.{RunsOutIf, has_words};
 
 use super::dump::{Address, Content};
 use super::fault::{Cause, Refusal};
 use super::line_fields::{
-    DeviceNumber, next_digit, next_time, parts_of_word, read_address, read_bytes, read_content,
+    DeviceNumber, next_count, next_time, parts_of_word, read_address, read_bytes, read_content,
     read_count, read_device, read_time,
 };
-use super::spelled::put_spelled;
+use super::spelled::{put_pairs, put_spelled};
 use hid_text::first_word;
 use std::alloc::Global;
 
@@ -170,23 +170,22 @@ fn read_descriptor(alloc: Global, text: &[u8]) -> Result<Record<'_>, Cause>
     }
 }
 
-/// Reads the text after the time of a report, which is `COUNT BYTES`, and puts the bytes in place of those that were there.
-fn put_bytes(alloc: Global, bytes: &mut Vec<u8>, text: &[u8]) -> Result<(), Cause>
-    ensures { MatchResult result
-        (λ _. bytes_record text.now ≡ Ok bytes.new.items)
-        (λ cause. IsNone cause (bytes_record text.now)) }
+/// Reads the text after `E:` in one pass, where it is as `hid-recorder` writes it: a time, a count and bytes of two digits, with a space
+/// in front of each. None where it is any other text, or memory is missing for the bytes.
+fn read_plain<'a>(bytes: &mut Vec<u8>, text: &'a [u8]) -> Option<&'a str>
+    ensures { IfSome result (λ time. report_record text.now ≡ Ok (Report time.now bytes.new.items)) }
 {
-    if let Some((said, hex)) = next_digit(text) {
-        return put_counted(alloc, bytes, Some(said), hex);
-    }
-    match first_word(text) {
-        Some((count, hex)) => put_counted(alloc, bytes, read_count(count), hex),
-        None => Err(Cause::Refused(Refusal::NoCount)),
+    let (time, behind) = next_time(text)?;
+    let (said, hex) = next_count(behind)?;
+    if put_pairs(bytes, hex) && said == bytes.len() as u64 {
+        Some(time)
+    } else {
+        None
     }
 }
 
-/// Reads the text after `E:`, whatever blanks stand in it.
-#[inline(never)] // so that a report whose time is found at once costs less
+/// Reads the text after `E:`, whatever stands in it.
+#[inline(never)] // so that a text that is read in one pass costs less
 fn read_any_report<'a>(alloc: Global, bytes: &mut Vec<u8>, text: &'a [u8]) -> Result<&'a str, Cause>
     ensures { MatchResult result
         (λ time. report_record text.now ≡ Ok (Report time.now bytes.new.items))
@@ -216,11 +215,8 @@ pub fn read_report<'a>(alloc: Global, bytes: &mut Vec<u8>, text: &'a [u8]) -> Re
         (λ time. report_record text.now ≡ Ok (Report time.now bytes.new.items))
         (λ cause. IsNone cause (report_record text.now)) }
 {
-    match next_time(text) {
-        Some((time, behind)) => match put_bytes(alloc, bytes, behind) {
-            Ok(()) => Ok(time),
-            Err(cause) => Err(cause),
-        },
+    match read_plain(bytes, text) {
+        Some(time) => Ok(time),
         None => read_any_report(alloc, bytes, text),
     }
 }

@@ -1,6 +1,7 @@
 //! Bytes as a counted line spells them: words of hex with blanks, commas or colons between them, and `0x` in front or not.
 
 ghost use Rattle.std.specs.Prelude.{◌≡◌, ◌<◌, Ok, IfOk, IfSome, MatchResult, length, map, not};
+ghost use Rattle.std.specs.Bool.{OnTrue};
 ghost use Rattle.std.specs.List.{list_all};
 ghost use Rattle.hid_text.specs.Words.{words_of};
 ghost use Rattle.hid_recording.specs.Words.{AddsDigits, IsNone, as_blank, bytes_of, digit_words, is_mark, spelled_bytes, without_prefix};
@@ -109,7 +110,23 @@ fn read_spelled(alloc: Global, text: &[u8]) -> Result<Vec<u8>, Cause>
     read_digits(alloc, plain.as_slice())
 }
 
-/// Puts the bytes that a text spells, joined, in place of those that were there. Two digits after each space are read at once.
+/// Puts the bytes of a text that has two digits after each space in place of those that were there. Whether it is such a text, and
+/// memory was there for them; else some of them may be there.
+pub fn put_pairs(bytes: &mut Vec<u8>, text: &[u8]) -> bool
+    ensures { OnTrue result (spelled_bytes text.now ≡ Ok bytes.new.items) }
+{
+    bytes.clear();
+    let mut rest = text;
+    while let Some((byte, more)) = next_pair(rest) {
+        if bytes.push(byte).is_err() {
+            return false;
+        }
+        rest = more;
+    }
+    rest.is_empty()
+}
+
+/// Puts the bytes that a text spells, joined, in place of those that were there.
 ///
 /// # Errors
 /// R3 at the first byte that isn't two digits, R10 if memory runs out. Some of the bytes may be there then.
@@ -118,15 +135,7 @@ pub fn put_spelled(alloc: Global, bytes: &mut Vec<u8>, text: &[u8]) -> Result<()
         (λ _. spelled_bytes text.now ≡ Ok bytes.new.items)
         (λ cause. IsNone cause (spelled_bytes text.now)) }
 {
-    bytes.clear();
-    let mut rest = text;
-    while let Some((byte, more)) = next_pair(rest) {
-        if bytes.push(byte).is_err() {
-            return Err(Cause::Memory);
-        }
-        rest = more;
-    }
-    if rest.is_empty() {
+    if put_pairs(bytes, text) {
         return Ok(());
     }
     let spelled = read_spelled(alloc, text)?;

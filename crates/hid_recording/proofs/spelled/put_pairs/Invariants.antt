@@ -1,7 +1,7 @@
 use Rattle.std.proofs.Common.{length, map}
 use Rattle.hid_recording.specs.Words.{as_blank, digit_words}
 use Rattle.hid_recording.proofs.WordLemmas.{IsReadTo}
-use Rattle.hid_recording.proofs.spelled.put_spelled.Given as goal
+use Rattle.hid_recording.proofs.spelled.put_pairs.Given as goal
 
 -- the bytes so far are those before the words that are left
 abbrev pub invariant-loop-byte : goal.invariant-loop-byte
