@@ -6,7 +6,7 @@
 
 use hid_recording::{LiveDevice, Received};
 use std::alloc::Global;
-use std::fs::{self, File, FileType};
+use std::fs::{self, FileType};
 use std::io::{self, ErrorKind, Read};
 use std::os::unix::fs::FileTypeExt;
 use std::time::SystemTime;
@@ -45,9 +45,13 @@ pub fn node_of(rt: &HostRuntime, name: &str, file_type: FileType) -> Option<Stri
 }
 
 /// Whether the system may have a descriptor for a file that is played as a device: a hidraw node under `/dev`, a link to one, or
-/// `hidraw` and digits alone. So a name that leaves the system's folder is none. A file that isn't there is refused later.
+/// `hidraw` and digits alone. So a name that leaves the system's folder is none, and neither is standard input. A file that isn't
+/// there is refused later.
 pub fn may_have_descriptor(rt: &HostRuntime, name: &str) -> bool {
-    if name == "-" || is_node(name) {
+    if name == "-" {
+        return false;
+    }
+    if is_node(name) {
         return true;
     }
     match fs::canonicalize(rt, name) {
@@ -75,20 +79,20 @@ pub fn descriptor_name(
     format!(in alloc; "{system}/{node}/device/report_descriptor")
 }
 
-/// A file of which each read is a report, read by the system's clock.
+/// A file or standard input, of which each read is a report, read by the system's clock.
 #[derive(Drop)]
-pub struct ReportFile<'a> {
+pub struct ReportFile<'a, R> {
     rt: &'a HostRuntime,
-    file: File,
+    file: R,
     /// Why it can't be read, if that is known.
     pub failure: Option<io::Error>,
     /// The time that the clock gave last.
     time: u64,
 }
 
-impl<'a> ReportFile<'a> {
+impl<'a, R: Read> ReportFile<'a, R> {
     /// No report was read yet.
-    pub fn new(rt: &'a HostRuntime, file: File) -> Self {
+    pub fn new(rt: &'a HostRuntime, file: R) -> Self {
         ReportFile {
             rt,
             file,
@@ -108,7 +112,7 @@ impl<'a> ReportFile<'a> {
     }
 }
 
-impl LiveDevice for ReportFile<'_> {
+impl<R: Read> LiveDevice for ReportFile<'_, R> {
     fn receive(&mut self, buffer: &mut [u8]) -> Received {
         for _ in 0..MAX_TRIES {
             match self.file.read(buffer) {

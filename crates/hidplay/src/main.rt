@@ -116,15 +116,23 @@ fn play_with_descriptor(rt: &HostRuntime, asked: &CliArgs<'_>) -> u8 {
 /// Plays each file, if each that is taken for a device may have a descriptor of the system.
 fn play_without_descriptor(rt: &HostRuntime, asked: &CliArgs<'_>) -> u8 {
     if asked.kind == Kind::Live {
+        if asked.files.is_empty() {
+            return print_no_node(rt, "-");
+        }
         for name in &asked.files {
             if !may_have_descriptor(rt, *name) {
-                let name = FileName(*name);
-                let _ = eprintln!(rt; "hidplay: {name}: no hidraw node: --live needs --descriptor");
-                return WRONG_USAGE;
+                return print_no_node(rt, *name);
             }
         }
     }
     play_all(rt, asked, None)
+}
+
+/// Says on standard error that a file can't be played live without a descriptor.
+fn print_no_node(rt: &HostRuntime, name: &str) -> u8 {
+    let name = FileName(name);
+    let _ = eprintln!(rt; "hidplay: {name}: no hidraw node: --live needs --descriptor");
+    WRONG_USAGE
 }
 
 /// The report descriptor in a file.
@@ -272,7 +280,7 @@ fn play_named<W: Write>(
     out: &mut W,
 ) -> Result<Summary, FileEnd> {
     if name == "-" {
-        return play_stream(rt, rt.stdin(), None, manner, out);
+        return play_standard_input(rt, manner, out);
     }
     let file = match fs::open(rt, name) {
         Ok(file) => file,
@@ -288,6 +296,20 @@ fn play_named<W: Write>(
         _ if manner.kind == Kind::Live => play_node(rt, asked, manner, name, file, out),
         // (a pipe has no size)
         _ => play_stream(rt, file, Some(metadata.len()), manner, out),
+    }
+}
+
+/// Plays standard input: as a live device, if that is asked for with a descriptor.
+fn play_standard_input<W: Write>(
+    rt: &HostRuntime,
+    manner: Manner<'_>,
+    out: &mut W,
+) -> Result<Summary, FileEnd> {
+    match manner.given {
+        Some(given) if manner.kind == Kind::Live => {
+            play_reports(rt, manner, given.bytes, rt.stdin(), out)
+        }
+        _ => play_stream(rt, rt.stdin(), None, manner, out),
     }
 }
 
@@ -331,11 +353,11 @@ fn play_node<W: Write>(
 }
 
 /// Plays the reports of a live device.
-fn play_reports<W: Write>(
+fn play_reports<R: Read + Drop, W: Write>(
     rt: &HostRuntime,
     manner: Manner<'_>,
     descriptor: &[u8],
-    file: File,
+    file: R,
     out: &mut W,
 ) -> Result<Summary, FileEnd> {
     let mut device = ReportFile::new(rt, file);
