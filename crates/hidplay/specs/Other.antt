@@ -3,13 +3,22 @@ use Rattle.std.specs.Prelude.{ℕ, ◌==◌, Bool, false, List, [], ◌∷◌, i
 use Rattle.std.specs.List.{slice_split, list_any}
 use Rattle.std.specs.Str.{bytes_eq}
 use Rattle.hid_input.specs.Known.{known_text}
+use Rattle.hid_input.specs.declared.known.KnownFile.{KnownFile}
+use Rattle.hid_input.specs.declared.known.KnownFile.TheVariants.{Capture, UsbDescriptors, Compressed, Program}
 use Rattle.hid_text.specs.Words.{Word, words_of}
 use Rattle.hidplay.specs.declared.other.OtherFile.{OtherFile}
 use Rattle.hidplay.specs.declared.other.OtherFile.TheVariants.{Known, Script}
 
+-- What a file is that is known by its first bytes, in words: a capture is known so only where a descriptor is wanted.
+abbrev pub other_known_text : KnownFile → List ℕ
+other_known_text Capture = codes "a capture, where a descriptor is wanted"
+other_known_text UsbDescriptors = known_text UsbDescriptors
+other_known_text Compressed = known_text Compressed
+other_known_text Program = known_text Program
+
 -- what a file is, and which program reads it, in words
 abbrev pub other_text : OtherFile → List ℕ
-other_text (Known file) = known_text file
+other_text (Known file) = other_known_text file
 other_text Script = codes "a script: hidrun and hidlab run it"
 
 -- the words that lines of scripts begin with (docs/SCRIPT.md and docs/LAB.md)

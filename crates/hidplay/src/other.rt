@@ -31,6 +31,9 @@ impl fmt::Display for OtherFile {
 
     fn fmt<W: fmt::Write>(&self, f: &mut fmt::Formatter<W>) -> fmt::Result {
         match self {
+            OtherFile::Known(KnownFile::Capture) => {
+                f.write_str("a capture, where a descriptor is wanted")
+            }
             OtherFile::Known(known) => write!(f, "{known}"),
             OtherFile::Script => f.write_str("a script: hidrun and hidlab run it"),
         }

@@ -27,6 +27,9 @@ const TOO_MANY: usize = 4097;
 /// As much of a file as has its descriptor: one of 4,096 bytes takes some 400,000 in what lsusb prints.
 const LONGEST: usize = 1 << 20;
 
+/// The bytes by which a capture is known, and a byte order mark. They are gathered, however few a read brings.
+const START: usize = 4;
+
 /// The byte order mark of UTF-8.
 const MARK: [u8; 3] = [0xEF, 0xBB, 0xBF];
 
@@ -45,13 +48,13 @@ fn first_byte<R: Read>(reader: &mut BufReader<R>) -> Result<Option<u8>, FileFaul
     Err(before_all(Cause::TooManyReads))
 }
 
-/// The first bytes of a file, up to the read that brings so many or more.
+/// The first bytes of a file, up to the read that brings so many or more; a read is of 8,192 bytes at most.
 ///
 /// # Errors
 /// [`Cause::Memory`], [`Cause::Read`] and [`Cause::TooManyReads`], before anything is played.
 fn read_front<R: Read>(alloc: Global, reader: &mut R, most: usize) -> Result<Vec<u8>, FileFault> {
     let mut bytes = Vec::new(alloc);
-    let mut piece = [0u8; 512];
+    let mut piece = [0u8; 8192];
     for _ in 0..MAX_READS {
         match reader.read(&mut piece) {
             Ok(0) => return Ok(bytes),
@@ -118,7 +121,7 @@ fn play_descriptor<W: Write, H: Watch>(
     Ok(play(alloc, &mut recording, out, options, watch)?)
 }
 
-/// Passes over a byte order mark, if the front that is there has it whole.
+/// Passes over a byte order mark.
 fn skip_mark<R: Read>(reader: &mut BufReader<R>) -> Result<(), FileFault> {
     if let Some(0xEF) = first_byte(reader)? {
         if reader.buffer().starts_with(&MARK) {
@@ -128,7 +131,7 @@ fn skip_mark<R: Read>(reader: &mut BufReader<R>) -> Result<(), FileFault> {
     Ok(())
 }
 
-/// Whether a file is a capture, by its first four bytes, if the front that is there has them.
+/// Whether a file is a capture, by its first four bytes.
 fn begins_capture<R: Read>(reader: &mut BufReader<R>) -> Result<bool, FileFault> {
     match first_byte(reader)? {
         None => Ok(false),
@@ -159,7 +162,9 @@ pub fn play_source<R: Read + Drop, W: Write, H: Watch>(
     out: &mut W,
     watch: &mut H,
 ) -> Result<Summary, FileFault> {
-    match BufReader::new(alloc, reader) {
+    let mut reader = reader;
+    let start = read_front(alloc, &mut reader, START)?;
+    match BufReader::new(alloc, start.as_slice().chain(reader)) {
         Ok(mut reader) => play_buffered(alloc, &mut reader, manner, out, watch),
         Err(_) => Err(before_all(Cause::Memory)),
     }
