@@ -6,7 +6,7 @@ ghost use Rattle.hid_layout.specs.Reports.{IsOfBus};
 use crate::fault::BenchFault;
 use hid_fields::WordCodec;
 use hid_layout::{Cause, Layout};
-use hid_usages::{Event, Reader, View};
+use hid_usages::{Event, PlannedView, Reader};
 use std::alloc::Global;
 use std::marker::Model;
 
@@ -38,7 +38,7 @@ impl Reading {
     /// As of [`parsed`], and [`BenchFault::Memory`] where a view or the room for events finds none.
     pub fn open(alloc: Global, descriptor: &[u8]) -> Result<Reading, BenchFault> {
         let layout = parsed(alloc, descriptor)?;
-        let Ok(view) = View::initial(alloc, &layout) else {
+        let Ok(view) = PlannedView::initial(alloc, &layout) else {
             drop(layout);
             return Err(BenchFault::Memory);
         };

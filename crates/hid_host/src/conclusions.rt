@@ -13,7 +13,7 @@ use crate::phase::HostPhase;
 use crate::ready::{ROOM, ReadyHost};
 use hid_layout::{Cause, Layout, LayoutFault};
 use hid_requests::Request;
-use hid_usages::{Receiver, View};
+use hid_usages::{PlannedView, Receiver};
 use std::alloc::Global;
 use std::mem;
 use usb_control::{ConfigInfo, DeviceInfo};
@@ -120,7 +120,7 @@ fn conclude_configure(alloc: Global, addr: u8, phase: &mut HostPhase) -> Result<
     let Ok(room) = Vec::with_capacity(alloc, ROOM) else {
         return Err(StackFault::Memory);
     };
-    let view = View::initial(alloc, layout)?;
+    let view = PlannedView::initial(alloc, layout)?;
     match mem::replace(phase, HostPhase::Cold) {
         HostPhase::Parsed(_, layout) => {
             let receiver = Receiver::new(layout, view, room);

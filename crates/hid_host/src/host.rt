@@ -21,7 +21,7 @@ use crate::phase::{HostPhase, HostState};
 use crate::ready::{ROOM, ReadyHost};
 use hid_requests::{REPORT_ENDPOINT, Request};
 use hid_snapshots::{Event, Shown};
-use hid_usages::{Receiver, View};
+use hid_usages::{PlannedView, Receiver, View};
 use std::alloc::Global;
 use std::marker::Model;
 use usb_control::{
@@ -98,7 +98,7 @@ impl HostDevice {
         ensures refused { IfErr result (λ fault. IsNoLayout descriptor.now fault) }
     {
         let layout = layout_of(alloc, descriptor)?;
-        let Ok(view) = View::initial(alloc, &layout) else {
+        let Ok(view) = PlannedView::initial(alloc, &layout) else {
             drop(layout);
             return Err(StackFault::Memory);
         };

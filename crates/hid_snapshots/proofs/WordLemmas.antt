@@ -485,7 +485,8 @@ bits_unlike (suc (suc x)) y h k = absurd (omega arith)
 bits_unlike zero (suc (suc y)) h k = absurd (omega arith)
 bits_unlike (suc zero) (suc (suc y)) h k = absurd (omega arith)
 
-unlike_at : (ws : List ℕ) (n : ℕ) (ps : List Bool) (index v w b : ℕ) → AreWords ws n → places_in ws n ≡ ps → v ≡ unwrap_or (slice_get ws index) 0 → b < 64
+-- a bit of a word of places and of another one
+pub unlike_at : (ws : List ℕ) (n : ℕ) (ps : List Bool) (index v w b : ℕ) → AreWords ws n → places_in ws n ≡ ps → v ≡ unwrap_or (slice_get ws index) 0 → b < 64
     → (bit_at (bit_xor v w) b == 1) ≡ is_unlike ps index w b
 unlike_at ws n ps index v w b are e is low =
     let q : (64 * index + b) / 64 ≡ index = omega arith in
@@ -494,17 +495,12 @@ unlike_at ws n ps index v w b are e is low =
     ap (λ (x : ℕ). x == 1) (bit_at_xor v w b) ∙ bits_unlike (bit_at v b) (bit_at w b) (bit_at-lt v b) (bit_at-lt w b)
     ∙ ap (λ (x : Bool). not (beq x (bit_at w b == 1))) (sym here ∙ bit_on_at ws n ps (64 * index + b) are e)
 
-found_below : (s t : ℕ → Bool) (from end : ℕ) (r : Option ℕ) → ((i : ℕ) → i < end → s i ≡ t i) → FindsFirst s from end r → FindsFirst t from end r
+-- tests that pass alike find the same
+pub found_below : (s t : ℕ → Bool) (from end : ℕ) (r : Option ℕ) → ((i : ℕ) → i < end → s i ≡ t i) → FindsFirst s from end r → FindsFirst t from end r
 found_below s t from end None same none = λ i a b. sym (same i b) ∙ none i a b
 found_below s t from end (Some p) same first =
     let high = first.high in
     record { low = first.low; high = first.high; before = λ i a b. sym (same i (omega arith)) ∙ first.before i a b; hit = sym (same p high) ∙ first.hit }
-
--- the first bit that isn't the same in a word of places and in another one
-pub found_unlike : (ws : List ℕ) (n : ℕ) (ps : List Bool) (index v w from : ℕ) (r : Option ℕ) → AreWords ws n → places_in ws n ≡ ps → v ≡ unwrap_or (slice_get ws index) 0
-    → FindsFirst (λ b. bit_at (bit_xor v w) b == 1) from 64 r → FindsFirst (is_unlike ps index w) from 64 r
-found_unlike ws n ps index v w from r are e is found =
-    found_below (λ b. bit_at (bit_xor v w) b == 1) (is_unlike ps index w) from 64 r (λ b low. unlike_at ws n ps index v w b are e is low) found
 
 mask_bits : (n w : ℕ) → w < 2 ^ n → mask_l (bits_in n w) ≡ w
 unfolding bits_in

@@ -114,24 +114,15 @@ impl Flags {
         self.words.copy_from_slice(&other.words);
     }
 
-    /// Makes these the first ones of the other, of which none is pressed after them.
-    pub fn copy_first(&mut self, other: &Flags)
-        requires places { length self.old ≤ length other.now }
-        requires none { (i : ℕ) → length self.old ≤ i → is_on other.now i ≡ false }
-        ensures { self.new ≡ take (length self.old) other.now }
+    /// Makes these the first ones of the other, of which none is pressed after them, and releases all of the other.
+    #[inline(always)]
+    pub fn take_first(&mut self, other: &mut Flags)
+        requires places { length self.old ≤ length other.old }
+        requires none { (i : ℕ) → length self.old ≤ i → is_on other.old i ≡ false }
+        ensures flags { self.new ≡ take (length self.old) other.old }
+        ensures other { other.new ≡ replicate (length other.old) false }
     {
-        let count = self.words.len();
-        self.words.copy_from_slice(&other.words[..count]);
-    }
-
-    /// Whether these are the first ones of the other, of which none is pressed after them.
-    pub fn is_first_of(&self, other: &Flags) -> bool
-        requires places { length self.now ≤ length other.now }
-        requires none { (i : ℕ) → length self.now ≤ i → is_on other.now i ≡ false }
-        ensures { result ≡ same_flags self.now (take (length self.now) other.now) }
-    {
-        let count = self.words.len();
-        self.words.as_slice() == &other.words[..count]
+        move_words(&mut self.words, &mut other.words);
     }
 
     /// Releases all of them, where none is pressed after the first ones, n: the words of these alone are written.
@@ -179,7 +170,29 @@ impl Flags {
         requires { from < 64 }
         ensures { FindsFirst (is_unlike self.now index word) from 64 result }
     {
-        lowest_from(word_or_zero(&self.words, index) ^ word, from)
+        lowest_from(self.unlike(index, word), from)
+    }
+
+    /// A word whose bits are 1 where those of a word of these and of another one aren't the same.
+    #[inline(always)]
+    pub fn unlike(&self, index: usize, word: u64) -> u64
+        ensures { (b : ℕ) → b < 64 → (bit_at result b == 1) ≡ is_unlike self.now index word b }
+    {
+        word_or_zero(&self.words, index) ^ word
+    }
+}
+
+/// Moves the first words of others into these, and leaves 0 in their place.
+#[inline(always)]
+fn move_words(words: &mut [u64], others: &mut [u64])
+    requires { length words.old ≤ length others.old }
+    ensures words { words.new ≡ take (length words.old) others.old }
+    ensures others { others.new ≡ take (length words.old) (replicate (length others.old) 0)
+        ++ drop (length words.old) others.old }
+{
+    for k in 0..words.len() {
+        words[k] = others[k];
+        others[k] = 0;
     }
 }
 
@@ -214,8 +227,9 @@ fn with_bit(word: u64, at: usize, is_set: bool) -> u64
     }
 }
 
-/// The lowest bit from one on that is 1.
-fn lowest_from(word: u64, from: usize) -> Option<usize>
+/// The lowest bit of a word, from one on, that is 1.
+#[inline(always)]
+pub fn lowest_from(word: u64, from: usize) -> Option<usize>
     requires { from < 64 }
     ensures { FindsFirst (λ b. bit_at word b == 1) from 64 result }
 {

@@ -14,8 +14,8 @@ use Rattle.hid_fields.specs.Field.{bit_of, pattern_of}
 use Rattle.hid_fields.proofs.WordLemmas.{bit_at-pattern_of}
 use Rattle.hid_snapshots.specs.Numbers.{number_at, numbers_in}
 use Rattle.hid_snapshots.proofs.NumberLemmas.{numbers_in-length, one_bit, numbers_in-at}
-use Rattle.hid_snapshots.specs.Words.{bits_in, is_on, is_unlike, IsFirst}
-use Rattle.hid_snapshots.proofs.WordLemmas.{bits_in-at, bits_in-length}
+use Rattle.hid_snapshots.specs.Words.{bits_in, is_on, is_unlike, IsFirst, FindsFirst}
+use Rattle.hid_snapshots.proofs.WordLemmas.{bits_in-at, bits_in-length, found_below}
 use Rattle.hid_snapshots.proofs.FillLemmas.{map_zip_at, length_map_zip}
 use Rattle.hid_snapshots.proofs.ItemLemmas.{got}
 use Rattle.hid_report_descriptor.specs.declared.usage.Usage.{Usage}
@@ -105,6 +105,10 @@ turns_by i bs w = record {
   none = λ j u p h e. no_turn (control_at i j) u p.0 p.1 (sym (pair_is bs w j p h).1 ∙ e);
   one = λ j u p h e. one_turn (control_at i j) u p.0 p.1 (sym (pair_is bs w j p h).1 ∙ e) ∙ ap (λ (b : Bool). turned (control_at i j) u b ∷ []) (sym (pair_is bs w j p h).0);
 }
+
+-- the first bit of a word whose bits are those that aren't the same
+pub unlike_found : (bs : List Bool) (w unlike from : ℕ) (r : Option ℕ) → ((b : ℕ) → b < 64 → (bit_at unlike b == 1) ≡ is_unlike bs 0 w b) → FindsFirst (λ b. bit_at unlike b == 1) from 64 r → FindsFirst (is_unlike bs 0 w) from 64 r
+unlike_found bs w unlike from r same found = found_below (λ b. bit_at unlike b == 1) (is_unlike bs 0 w) from 64 r same found
 
 -- the first bit of a word that isn't as it is held is that of a switch
 pub unlike_first : (bs : List Bool) (w word n from j : ℕ) → word ≡ w → length bs ≡ n → w < 2 ^ length bs → IsFirst (is_unlike bs 0 word) from 64 j → IsFirst (is_unlike bs 0 w) from n j

@@ -1,15 +1,20 @@
--- The words of a report are replaced one by one.
-use Rattle.std.proofs.Common.{◌≡◌, ◌≢◌, ℕ, ◌+◌, ◌-◌, ◌*◌, ◌/◌, ◌%◌, ◌^◌, ◌<◌, ◌≤◌, inl, inr, List, length, bit_xor, refl, sym, ap, ◌∙◌, subst, arith, get_or-set_other, get_or-set_same}
-use Rattle.std.specs.List.{slice_set, slice_index}
-use Rattle.std.specs.Int.{bit_at, trailing_zeros, leading_zeros}
+-- The words of a report are compared one by one.
+use Rattle.std.proofs.Common.{zero, suc, ◌==◌, Bool, true, false, max, bit_or, ◌≡◌, ℕ, ◌+◌, ◌-◌, ◌*◌, ◌/◌, ◌%◌, ◌^◌, ◌<◌, ◌≤◌, inl, inr, List, ◌++◌, length, bit_xor, add_comm, refl, sym, ap, ◌∙◌, subst, arith}
+use Rattle.std.specs.Int.{bit_at, to_le_bytes, trailing_zeros, leading_zeros}
 use Rattle.std.proofs.lemmas.Bool.{cases_lt}
-use Rattle.std.proofs.lemmas.Nat.{leading_length}
-use Rattle.std.proofs.lemmas.Nat.Bits.{bit_at-lt, bit_at-zero, bit_at_xor, bit_at_above, bit_at-trailing_zeros}
+use Rattle.std.proofs.lemmas.List.{get_or_append_left}
+use Rattle.std.proofs.lemmas.Nat.{leading_length, shr_high}
+use Rattle.std.proofs.lemmas.Nat.Bits.{bit_at-lt, bit_at-zero, bit_at_xor, bit_at_or, bit_at_above, bit_at_cat_low, bit_at_cat_high, same_from_bits, bit_at-trailing_zeros}
+use Rattle.std.specs.Bool.{OnTrue}
+use Rattle.std.proofs.Math.Nat.{pow-suc}
+use Rattle.hid_usages.proofs.BitLemmas.{same_number}
 use Rattle.std.proofs.Common.{w64}
 use Rattle.hid_fields.specs.Field.{bit_of, pattern_of}
-use Rattle.hid_fields.proofs.WordLemmas.{bit_at-pattern_of}
+use Rattle.hid_fields.proofs.FieldLemmas.{pattern_of-lt}
+use Rattle.hid_fields.proofs.WordLemmas.{HasBytes, scattered, bit_at-pattern_of, pattern_of-add}
 use Rattle.hid_usages.specs.declared.changed_bits.BitSpan.{BitSpan}
-use Rattle.hid_usages.specs.ChangedBits.{bit_in, IsOutsideSpan, HoldBits, AgreesOutside, Grows}
+use Rattle.hid_usages.specs.ChangedBits.{IsOutsideSpan, SameFrom, SameOutside, HoldBits, Grows}
+use Rattle.hid_usages.specs.SameWords.{AreSameWords}
 
 even_same : (x y : ℕ) → x < 2 → y < 2 → (x + y) % 2 ≡ 0 → x ≡ y
 even_same x y a b h = omega arith
@@ -76,66 +81,6 @@ grows span grown index old now some fits order within empty begun last =
       end = omega (arith, last);
     }
 
--- The words before one are replaced, and the span has the bits that aren't the same.
-pub record AreReplaced (start words bytes : List ℕ) (k : ℕ) (span : BitSpan) : Type 0 where
-  pub holds : (n : ℕ) → n < 64 * k → n < 8 * length bytes → bit_in words n ≡ bit_of bytes n
-  pub rest : (n : ℕ) → 64 * k ≤ n → bit_in words n ≡ bit_in start n
-  pub agrees : (n : ℕ) → n < 64 * k → n < 8 * length bytes → IsOutsideSpan span n → bit_in start n ≡ bit_of bytes n
-  pub order : span.first ≤ span.end
-  pub end : span.end ≤ 64 * k
-
-pub none_replaced : (words bytes : List ℕ) → AreReplaced words words bytes 0 (record { first = 0; end = 0 })
-none_replaced words bytes = record {
-  holds = λ n low within. absurd (omega arith);
-  rest = λ n low. refl;
-  agrees = λ n low within outside. absurd (omega arith);
-  order = omega arith;
-  end = omega arith;
-}
-
-bit_set_here : (words : List ℕ) (k now b : ℕ) → k < length words → b < 64 → bit_in (slice_set words k now) (64 * k + b) ≡ bit_at now b
-bit_set_here words k now b within low =
-    let word : (64 * k + b) / 64 ≡ k = omega arith in
-    let bit : (64 * k + b) % 64 ≡ b = omega arith in
-    rw (word, bit) (ap (λ (w : ℕ). bit_at w b) (let lt : k < length words = within in rw get_or-set_same refl))
-
-bit_set_there : (words : List ℕ) (k now n : ℕ) → n / 64 ≢ k → bit_in (slice_set words k now) n ≡ bit_in words n
-bit_set_there words k now n ne = ap (λ (w : ℕ). bit_at w (n % 64)) (rw get_or-set_other refl)
-
--- one word more
-pub replaced_next : (start words words' bytes : List ℕ) (k now : ℕ) (span grown : BitSpan) → AreReplaced start words bytes k span → k < length words
-    → ((b : ℕ) → b < 64 → 64 * k + b < 8 * length bytes → bit_at now b ≡ bit_of bytes (64 * k + b)) → words' ≡ slice_set words k now
-    → Grows span grown k (slice_index words k) now → AreReplaced start words' bytes (k + 1) grown
-replaced_next start words words' bytes k now span grown so_far within is set grow = rw set record {
-  holds = λ n low inside. elim (cases_lt n (64 * k)) [
-    | inl before ↦ bit_set_there words k now n (λ e. omega arith) ∙ so_far.holds n before inside
-    | inr from ↦
-        let at : 64 * k + (n - 64 * k) ≡ n = omega arith in
-        let small : n - 64 * k < 64 = omega arith in
-        ap (bit_in (slice_set words k now)) (sym at) ∙ bit_set_here words k now (n - 64 * k) within small ∙ is (n - 64 * k) small (omega (arith, at, inside)) ∙ ap (bit_of bytes) at
-  ];
-  rest = λ n low. bit_set_there words k now n (λ e. omega arith) ∙ so_far.rest n (omega arith);
-  agrees = λ n low inside outside. elim (cases_lt n (64 * k)) [
-    | inl before ↦ so_far.agrees n before inside (grow.before n before outside)
-    | inr from ↦
-        let at : 64 * k + (n - 64 * k) ≡ n = omega arith in
-        let small : n - 64 * k < 64 = omega arith in
-        let word : n / 64 ≡ k = omega arith in
-        let bit : n % 64 ≡ n - 64 * k = omega arith in
-        let old : bit_in words n ≡ bit_at (slice_index words k) (n - 64 * k) = ap (λ (i : ℕ). bit_at (slice_index words i) (n % 64)) word ∙ ap (bit_at (slice_index words k)) bit in
-        sym (so_far.rest n from) ∙ old ∙ grow.here (n - 64 * k) small (subst (IsOutsideSpan grown) (sym at) outside)
-        ∙ is (n - 64 * k) small (omega (arith, at, inside)) ∙ ap (bit_of bytes) at
-  ];
-  order = grow.order;
-  end = omega (arith, grow.end);
-}
-
-pub all_kept : (start words bytes : List ℕ) (k : ℕ) (span : BitSpan) → 8 * length bytes ≤ 64 * k → AreReplaced start words bytes k span → HoldBits words bytes
-all_kept start words bytes k span all done = λ n inside. done.holds n (omega arith) inside
-
-pub all_agree : (start words bytes : List ℕ) (k : ℕ) (span : BitSpan) → 8 * length bytes ≤ 64 * k → AreReplaced start words bytes k span → AgreesOutside start bytes span
-all_agree start words bytes k span all done = λ n inside outside. done.agrees n (omega arith) inside outside
-
 -- the bits of a whole word, and of the last one
 pub word_bits : (bytes : List ℕ) (k width now b : ℕ) → now ≡ pattern_of bytes (64 * k) width → b < width → bit_at now b ≡ bit_of bytes (64 * k + b)
 word_bits bytes k width now b is low = ap (λ (w : ℕ). bit_at w b) is ∙ bit_at-pattern_of bytes (64 * k) width b low
@@ -148,3 +93,169 @@ stays span index old now none order within = record {
   order = order;
   end = omega arith;
 }
+
+-- The words before one are compared, and the span has the bits that aren't the same.
+pub record AreCompared (last bytes : List ℕ) (k : ℕ) (span : BitSpan) : Type 0 where
+  pub agrees : (n : ℕ) → n < 64 * k → n < 8 * length bytes → IsOutsideSpan span n → bit_of last n ≡ bit_of bytes n
+  pub order : span.first ≤ span.end
+  pub end : span.end ≤ 64 * k
+
+pub none_compared : (last bytes : List ℕ) → AreCompared last bytes 0 (record { first = 0; end = 0 })
+none_compared last bytes = record {
+  agrees = λ n low within outside. absurd (omega arith);
+  order = omega arith;
+  end = omega arith;
+}
+
+-- one word more
+pub compared_next : (last bytes : List ℕ) (k before now width : ℕ) (span grown : BitSpan) → AreCompared last bytes k span → before ≡ pattern_of last (64 * k) 64 → now ≡ pattern_of bytes (64 * k) width
+    → ((b : ℕ) → b < 64 → 64 * k + b < 8 * length bytes → b < width) → Grows span grown k before now → AreCompared last bytes (k + 1) grown
+compared_next last bytes k before now width span grown so_far was is wide grow = record {
+  agrees = λ n low inside outside. elim (cases_lt n (64 * k)) [
+    | inl earlier ↦ so_far.agrees n earlier inside (grow.before n earlier outside)
+    | inr from ↦
+        let at : 64 * k + (n - 64 * k) ≡ n = omega arith in
+        let small : n - 64 * k < 64 = omega arith in
+        ap (bit_of last) (sym at) ∙ sym (word_bits last k 64 before (n - 64 * k) was small)
+        ∙ grow.here (n - 64 * k) small (subst (IsOutsideSpan grown) (sym at) outside)
+        ∙ word_bits bytes k width now (n - 64 * k) is (wide (n - 64 * k) small (omega (arith, at, inside))) ∙ ap (bit_of bytes) at
+  ];
+  order = grow.order;
+  end = omega (arith, grow.end);
+}
+
+-- words that are the same add nothing to the span
+pub compared_over : (last bytes : List ℕ) (from k : ℕ) (span : BitSpan) → from ≤ k → AreSameWords last bytes from k → AreCompared last bytes from span → AreCompared last bytes k span
+compared_over last bytes from k span order same so_far = record {
+  agrees = λ n earlier inside outside. elim (cases_lt n (64 * from)) [
+    | inl low ↦ so_far.agrees n low inside outside
+    | inr high ↦
+        let at : 64 * (n / 64) + n % 64 ≡ n = omega arith in
+        let low : from ≤ n / 64 = omega arith in
+        let here : n / 64 < k = omega arith in
+        let small : n % 64 < 64 = omega arith in
+        ap (bit_of last) (sym at) ∙ sym (bit_at-pattern_of last (64 * (n / 64)) 64 (n % 64) small)
+        ∙ ap (λ (w : ℕ). bit_at w (n % 64)) (same (n / 64) low here) ∙ bit_at-pattern_of bytes (64 * (n / 64)) 64 (n % 64) small ∙ ap (bit_of bytes) at
+  ];
+  order = so_far.order;
+  end = omega (arith, so_far.end);
+}
+
+-- the high part of a field
+pub high_part : (bytes : List ℕ) (at low high : ℕ) → pattern_of bytes at (low + high) / 2 ^ low ≡ pattern_of bytes (at + low) high
+high_part bytes at low high =
+    rw (pattern_of-add bytes at low high, add_comm (pattern_of bytes at low) (pattern_of bytes (at + low) high * 2 ^ low))
+    (shr_high (pattern_of bytes (at + low) high) low (pattern_of bytes at low) (pattern_of-lt bytes at low))
+
+pub all_compared : (last bytes : List ℕ) (k : ℕ) (span : BitSpan) → 8 * length bytes ≤ 64 * k → AreCompared last bytes k span → SameOutside last bytes span
+all_compared last bytes k span all done = λ n inside outside. done.agrees n (omega arith) inside outside
+
+-- the bytes of a word that was read from others have their bits
+pub word_kept : (from bytes : List ℕ) (word width n : ℕ) → from ≡ to_le_bytes w64 word → word < 2 ^ 64 → word ≡ pattern_of bytes 0 width → n < width → width ≤ 64 → bit_of from n ≡ bit_of bytes n
+word_kept from bytes word width n is fits same low few =
+    let len : length from ≡ 8 = ap (λ (bs : List ℕ). length bs) is in
+    let lowest : word % 256 ≡ word / 1 % 256 = omega arith in
+    let has : HasBytes from word 8 = rw is ((((((((tt, lowest), refl), refl), refl), refl), refl), refl), refl) in
+    let all : 8 * length from ≡ 64 = omega (arith, len) in
+    let whole : pattern_of from 0 64 ≡ word =
+    ap (pattern_of from 0) (sym all) ∙ scattered from word 8 len (subst (λ (m : ℕ). word < 2 ^ m) (sym all) fits) has in
+    let here : 0 + n ≡ n = omega arith in
+    ap (bit_of from) (sym here) ∙ sym (bit_at-pattern_of from 0 64 n (omega arith)) ∙ ap (λ (w : ℕ). bit_at w n) (whole ∙ same)
+    ∙ bit_at-pattern_of bytes 0 width n low ∙ ap (bit_of bytes) here
+
+-- so do they in front of other bytes
+pub word_kept_first : (new from rest bytes : List ℕ) (word width n : ℕ) → new ≡ from → from ≡ to_le_bytes w64 word → word < 2 ^ 64 → word ≡ pattern_of bytes 0 width → n < width → width ≤ 64 → bit_of (new ++ rest) n ≡ bit_of bytes n
+word_kept_first new from rest bytes word width n copied is fits same low few =
+    let len : length new ≡ 8 = ap (λ (bs : List ℕ). length bs) (copied ∙ is) in
+    ap (λ (b : ℕ). bit_at b (n % 8)) (get_or_append_left new rest 0 (n / 8) (omega (arith, len, low, few)))
+    ∙ ap (λ (bs : List ℕ). bit_of bs n) copied ∙ word_kept from bytes word width n is fits same low few
+
+-- eight bytes that are the same as a word have the same bits
+pub same_eight : (last bytes : List ℕ) (first a b : ℕ) → a ≡ pattern_of last (8 * first) 64 → b ≡ pattern_of bytes (8 * first) 64 → a ≡ b → SameFrom last bytes (8 * first) (8 * first + 64)
+same_eight last bytes first a b was now same = λ n low high.
+    let at : 8 * first + (n - 8 * first) ≡ n = omega (arith, low) in
+    let small : n - 8 * first < 64 = omega (arith, low, high) in
+    ap (bit_of last) (sym at) ∙ sym (bit_at-pattern_of last (8 * first) 64 (n - 8 * first) small)
+    ∙ ap (λ (w : ℕ). bit_at w (n - 8 * first)) (sym was ∙ same ∙ now) ∙ bit_at-pattern_of bytes (8 * first) 64 (n - 8 * first) small ∙ ap (bit_of bytes) at
+
+-- bits up to one, and from one on that isn't beyond it
+pub same_on : (last bytes : List ℕ) (a b c d : ℕ) → SameFrom last bytes a b → SameFrom last bytes c d → c ≤ b → SameFrom last bytes a d
+same_on last bytes a b c d one two meet = λ n low high. elim (cases_lt n b) [
+  | inl before ↦ one n low before
+  | inr from ↦ two n (omega (arith, from, meet)) high
+]
+
+-- bits that are the same before an end at or after the last byte are all of them
+pub same_all : (last bytes : List ℕ) (end : ℕ) → SameFrom last bytes 0 end → 8 * length bytes ≤ end → HoldBits last bytes
+same_all last bytes end same all = λ n within. same n (omega arith) (omega (arith, within, all))
+
+-- up to eight bytes that are the same as a word
+pub same_one : (last bytes : List ℕ) (a b : ℕ) → a ≡ pattern_of last 0 64 → b ≡ pattern_of bytes 0 (8 * length bytes) → a ≡ b → length bytes ≤ 8 → HoldBits last bytes
+same_one last bytes a b was now same few = λ n within.
+    let small : n < 64 = omega (arith, within, few) in
+    let start : 0 + n ≡ n = omega arith in
+    ap (bit_of last) (sym start) ∙ sym (bit_at-pattern_of last 0 64 n small) ∙ ap (λ (w : ℕ). bit_at w n) (sym was ∙ same ∙ now)
+    ∙ bit_at-pattern_of bytes 0 (8 * length bytes) n within ∙ ap (bit_of bytes) start
+
+of_test : {P : Type 0} (r : Bool) → (r ≡ true → P) → OnTrue r P
+of_test true h = h refl
+of_test false h = tt
+
+-- where a test of two numbers passes, they are the same
+pub on_same : {P : Type 0} (a b : ℕ) → (a ≡ b → P) → OnTrue (a == b) P
+on_same a b h = of_test (a == b) (λ e. h (same_number a b e))
+
+pow_some : (k : ℕ) → 0 < 2 ^ k
+pow_some zero = omega arith
+pow_some (suc k) = omega (arith, pow_some k, pow-suc 2 k)
+
+most_zero : (x : ℕ) → max x 0 ≡ x
+most_zero x = omega arith
+
+most_other : (x : ℕ) → max 0 x ≡ x
+most_other x = omega arith
+
+most_same : (x : ℕ) → max x x ≡ x
+most_same x = omega arith
+
+-- four bytes and the last four of up to eight are all of them
+pub two_fours : (bytes : List ℕ) (low high k : ℕ) → k ≤ 32 → low ≡ pattern_of bytes 0 32 → high ≡ pattern_of bytes k 32 → bit_or low (high * 2 ^ k) ≡ pattern_of bytes 0 (k + 32)
+two_fours bytes low high k few first last = same_from_bits (bit_or low (high * 2 ^ k)) (pattern_of bytes 0 (k + 32)) each
+  where
+    small : low < 2 ^ 32
+    small = subst (λ (n : ℕ). n < 2 ^ 32) (sym first) (pattern_of-lt bytes 0 32)
+
+    top : high < 2 ^ 32
+    top = subst (λ (n : ℕ). n < 2 ^ 32) (sym last) (pattern_of-lt bytes k 32)
+
+    sum : high * 2 ^ k + 0 ≡ high * 2 ^ k
+    sum = omega arith
+
+    in_low : (i : ℕ) → i < 32 → bit_at low i ≡ bit_of bytes i
+    in_low i h = ap (λ (w : ℕ). bit_at w i) first ∙ bit_at-pattern_of bytes 0 32 i h ∙ ap (bit_of bytes) (omega arith)
+
+    in_all : (i : ℕ) → i < k + 32 → bit_at (pattern_of bytes 0 (k + 32)) i ≡ bit_of bytes i
+    in_all i h = bit_at-pattern_of bytes 0 (k + 32) i h ∙ ap (bit_of bytes) (omega arith)
+
+    under : (i : ℕ) → i < k → bit_at (high * 2 ^ k) i ≡ 0
+    under i h = ap (λ (w : ℕ). bit_at w i) (sym sum) ∙ bit_at_cat_low high k 0 i h ∙ bit_at-zero i
+
+    over : (i : ℕ) → k ≤ i → bit_at (high * 2 ^ k) i ≡ bit_at high (i - k)
+    over i h = ap (λ (w : ℕ). bit_at w i) (sym sum) ∙ bit_at_cat_high high k 0 i (pow_some k) h
+
+    in_high : (i : ℕ) → k ≤ i → i < k + 32 → bit_at (high * 2 ^ k) i ≡ bit_of bytes i
+    in_high i low' high' =
+        let at : k + (i - k) ≡ i = omega (arith, low') in
+        over i low' ∙ ap (λ (w : ℕ). bit_at w (i - k)) last ∙ bit_at-pattern_of bytes k 32 (i - k) (omega (arith, low', high')) ∙ ap (bit_of bytes) at
+
+    each : (i : ℕ) → bit_at (bit_or low (high * 2 ^ k)) i ≡ bit_at (pattern_of bytes 0 (k + 32)) i
+    each i = bit_at_or low (high * 2 ^ k) i ∙ elim (cases_lt i 32) [
+      | inl in_first ↦ elim (cases_lt i k) [
+        | inl before ↦ rw (under i before) (most_zero (bit_at low i) ∙ in_low i in_first ∙ sym (in_all i (omega (arith, in_first))))
+        | inr from ↦ rw (in_high i from (omega (arith, in_first)), in_low i in_first) (most_same (bit_of bytes i) ∙ sym (in_all i (omega (arith, in_first))))
+      ]
+      | inr after ↦ rw (bit_at_above low 32 i small after) (most_other (bit_at (high * 2 ^ k) i) ∙ elim (cases_lt i (k + 32)) [
+        | inl within ↦ in_high i (omega (arith, after, few)) within ∙ sym (in_all i within)
+        | inr past ↦ over i (omega (arith, past)) ∙ bit_at_above high 32 (i - k) top (omega (arith, past)) ∙ sym (bit_at_above (pattern_of bytes 0 (k + 32)) (k + 32) i (pattern_of-lt bytes 0 (k + 32)) past)
+      ])
+    ]

@@ -1,10 +1,13 @@
--- What is known of the last report of a number goes on holding, whichever report is read next.
-use Rattle.std.proofs.Common.{◌≡◌, ◌≢◌, ℕ, ◌+◌, ◌*◌, ◌/◌, ◌%◌, ◌<◌, ◌≤◌, ◌==◌, ◌⊎◌, inl, inr, Bool, true, false, cond, not, List, [], ◌∷◌, length, take, Option, Some, None, ℤ, refl, sym, ap, ◌∙◌, subst, arith, nat_lt, Result, Ok, Err}
-use Rattle.std.specs.List.{slice_get, position}
+-- What is known of the last report of each number goes on holding, whichever report is read next.
+use Rattle.std.proofs.Common.{◌≡◌, ◌≢◌, ℕ, ◌+◌, ◌*◌, ◌/◌, ◌%◌, ◌<◌, ◌≤◌, ◌==◌, ◌⊎◌, inl, inr, Bool, true, false, cond, not, List, [], ◌∷◌, ◌++◌, length, map, take, get_or, zero, suc, Option, Some, None, ℤ, refl, sym, ap, ◌∙◌, subst, arith, nat_lt, Result, Ok, Err}
+use Rattle.std.specs.List.{slice_get, slice_set, position}
+use Rattle.std.specs.Option.{option_and_then}
 use Rattle.std.specs.Int.{bit_at}
+use Rattle.std.specs.Bool.{OnFalse}
 use Rattle.std.proofs.lemmas.List.{get_or-take, length-take-le}
 use Rattle.std.proofs.lemmas.Bool.Decides.{nat_tests}
 use Rattle.std.proofs.lemmas.Bool.{cases_lt}
+use Rattle.std.proofs.lemmas.Option.{slice_get-get_or}
 use Rattle.hid_fields.specs.Field.{bit_of}
 use Rattle.hid_fields.specs.Value.{is_negative}
 use Rattle.hid_report_descriptor.specs.Fields.{is_padding}
@@ -18,14 +21,26 @@ use Rattle.hid_snapshots.specs.declared.fault.ReportFault.TheVariants.{Short}
 use Rattle.hid_snapshots.proofs.CodeLemmas.{both_true}
 use Rattle.hid_snapshots.proofs.NumberLemmas.{numbers_in-agree}
 use Rattle.hid_usages.specs.declared.changed_bits.BitSpan.{BitSpan}
+use Rattle.hid_usages.specs.declared.plan.ReportPlan.{ReportPlan}
 use Rattle.hid_usages.specs.declared.planned_report.PlannedReport.{PlannedReport}
-use Rattle.hid_usages.specs.ChangedBits.{HoldBits, AgreesOutside}
+use Rattle.hid_usages.specs.declared.report_plans.ReportPlans.{ReportPlans}
+use Rattle.hid_usages.specs.ChangedBits.{SameOutside}
 use Rattle.hid_usages.specs.Known.{Leaves, Knows}
-use Rattle.hid_usages.specs.PlannedReports.{id_of, HasPlan, IsPlannedReport, NamesPlanned, IsBegun}
-use Rattle.hid_usages.specs.Reading.{item_numbers, is_data_in, first_byte, is_input_with, whole_report, report_named}
+use Rattle.hid_usages.specs.Plans.{IsPlan}
+use Rattle.hid_usages.specs.PlannedReports.{KeepsBytes, last_bytes, HasPlan, IsPlannedAnew, ArePlannedAnew, Keeps, IsPlannedReport, IsIndex, ArePlanned, without_last}
+use Rattle.hid_usages.specs.Reading.{item_numbers, is_data_in, first_byte, is_input_with, whole_report, report_named, report_begun}
 use Rattle.hid_usages.specs.Taking.{state_after_report_at, events_of_report_at, state_after_numbers_at, events_of_numbers_at, view_from_item, events_from_item, read_view, read_events}
+use Rattle.hid_snapshots.specs.Parts.{IsInput}
+use Rattle.hid_snapshots.proofs.FillLemmas.{set_length}
+use Rattle.hid_snapshots.proofs.ItemLemmas.{set_here, set_there}
 use Rattle.hid_usages.proofs.BitLemmas.{same_number}
 use Rattle.hid_usages.proofs.FixedLemmas.{after_item, view_again, view_other}
+use Rattle.hid_usages.proofs.TakeLemmas.{found_input}
+
+-- what holds where a test fails
+pub holds_off : {P : Type 0} (b : Bool) → OnFalse b P → b ≡ false → P
+holds_off false h e = h
+holds_off true h e = absurd (cc)
 
 bit_of_take : (bytes : List ℕ) (n k : ℕ) → k < 8 * n → bit_of (take n bytes) k ≡ bit_of bytes k
 bit_of_take bytes n k within = ap (λ (b : ℕ). bit_at b (k % 8)) (get_or-take n bytes (k / 8) 0 (omega arith))
@@ -141,114 +156,45 @@ named_whole layout bytes r h = by_numbered layout.numbered h
 not_short : (a b : ℕ) → b ≤ a → nat_lt a b ≡ false
 not_short a b h = grind (arith, nat_tests)
 
-first_is : (bytes : List ℕ) (id : ℕ) → slice_get bytes 0 ≡ Some id → first_byte bytes ≡ Some id
-first_is [] id h = absurd (cc)
-first_is (b ∷ bytes) id h = let e : b ≡ id = cc in ap Some e
+is_short : (a b : ℕ) → a < b → nat_lt a b ≡ true
+is_short a b h = grind (arith, nat_tests)
 
--- bytes that begin with the ID of a report with a plan, and fill it, name it
-pub planned_named : (layout : Contents) (planned : PlannedReport) (bytes : List ℕ) → HasPlan layout planned → NamesPlanned layout planned bytes → report_named layout bytes ≡ Ok planned.report
-planned_named layout planned bytes plan names = by_numbered layout.numbered refl
+-- the report that bytes name is the one that they begin
+named_as_begun : (layout : Contents) (bytes : List ℕ) (r : ℕ) → report_begun layout bytes ≡ Some r → report_named layout bytes ≡ whole_report layout bytes (Some r)
+named_as_begun layout bytes r h = by_numbered layout.numbered h
   where
-    long : nat_lt (length bytes) (report_bytes layout planned.report) ≡ false
-    long = not_short (length bytes) (report_bytes layout planned.report) (omega (arith, plan.room, names.long))
+    of_byte : (o : Option ℕ) → option_and_then (λ id. position (is_input_with id) layout.reports) o ≡ Some r
+        → elim o as (λ _. Result ℕ ReportFault) [ None ↦ Err Short | Some id ↦ whole_report layout bytes (position (is_input_with id) layout.reports) ] ≡ whole_report layout bytes (Some r)
+    of_byte None k = absurd (cc)
+    of_byte (Some id) k = ap (whole_report layout bytes) k
 
-    whole : whole_report layout bytes (Some planned.report) ≡ Ok planned.report
-    whole = ap (λ (b : Bool). let a : Result ℕ ReportFault = Err Short in cond b a (Ok planned.report)) long
+    by_numbered : (b : Bool) → cond b (option_and_then (λ id. position (is_input_with id) layout.reports) (first_byte bytes)) (position (is_input_with 0) layout.reports) ≡ Some r
+        → cond b (elim (first_byte bytes) as (λ _. Result ℕ ReportFault) [ None ↦ Err Short | Some id ↦ whole_report layout bytes (position (is_input_with id) layout.reports) ]) (whole_report layout bytes (position (is_input_with 0) layout.reports)) ≡ whole_report layout bytes (Some r)
+    by_numbered true k = of_byte (first_byte bytes) k
+    by_numbered false k = ap (whole_report layout bytes) k
 
-    found : (id : ℕ) → id ≡ planned.id → whole_report layout bytes (position (is_input_with id) layout.reports) ≡ Ok planned.report
-    found id e =
-        ap (λ (n : ℕ). whole_report layout bytes (position (is_input_with n) layout.reports)) e
-        ∙ ap (whole_report layout bytes) plan.found ∙ whole
+-- bytes that begin an Input report, and fill it, name it
+pub begun_named : (layout : Contents) (bytes : List ℕ) (r : ℕ) → report_begun layout bytes ≡ Some r → report_bytes layout r ≤ length bytes → report_named layout bytes ≡ Ok r
+begun_named layout bytes r h long = named_as_begun layout bytes r h ∙ ap (λ (b : Bool). let a : Result ℕ ReportFault = Err Short in cond b a (Ok r)) (not_short (length bytes) (report_bytes layout r) long)
 
-    by_numbered : (b : Bool) → layout.numbered ≡ b → cond b (elim (first_byte bytes) as (λ _. Result ℕ ReportFault) [ None ↦ Err Short | Some id ↦ whole_report layout bytes (position (is_input_with id) layout.reports) ]) (whole_report layout bytes (position (is_input_with 0) layout.reports)) ≡ Ok planned.report
-    by_numbered true e =
-        ap (λ (o : Option ℕ). elim o as (λ _. Result ℕ ReportFault) [ None ↦ Err Short | Some id ↦ whole_report layout bytes (position (is_input_with id) layout.reports) ]) (first_is bytes planned.id (names.id e))
-        ∙ found planned.id refl
-    by_numbered false e = found 0 (sym (plan.unnumbered e))
+-- fewer are too short
+pub begun_short : (layout : Contents) (bytes : List ℕ) (r : ℕ) → report_begun layout bytes ≡ Some r → length bytes < report_bytes layout r → report_named layout bytes ≡ Err Short
+begun_short layout bytes r h short = named_as_begun layout bytes r h ∙ ap (λ (b : Bool). let a : Result ℕ ReportFault = Err Short in cond b a (Ok r)) (is_short (length bytes) (report_bytes layout r) short)
 
--- outside of the bits that changed, those of a report are those of the last one
-pub known_by_last : (layout : Contents) (view : List ControlState) (planned : PlannedReport) (bytes : List ℕ) (span : BitSpan) → IsPlannedReport layout view planned → planned.room ≤ length bytes
-    → AgreesOutside planned.words (take planned.room bytes) span → Knows layout planned.report bytes span view
-known_by_last layout view planned bytes span is long agrees =
-    let size : length (take planned.room bytes) ≡ planned.room = length-take-le planned.room bytes long in
-    record {
-      last = is.last.last;
-      whole = is.last.whole ∙ is.plan.room;
-      same = λ n within outside.
-          let low : n < 8 * planned.room = omega (arith, within, is.last.whole) in
-          sym (bit_of_take bytes planned.room n low) ∙ sym (agrees n (omega (arith, low, size)) outside) ∙ is.last.holds n within;
-      left = is.last.left;
-    }
+pub begun_input : (layout : Contents) (bytes : List ℕ) (r : ℕ) → report_begun layout bytes ≡ Some r → IsInput layout r
+begun_input layout bytes r h = by_numbered layout.numbered h
+  where
+    of_byte : (o : Option ℕ) → option_and_then (λ id. position (is_input_with id) layout.reports) o ≡ Some r → IsInput layout r
+    of_byte None k = absurd (cc)
+    of_byte (Some id) k = found_input id layout r k
 
--- a report that is read is the last one then
-pub planned_read : (layout : Contents) (view view' : List ControlState) (planned : PlannedReport) (words : List ℕ) (silent : Bool) (bytes : List ℕ) → IsLayout layout → HasPlan layout planned → planned.room ≤ length bytes
-    → HoldBits words (take planned.room bytes) → view' ≡ read_view layout planned.report bytes view → (silent ≡ true → read_events layout planned.report bytes view' ≡ [])
-    → IsPlannedReport layout view' (record planned { words = words; is_silent = silent })
-planned_read layout view view' planned words silent bytes laid plan long holds read none = record {
-  plan = record { input = plan.input; found = plan.found; unnumbered = plan.unnumbered; room = plan.room; few = plan.few; plan = plan.plan };
-  last = record {
-    last = take planned.room bytes;
-    whole = length-take-le planned.room bytes long;
-    holds = holds;
-    left =
-        let whole = view_whole layout planned.report bytes view' laid in
-        ap (λ (n : ℕ). read_view layout planned.report (take n bytes) view') plan.room ∙ whole.0
-        ∙ subst (λ (v : List ControlState). read_view layout planned.report bytes v ≡ v) (sym read) (view_again layout planned.report bytes view);
-    silent = λ e. ap (λ (n : ℕ). read_events layout planned.report (take n bytes) view') plan.room ∙ (view_whole layout planned.report bytes view' laid).1 ∙ none e;
-  };
-}
+    by_numbered : (b : Bool) → cond b (option_and_then (λ id. position (is_input_with id) layout.reports) (first_byte bytes)) (position (is_input_with 0) layout.reports) ≡ Some r → IsInput layout r
+    by_numbered true k = of_byte (first_byte bytes) k
+    by_numbered false k = found_input 0 layout r k
 
--- a report with the bits of the last one
-pub same_bits : (layout : Contents) (view : List ControlState) (planned : PlannedReport) (bytes : List ℕ) (span : BitSpan) → IsLayout layout → IsPlannedReport layout view planned → planned.room ≤ length bytes
-    → AgreesOutside planned.words (take planned.room bytes) span → span.end ≡ 0
-    → (read_view layout planned.report bytes view ≡ view) × (planned.is_silent ≡ true → read_events layout planned.report bytes view ≡ [])
-unfolding known_by_last
-same_bits layout view planned bytes span laid is long agrees none =
-    let known = known_by_last layout view planned bytes span is long agrees in
-    let same = view_agree layout planned.report bytes known.last view laid (λ n within. known.same n (omega (arith, within, known.whole)) (inr (omega (arith, none)))) in
-    (same.0 ∙ known.left, λ e. same.1 ∙ is.last.silent e)
-
--- A report with the bits of the last one leaves the view, and is the last one then.
-pub planned_same : (layout : Contents) (view : List ControlState) (planned : PlannedReport) (words bytes : List ℕ) (span : BitSpan) → IsLayout layout → IsPlannedReport layout view planned → planned.room ≤ length bytes
-    → AgreesOutside planned.words (take planned.room bytes) span → span.end ≡ 0 → HoldBits words (take planned.room bytes)
-    → IsPlannedReport layout view (record planned { words = words })
-planned_same layout view planned words bytes span laid is long agrees none holds =
-    let same = same_bits layout view planned bytes span laid is long agrees none in
-    planned_read layout view view planned words planned.is_silent bytes laid is.plan long holds (sym same.0) same.1
-
--- what is known of the last report goes on holding after another one
-pub planned_other : (layout : Contents) (view : List ControlState) (r : ℕ) (bytes : List ℕ) (planned : PlannedReport) → IsPlannedReport layout view planned → r ≢ planned.report → IsPlannedReport layout (read_view layout r bytes view) planned
-planned_other layout view r bytes planned is apart = record {
-  plan = is.plan;
-  last = record {
-    last = is.last.last;
-    whole = is.last.whole;
-    holds = is.last.holds;
-    left = view_other layout planned.report r is.last.last bytes view (λ e. apart (sym e)) is.last.left;
-    silent = λ e. told_other layout planned.report r is.last.last bytes 0 view (λ e. apart (sym e)) ∙ is.last.silent e;
-  };
-}
-
--- the first report that is planned leaves the view that it made
-pub planned_begun : (layout : Contents) (view view' : List ControlState) (r : ℕ) (bytes : List ℕ) (planned : PlannedReport) → IsLayout layout → IsBegun layout r bytes planned → report_bytes layout r ≤ length bytes → view' ≡ read_view layout r bytes view
-    → IsPlannedReport layout view' planned
-planned_begun layout view view' r bytes planned laid begun long read =
-    let bytes_of : report_bytes layout planned.report ≡ report_bytes layout r = ap (report_bytes layout) begun.report in
-    record {
-      plan = begun.plan;
-      last = record {
-        last = take (report_bytes layout r) bytes;
-        whole = length-take-le (report_bytes layout r) bytes long ∙ sym (begun.plan.room ∙ bytes_of);
-        holds = begun.holds;
-        left = subst (λ (n : ℕ). Leaves layout n (take (report_bytes layout r) bytes) view') (sym begun.report)
-            ((view_whole layout r bytes view' laid).0 ∙ subst (λ (v : List ControlState). read_view layout r bytes v ≡ v) (sym read) (view_again layout r bytes view));
-        silent = λ e. absurd (let f : true ≡ false = sym e ∙ begun.loud in cc);
-      };
-    }
-
--- the report that bytes name is the one with their ID
-pub found_by_id : (layout : Contents) (bytes : List ℕ) (r : ℕ) → report_named layout bytes ≡ Ok r → position (is_input_with (id_of layout bytes)) layout.reports ≡ Some r
-found_by_id layout bytes r h = by_numbered layout.numbered h
+-- bytes that name a report begin it
+pub named_begun : (layout : Contents) (bytes : List ℕ) (r : ℕ) → report_named layout bytes ≡ Ok r → report_begun layout bytes ≡ Some r
+named_begun layout bytes r h = by_numbered layout.numbered h
   where
     of_size : (n : ℕ) (b : Bool) → (let a : Result ℕ ReportFault = Err Short in cond b a (Ok n)) ≡ Ok r → n ≡ r
     of_size n true e = absurd (cc)
@@ -259,15 +205,161 @@ found_by_id layout bytes r h = by_numbered layout.numbered h
     of_found (Some n) k = ap Some (of_size n (nat_lt (length bytes) (report_bytes layout n)) k)
 
     of_byte : (o : Option ℕ) → elim o as (λ _. Result ℕ ReportFault) [ None ↦ Err Short | Some id ↦ whole_report layout bytes (position (is_input_with id) layout.reports) ] ≡ Ok r
-        → position (is_input_with (elim o as (λ _. ℕ) [ None ↦ 0 | Some id ↦ id ])) layout.reports ≡ Some r
+        → option_and_then (λ id. position (is_input_with id) layout.reports) o ≡ Some r
     of_byte None k = absurd (cc)
     of_byte (Some id) k = of_found (position (is_input_with id) layout.reports) k
 
     by_numbered : (b : Bool) → cond b (elim (first_byte bytes) as (λ _. Result ℕ ReportFault) [ None ↦ Err Short | Some id ↦ whole_report layout bytes (position (is_input_with id) layout.reports) ]) (whole_report layout bytes (position (is_input_with 0) layout.reports)) ≡ Ok r
-        → position (is_input_with (cond b (elim (first_byte bytes) as (λ _. ℕ) [ None ↦ 0 | Some id ↦ id ]) 0)) layout.reports ≡ Some r
+        → cond b (option_and_then (λ id. position (is_input_with id) layout.reports) (first_byte bytes)) (position (is_input_with 0) layout.reports) ≡ Some r
     by_numbered true k = of_byte (first_byte bytes) k
     by_numbered false k = of_found (position (is_input_with 0) layout.reports) k
 
--- without numbers the ID is 0
-pub id_unnumbered : (layout : Contents) (bytes : List ℕ) → layout.numbered ≡ false → id_of layout bytes ≡ 0
-id_unnumbered layout bytes h = ap (λ (b : Bool). cond b (elim (first_byte bytes) as (λ _. ℕ) [ None ↦ 0 | Some id ↦ id ]) 0) h
+-- the bytes that are kept fill the report
+last_length : (planned : PlannedReport) → KeepsBytes planned → length (last_bytes planned) ≡ planned.room
+last_length planned kept = length-take-le planned.room planned.last.items (omega (arith, kept))
+
+-- outside of the bits that changed, those of a report are those of the last one
+pub known_by_last : (layout : Contents) (r : ℕ) (view : List ControlState) (planned : PlannedReport) (bytes : List ℕ) (span : BitSpan) → HasPlan layout r planned → planned.room ≤ length bytes → Leaves layout r (last_bytes planned) view
+    → SameOutside planned.last.items (take planned.room bytes) span → Knows layout r bytes (last_bytes planned) span view
+known_by_last layout r view planned bytes span plan long left agrees = record {
+  whole = last_length planned plan.kept ∙ plan.room;
+  same = λ n within outside.
+      let low : n < 8 * planned.room = omega (arith, within, last_length planned plan.kept) in
+      sym (bit_of_take bytes planned.room n low) ∙ sym (agrees n (omega (arith, low, length-take-le planned.room bytes long)) outside) ∙ sym (bit_of_take planned.last.items planned.room n low);
+  left = left;
+}
+
+-- a report with the bits of the last one
+pub same_bits : (layout : Contents) (r : ℕ) (view : List ControlState) (planned : PlannedReport) (bytes : List ℕ) (span : BitSpan) → IsLayout layout → IsPlannedReport layout r view planned → planned.is_known ≡ true → planned.room ≤ length bytes
+    → SameOutside planned.last.items (take planned.room bytes) span → span.end ≡ 0
+    → (read_view layout r bytes view ≡ view) × (planned.is_silent ≡ true → read_events layout r bytes view ≡ [])
+unfolding known_by_last
+same_bits layout r view planned bytes span laid is known long agrees none =
+    let knows = known_by_last layout r view planned bytes span is.plan long (is.left known) agrees in
+    let same = view_agree layout r bytes (last_bytes planned) view laid (λ n within. knows.same n (omega (arith, within, knows.whole)) (inr (omega (arith, none)))) in
+    (same.0 ∙ is.left known, λ e. same.1 ∙ is.silent known e)
+
+-- a report that is read is the last one then
+pub planned_read : (layout : Contents) (r : ℕ) (view view' : List ControlState) (planned planned' : PlannedReport) (silent : Bool) (bytes : List ℕ) → IsLayout layout → HasPlan layout r planned → planned.room ≤ length bytes
+    → Keeps planned bytes silent planned' → view' ≡ read_view layout r bytes view → (silent ≡ true → read_events layout r bytes view' ≡ []) → IsPlannedReport layout r view' planned'
+planned_read layout r view view' planned planned' silent bytes laid plan long keeps read none =
+    let agree : AgreeIn layout r (last_bytes planned') bytes = λ k within.
+    let low : k < 8 * planned.room = omega (arith, within, plan.room) in
+    let kept : k < 8 * length (take planned.room bytes) = omega (arith, low, length-take-le planned.room bytes long) in
+    bit_of_take planned'.last.items planned'.room k (omega (arith, low, keeps.room)) ∙ keeps.bits k kept ∙ bit_of_take bytes planned.room k low
+    in
+    let whole = view_agree layout r (last_bytes planned') bytes view' laid agree in
+    record {
+      plan = record {
+        room = keeps.room ∙ plan.room;
+        kept = keeps.kept;
+        plan = subst (λ (p : ReportPlan). IsPlan layout r p) (sym keeps.plan) plan.plan;
+      };
+      left = λ known. whole.0 ∙ subst (λ (v : List ControlState). read_view layout r bytes v ≡ v) (sym read) (view_again layout r bytes view);
+      silent = λ known e. whole.1 ∙ none (sym keeps.quiet ∙ e);
+    }
+
+-- what is known of the last report goes on holding after another one
+planned_other : (layout : Contents) (view : List ControlState) (r s : ℕ) (bytes : List ℕ) (planned : PlannedReport) → IsPlannedReport layout s view planned → r ≢ s → IsPlannedReport layout s (read_view layout r bytes view) planned
+planned_other layout view r s bytes planned is apart = record {
+  plan = is.plan;
+  left = λ known. view_other layout s r (last_bytes planned) bytes view (λ e. apart (sym e)) (is.left known);
+  silent = λ known e. told_other layout s r (last_bytes planned) bytes 0 view (λ e. apart (sym e)) ∙ is.silent known e;
+}
+
+-- what stands at a place once one is put at a place
+set_cases : {A : Type 0} (xs : List A) (r s : ℕ) (new x : A) → r < length xs → slice_get (slice_set xs r new) s ≡ Some x → ((r ≡ s) × (new ≡ x)) ⊎ ((r ≢ s) × (slice_get xs s ≡ Some x))
+set_cases xs r s new x within h = elim (one_or_other r s) [
+  | inl e ↦
+      let here : slice_get (slice_set xs r new) s ≡ Some new = subst (λ (n : ℕ). slice_get (slice_set xs r new) n ≡ Some new) e (set_here xs r new within) in
+      let one : Some new ≡ Some x = sym here ∙ h in
+      let same : new ≡ x = cc in
+      inl (e, same)
+  | inr ne ↦ inr (ne, sym (set_there xs r s new ne) ∙ h)
+]
+
+-- THE INVARIANT OF ALL REPORTS: what is kept of each leaves the view, whichever one is read next.
+pub plans_read : (layout : Contents) (view view' : List ControlState) (plans plans' : ReportPlans) (r : ℕ) (bytes : List ℕ) (planned' : PlannedReport) → ArePlanned layout view plans → r < length plans.reports.items
+    → view' ≡ read_view layout r bytes view → IsPlannedReport layout r view' planned' → plans'.index.items ≡ plans.index.items → plans'.reports.items ≡ slice_set plans.reports.items r planned'
+    → ArePlanned layout view' plans'
+plans_read layout view view' plans plans' r bytes planned' are within read now index reports = record {
+  index = subst (λ (xs : List ℕ). IsIndex layout xs) (sym index) are.index;
+  there = λ s input. omega (arith, are.there s input, ap (λ (xs : List PlannedReport). length xs) reports, set_length plans.reports.items r planned');
+  each = λ s x h. elim (set_cases plans.reports.items r s planned' x within (ap (λ (xs : List PlannedReport). slice_get xs s) (sym reports) ∙ h)) [
+    | inl a ↦ subst (λ (n : ℕ). IsPlannedReport layout n view' x) a.0 (subst (λ (p : PlannedReport). IsPlannedReport layout r view' p) a.1 now)
+    | inr b ↦ subst (λ (v : List ControlState). IsPlannedReport layout s v x) (sym read) (planned_other layout view r s bytes x (are.each s x b.1) b.0)
+  ];
+}
+
+-- of a report that none came of nothing is claimed of the view
+pub planned_anew : (layout : Contents) (r : ℕ) (view : List ControlState) (planned : PlannedReport) → HasPlan layout r planned → planned.is_known ≡ false → IsPlannedReport layout r view planned
+planned_anew layout r view planned plan none = record {
+  plan = plan;
+  left = λ known. absurd (let e : true ≡ false = sym known ∙ none in cc);
+  silent = λ known quiet. absurd (let e : true ≡ false = sym known ∙ none in cc);
+}
+
+-- an element of a list with one more
+snoc_cases : {A : Type 0} (xs : List A) (x : A) (r : ℕ) (y : A) → slice_get (xs ++ x ∷ []) r ≡ Some y → (slice_get xs r ≡ Some y) ⊎ ((r ≡ length xs) × (x ≡ y))
+snoc_cases [] x zero y h = let e : x ≡ y = cc in inr (refl, e)
+snoc_cases [] x (suc r) y h = absurd (cc)
+snoc_cases (z ∷ xs) x zero y h = inl h
+snoc_cases (z ∷ xs) x (suc r) y h = elim (snoc_cases xs x r y h) [
+  | inl a ↦ inl a
+  | inr b ↦ inr (ap suc b.0, b.1)
+]
+
+-- one report more is planned
+pub anew_next : (layout : Contents) (reports reports' : List PlannedReport) (n : ℕ) (planned : PlannedReport) → length reports ≡ n → ((r : ℕ) (p : PlannedReport) → slice_get reports r ≡ Some p → IsPlannedAnew layout r p) → IsPlannedAnew layout n planned
+    → reports' ≡ reports ++ planned ∷ [] → (r : ℕ) (p : PlannedReport) → slice_get reports' r ≡ Some p → IsPlannedAnew layout r p
+anew_next layout reports reports' n planned len each now next r p h = elim (snoc_cases reports planned r p (ap (λ (xs : List PlannedReport). slice_get xs r) (sym next) ∙ h)) [
+  | inl a ↦ each r p a
+  | inr b ↦ subst (λ (k : ℕ). IsPlannedAnew layout k p) (let e : n ≡ r = omega (arith, len, b.0) in e) (subst (λ (q : PlannedReport). IsPlannedAnew layout n q) b.1 now)
+]
+
+-- reports of which none came suit any view
+pub all_anew : (layout : Contents) (view : List ControlState) (plans : ReportPlans) → IsIndex layout plans.index.items → ArePlannedAnew layout plans.reports.items → ArePlanned layout view plans
+all_anew layout view plans index anew = record {
+  index = index;
+  there = anew.there;
+  each = λ r p h. planned_anew layout r view p (anew.each r p h).plan (anew.each r p h).none;
+}
+
+forgotten_from : (reports : List PlannedReport) (r : ℕ) (p : PlannedReport) → slice_get (map without_last reports) r ≡ Some p → (q : PlannedReport) × (slice_get reports r ≡ Some q) × (without_last q ≡ p)
+forgotten_from [] r p h = absurd (cc)
+forgotten_from (q ∷ reports) zero p h = let e : without_last q ≡ p = cc in (q, refl, e)
+forgotten_from (q ∷ reports) (suc r) p h = forgotten_from reports r p h
+
+pub forgotten_length : (reports : List PlannedReport) → length (map without_last reports) ≡ length reports
+forgotten_length [] = refl
+forgotten_length (p ∷ reports) = ap suc (forgotten_length reports)
+
+-- once they are forgotten they suit any view
+pub plans_forgotten : (layout : Contents) (view view' : List ControlState) (plans plans' : ReportPlans) → ArePlanned layout view plans → plans'.index.items ≡ plans.index.items → plans'.reports.items ≡ map without_last plans.reports.items → ArePlanned layout view' plans'
+plans_forgotten layout view view' plans plans' are index reports = record {
+  index = subst (λ (xs : List ℕ). IsIndex layout xs) (sym index) are.index;
+  there = λ s input. omega (arith, are.there s input, ap (λ (xs : List PlannedReport). length xs) reports, forgotten_length plans.reports.items);
+  each = λ s x h.
+      let from = forgotten_from plans.reports.items s x (ap (λ (xs : List PlannedReport). slice_get xs s) (sym reports) ∙ h) in
+      let plan = (are.each s from.0 from.1).plan in
+      planned_anew layout s view' x (subst (λ (p : PlannedReport). HasPlan layout s p) from.2 (record { room = plan.room; kept = plan.kept; plan = plan.plan })) (sym (ap (λ (p : PlannedReport). p.is_known) from.2));
+}
+
+-- the report that an index has of an ID
+pub index_put : (layout : Contents) (index : List ℕ) (id r : ℕ) → IsIndex layout index → id < length index → position (is_input_with id) layout.reports ≡ Some r → IsIndex layout (slice_set index id r)
+index_put layout index id r is within found = λ n s h low. elim (set_cases index id n r s within h) [
+  | inl a ↦ subst (λ (i : ℕ). position (is_input_with i) layout.reports ≡ Some s) a.0 (found ∙ ap Some a.1)
+  | inr b ↦ is n s b.1 low
+]
+
+-- the report with its plan at a place
+pub planned_there : (layout : Contents) (view : List ControlState) (plans : ReportPlans) (r : ℕ) (planned : PlannedReport) → ArePlanned layout view plans → IsInput layout r → planned ≡ get_or plans.reports.items r planned → slice_get plans.reports.items r ≡ Some planned
+planned_there layout view plans r planned are input is = slice_get-get_or plans.reports.items r planned (are.there r input) ∙ ap Some (sym is)
+
+-- plans of which nothing changes
+pub plans_same : (layout : Contents) (view : List ControlState) (plans plans' : ReportPlans) → ArePlanned layout view plans → plans'.index.items ≡ plans.index.items → plans'.reports.items ≡ plans.reports.items → ArePlanned layout view plans'
+plans_same layout view plans plans' are index reports = record {
+  index = subst (λ (xs : List ℕ). IsIndex layout xs) (sym index) are.index;
+  there = λ s input. omega (arith, are.there s input, ap (λ (xs : List PlannedReport). length xs) reports);
+  each = λ s x h. are.each s x (ap (λ (xs : List PlannedReport). slice_get xs s) (sym reports) ∙ h);
+}

@@ -1,9 +1,12 @@
 pub mod EventLemmas
 pub mod UsageLemmas
+pub mod SourceLemmas
+pub mod ValueLemmas
 pub mod ViewLemmas
 pub mod NamedLemmas
 pub mod KeyLemmas
 pub mod KeySearchLemmas
+pub mod ChangedKeyLemmas
 pub mod TakeLemmas
 pub mod PressLemmas
 pub mod BitLemmas
@@ -23,6 +26,7 @@ pub mod ReaderLemmas
 pub mod ChangedBitLemmas
 pub mod FixedLemmas
 pub mod PassingLemmas
+pub mod PlanOrderLemmas
 pub mod RangeLemmas
 pub mod LastLemmas
 pub mod Vectors

@@ -40,7 +40,7 @@ only_place test xs r x h ok only =
         elim (cases_Bool (test (get_or xs k x))) [ inl e ↦ absurd (let same = only k (get_or xs k x) there e in omega arith) | inr e ↦ e ]
 
 -- the report of this number is the one Input report with its ID
-input_with : (layout : Contents) (r : ℕ) (report : Report) → IsLayout layout → IsInput layout r → slice_get layout.reports r ≡ Some report → position (is_input_with report.id) layout.reports ≡ Some r
+pub input_with : (layout : Contents) (r : ℕ) (report : Report) → IsLayout layout → IsInput layout r → slice_get layout.reports r ≡ Some report → position (is_input_with report.id) layout.reports ≡ Some r
 input_with layout r report laid input there = only_place (is_input_with report.id) layout.reports r report there passes only
   where
     kind : same_kind report.kind Input ≡ true

@@ -24,8 +24,10 @@ use Rattle.hid_usages.specs.declared.changed_bits.BitSpan.{BitSpan}
 use Rattle.hid_usages.specs.declared.plan.PlannedItem.{PlannedItem}
 use Rattle.hid_usages.specs.declared.plan.PlannedKind.TheVariants as kind
 use Rattle.hid_usages.specs.Bits.{are_bits}
-use Rattle.hid_usages.specs.Plans.{kind_of_controls, kind_of_shape, planned_kind, place_of, IsPlannedItem, IsPlan}
-use Rattle.hid_usages.specs.Known.{SameOutside, Knows, KnowsPlace, IsPassed}
+use Rattle.hid_usages.specs.declared.plan.ReportPlan.{ReportPlan}
+use Rattle.hid_usages.specs.ChangedBits.{SameOutside}
+use Rattle.hid_usages.specs.Plans.{kind_of_controls, kind_of_shape, planned_kind, place_of, IsPlannedItem, IsPassed, IsPlan}
+use Rattle.hid_usages.specs.Known.{Knows, KnowsPlace}
 use Rattle.hid_usages.specs.Reading.{item_numbers}
 use Rattle.hid_usages.specs.Taking.{list_at, state_after_report_at, events_of_report_at}
 use Rattle.hid_usages.proofs.BitLemmas.{has_bits}
@@ -155,34 +157,33 @@ absolute_shape m us Array h = tt
 absolute_shape m us Variable h = no_motion_kind (are_bits m) (element_kind m) h (λ e. (has_bits m e).kind)
 
 -- An item that is passed over stays, and gives no event.
-pub passed_stays : (layout : Contents) (r : ℕ) (bytes : List ℕ) (span : BitSpan) (planned : PlannedItem) (m : MainItem) (state : ControlState) → IsLayout layout → IsPlannedItem layout planned → slice_get layout.items planned.place ≡ Some m → m.report ≡ r
-    → IsPassed planned span → KnowsPlace layout r bytes span planned.place state → state_after_report_at layout r bytes planned.place state ≡ state
-passed_stays layout r bytes span planned m state laid p listed is passed known =
-    left_by_bits layout r known.last bytes planned.place m state listed (passed_numbers layout r planned m span bytes known.last laid p listed is known.whole passed known.same) known.left
+pub passed_stays : (layout : Contents) (r : ℕ) (bytes last : List ℕ) (span : BitSpan) (planned : PlannedItem) (m : MainItem) (state : ControlState) → IsLayout layout → IsPlannedItem layout planned → slice_get layout.items planned.place ≡ Some m → m.report ≡ r
+    → IsPassed planned span → KnowsPlace layout r bytes last span planned.place state → state_after_report_at layout r bytes planned.place state ≡ state
+passed_stays layout r bytes last span planned m state laid p listed is passed known =
+    left_by_bits layout r last bytes planned.place m state listed (passed_numbers layout r planned m span bytes last laid p listed is known.whole passed known.same) known.left
 
-pub passed_silent : (layout : Contents) (r : ℕ) (bytes : List ℕ) (span : BitSpan) (planned : PlannedItem) (m : MainItem) (state : ControlState) → IsLayout layout → IsInput layout r → IsPlannedItem layout planned → slice_get layout.items planned.place ≡ Some m → m.report ≡ r
-    → IsPassed planned span → KnowsPlace layout r bytes span planned.place state → events_of_report_at layout r bytes planned.place state ≡ []
-passed_silent layout r bytes span planned m state laid input p listed is passed known =
+pub passed_silent : (layout : Contents) (r : ℕ) (bytes last : List ℕ) (span : BitSpan) (planned : PlannedItem) (m : MainItem) (state : ControlState) → IsLayout layout → IsInput layout r → IsPlannedItem layout planned → slice_get layout.items planned.place ≡ Some m → m.report ≡ r
+    → IsPassed planned span → KnowsPlace layout r bytes last span planned.place state → events_of_report_at layout r bytes planned.place state ≡ []
+passed_silent layout r bytes last span planned m state laid input p listed is passed known =
     let as_planned = planned_as layout planned m p listed in
-    silent_by_bits layout r known.last bytes planned.place m state listed (passed_numbers layout r planned m span bytes known.last laid p listed is known.whole passed known.same)
+    silent_by_bits layout r last bytes planned.place m state listed (passed_numbers layout r planned m span bytes last laid p listed is known.whole passed known.same)
     (λ e. subst TellsNoMotion (sym (form_of_item layout r planned.place m laid input (data_if layout r planned.place m listed e)))
     (absolute_shape m (list_at layout planned.place) m.shape (λ k. passed.absolute (as_planned.2 ∙ k))))
     known.left
 
 -- what is known of a view is known of each of its control states
-pub place_known : (layout : Contents) (r : ℕ) (bytes : List ℕ) (span : BitSpan) (view : List ControlState) (i : ℕ) (state : ControlState) → Knows layout r bytes span view → slice_get view i ≡ Some state → KnowsPlace layout r bytes span i state
-place_known layout r bytes span view i state known h = record {
-  last = known.last;
+pub place_known : (layout : Contents) (r : ℕ) (bytes last : List ℕ) (span : BitSpan) (view : List ControlState) (i : ℕ) (state : ControlState) → Knows layout r bytes last span view → slice_get view i ≡ Some state → KnowsPlace layout r bytes last span i state
+place_known layout r bytes last span view i state known h = record {
   whole = known.whole;
   same = known.same;
   left =
-      let e : Some (state_after_report_at layout r known.last i state) ≡ Some state = sym (read_view-at layout r known.last view i state h) ∙ ap (λ (cs : List ControlState). slice_get cs i) known.left ∙ h in
+      let e : Some (state_after_report_at layout r last i state) ≡ Some state = sym (read_view-at layout r last view i state h) ∙ ap (λ (cs : List ControlState). slice_get cs i) known.left ∙ h in
       cc;
 }
 
 -- of the control states that are lent
-pub known_of : (layout : Contents) (r : ℕ) (bytes : List ℕ) (span : BitSpan) (view states : List ControlState) → view ≡ states → Knows layout r bytes span view → Knows layout r bytes span states
-known_of layout r bytes span view states same h = subst (λ (cs : List ControlState). Knows layout r bytes span cs) same h
+pub known_of : (layout : Contents) (r : ℕ) (bytes last : List ℕ) (span : BitSpan) (view states : List ControlState) → view ≡ states → Knows layout r bytes last span view → Knows layout r bytes last span states
+known_of layout r bytes last span view states same h = subst (λ (cs : List ControlState). Knows layout r bytes last span cs) same h
 
 -- the place of an item of a plan
 pub place_at : (plan : List PlannedItem) (k : ℕ) (planned : PlannedItem) → slice_get plan k ≡ Some planned → slice_get (map place_of plan) k ≡ Some planned.place
@@ -209,7 +210,7 @@ places_length [] = refl
 places_length (p ∷ plan) = ap suc (places_length plan)
 
 -- the items of a plan are listed
-pub planned_places : (layout : Contents) (r : ℕ) (plan : List PlannedItem) → IsPlan layout r plan → All (λ place. place < length layout.items) (map place_of plan)
+pub planned_places : (layout : Contents) (r : ℕ) (plan : ReportPlan) → IsPlan layout r plan → All (λ place. place < length layout.items) (map place_of plan.items.items)
 planned_places layout r plan is = subst (All (λ place. place < length layout.items)) (sym is.places) (plan_within layout r)
 
 -- a variable item is planned by its bits, or by the kind of its controls

@@ -43,7 +43,7 @@ key_low m p u h =
 pub key_place : (m : MainItem) (us : List Usage) (p : ℕ) (u : Usage) → slice_get us p ≡ Some u → is_key m p u ≡ true → p < length (array_keys m us)
 key_place m us p u here on = omega (arith, keys-length m us, slice_get_within us p u here, key_low m p u on)
 
-key_here : (m : MainItem) (us : List Usage) (p : ℕ) (u : Usage) → slice_get us p ≡ Some u → p < length (array_keys m us) → slice_get (map (λ (key : Key). key.is_switch) (array_keys m us)) p ≡ Some (is_key m p u)
+pub key_here : (m : MainItem) (us : List Usage) (p : ℕ) (u : Usage) → slice_get us p ≡ Some u → p < length (array_keys m us) → slice_get (map (λ (key : Key). key.is_switch) (array_keys m us)) p ≡ Some (is_key m p u)
 key_here m us p u here within =
     let key : Key = record { usage = u; is_switch = is_key m p u } in
     let there : slice_get (array_keys m us) p ≡ Some key = key-get m us p (omega (arith, keys-length m us)) ∙ ap (λ (o : Option Usage). option_map (λ (v : Usage). let k : Key = record { usage = v; is_switch = is_key m p v } in k) o) here in

@@ -122,6 +122,15 @@ after_end at width end q j some is low =
     let same : q * width ≡ ((end - at) / width + min 1 ((end - at) % width)) * width = ap (λ (n : ℕ). n * width) is in
     omega (arith, up, all, same)
 
+-- the range of all elements has the bits of each span
+pub holds_all : (at width count : ℕ) (span : BitSpan) → HoldsSpan at width count span (record { first = 0; end = count })
+holds_all at width count span = record {
+  first = omega arith;
+  end = omega arith;
+  before = λ j low. absurd (omega arith);
+  after = λ j high inside. absurd (omega arith);
+}
+
 -- the range of the elements with the bits of a span, as it is computed
 pub holds_span : (at width count : ℕ) (span : BitSpan) (range : ElementRange) (q p : ℕ) → 0 < width → q ≡ (span.first - at) / width → p ≡ (span.end - at) / width + min 1 ((span.end - at) % width)
     → range.first ≡ min q count → range.end ≡ min p count → HoldsSpan at width count span range

@@ -1,8 +1,8 @@
 -- What a reader needn't read again: a report that tells nothing leaves the view.
-use Rattle.std.proofs.Common.{◌≡◌, ℕ, suc, ◌+◌, ◌<◌, Bool, true, false, cond, List, [], ◌∷◌, ◌++◌, length, length-append, nat_le, ◌&&◌, Option, Some, None, Ok, ℤ, refl, sym, ap, ◌∙◌, subst, arith, append-nil}
+use Rattle.std.proofs.Common.{◌≡◌, ℕ, suc, ◌+◌, Bool, true, false, cond, List, [], ◌∷◌, ◌++◌, length, Option, Some, None, ℤ, refl, sym, ap, ◌∙◌, subst, arith}
 use Rattle.std.specs.List.{slice_get, list_any, zip}
 use Rattle.std.specs.Ordering.{int_eq}
-use Rattle.std.specs.Bool.{Decides, OnTrue}
+use Rattle.std.specs.Bool.{Decides}
 use Rattle.std.proofs.lemmas.Bool.Decides.{Decides-int_eq}
 use Rattle.std.proofs.lemmas.Option.{slice_get_within}
 use Rattle.hid_report_descriptor.specs.declared.usage.Usage.{Usage}
@@ -10,7 +10,7 @@ use Rattle.hid_layout.specs.declared.main_item.MainItem.{MainItem}
 use Rattle.hid_layout.specs.declared.control.ControlId.{ControlId}
 use Rattle.hid_layout.specs.Layout.{Contents}
 use Rattle.hid_layout.specs.Reports.{IsLayout}
-use Rattle.hid_layout.specs.Controls.{Form, NoControls, Elements, Keys, items_of, form_at, controls_of_form, max_events}
+use Rattle.hid_layout.specs.Controls.{Form, NoControls, Elements, Keys, items_of, form_at, controls_of_form}
 use Rattle.hid_snapshots.specs.declared.control_state.ControlState.{ControlState}
 use Rattle.hid_snapshots.specs.declared.control_state.ControlState.TheVariants.{Absent, Switches, Values, Motions, RollOver}
 use Rattle.hid_snapshots.specs.declared.event.Event.{Event}
@@ -19,13 +19,9 @@ use Rattle.hid_snapshots.specs.Events.{control_at, element_list_events, switch_e
 use Rattle.hid_snapshots.specs.Parts.{IsInput}
 use Rattle.hid_snapshots.proofs.ItemLemmas.{got, form_at-is}
 use Rattle.hid_usages.specs.Reading.{read_state, names_rollover, read_named, is_data_in, item_numbers}
-use Rattle.hid_usages.specs.Taking.{TakesReport, list_at, state_after_report_at, events_of_report_at, state_after_numbers_at, events_of_numbers_at, view_from_item, events_from_item, read_view, read_events}
+use Rattle.hid_usages.specs.Taking.{list_at, state_after_report_at, events_of_report_at, state_after_numbers_at, events_of_numbers_at, view_from_item, events_from_item, read_view, read_events}
 use Rattle.hid_usages.proofs.EventLemmas.{has_places}
-use Rattle.hid_usages.specs.declared.planned_report.PlannedReport.{PlannedReport}
-use Rattle.hid_usages.specs.PlannedReports.{IsPlannedReport}
-use Rattle.hid_usages.specs.Reader.{IsStill, IsReader, still_bytes_of}
-use Rattle.hid_snapshots.proofs.CodeLemmas.{both_true}
-use Rattle.hid_usages.proofs.TakeLemmas.{named_input, read_view-at, read_view_fits}
+use Rattle.hid_usages.proofs.TakeLemmas.{read_view-at, read_view_fits}
 
 -- of events of which there are none, none stand in front and none after
 none_in_front : (xs ys : List Event) → xs ++ ys ≡ [] → xs ≡ []
@@ -214,13 +210,6 @@ quiet_view layout r bytes view laid input fits h =
     (sym z) (quiet_place layout r bytes k state room room') e)
     h
 
--- the bytes that are kept are taken so
-pub still_taken : (layout : Contents) (view : List ControlState) (kept bytes : List ℕ) (out : List Event) (is : Bool)
-    → IsStill layout view kept → OnTrue is ((0 < length kept) × (kept ≡ bytes)) → is ≡ true
-    → TakesReport layout bytes view out (Ok tt) view out
-still_taken layout view kept bytes out true still same h = subst (λ (bs : List ℕ). TakesReport layout bs view out (Ok tt) view out) same.1 (still same.0 out)
-still_taken layout view kept bytes out false still same h = absurd (cc)
-
 no_events : (es : List Event) → length es ≡ 0 → es ≡ []
 no_events [] h = refl
 no_events (e ∷ es) h = absurd (omega arith)
@@ -231,33 +220,3 @@ pub quiet_again : (layout : Contents) (r : ℕ) (bytes : List ℕ) (view : List 
 quiet_again layout r bytes view laid input fits none =
     let quiet : read_events layout r bytes view ≡ [] = no_events _ none in
     ap (λ (v : List ControlState). read_events layout r bytes v) (quiet_view layout r bytes view laid input fits quiet) ∙ quiet
-
--- a report that told nothing is still
-taken_still : (layout : Contents) (view view' : List ControlState) (bytes : List ℕ) (out out' : List Event)
-    → IsLayout layout → FitsView (items_of layout) view → TakesReport layout bytes view out (Ok tt) view' out'
-    → length out' ≡ length out → IsStill layout view' bytes
-taken_still layout view view' bytes out out' laid fits (r, named, same, told) h = λ some before.
-    let none : read_events layout r bytes view ≡ [] = no_events _ (omega (arith, ap (λ (es : List Event). length es) told, length-append out (read_events layout r bytes view), h)) in
-    let quiet = quiet_view layout r bytes view laid (named_input layout bytes r named) fits none in
-    let is : view' ≡ view = same ∙ quiet in
-    subst (λ (v : List ControlState). TakesReport layout bytes v before (Ok tt) v before) (sym is)
-    (r, named, sym quiet, sym (append-nil before) ∙ ap (λ (es : List Event). before ++ es) (sym none))
-
--- What is kept of a report that was taken holds of the view then.
-pub reader_after : (layout : Contents) (view view' : List ControlState) (bytes kept : List ℕ) (out out' : List Event)
-    (silent : Bool) (most : ℕ) (planned : PlannedReport) → most ≡ max_events (items_of layout) → IsLayout layout → FitsView (items_of layout) view
-    → FitsView (items_of layout) view'
-    → TakesReport layout bytes view out (Ok tt) view' out' → (silent ≡ true → length out' ≡ length out)
-    → kept ≡ still_bytes_of silent bytes → (0 < planned.room → IsPlannedReport layout view' planned)
-    → IsReader layout view' most kept planned
-reader_after layout view view' bytes kept out out' silent most planned counted laid fits after taken none is has_plan = record {
-  laid = laid;
-  fits = after;
-  most_events = counted;
-  still = subst (IsStill layout view') (sym is) (by_test (silent && nat_le (length bytes) 64) refl);
-  last = has_plan;
-}
-  where
-    by_test : (b : Bool) → (silent && nat_le (length bytes) 64) ≡ b → IsStill layout view' (cond b bytes [])
-    by_test false e = λ some before. absurd (omega (arith, some))
-    by_test true e = taken_still layout view view' bytes out out' laid fits taken (none (both_true silent (nat_le (length bytes) 64) e).0)

@@ -149,7 +149,7 @@ read_next layout r bytes start now i d new so_far within ln is =
     let there = read_start layout r bytes start now i d so_far within ln in
     ap (λ xs. slice_set xs i new) so_far ∙ fill_next (read_view layout r bytes start) start i new (read_view-at layout r bytes start i (get_or now i d) there ∙ ap Some (sym is)) within
 
-found_input : (id : ℕ) (layout : Contents) (r : ℕ) → position (is_input_with id) layout.reports ≡ Some r → IsInput layout r
+pub found_input : (id : ℕ) (layout : Contents) (r : ℕ) → position (is_input_with id) layout.reports ≡ Some r → IsInput layout r
 found_input id layout r h =
     let found = position-Some (is_input_with id) layout.reports r (record { kind = Input; id = 0; bits = 0 }) h in
     let there = slice_get-get_or layout.reports r (record { kind = Input; id = 0; bits = 0 }) found.0 in

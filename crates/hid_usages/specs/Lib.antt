@@ -11,7 +11,10 @@ pub mod Dropping
 pub mod Keeping
 pub mod KeyArrays
 pub mod Elements
+pub mod EventSources
 pub mod ChangedBits
+pub mod SameWords
+pub mod ChangedKeys
 pub mod Plans
 pub mod Known
 pub mod PlannedReports

@@ -12,7 +12,7 @@ use Rattle.hid_usages.specs.declared.changed_bits.BitSpan.{BitSpan}
 use Rattle.hid_usages.specs.declared.take.ListedItem.{ListedItem}
 use Rattle.hid_usages.specs.Elements.{switch_by_number, value_by_number}
 use Rattle.hid_usages.specs.Keeping.{KeepsOthers}
-use Rattle.hid_usages.specs.Known.{SameOutside}
+use Rattle.hid_usages.specs.ChangedBits.{SameOutside}
 use Rattle.hid_usages.specs.Taking.{state_after_bytes}
 
 -- how values of controls of a kind are read

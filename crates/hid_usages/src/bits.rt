@@ -5,12 +5,13 @@ ghost use Rattle.std.specs.Int.{bit_at};
 ghost use Rattle.hid_layout.specs.Reports.{HasElements};
 ghost use Rattle.hid_snapshots.specs.Words.{bits_in};
 ghost use Rattle.hid_usages.specs.Appending.{HasSpace, Appends};
-ghost use Rattle.hid_snapshots.specs.Events.{usages_at, switch_events};
+ghost use Rattle.hid_snapshots.specs.Events.{switch_events};
 ghost use Rattle.hid_usages.specs.Bits.{are_bits};
+ghost use Rattle.hid_usages.specs.EventSources.{IsSource, usages_of_source};
 
-use crate::view_changes::push_switch_event;
-use hid_layout::{Layout, MainItem, Shape};
-use hid_snapshots::{Event, Flags};
+use crate::event_source::{EventSource, push_switch};
+use hid_layout::{MainItem, Shape};
+use hid_snapshots::{Event, Flags, lowest_from};
 
 /// Whether the elements of an item with data are up to 32 switches of one bit each.
 pub(crate) fn are_bits(item: &MainItem) -> bool
@@ -32,19 +33,21 @@ fn is_bit(pattern: u32, index: usize) -> bool
 }
 
 /// Appends an event for each switch that isn't held as its bit has it, by rising index.
-fn push_bits(layout: &Layout, item: usize, pattern: u32, held: &Flags, out: &mut Vec<Event>)
-    requires held { length held.now ≡ length (usages_at layout.now item) }
+fn push_bits(source: &EventSource<'_>, pattern: u32, held: &Flags, out: &mut Vec<Event>)
+    requires source { IsSource source.now }
+    requires held { length held.now ≡ length (usages_of_source source.now) }
     requires few { length held.now ≤ 32 }
     requires fits { pattern < 2 ^ length held.now }
-    requires room { HasSpace out.old (switch_events item (usages_at layout.now item) held.now
-        (bits_in (length held.now) pattern)) }
-    ensures { Appends out.old (switch_events item (usages_at layout.now item) held.now
-        (bits_in (length held.now) pattern)) out.new }
+    requires room { HasSpace out.old (switch_events source.now.item (usages_of_source source.now)
+        held.now (bits_in (length held.now) pattern)) }
+    ensures { Appends out.old (switch_events source.now.item (usages_of_source source.now)
+        held.now (bits_in (length held.now) pattern)) out.new }
 {
+    let unlike = held.unlike(0, u64::from(pattern));
     let mut from = 0;
-    while let Some(index) = held.first_unlike(0, u64::from(pattern), from) {
+    while let Some(index) = lowest_from(unlike, from) {
         let is_pressed = is_bit(pattern, index);
-        push_switch_event(layout, item, index, !is_pressed, is_pressed, out);
+        push_switch(source, index, !is_pressed, is_pressed, out);
         from = index + 1;
     }
 }
@@ -52,21 +55,21 @@ fn push_bits(layout: &Layout, item: usize, pattern: u32, held: &Flags, out: &mut
 /// Sets switches by the pattern of their bits, and appends their events.
 #[inline(always)]
 pub(crate) fn take_bits(
-    layout: &Layout,
-    item: usize,
+    source: &EventSource<'_>,
     pattern: u32,
     held: &mut Flags,
     out: &mut Vec<Event>,
 )
-    requires held { length held.old ≡ length (usages_at layout.now item) }
+    requires source { IsSource source.now }
+    requires held { length held.old ≡ length (usages_of_source source.now) }
     requires few { length held.old ≤ 32 }
     requires fits { pattern < 2 ^ length held.old }
-    requires room { HasSpace out.old (switch_events item (usages_at layout.now item) held.old
-        (bits_in (length held.old) pattern)) }
+    requires room { HasSpace out.old (switch_events source.now.item (usages_of_source source.now)
+        held.old (bits_in (length held.old) pattern)) }
     ensures held { held.new ≡ bits_in (length held.old) pattern }
-    ensures appends { Appends out.old (switch_events item (usages_at layout.now item) held.old
-        (bits_in (length held.old) pattern)) out.new }
+    ensures appends { Appends out.old (switch_events source.now.item (usages_of_source source.now)
+        held.old (bits_in (length held.old) pattern)) out.new }
 {
-    push_bits(layout, item, pattern, held, out);
+    push_bits(source, pattern, held, out);
     held.set_word(u64::from(pattern));
 }

@@ -1,18 +1,18 @@
 //! The elements of a variable item, which the numbers of a report set one by one, and their events.
 
-ghost use Rattle.std.specs.Prelude.{◌≡◌, ◌+◌, ◌*◌, ◌^◌, ◌<◌, ◌≤◌, min, List, ℤ, length, IfSome};
-ghost use Rattle.std.specs.Bool.{OnTrue};
-ghost use Rattle.hid_snapshots.specs.Events.{control_at, usages_at, switch_event, value_event};
+ghost use Rattle.std.specs.Prelude.{◌≡◌, ◌≢◌, ◌+◌, ◌*◌, ◌^◌, ◌<◌, ◌≤◌, min, not, List, ℤ, Some, length, slice_get, IfSome};
+ghost use Rattle.std.specs.Bool.{OnTrue, OnFalse};
+ghost use Rattle.hid_snapshots.specs.Events.{control_at, switch_event, value_event};
 ghost use Rattle.hid_snapshots.specs.Numbers.{IsWordOf};
 ghost use Rattle.hid_usages.specs.Appending.{HasSpace, Appends};
 ghost use Rattle.hid_usages.specs.Elements.{switch_by_number, value_by_number, read_all, switch_events_read, value_events_read, OfElement, BecomesAt};
-ghost use Rattle.hid_usages.specs.Keeping.{AreKept, FindsKept, KeepsOthers};
-ghost use Rattle.hid_usages.specs.Reading.{read_switch, read_value};
+ghost use Rattle.hid_usages.specs.EventSources.{IsSource, usages_of_source};
+ghost use Rattle.hid_usages.specs.Keeping.{AreKept, FindsKept, FindsNumber, IsChanged, KeepsOthers};
+ghost use Rattle.hid_usages.specs.Reading.{is_in, read_switch};
 
+use crate::event_source::{EventSource, push_null, push_number, push_switch};
 use crate::value_range::Bounds;
-use crate::view_changes::{push_switch_event, push_value_event};
 use hid_fields::FieldCodec;
-use hid_layout::Layout;
 use hid_snapshots::{Event, FieldRun, Flags, Values};
 
 /// Elements of an item, from the first index on, up to an end.
@@ -40,9 +40,12 @@ fn next_by_word(held: &Flags, index: usize, word: u64, from: usize) -> Option<us
     requires low { 64 * index ≤ from }
     requires high { from < 64 * index + 64 }
     requires within { 64 * index < length held.now }
-    ensures { (numbers : List ℤ) → IsWordOf numbers index word → length numbers ≡ length held.now
-        → FindsKept switch_by_number held.now numbers from
+    ensures found { (numbers : List ℤ) → IsWordOf numbers index word
+        → length numbers ≡ length held.now → FindsKept switch_by_number held.now numbers from
         (min (64 * index + 64) (length held.now)) result }
+    ensures changed { (numbers : List ℤ) → IsWordOf numbers index word
+        → length numbers ≡ length held.now
+        → IfSome result (IsChanged switch_by_number held.now numbers) }
 {
     match held.first_unlike(index, word, from - 64 * index) {
         Some(bit) => Some(64 * index + bit),
@@ -60,7 +63,8 @@ fn next_by_number<C: FieldCodec>(
 ) -> Option<usize>
     requires numbers { length numbers.now ≡ length held.now }
     requires end { end ≤ length held.now }
-    ensures { FindsKept switch_by_number held.now numbers.now from end result }
+    ensures found { FindsKept switch_by_number held.now numbers.now from end result }
+    ensures changed { IfSome result (IsChanged switch_by_number held.now numbers.now) }
 {
     for index in from..end {
         let number = numbers.number::<C>(index);
@@ -84,8 +88,9 @@ fn next_of_64<C: FieldCodec>(
     requires low { 64 * index ≤ from }
     requires high { from < 64 * index + 64 }
     requires within { 64 * index < length held.now }
-    ensures { FindsKept switch_by_number held.now numbers.now from
+    ensures found { FindsKept switch_by_number held.now numbers.now from
         (min (64 * index + 64) (length held.now)) result }
+    ensures changed { IfSome result (IsChanged switch_by_number held.now numbers.now) }
 {
     match numbers.word::<C>(index) {
         Some(word) => next_by_word(held, index, word, from),
@@ -109,6 +114,7 @@ fn next_switch<C: FieldCodec>(
     requires after { AreKept switch_by_number held.now numbers.now end (length held.now) }
     ensures found { FindsKept switch_by_number held.now numbers.now from
         (length held.now) result }
+    ensures changed { IfSome result (IsChanged switch_by_number held.now numbers.now) }
     ensures bound { IfSome result (λ place. place + 1 < 2 ^ 64) }
 {
     // For the prover: how many switches there are at most.
@@ -126,68 +132,49 @@ fn next_switch<C: FieldCodec>(
     None
 }
 
-/// Sets the switch at an index by an element's number, and appends its event, if it has one.
+/// Turns the switch at an index, and appends its event.
 #[inline(always)]
-fn take_switch(
-    layout: &Layout,
-    item: usize,
-    index: usize,
-    number: &i64,
-    held: &mut Flags,
-    out: &mut Vec<Event>,
-)
-    requires index { index < length (usages_at layout.now item) }
-    requires held { length held.old ≡ length (usages_at layout.now item) }
-    requires room { OfElement layout.now item index held.old (λ usage before. HasSpace out.old
-        (switch_event (control_at item index) usage before (read_switch before number.now))) }
-    ensures held { BecomesAt index (λ before. read_switch before number.now) held.old held.new }
-    ensures appends { OfElement layout.now item index held.old (λ usage before. Appends out.old
-        (switch_event (control_at item index) usage before (read_switch before number.now)) out.new) }
+fn take_switch(source: &EventSource<'_>, index: usize, held: &mut Flags, out: &mut Vec<Event>)
+    requires source { IsSource source.now }
+    requires index { index < length (usages_of_source source.now) }
+    requires held { length held.old ≡ length (usages_of_source source.now) }
+    requires room { OfElement source.now.layout.now source.now.item index held.old
+        (λ usage before. HasSpace out.old
+        (switch_event (control_at source.now.item index) usage before (not before))) }
+    ensures held { BecomesAt index not held.old held.new }
+    ensures appends { OfElement source.now.layout.now source.now.item index held.old
+        (λ usage before. Appends out.old
+        (switch_event (control_at source.now.item index) usage before (not before)) out.new) }
 {
     let before = held.get(index);
-    let after = read_switch(before, number);
-    push_switch_event(layout, item, index, before, after, out);
-    held.set(index, after);
+    push_switch(source, index, before, !before, out);
+    held.set(index, !before);
 }
 
 /// Sets switches by these numbers, and appends their events. Those outside of a range are left by theirs.
 #[inline(always)]
 pub(crate) fn take_switches<C: FieldCodec>(
-    layout: &Layout,
-    item: usize,
+    source: &EventSource<'_>,
     range: ElementRange,
     numbers: &FieldRun<'_>,
     held: &mut Flags,
     out: &mut Vec<Event>,
 )
-    requires numbers { length numbers.now ≡ length (usages_at layout.now item) }
-    requires held { length held.old ≡ length (usages_at layout.now item) }
+    requires source { IsSource source.now }
+    requires numbers { length numbers.now ≡ length (usages_of_source source.now) }
+    requires held { length held.old ≡ length (usages_of_source source.now) }
     requires others { KeepsOthers switch_by_number held.old numbers.now range }
-    requires room { HasSpace out.old (switch_events_read layout.now item held.old numbers.now) }
+    requires room { HasSpace out.old
+        (switch_events_read source.now.layout.now source.now.item held.old numbers.now) }
     ensures held { held.new ≡ read_all switch_by_number held.old numbers.now }
     ensures len { length held.new ≡ length held.old }
     ensures appends { Appends out.old
-        (switch_events_read layout.now item held.old numbers.now) out.new }
+        (switch_events_read source.now.layout.now source.now.item held.old numbers.now) out.new }
 {
     let mut from = range.first;
     while let Some(index) = next_switch::<C>(held, numbers, from, range.end) {
-        let number = numbers.number::<C>(index);
-        take_switch(layout, item, index, &number, held, out);
+        take_switch(source, index, held, out);
         from = index + 1;
-    }
-}
-
-/// A value, as an element's number leaves it.
-fn read_value(before: Option<i64>, has_null: bool, bounds: &Bounds, number: &i64) -> Option<i64>
-    ensures { result
-        ≡ read_value has_null bounds.now.least bounds.now.greatest before number.now }
-{
-    if bounds.least <= *number && *number <= bounds.greatest {
-        Some(*number)
-    } else if has_null {
-        None
-    } else {
-        before
     }
 }
 
@@ -198,15 +185,43 @@ pub(crate) struct Carriable {
     pub(crate) bounds: Bounds,
 }
 
-/// Whether a value is as an element's number leaves it. One that is the number is held against its range only where it can
-/// be null.
-fn is_kept(before: Option<i64>, carriable: &Carriable, number: &i64) -> bool
-    ensures { OnTrue result (value_by_number carriable.now (before, number.now) ≡ before) }
+/// Whether a number is in the logical range.
+fn is_carried(carriable: &Carriable, number: &i64) -> bool
+    ensures { result
+        ≡ is_in carriable.now.bounds.least carriable.now.bounds.greatest number.now }
 {
-    if !carriable.has_null && before == Some(*number) {
-        true
+    carriable.bounds.least <= *number && *number <= carriable.bounds.greatest
+}
+
+/// Whether a value is as an element's number leaves it.
+fn is_kept(before: Option<i64>, carriable: &Carriable, number: &i64) -> bool
+    ensures kept { OnTrue result (value_by_number carriable.now (before, number.now) ≡ before) }
+    ensures changed { OnFalse result (value_by_number carriable.now (before, number.now) ≢ before) }
+{
+    if is_carried(carriable, number) {
+        before == Some(*number)
     } else {
-        read_value(before, carriable.has_null, &carriable.bounds, number) == before
+        !carriable.has_null || before.is_none()
+    }
+}
+
+/// The number of an element.
+#[derive(Clone, Copy)]
+pub(crate) struct FoundNumber {
+    pub(crate) index: usize,
+    pub(crate) number: i64,
+}
+
+/// The number of the field at an index. Of fields that are bytes it takes less where that is said.
+#[inline(always)]
+fn number_at<C: FieldCodec>(numbers: &FieldRun<'_>, index: usize, are_bytes: bool) -> i64
+    requires { index < length numbers.now }
+    ensures { slice_get numbers.now index ≡ Some result }
+{
+    if are_bytes {
+        numbers.number_by_byte::<C>(index)
+    } else {
+        numbers.number::<C>(index)
     }
 }
 
@@ -216,111 +231,121 @@ fn next_value<C: FieldCodec>(
     held: &Values,
     carriable: &Carriable,
     numbers: &FieldRun<'_>,
+    are_bytes: bool,
     from: usize,
     end: usize,
-) -> Option<usize>
+) -> Option<FoundNumber>
     requires numbers { length numbers.now ≡ length held.now }
     requires end { end ≤ length held.now }
     requires after { AreKept (value_by_number carriable.now) held.now numbers.now end
         (length held.now) }
-    ensures found { FindsKept (value_by_number carriable.now) held.now numbers.now from
-        (length held.now) result }
-    ensures bound { IfSome result (λ place. place + 1 < 2 ^ 64) }
+    ensures found { FindsNumber (value_by_number carriable.now) held.now numbers.now from result }
+    ensures changed { IfSome result (λ found. IsChanged (value_by_number carriable.now) held.now
+        numbers.now found.index) }
+    ensures bound { IfSome result (λ found. found.index + 1 < 2 ^ 64) }
 {
     let carriable = *carriable;
     for index in from..end {
-        let number = numbers.number_by_byte::<C>(index);
+        let number = number_at::<C>(numbers, index, are_bytes);
         if !is_kept(held.get(index), &carriable, &number) {
-            return Some(index);
+            return Some(FoundNumber { index, number });
         }
     }
     None
 }
 
-/// Sets the value at an index by an element's number, and appends its event, if it has one.
+/// Sets the value at an index by an element's number, which changes it, and appends its event.
 #[inline(always)]
 fn take_value(
-    layout: &Layout,
-    item: usize,
-    index: usize,
+    source: &EventSource<'_>,
     carriable: &Carriable,
+    index: usize,
     number: &i64,
     held: &mut Values,
     out: &mut Vec<Event>,
 )
-    requires index { index < length (usages_at layout.now item) }
-    requires held { length held.old ≡ length (usages_at layout.now item) }
-    requires room { OfElement layout.now item index held.old (λ usage before. HasSpace out.old
-        (value_event (control_at item index) usage before
-        (value_by_number carriable.now (before, number.now)))) }
+    requires source { IsSource source.now }
+    requires index { index < length (usages_of_source source.now) }
+    requires held { length held.old ≡ length (usages_of_source source.now) }
+    requires changed { OfElement source.now.layout.now source.now.item index held.old
+        (λ usage before. value_by_number carriable.now (before, number.now) ≢ before) }
+    requires room { OfElement source.now.layout.now source.now.item index held.old
+        (λ usage before. HasSpace out.old (value_event (control_at source.now.item index) usage
+        before (value_by_number carriable.now (before, number.now)))) }
     ensures held { BecomesAt index (λ before. value_by_number carriable.now (before, number.now))
         held.old held.new }
-    ensures appends { OfElement layout.now item index held.old (λ usage before. Appends out.old
-        (value_event (control_at item index) usage before
-        (value_by_number carriable.now (before, number.now))) out.new) }
+    ensures appends { OfElement source.now.layout.now source.now.item index held.old
+        (λ usage before. Appends out.old (value_event (control_at source.now.item index) usage
+        before (value_by_number carriable.now (before, number.now))) out.new) }
 {
-    let before = held.get(index);
-    let after = read_value(before, carriable.has_null, &carriable.bounds, number);
-    push_value_event(layout, item, index, before, after, out);
-    held.set(index, after);
+    // For the prover: what the value is before.
+    let _ = held.get(index);
+
+    if is_carried(carriable, number) {
+        push_number(source, index, *number, out);
+        held.set(index, Some(*number));
+    } else {
+        push_null(source, index, out);
+        held.set(index, None);
+    }
 }
 
 /// Sets values by these numbers, and appends their events. Those outside of a range are left by theirs. Values of a byte each
 /// are read by a loop of their own.
 #[inline(always)]
 pub(crate) fn take_values<C: FieldCodec>(
-    layout: &Layout,
-    item: usize,
+    source: &EventSource<'_>,
     carriable: &Carriable,
     range: ElementRange,
     numbers: &FieldRun<'_>,
     held: &mut Values,
     out: &mut Vec<Event>,
 )
-    requires numbers { length numbers.now ≡ length (usages_at layout.now item) }
-    requires held { length held.old ≡ length (usages_at layout.now item) }
+    requires source { IsSource source.now }
+    requires numbers { length numbers.now ≡ length (usages_of_source source.now) }
+    requires held { length held.old ≡ length (usages_of_source source.now) }
     requires others { KeepsOthers (value_by_number carriable.now) held.old numbers.now range }
-    requires room { HasSpace out.old
-        (value_events_read layout.now item carriable.now held.old numbers.now) }
+    requires room { HasSpace out.old (value_events_read source.now.layout.now source.now.item
+        carriable.now held.old numbers.now) }
     ensures held { held.new ≡ read_all (value_by_number carriable.now) held.old numbers.now }
     ensures len { length held.new ≡ length held.old }
-    ensures appends { Appends out.old
-        (value_events_read layout.now item carriable.now held.old numbers.now) out.new }
+    ensures appends { Appends out.old (value_events_read source.now.layout.now source.now.item
+        carriable.now held.old numbers.now) out.new }
 {
     match numbers.bytes(false) {
         Some(bytes) => {
             let numbers = FieldRun::of_bytes(bytes, false);
-            take_each_value::<C>(layout, item, carriable, range, &numbers, held, out)
+            take_each_value::<C>(source, carriable, range, &numbers, true, held, out)
         }
-        None => take_each_value::<C>(layout, item, carriable, range, numbers, held, out),
+        None => take_each_value::<C>(source, carriable, range, numbers, false, held, out),
     }
 }
 
 /// Values, as these numbers leave them, one by one. Inlined twice: numbers of a byte each need no shifts.
 #[inline(always)]
 fn take_each_value<C: FieldCodec>(
-    layout: &Layout,
-    item: usize,
+    source: &EventSource<'_>,
     carriable: &Carriable,
     range: ElementRange,
     numbers: &FieldRun<'_>,
+    are_bytes: bool,
     held: &mut Values,
     out: &mut Vec<Event>,
 )
-    requires numbers { length numbers.now ≡ length (usages_at layout.now item) }
-    requires held { length held.old ≡ length (usages_at layout.now item) }
+    requires source { IsSource source.now }
+    requires numbers { length numbers.now ≡ length (usages_of_source source.now) }
+    requires held { length held.old ≡ length (usages_of_source source.now) }
     requires others { KeepsOthers (value_by_number carriable.now) held.old numbers.now range }
-    requires room { HasSpace out.old
-        (value_events_read layout.now item carriable.now held.old numbers.now) }
+    requires room { HasSpace out.old (value_events_read source.now.layout.now source.now.item
+        carriable.now held.old numbers.now) }
     ensures held { held.new ≡ read_all (value_by_number carriable.now) held.old numbers.now }
     ensures len { length held.new ≡ length held.old }
-    ensures appends { Appends out.old
-        (value_events_read layout.now item carriable.now held.old numbers.now) out.new }
+    ensures appends { Appends out.old (value_events_read source.now.layout.now source.now.item
+        carriable.now held.old numbers.now) out.new }
 {
     let mut from = range.first;
-    while let Some(index) = next_value::<C>(held, carriable, numbers, from, range.end) {
-        let number = numbers.number::<C>(index);
-        take_value(layout, item, index, carriable, &number, held, out);
-        from = index + 1;
+    while let Some(found) = next_value::<C>(held, carriable, numbers, are_bytes, from, range.end) {
+        take_value(source, carriable, found.index, &found.number, held, out);
+        from = found.index + 1;
     }
 }

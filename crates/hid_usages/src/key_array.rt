@@ -11,7 +11,8 @@ use hid_layout::{MAX_KEYS, MainItem, Usage, usage_at, usage_count};
 use hid_snapshots::{FieldRun, Flags};
 
 /// The place that an element of this number names, if it is below `count`.
-fn place_of(item: &MainItem, number: &i64, count: usize) -> Option<usize>
+#[inline(always)]
+pub(crate) fn place_of(item: &MainItem, number: &i64, count: usize) -> Option<usize>
     requires { count ≤ 64 * 65536 }
     ensures { MatchOption result ((p : ℕ) → p < count
         → number.now ≢ (item.now.min +ℤ pos p)) (λ p. (p < count)
@@ -30,7 +31,7 @@ fn place_of(item: &MainItem, number: &i64, count: usize) -> Option<usize>
 }
 
 /// Whether an element of this number can press the key with this usage at its place.
-fn is_pressable(item: &MainItem, number: &i64, place: usize, usage: &Usage) -> bool
+pub(crate) fn is_pressable(item: &MainItem, number: &i64, place: usize, usage: &Usage) -> bool
     requires fits { FitsFields item.now number.now }
     requires number { number.now ≡ item.now.min +ℤ pos place }
     ensures { result ≡ is_key item.now place usage.now }
@@ -59,7 +60,8 @@ fn set_key(array: &KeyArray<'_>, number: &i64, place: usize, usage: &Usage, name
 }
 
 /// Whether an element of this number, which names this usage, reports ErrorRollOver.
-fn reports_rollover(item: &MainItem, number: &i64, usage: &Usage) -> bool
+#[inline(always)]
+pub(crate) fn reports_rollover(item: &MainItem, number: &i64, usage: &Usage) -> bool
     ensures { result ≡ (int_le number.now item.now.max && is_rollover usage.now) }
 {
     *number <= item.max && usage.is_rollover()

@@ -15,19 +15,21 @@
 //! `FitsSnapshot`, `FitsShown` and `FitsView`; `blank` and `initial` make them, and every call keeps them.
 //!
 //! Pressed and held keys are words of 64 bits: `key_words` of a [`Snapshot`] and of a [`View`]. A [`Reader`] owns a layout with
-//! its view; it doesn't decode a report again that equals the last one, if that gave no events and has at most 64 bytes. A
+//! its view; of a report it reads the items whose bits aren't those of the last one of its number. A
 //! [`Receiver`] reads reports out of the packets in which they come.
 //!
 //! The promise: any bytes give one view and one list of events (`taken` on [`View::take_report`]). The reports of the boot
 //! keyboard and mouse give the same without a layout ([`boot::laws`]). No call takes memory but `Snapshot::blank`,
-//! `Shown::blank`, `View::initial` and `first_view`; events go into reserved room.
+//! `Shown::blank`, `View::initial`, `PlannedView::initial` and `first_view`; events go into reserved room.
 #![tactic(auto)]
 
 mod bits;
 pub mod boot;
 mod changed_bits;
+mod changed_keys;
 mod dropped_motion;
 mod elements;
+mod event_source;
 mod key_array;
 mod key_search;
 pub mod laws;
@@ -35,9 +37,12 @@ mod plan;
 mod planned_report;
 mod reader;
 mod receiver;
+mod report_index;
 mod report_lookup;
+mod report_plans;
 mod reset_events;
 mod take;
+mod take_plan;
 mod value_range;
 mod view;
 mod view_changes;
@@ -49,4 +54,5 @@ pub use hid_snapshots::{
 pub use reader::Reader;
 pub use receiver::{Arrived, Receiver, is_whole};
 pub use report_lookup::{bytes_awaited, element_value, input_report};
-pub use view::{View, changes, changes_and_drops, first_view};
+pub use report_plans::{PlannedView, first_view};
+pub use view::{View, changes, changes_and_drops};

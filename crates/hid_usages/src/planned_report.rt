@@ -1,100 +1,99 @@
-//! The report of a device that has a plan.
+//! An Input report with its plan, and the bytes of the last one of its number.
 
-ghost use Rattle.std.specs.Prelude.{◌≡◌, ◌<◌, ◌*◌, ◌≤◌, Ok, [], length};
-ghost use Rattle.std.specs.Bool.{OnTrue};
-ghost use Rattle.hid_usages.specs.PlannedReports.{id_of, NamesPlanned, IsBegun};
-ghost use Rattle.hid_usages.specs.Reading.{report_named};
+ghost use Rattle.std.specs.Prelude.{◌≡◌, ◌<◌, ◌≤◌, true, length, take, IfOk};
+ghost use Rattle.std.specs.Bool.{OnTrue, OnFalse};
+ghost use Rattle.hid_usages.specs.ChangedBits.{IsOneWord};
+ghost use Rattle.hid_usages.specs.PlannedReports.{IsPlannedAnew, IsStill, Keeps, KeepsBytes, without_last};
 
-use crate::changed_bits::{KEPT_WORDS, update_words};
-use crate::plan::{MOST_PLANNED, PlannedItem, plan_items};
-use arrayvec::ArrayVec;
+use crate::changed_bits::{are_same_bits, keep_bytes};
+use crate::plan::{ReportPlan, plan_items};
 use hid_layout::Layout;
-use hid_snapshots::plan_of;
+use hid_snapshots::full_of;
+use std::alloc::{AllocError, Global};
 
-/// An Input report with its plan, and the bits of the last one of its number.
+/// A report with its plan, and the bytes of the last one of its number.
 #[derive(Drop)]
 pub(crate) struct PlannedReport {
-    /// Whether a report was looked at for a plan: the first one that is read.
-    pub(crate) is_tried: bool,
+    pub(crate) plan: ReportPlan,
+    /// Its bytes, with its ID where there are IDs.
+    pub(crate) room: usize,
+    /// The bytes of the last one, and some more that fill words of eight.
+    pub(crate) last: Vec<u8>,
+    /// Whether one came, so that the view is as its bytes left it.
+    pub(crate) is_known: bool,
     /// Whether the last one gave no event, and would give none again.
     pub(crate) is_silent: bool,
-    /// Its ID; 0 where reports aren't numbered.
-    pub(crate) id: u8,
-    /// Its number in the layout.
-    pub(crate) report: usize,
-    /// Its bytes; 0 where no report has a plan.
-    pub(crate) room: usize,
-    /// The bits of the last one.
-    pub(crate) words: [u64; KEPT_WORDS],
-    pub(crate) plan: ArrayVec<PlannedItem, MOST_PLANNED>,
 }
 
 impl PlannedReport {
-    /// Forgets the plan and the bits: the next report that is read is planned anew.
-    pub(crate) fn forget(&mut self)
-        ensures { self.new.room ≡ 0 }
+    /// Keeps the bytes of a report. The word is that of [`one_word`](crate::changed_bits::one_word).
+    #[inline(always)]
+    pub(crate) fn keep(&mut self, bytes: &[u8], word: u64, is_silent: bool)
+        requires room { self.old.room ≤ length bytes.now }
+        requires kept { KeepsBytes self.old }
+        requires word { IsOneWord (take self.old.room bytes.now) word }
+        ensures { Keeps self.old bytes.now is_silent self.new }
     {
-        self.is_tried = false;
-        self.room = 0;
+        keep_bytes(&mut self.last, &bytes[..self.room], word);
+        self.is_known = true;
+        self.is_silent = is_silent;
+    }
+
+    /// Whether these are fewer bytes than the report has.
+    #[inline(always)]
+    pub(crate) fn is_short(&self, bytes: &[u8]) -> bool
+        ensures short { OnTrue result (length bytes.now < self.now.room) }
+        ensures whole { OnFalse result (self.now.room ≤ length bytes.now) }
+    {
+        bytes.len() < self.room
+    }
+
+    /// Whether these are enough bytes, with the bits of the last one, which gave no event.
+    #[inline(always)]
+    pub(crate) fn is_still(&self, bytes: &[u8]) -> bool
+        requires { KeepsBytes self.now }
+        ensures { OnTrue result (IsStill self.now bytes.now) }
+    {
+        if !self.is_silent {
+            return false;
+        }
+        if !self.is_known || bytes.len() < self.room {
+            return false;
+        }
+        are_same_bits(&self.last, &bytes[..self.room])
+    }
+
+    /// Forgets the last one.
+    pub(crate) fn forget(&mut self)
+        ensures { self.new ≡ without_last self.old }
+    {
+        self.is_known = false;
     }
 }
 
-/// No report has a plan.
-pub(crate) fn no_plan() -> PlannedReport
-    ensures { result.room ≡ 0 }
+/// Plans a report, of which none came yet.
+///
+/// # Errors
+/// Out of memory.
+pub(crate) fn plan_report(
+    alloc: Global,
+    layout: &Layout,
+    report: usize,
+) -> Result<PlannedReport, AllocError>
+    requires { report < length layout.now.reports }
+    ensures { IfOk result (IsPlannedAnew layout.now report) }
 {
-    PlannedReport {
-        is_tried: false,
-        is_silent: false,
-        id: 0,
-        report: 0,
-        room: 0,
-        words: [0; KEPT_WORDS],
-        plan: ArrayVec::new(),
-    }
-}
+    // For the prover: what holds of every layout.
+    let _ = layout.items();
 
-/// Whether the bytes are those of the report that has a plan.
-#[inline(always)]
-pub(crate) fn names_planned(layout: &Layout, planned: &PlannedReport, bytes: &[u8]) -> bool
-    ensures { OnTrue result (NamesPlanned layout.now planned.now bytes.now) }
-{
-    if planned.room == 0 || bytes.len() < planned.room {
-        false
-    } else {
-        !layout.numbered() || bytes[0] == planned.id
-    }
-}
-
-/// The ID of the report that the bytes are; 0 where reports aren't numbered.
-fn id_of(layout: &Layout, bytes: &[u8]) -> u8
-    ensures { result ≡ id_of layout.now bytes.now }
-{
-    if !layout.numbered() {
-        return 0;
-    }
-    match bytes.first() {
-        None => 0,
-        Some(id) => *id,
-    }
-}
-
-/// Plans a report of these bytes, if it has few items and bytes.
-#[inline(never)]
-pub(crate) fn plan_report(layout: &Layout, report: usize, bytes: &[u8], planned: &mut PlannedReport)
-    requires named { report_named layout.now bytes.now ≡ Ok report }
-    requires none { planned.old.room ≡ 0 }
-    ensures { 0 < planned.new.room → IsBegun layout.now report bytes.now planned.new }
-{
-    let places = plan_of(layout, report);
+    let plan = plan_items(alloc, layout, report)?;
     let room = layout.report_bytes(report);
-    planned.is_tried = true;
-    if places.len() <= MOST_PLANNED && room <= 8 * KEPT_WORDS {
-        plan_items(layout, places, &mut planned.plan);
-        let _ = update_words(&mut planned.words, &bytes[..room]);
-        planned.id = id_of(layout, bytes);
-        planned.report = report;
-        planned.room = room;
-        planned.is_silent = false;
-    }
+    let last = full_of(alloc, 0, 8 * (room / 8) + 8)?;
+    Ok(PlannedReport {
+        plan,
+        room,
+        last,
+        is_known: false,
+        is_silent: false,
+    })
 }

@@ -1,22 +1,21 @@
 //! The Input reports of one device, read one after the other.
 
-ghost use Rattle.std.specs.Prelude.{◌≡◌, ◌≢◌, ◌<◌, ◌≤◌, ◌+◌, ◌++◌, false, length, vec_len, vec_capacity};
-ghost use Rattle.std.specs.Bool.{OnTrue};
+ghost use Rattle.std.specs.Prelude.{◌≡◌, ◌≤◌, ◌+◌, ◌++◌, true, length, vec_len, vec_capacity};
 ghost use Rattle.hid_layout.specs.Controls.{items_of, max_events};
-ghost use Rattle.hid_layout.specs.Reports.{IsLayout};
+ghost use Rattle.hid_layout.specs.Reports.{IsLayout, report_bytes};
 ghost use Rattle.hid_snapshots.specs.ControlStates.{FitsView, blank};
+ghost use Rattle.hid_snapshots.specs.Parts.{IsInput};
 ghost use Rattle.hid_snapshots.specs.Views.{changes_between};
 ghost use Rattle.hid_usages.specs.Appending.{Appends};
-ghost use Rattle.hid_usages.specs.PlannedReports.{IsPlannedReport, NamesPlanned};
-ghost use Rattle.hid_usages.specs.Taking.{TakesReport, read_view, read_events};
-ghost use Rattle.hid_usages.specs.Reader.{still_bytes_of};
+ghost use Rattle.hid_usages.specs.PlannedReports.{HasPlan, IsPlaceOf, IsPlannedReport, IsPlannedView};
+ghost use Rattle.hid_usages.specs.Taking.{IsReceived, TakesReport, read_view, read_events, view_received, events_received};
 
-use crate::changed_bits::update_words;
-use crate::planned_report::{PlannedReport, names_planned, no_plan, plan_report};
-use crate::report_lookup::input_report;
-use crate::take::ReportBytes;
+use crate::changed_bits::{changed_bits, one_word};
+use crate::planned_report::PlannedReport;
+use crate::report_index::{NO_REPORT, begun_report, place_by_index};
+use crate::report_plans::{PlannedView, ReportPlans, forget_last};
+use crate::take::{LastReport, ReportBytes};
 use crate::view::View;
-use arrayvec::ArrayVec;
 use hid_fields::FieldCodec;
 use hid_layout::Layout;
 use hid_snapshots::{Event, ReportFault};
@@ -24,18 +23,15 @@ use std::marker::Model;
 
 /// The layout of a device's reports, and a host's view of its controls. A contract sees both.
 ///
-/// A report of at most 64 bytes that gave no event isn't read again if the next one has the same bytes: that gives none either.
-/// The first Input report that is read has a plan, if it has at most 64 bytes and 16 items: of its next ones the items are read
-/// whose bits change, and those with motions.
+/// Each Input report has a plan, and the bytes of the last one of its number are kept: of the next one the items are read whose
+/// bits change, and those with motions. One with the bytes of the last one, which gave no event, isn't read.
 #[derive(Drop)]
 pub struct Reader {
     layout: Layout,
     view: View,
     /// How many events a report gives at most: `max_events` of the layout, which walks all of its items.
     max_events: usize,
-    /// The bytes of a report that gives no event and changes nothing of the view; none where no such report is known.
-    still: ArrayVec<u8, 64>,
-    planned: PlannedReport,
+    plans: ReportPlans,
 }
 
 impl Model for Reader {
@@ -45,138 +41,129 @@ impl Model for Reader {
 
     ghost view = { λ r. record { layout = r.layout; view = r.view } };
 
-    ghost invariant = { λ r. IsReader r.layout r.view r.max_events r.still.items r.planned };
+    ghost invariant = { λ r. IsReader r.layout r.view r.max_events r.plans };
 }
 
-/// Whether these are the bytes that are kept, of which there are some.
-fn is_kept(still: &[u8], bytes: &[u8]) -> bool
-    ensures { OnTrue result ((0 < length still.now) × (still.now ≡ bytes.now)) }
-{
-    !still.is_empty() && still == bytes
-}
-
-/// Keeps the bytes of a report that gave no event. Each branch clears by itself, so that a report that gave events pays less.
-fn keep(still: &mut ArrayVec<u8, 64>, bytes: &[u8], is_silent: bool)
-    ensures { still.new.items ≡ still_bytes_of is_silent bytes.now }
-{
-    if is_silent {
-        still.clear();
-        let _ = still.try_extend_from_slice(bytes);
-    } else {
-        still.clear();
-    }
-}
-
-/// Reads the report that has a plan, and appends the events. False where it has the bits of the last one of its number, which
-/// gave no event: nothing is read.
-fn take_planned<C: FieldCodec>(
+/// Reads a report of which no last one is known, and keeps its bytes.
+#[inline(never)]
+fn take_first<C: FieldCodec>(
     layout: &Layout,
+    report: usize,
+    bytes: &[u8],
     planned: &mut PlannedReport,
     view: &mut View,
-    bytes: &[u8],
     out: &mut Vec<Event>,
-) -> bool
-    requires planned { IsPlannedReport layout.now view.old planned.old }
-    requires names { NamesPlanned layout.now planned.old bytes.now }
+)
+    requires input { IsInput layout.now report }
+    requires whole { report_bytes layout.now report ≤ length bytes.now }
+    requires plan { HasPlan layout.now report planned.old }
     requires fits { FitsView (items_of layout.now) view.old }
     requires room { vec_len out.old + max_events (items_of layout.now) ≤ vec_capacity out.old }
-    ensures planned { IsPlannedReport layout.now view.new planned.new }
-    ensures view { view.new ≡ read_view layout.now planned.old.report bytes.now view.old }
-    ensures appends { Appends out.old (read_events layout.now planned.old.report bytes.now view.old)
-        out.new }
-    ensures same { result ≡ false → view.new ≡ view.old }
+    ensures planned { IsPlannedReport layout.now report view.new planned.new }
+    ensures view { view.new ≡ read_view layout.now report bytes.now view.old }
+    ensures appends { Appends out.old (read_events layout.now report bytes.now view.old) out.new }
     ensures fits { FitsView (items_of layout.now) view.new }
     ensures few { vec_len out.new ≤ vec_len out.old + max_events (items_of layout.now) }
 {
     // For the prover: what holds of every layout.
     let _ = layout.items();
 
-    let room = planned.room;
-    let changed = update_words(&mut planned.words, &bytes[..room]);
-    if changed.end == 0 && planned.is_silent {
-        return false;
-    }
-    let told = out.len();
     let received = ReportBytes {
         layout,
-        report: planned.report,
+        report,
         bytes,
     };
-    view.take_planned::<C>(&received, &planned.plan, changed, out);
-    planned.is_silent = out.len() == told;
-    true
+    let before = out.len();
+    view.take_named::<C>(&received, out);
+    let word = one_word(&bytes[..planned.room]);
+    planned.keep(bytes, word, out.len() == before);
 }
 
-/// Forgets the plan of this report, which wasn't read by it.
-fn forget_plan(report: usize, planned: &mut PlannedReport)
-    ensures same { 0 < planned.new.room → planned.new ≡ planned.old }
-    ensures other { 0 < planned.new.room → report ≢ planned.old.report }
-{
-    if report == planned.report {
-        planned.room = 0;
-    }
-}
-
-/// Reads a report without a plan, and appends the events; plans the first one that comes.
-///
-/// # Errors
-/// Those of [`View::take_report`], which leave the view as it was.
-#[inline(never)]
-fn take_other<C: FieldCodec>(
-    layout: &Layout,
+/// Reads a report by its plan, and keeps its bytes.
+fn take_next<C: FieldCodec>(
+    received: &ReportBytes<'_>,
     planned: &mut PlannedReport,
     view: &mut View,
-    bytes: &[u8],
     out: &mut Vec<Event>,
-) -> Result<(), ReportFault>
-    requires planned { 0 < planned.old.room → IsPlannedReport layout.now view.old planned.old }
-    requires fits { FitsView (items_of layout.now) view.old }
-    requires room { vec_len out.old + max_events (items_of layout.now) ≤ vec_capacity out.old }
-    ensures planned { 0 < planned.new.room → IsPlannedReport layout.now view.new planned.new }
-    ensures taken { TakesReport layout.now bytes.now view.old out.old.items result view.new
-        out.new.items }
-    ensures fits { FitsView (items_of layout.now) view.new }
-    ensures few { vec_len out.new ≤ vec_len out.old + max_events (items_of layout.now) }
-    ensures room { vec_capacity out.new ≡ vec_capacity out.old }
+)
+    requires received { IsReceived received.now }
+    requires known { planned.old.is_known ≡ true }
+    requires planned { IsPlannedReport received.now.layout.now received.now.report view.old
+        planned.old }
+    requires fits { FitsView (items_of received.now.layout.now) view.old }
+    requires room { vec_len out.old + max_events (items_of received.now.layout.now)
+        ≤ vec_capacity out.old }
+    ensures planned { IsPlannedReport received.now.layout.now received.now.report view.new
+        planned.new }
+    ensures view { view.new ≡ view_received received.now view.old }
+    ensures appends { Appends out.old (events_received received.now view.old) out.new }
+    ensures fits { FitsView (items_of received.now.layout.now) view.new }
+    ensures few { vec_len out.new ≤ vec_len out.old + max_events (items_of received.now.layout.now) }
 {
     // For the prover: what holds of every layout.
-    let _ = layout.items();
+    let _ = received.layout.items();
 
-    match input_report(layout, bytes) {
-        Ok(report) => {
-            let received = ReportBytes {
-                layout,
-                report,
-                bytes,
-            };
-            view.take_named::<C>(&received, out);
-            forget_plan(report, planned);
-            if !planned.is_tried {
-                planned.room = 0;
-                plan_report(layout, report, bytes, planned);
-            }
-            Ok(())
-        }
-        Err(fault) => Err(fault),
+    let room = planned.room;
+    let bytes = &received.bytes[..room];
+    let word = one_word(bytes);
+    let changed = changed_bits(&planned.last, bytes, word);
+    let before = out.len();
+    let last = LastReport {
+        bytes: &planned.last[..room],
+        changed,
+    };
+    view.take_planned::<C>(received, &planned.plan, &last, out);
+    planned.keep(received.bytes, word, out.len() == before);
+}
+
+/// Reads a report, and keeps its bytes.
+fn take_one<C: FieldCodec>(
+    received: &ReportBytes<'_>,
+    planned: &mut PlannedReport,
+    view: &mut View,
+    out: &mut Vec<Event>,
+)
+    requires received { IsReceived received.now }
+    requires planned { IsPlannedReport received.now.layout.now received.now.report view.old
+        planned.old }
+    requires fits { FitsView (items_of received.now.layout.now) view.old }
+    requires room { vec_len out.old + max_events (items_of received.now.layout.now)
+        ≤ vec_capacity out.old }
+    ensures planned { IsPlannedReport received.now.layout.now received.now.report view.new
+        planned.new }
+    ensures view { view.new ≡ view_received received.now view.old }
+    ensures appends { Appends out.old (events_received received.now view.old) out.new }
+    ensures fits { FitsView (items_of received.now.layout.now) view.new }
+    ensures few { vec_len out.new ≤ vec_len out.old + max_events (items_of received.now.layout.now) }
+{
+    if planned.is_known {
+        take_next::<C>(received, planned, view, out);
+    } else {
+        let ReportBytes {
+            layout,
+            report,
+            bytes,
+        } = *received;
+        take_first::<C>(layout, report, bytes, planned, view, out);
     }
 }
 
 impl Reader {
-    /// A reader of reports of this layout, with what a host has read of them so far: a view that suits the layout.
-    pub fn new(layout: Layout, view: View) -> Reader
-        requires { FitsView (items_of layout) view }
-        ensures { result ≡ record { layout = layout; view = view } }
+    /// A reader of reports of this layout, of which none came yet, with a view and plans that suit the layout.
+    pub fn new(layout: Layout, view: PlannedView) -> Reader
+        requires { IsPlannedView layout view }
+        ensures { result ≡ record { layout = layout; view = view.view } }
     {
         // For the prover: what holds of every layout.
         let _ = layout.items();
         let max_events = layout.max_events();
 
+        let PlannedView { view, plans } = view;
         Reader {
             layout,
             view,
             max_events,
-            still: ArrayVec::new(),
-            planned: no_plan(),
+            plans,
         }
     }
 
@@ -208,6 +195,7 @@ impl Reader {
     ///
     /// # Errors
     /// Those of [`View::take_report`], which leave the view as it was.
+    #[inline(always)]
     pub fn take_report<C: FieldCodec>(
         &mut self,
         bytes: &[u8],
@@ -224,25 +212,50 @@ impl Reader {
         ensures few { vec_len out.new ≤ vec_len out.old + max_events (items_of self.old.layout) }
         ensures room { vec_capacity out.new ≡ vec_capacity out.old }
     {
-        if is_kept(&self.still, bytes) {
+        let place = place_by_index(&self.layout, &self.plans.index, bytes);
+        if place < NO_REPORT && self.plans.reports[usize::from(place)].is_still(bytes) {
             return Ok(());
         }
-        let told = out.len();
-        if names_planned(&self.layout, &self.planned, bytes) {
-            if !take_planned::<C>(&self.layout, &mut self.planned, &mut self.view, bytes, out) {
-                return Ok(());
-            }
-            let is_silent = out.len() == told;
-            keep(&mut self.still, bytes, is_silent);
-            return Ok(());
+        self.read_report::<C>(bytes, out, place)
+    }
+
+    /// Reads the report at this place of the index as [`take_report`](Reader::take_report) does. It isn't inlined, so that a
+    /// report which changes nothing needs none of its room; the place comes last, so that the others stay where they are.
+    ///
+    /// # Errors
+    /// Those of [`View::take_report`], which leave the view as it was.
+    #[inline(never)]
+    fn read_report<C: FieldCodec>(
+        &mut self,
+        bytes: &[u8],
+        out: &mut Vec<Event>,
+        place: u8,
+    ) -> Result<(), ReportFault>
+        requires place { IsPlaceOf self.old.layout bytes.now place }
+        requires room { vec_len out.old + max_events (items_of self.old.layout)
+            ≤ vec_capacity out.old }
+        ensures taken { TakesReport self.old.layout bytes.now self.old.view out.old.items result
+            self.new.view out.new.items }
+        ensures layout { self.new.layout ≡ self.old.layout }
+        ensures fits { FitsView (items_of self.new.layout) self.new.view }
+        ensures few { vec_len out.new ≤ vec_len out.old + max_events (items_of self.old.layout) }
+        ensures room { vec_capacity out.new ≡ vec_capacity out.old }
+    {
+        let report = match begun_report(&self.layout, place, bytes) {
+            Ok(report) => report,
+            Err(fault) => return Err(fault),
+        };
+        let planned = &mut self.plans.reports[report];
+        if planned.is_short(bytes) {
+            return Err(ReportFault::Short);
         }
-        match take_other::<C>(&self.layout, &mut self.planned, &mut self.view, bytes, out) {
-            Ok(()) => {
-                keep(&mut self.still, bytes, out.len() == told);
-                Ok(())
-            }
-            Err(fault) => Err(fault),
-        }
+        let received = ReportBytes {
+            layout: &self.layout,
+            report,
+            bytes,
+        };
+        take_one::<C>(&received, planned, &mut self.view, out);
+        Ok(())
     }
 
     /// Lets go of all that is held: adds the events until the view is the initial one, as [`View::changes_back`] does, and
@@ -260,7 +273,6 @@ impl Reader {
     {
         self.view.changes_back(&self.layout, out);
         self.view.reset(&self.layout);
-        self.still.clear();
-        self.planned.forget();
+        forget_last(&mut self.plans.reports);
     }
 }

@@ -5,12 +5,14 @@ ghost use Rattle.hid_report_descriptor.specs.declared.limits.TheConstants.{MAX_R
 ghost use Rattle.hid_layout.specs.Controls.{items_of, max_events};
 ghost use Rattle.hid_layout.specs.Reports.{IsLayout, IsOfBus};
 ghost use Rattle.hid_snapshots.specs.ControlStates.{FitsView};
+ghost use Rattle.hid_usages.specs.PlannedReports.{IsPlannedView};
 ghost use Rattle.hid_usages.specs.Reading.{report_named};
 ghost use Rattle.hid_usages.specs.Receiving.{after_packet, bytes_with, ends_with, events_of_report, events_with, is_whole, packet_outcome, view_after_report, whole_outcome, without_collected};
 ghost use Rattle.hid_usages.specs.Taking.{TakesReport};
 
 use crate::reader::Reader;
 use crate::report_lookup::bytes_awaited;
+use crate::report_plans::PlannedView;
 use crate::view::View;
 use hid_fields::FieldCodec;
 use hid_layout::Layout;
@@ -94,12 +96,12 @@ fn read_report<C: FieldCodec>(
 }
 
 impl Receiver {
-    /// A receiver of reports of this layout, of which nothing came yet, with what a host has read of them so far: a view
-    /// that suits the layout. `room` is empty, and has room for what is to be kept of a report.
-    pub fn new(layout: Layout, view: View, room: Vec<u8>) -> Receiver
-        requires fits { FitsView (items_of layout) view }
+    /// A receiver of reports of this layout, of which nothing came yet, with a view and plans that suit the layout. `room` is
+    /// empty, and has room for what is to be kept of a report.
+    pub fn new(layout: Layout, view: PlannedView, room: Vec<u8>) -> Receiver
+        requires planned { IsPlannedView layout view }
         requires empty { room.items ≡ [] }
-        ensures state { result.state ≡ record { layout = layout; view = view; collected = [] } }
+        ensures state { result.state ≡ record { layout = layout; view = view.view; collected = [] } }
         ensures room { result.room ≡ vec_capacity room }
     {
         Receiver {

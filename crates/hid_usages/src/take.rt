@@ -1,6 +1,6 @@
 //! What a report of any bytes makes of a view, and the events of it.
 
-ghost use Rattle.std.specs.Prelude.{All, pos, ◌≡◌, ◌<◌, ◌≤◌, ◌^◌, ◌+◌, ◌++◌, length, map, slice_get, Some, take, true};
+ghost use Rattle.std.specs.Prelude.{All, pos, ◌≡◌, ◌<◌, ◌≤◌, ◌^◌, ◌+◌, ◌++◌, false, length, take, replicate};
 ghost use Rattle.hid_layout.specs.Controls.{items_of, controls_of_form};
 ghost use Rattle.hid_layout.specs.declared.control.Controls.TheVariants as head;
 ghost use Rattle.hid_layout.specs.declared.control.ControlKind.TheVariants as ControlKind;
@@ -9,24 +9,22 @@ ghost use Rattle.hid_snapshots.specs.Events.{element_events, key_events, usages_
 ghost use Rattle.hid_snapshots.specs.Views.{motions_of};
 ghost use Rattle.hid_usages.specs.Appending.{HasSpace, Appends};
 ghost use Rattle.hid_usages.specs.Bits.{are_bits, read_bits};
+ghost use Rattle.hid_usages.specs.EventSources.{AreUsages};
 ghost use Rattle.hid_usages.specs.KeyArrays.{NoneSetFrom, flag_events, keys_by_array};
 ghost use Rattle.hid_usages.specs.Reading.{FitsFields, keys_at};
 ghost use Rattle.hid_usages.specs.Taking.{IsInReport, HasEventRoomAt, NoFlagSet, NoFlagSetFor, usages_in, keys_in, form_in, state_after_numbers, events_of_numbers, state_after_carried, motion_carried};
 ghost use Rattle.hid_usages.specs.Taking.{IsReceived, ArePlacesOf, view_received, events_received, state_received, item_events_received};
 ghost use Rattle.hid_usages.specs.Taking.{HasData, IsFilled, numbers_of_bytes, state_after_bytes, events_by_numbers, events_by_bytes};
 ghost use Rattle.hid_usages.specs.Taking.{IsArrayAt, keys_by_entries, key_events_in};
-ghost use Rattle.std.specs.Bool.{OnTrue};
 ghost use Rattle.hid_layout.specs.Controls.{element_kind};
 ghost use Rattle.hid_layout.specs.Reports.{first_bit};
-ghost use Rattle.hid_usages.specs.Ranges.{LeaveOthers, HoldsSpan, KnowsListed};
-ghost use Rattle.hid_usages.specs.Known.{Knows, KnowsPlace, IsPassed};
-ghost use Rattle.hid_usages.specs.Plans.{IsPlannedItem, place_of};
+ghost use Rattle.hid_usages.specs.Ranges.{LeaveOthers};
 
 use crate::bits::{are_bits, take_bits};
 use crate::changed_bits::BitSpan;
 use crate::elements::{Carriable, ElementRange, take_switches, take_values};
+use crate::event_source::{EventSource, ItemUsages, no_usages};
 use crate::key_array::{KeyArray, read_keys};
-use crate::plan::{PlannedItem, PlannedKind};
 use crate::value_range::Bounds;
 use crate::view_changes::{flag_changes, motions};
 use hid_fields::FieldCodec;
@@ -41,22 +39,32 @@ pub(crate) struct ReportBytes<'a> {
     pub(crate) bytes: &'a [u8],
 }
 
-/// A listed item, with its layout and its place there.
+/// What is known of the report before, of the same number.
 #[derive(Clone, Copy)]
-struct ListedItem<'a> {
-    layout: &'a Layout,
-    place: usize,
-    item: &'a MainItem,
+pub(crate) struct LastReport<'a> {
+    /// Its bytes: to read them again leaves the view.
+    pub(crate) bytes: &'a [u8],
+    /// The bits of the next report that aren't its own.
+    pub(crate) changed: BitSpan,
 }
 
-/// The numbers of a variable item's elements, with the kind of the elements and the bounds that they are read by. Outside of a
-/// range they leave the elements.
+/// A listed item, with its layout and its place there.
 #[derive(Clone, Copy)]
-struct ElementNumbers<'a> {
-    kind: ControlKind,
-    bounds: Bounds,
-    range: ElementRange,
-    numbers: &'a FieldRun<'a>,
+pub(crate) struct ListedItem<'a> {
+    pub(crate) layout: &'a Layout,
+    pub(crate) place: usize,
+    pub(crate) item: &'a MainItem,
+}
+
+/// The numbers of a variable item's elements, with the kind and the usages of the elements, and the bounds that they are read by.
+/// Outside of a range they leave the elements.
+#[derive(Clone, Copy)]
+pub(crate) struct ElementNumbers<'a> {
+    pub(crate) kind: ControlKind,
+    pub(crate) usages: &'a ItemUsages,
+    pub(crate) bounds: Bounds,
+    pub(crate) range: ElementRange,
+    pub(crate) numbers: &'a FieldRun<'a>,
 }
 
 /// Reads the bytes of a report, whose items stand at these places, into what is kept of the layout's items, and appends the
@@ -136,7 +144,8 @@ fn take_fields<C: FieldCodec>(
     let item = listed.item;
     let at = first_bit(listed.layout) + item.offset;
     if are_bits(item) {
-        take_pattern(listed, C::get(bytes, at, item.count), state, out);
+        let usages = no_usages();
+        take_pattern(listed, &usages, C::get(bytes, at, item.count), state, out);
     } else {
         let numbers = FieldRun::new(bytes, at, item.size, item.min < 0, item.count as usize);
         take_numbers::<C>(listed, &numbers, state, named, out);
@@ -145,12 +154,14 @@ fn take_fields<C: FieldCodec>(
 
 /// Sets switches of one bit each by their pattern, and appends their events.
 #[inline(always)]
-fn take_pattern(
+pub(crate) fn take_pattern(
     listed: &ListedItem<'_>,
+    usages: &ItemUsages,
     pattern: u32,
     state: &mut ControlState,
     out: &mut Vec<Event>,
 )
+    requires usages { AreUsages listed.now.layout.now listed.now.place usages.now }
     requires held { HasRoom (head.Elements ControlKind.Switch (pos 0) (pos 1)
         (length (usages_in listed.now))) state.old }
     requires few { length (usages_in listed.now) ≤ 32 }
@@ -162,7 +173,12 @@ fn take_pattern(
         (usages_in listed.now) state.old state.new) out.new }
 {
     if let ControlState::Switches(held) = state {
-        take_bits(listed.layout, listed.place, pattern, held, out);
+        let source = EventSource {
+            layout: listed.layout,
+            item: listed.place,
+            usages,
+        };
+        take_bits(&source, pattern, held, out);
     }
 }
 
@@ -189,8 +205,10 @@ fn take_numbers<C: FieldCodec>(
     match listed.item.shape {
         Shape::Padding => {}
         Shape::Variable => {
+            let usages = no_usages();
             let carried = ElementNumbers {
                 kind: listed.item.element_kind(),
+                usages: &usages,
                 bounds: Bounds {
                     least: listed.item.min,
                     greatest: listed.item.max,
@@ -220,12 +238,14 @@ fn all_elements(numbers: &FieldRun<'_>) -> ElementRange
 
 /// Sets the elements of a variable item by these numbers, and appends their events.
 #[inline(always)]
-fn take_elements<C: FieldCodec>(
+pub(crate) fn take_elements<C: FieldCodec>(
     listed: &ListedItem<'_>,
     carried: &ElementNumbers<'_>,
     state: &mut ControlState,
     out: &mut Vec<Event>,
 )
+    requires usages { AreUsages listed.now.layout.now listed.now.place
+        carried.now.usages.now }
     requires numbers { length carried.now.numbers.now ≡ length (usages_in listed.now) }
     requires held { HasRoom (head.Elements carried.now.kind carried.now.bounds.least
         carried.now.bounds.greatest (length (usages_in listed.now))) state.old }
@@ -239,11 +259,15 @@ fn take_elements<C: FieldCodec>(
         (usages_in listed.now) state.old state.new ++ motions_of listed.now.place
         (usages_in listed.now) (motion_carried carried.now)) out.new }
 {
-    let ListedItem { layout, place, .. } = *listed;
+    let source = EventSource {
+        layout: listed.layout,
+        item: listed.place,
+        usages: carried.usages,
+    };
     match carried.kind {
         ControlKind::Switch => {
             if let ControlState::Switches(held) = state {
-                take_switches::<C>(layout, place, carried.range, carried.numbers, held, out);
+                take_switches::<C>(&source, carried.range, carried.numbers, held, out);
             }
         }
         ControlKind::Value | ControlKind::NullValue => {
@@ -253,8 +277,7 @@ fn take_elements<C: FieldCodec>(
                     bounds: carried.bounds,
                 };
                 take_values::<C>(
-                    layout,
-                    place,
+                    &source,
                     &carriable,
                     carried.range,
                     carried.numbers,
@@ -264,14 +287,14 @@ fn take_elements<C: FieldCodec>(
             }
         }
         ControlKind::Relative => {
-            motions::<C>(layout, place, &carried.bounds, carried.numbers, out);
+            motions::<C>(&source, &carried.bounds, carried.numbers, out);
         }
     }
 }
 
 /// Sets the keys of an array by these numbers, and appends their events.
 #[inline(always)]
-fn take_array<C: FieldCodec>(
+pub(crate) fn take_array<C: FieldCodec>(
     listed: &ListedItem<'_>,
     entries: &[(Usage, Usage)],
     numbers: &FieldRun<'_>,
@@ -290,49 +313,20 @@ fn take_array<C: FieldCodec>(
     ensures named { named.new ≡ named.old }
     ensures appends { Appends out.old (key_events_in listed.now state.old state.new) out.new }
 {
+    let array = KeyArray {
+        item: listed.item,
+        entries,
+    };
+    let ListedItem { layout, place, .. } = *listed;
     if let ControlState::Switches(held) = state {
-        take_flags::<C>(listed, entries, numbers, held, named, out);
+        take_flags::<C>(layout, place, &array, numbers, held, named, out);
     }
 }
 
 /// Sets the held keys of an array by these numbers, and appends their events. If a number names ErrorRollOver, the keys stay
 /// (HID 1.11, appendix C).
 #[inline(always)]
-fn take_flags<C: FieldCodec>(
-    listed: &ListedItem<'_>,
-    entries: &[(Usage, Usage)],
-    numbers: &FieldRun<'_>,
-    held: &mut Flags,
-    named: &mut Flags,
-    out: &mut Vec<Event>,
-)
-    requires array { IsArrayAt listed.now.layout.now listed.now.place listed.now.item.now
-        entries.now }
-    requires fits { All (FitsFields listed.now.item.now) numbers.now }
-    requires held { length held.old ≡ length (keys_in listed.now) }
-    requires named { NoFlagSetFor (ControlState.Switches held.old) named.old }
-    requires room { HasSpace out.old (key_events_in listed.now (ControlState.Switches held.old)
-        (keys_by_entries listed.now entries.now (ControlState.Switches held.old) numbers.now)) }
-    ensures held { ControlState.Switches held.new
-        ≡ keys_by_entries listed.now entries.now (ControlState.Switches held.old) numbers.now }
-    ensures named { named.new ≡ named.old }
-    ensures appends { Appends out.old (key_events_in listed.now (ControlState.Switches held.old)
-        (ControlState.Switches held.new)) out.new }
-{
-    let array = KeyArray {
-        item: listed.item,
-        entries,
-    };
-    let ListedItem { layout, place, .. } = *listed;
-    let count = held.len();
-    take_named::<C>(layout, place, &array, numbers, held, named, out);
-    named.release_first(count);
-}
-
-/// The held keys of an array, as these numbers leave them; the keys that the numbers name stay set in the room for
-/// them.
-#[inline(always)]
-fn take_named<C: FieldCodec>(
+pub(crate) fn take_flags<C: FieldCodec>(
     layout: &Layout,
     place: usize,
     array: &KeyArray<'_>,
@@ -350,279 +344,36 @@ fn take_named<C: FieldCodec>(
         (keys_by_array layout.now place array.now held.old numbers.now)) }
     ensures held { ControlState.Switches held.new
         ≡ keys_by_array layout.now place array.now held.old numbers.now }
-    ensures others { NoneSetFrom (length held.old) named.new }
-    ensures len { length named.new ≡ length named.old }
+    ensures named { named.new ≡ named.old }
     ensures appends { Appends out.old (key_events place (usages_at layout.now place)
         (ControlState.Switches held.old) (ControlState.Switches held.new)) out.new }
 {
     if read_keys::<C>(array, numbers, named) {
         take_first(layout, place, held, named, out);
+    } else {
+        named.release_first(held.len());
     }
 }
 
-/// Sets keys by the first of these flags, and appends the changes: none where the keys are as the flags say.
+/// Sets keys by the first of these flags, appends the changes, and releases all of the flags.
 #[inline(always)]
-fn take_first(layout: &Layout, place: usize, held: &mut Flags, named: &Flags, out: &mut Vec<Event>)
+fn take_first(
+    layout: &Layout,
+    place: usize,
+    held: &mut Flags,
+    named: &mut Flags,
+    out: &mut Vec<Event>,
+)
     requires held { length held.old ≡ length (usages_at layout.now place) }
-    requires places { length held.old ≤ length named.now }
-    requires others { NoneSetFrom (length held.old) named.now }
+    requires places { length held.old ≤ length named.old }
+    requires others { NoneSetFrom (length held.old) named.old }
     requires room { HasSpace out.old
-        (flag_events place (usages_at layout.now place) held.old named.now) }
-    ensures held { held.new ≡ take (length held.old) named.now }
+        (flag_events place (usages_at layout.now place) held.old named.old) }
+    ensures held { held.new ≡ take (length held.old) named.old }
+    ensures named { named.new ≡ replicate (length named.old) false }
     ensures appends { Appends out.old (flag_events place (usages_at layout.now place) held.old
-        named.now) out.new }
+        named.old) out.new }
 {
-    if !held.is_first_of(named) {
-        flag_changes(layout, place, held, named, out);
-        held.copy_first(named);
-    }
-}
-
-/// Reads the bytes of a report by its plan into what is kept of the layout's items, and appends the events. Items whose bits
-/// are those of the report before, which left the view, are passed over.
-pub(crate) fn take_planned<C: FieldCodec>(
-    received: &ReportBytes<'_>,
-    plan: &[PlannedItem],
-    changed: BitSpan,
-    states: &mut [ControlState],
-    named: &mut Flags,
-    out: &mut Vec<Event>,
-)
-    requires received { IsReceived received.now }
-    requires places { ArePlacesOf received.now (map place_of plan.now) }
-    requires planned { All (IsPlannedItem received.now.layout.now) plan.now }
-    requires known { Knows received.now.layout.now received.now.report received.now.bytes.now
-        changed states.old }
-    requires fits { FitsView (items_of received.now.layout.now) states.old }
-    requires named { NoFlagSet states.old named.old }
-    requires room { HasSpace out.old (events_received received.now states.old) }
-    ensures view { states.new ≡ view_received received.now states.old }
-    ensures named { named.new ≡ named.old }
-    ensures appends { Appends out.old (events_received received.now states.old) out.new }
-{
-    for k in 0..plan.len() {
-        let planned = planned_at(plan, k);
-        let i = planned.place;
-        take_if_changed::<C>(received, planned, changed, &mut states[i], named, out);
-    }
-}
-
-/// The planned item at an index.
-#[inline(always)]
-fn planned_at(plan: &[PlannedItem], k: usize) -> &PlannedItem
-    requires { k < length plan.now }
-    ensures { slice_get plan.now k ≡ Some result.now }
-{
-    &plan[k]
-}
-
-/// Whether the bits of an item are those of the report before, and it has no motions.
-#[inline(always)]
-fn is_passed(planned: &PlannedItem, changed: BitSpan) -> bool
-    ensures { OnTrue result (IsPassed planned.now changed) }
-{
-    (planned.end <= changed.first || changed.end <= planned.first)
-        && planned.kind != PlannedKind::Motions
-}
-
-/// Reads the bytes of a report into what is kept of a planned item of it, and appends the events, unless its bits are those of
-/// the report before.
-#[inline(always)]
-fn take_if_changed<C: FieldCodec>(
-    received: &ReportBytes<'_>,
-    planned: &PlannedItem,
-    changed: BitSpan,
-    state: &mut ControlState,
-    named: &mut Flags,
-    out: &mut Vec<Event>,
-)
-    requires received { IsReceived received.now }
-    requires planned { IsPlannedItem received.now.layout.now planned.now }
-    requires in_report { IsInReport received.now.layout.now received.now.report planned.now.place }
-    requires known { KnowsPlace received.now.layout.now received.now.report received.now.bytes.now
-        changed planned.now.place state.old }
-    requires held { HasEventRoomAt received.now.layout.now planned.now.place state.old }
-    requires named { NoFlagSetFor state.old named.old }
-    requires room { HasSpace out.old (item_events_received received.now planned.now.place
-        state.old) }
-    ensures state { state.new ≡ state_received received.now planned.now.place state.old }
-    ensures named { named.new ≡ named.old }
-    ensures appends { Appends out.old (item_events_received received.now planned.now.place
-        state.old) out.new }
-{
-    // For the prover: what holds of every layout.
-    let _ = item_at(received.layout, planned.place);
-
-    if is_passed(planned, changed) {
-        return;
-    }
-    take_planned_item::<C>(received, planned, changed, state, named, out);
-}
-
-/// Reads the bytes of a report into what is kept of a planned item of it, and appends the events.
-#[inline(always)]
-fn take_planned_item<C: FieldCodec>(
-    received: &ReportBytes<'_>,
-    planned: &PlannedItem,
-    changed: BitSpan,
-    state: &mut ControlState,
-    named: &mut Flags,
-    out: &mut Vec<Event>,
-)
-    requires received { IsReceived received.now }
-    requires planned { IsPlannedItem received.now.layout.now planned.now }
-    requires in_report { IsInReport received.now.layout.now received.now.report planned.now.place }
-    requires known { KnowsPlace received.now.layout.now received.now.report received.now.bytes.now
-        changed planned.now.place state.old }
-    requires held { HasEventRoomAt received.now.layout.now planned.now.place state.old }
-    requires named { NoFlagSetFor state.old named.old }
-    requires room { HasSpace out.old (item_events_received received.now planned.now.place
-        state.old) }
-    ensures state { state.new ≡ state_received received.now planned.now.place state.old }
-    ensures named { named.new ≡ named.old }
-    ensures appends { Appends out.old (item_events_received received.now planned.now.place
-        state.old) out.new }
-{
-    let layout = received.layout;
-    let bytes = received.bytes;
-    let listed = ListedItem {
-        layout,
-        place: planned.place,
-        item: item_at(layout, planned.place),
-    };
-    let at = planned.first;
-    match planned.kind {
-        PlannedKind::Padding => {}
-        PlannedKind::Bits => take_bit_fields::<C>(&listed, bytes, at, state, out),
-        PlannedKind::Switches => {
-            take_variable::<C>(&listed, bytes, at, changed, ControlKind::Switch, state, out);
-        }
-        PlannedKind::Values => {
-            take_variable::<C>(&listed, bytes, at, changed, ControlKind::Value, state, out);
-        }
-        PlannedKind::NullValues => {
-            take_variable::<C>(
-                &listed,
-                bytes,
-                at,
-                changed,
-                ControlKind::NullValue,
-                state,
-                out,
-            );
-        }
-        PlannedKind::Motions => {
-            take_variable::<C>(
-                &listed,
-                bytes,
-                at,
-                changed,
-                ControlKind::Relative,
-                state,
-                out,
-            );
-        }
-        PlannedKind::Keys => take_keys::<C>(&listed, bytes, at, state, named, out),
-    }
-}
-
-/// Reads up to 32 switches of one bit each, whose first field stands at a bit of the bytes, and appends their events.
-#[inline(always)]
-fn take_bit_fields<C: FieldCodec>(
-    listed: &ListedItem<'_>,
-    bytes: &[u8],
-    at: usize,
-    state: &mut ControlState,
-    out: &mut Vec<Event>,
-)
-    requires listed { IsFilled listed.now bytes.now }
-    requires bits { are_bits listed.now.item.now ≡ true }
-    requires at { at ≡ first_bit listed.now.layout.now + listed.now.item.now.offset }
-    requires held { HasRoom (controls_of_form (form_in listed.now)) state.old }
-    requires room { HasSpace out.old (events_by_bytes listed.now state.old bytes.now) }
-    ensures state { state.new ≡ state_after_bytes listed.now state.old bytes.now }
-    ensures appends { Appends out.old (events_of_numbers listed.now state.old state.new
-        (numbers_of_bytes listed.now bytes.now)) out.new }
-{
-    take_pattern(listed, C::get(bytes, at, listed.item.count), state, out);
-}
-
-/// The elements of an item, whose first field stands at a bit, that have the bits of a span.
-#[inline(always)]
-fn elements_of_span(item: &MainItem, at: usize, span: BitSpan) -> ElementRange
-    requires size { 0 < item.now.size }
-    ensures { HoldsSpan at item.now.size item.now.count span result }
-{
-    let size = item.size as usize;
-    let count = item.count as usize;
-    let first = span.first.saturating_sub(at) / size;
-    let end = span.end.saturating_sub(at).div_ceil(size);
-    ElementRange {
-        first: first.min(count),
-        end: end.min(count),
-    }
-}
-
-/// Reads the fields of a variable item with controls of this kind, whose first one stands at a bit of the bytes, and appends
-/// their events. Outside of a span its bits are those of a report that left the view.
-#[inline(always)]
-fn take_variable<C: FieldCodec>(
-    listed: &ListedItem<'_>,
-    bytes: &[u8],
-    at: usize,
-    changed: BitSpan,
-    kind: ControlKind,
-    state: &mut ControlState,
-    out: &mut Vec<Event>,
-)
-    requires listed { IsFilled listed.now bytes.now }
-    requires shape { listed.now.item.now.shape ≡ Shape.Variable }
-    requires kind { kind ≡ element_kind listed.now.item.now }
-    requires at { at ≡ first_bit listed.now.layout.now + listed.now.item.now.offset }
-    requires known { KnowsListed listed.now bytes.now changed state.old }
-    requires held { HasRoom (controls_of_form (form_in listed.now)) state.old }
-    requires room { HasSpace out.old (events_by_bytes listed.now state.old bytes.now) }
-    ensures state { state.new ≡ state_after_bytes listed.now state.old bytes.now }
-    ensures appends { Appends out.old (events_of_numbers listed.now state.old state.new
-        (numbers_of_bytes listed.now bytes.now)) out.new }
-{
-    let item = listed.item;
-    let numbers = FieldRun::new(bytes, at, item.size, item.min < 0, item.count as usize);
-    let carried = ElementNumbers {
-        kind,
-        bounds: Bounds {
-            least: item.min,
-            greatest: item.max,
-        },
-        range: elements_of_span(item, at, changed),
-        numbers: &numbers,
-    };
-    take_elements::<C>(listed, &carried, state, out);
-}
-
-/// Reads the fields of an array, whose first one stands at a bit of the bytes, and appends the events of its keys.
-#[inline(always)]
-fn take_keys<C: FieldCodec>(
-    listed: &ListedItem<'_>,
-    bytes: &[u8],
-    at: usize,
-    state: &mut ControlState,
-    named: &mut Flags,
-    out: &mut Vec<Event>,
-)
-    requires listed { IsFilled listed.now bytes.now }
-    requires shape { listed.now.item.now.shape ≡ Shape.Array }
-    requires at { at ≡ first_bit listed.now.layout.now + listed.now.item.now.offset }
-    requires held { HasRoom (controls_of_form (form_in listed.now)) state.old }
-    requires named { NoFlagSetFor state.old named.old }
-    requires room { HasSpace out.old (events_by_bytes listed.now state.old bytes.now) }
-    ensures state { state.new ≡ state_after_bytes listed.now state.old bytes.now }
-    ensures named { named.new ≡ named.old }
-    ensures appends { Appends out.old (events_of_numbers listed.now state.old state.new
-        (numbers_of_bytes listed.now bytes.now)) out.new }
-{
-    let item = listed.item;
-    let numbers = FieldRun::new(bytes, at, item.size, item.min < 0, item.count as usize);
-    let entries = listed.layout.entries(listed.place);
-    take_array::<C>(listed, entries, &numbers, state, named, out);
+    flag_changes(layout, place, held, named, out);
+    held.take_first(named);
 }

@@ -1,6 +1,6 @@
 //! A host's view of a device's controls.
 
-ghost use Rattle.std.specs.Prelude.{◌≡◌, ◌≤◌, ◌+◌, ◌++◌, ℕ, true, length, slice_get, Some, IfOk, IfSome, vec_len, vec_capacity};
+ghost use Rattle.std.specs.Prelude.{◌≡◌, ◌≤◌, ◌+◌, ◌++◌, ℕ, true, length, slice_get, Some, IfOk, vec_len, vec_capacity};
 ghost use Rattle.hid_layout.specs.Controls.{items_of, max_events};
 ghost use Rattle.hid_snapshots.specs.declared.control_state.ControlState.{ControlState as StateValue};
 ghost use Rattle.hid_snapshots.specs.ExactCapacity.{IsFull};
@@ -14,12 +14,12 @@ ghost use Rattle.hid_usages.specs.Plans.{IsPlan};
 ghost use Rattle.hid_usages.specs.Taking.{TakesReport, IsReceived, view_received, events_received, flag_places};
 ghost use Rattle.hid_snapshots.specs.Views.{value_in, changes_between, drops_between};
 
-use crate::changed_bits::BitSpan;
 use crate::dropped_motion::{Dropped, all_changes_and_drops};
-use crate::plan::PlannedItem;
+use crate::plan::ReportPlan;
 use crate::report_lookup::input_report;
 use crate::reset_events::{all_changes_back, all_changes_back_and_drops};
-use crate::take::{ReportBytes, take_items, take_planned};
+use crate::take::{LastReport, ReportBytes, take_items};
+use crate::take_plan::take_planned;
 use crate::view_changes::all_changes;
 use hid_fields::FieldCodec;
 use hid_layout::{ControlId, Layout};
@@ -129,19 +129,19 @@ impl View {
         take_items::<C>(received, places, &mut self.states, &mut self.named, out);
     }
 
-    /// Takes the bytes of an Input report by its plan, as [`View::take_report`] does: outside of a span, its bits are those of
-    /// a report that left the view.
+    /// Takes the bytes of an Input report by its plan, as [`View::take_report`] does. The bytes of the last one of its number
+    /// leave the view.
     pub(crate) fn take_planned<C: FieldCodec>(
         &mut self,
         received: &ReportBytes<'_>,
-        plan: &[PlannedItem],
-        changed: BitSpan,
+        plan: &ReportPlan,
+        last: &LastReport<'_>,
         out: &mut Vec<Event>,
     )
         requires received { IsReceived received.now }
         requires plan { IsPlan received.now.layout.now received.now.report plan.now }
         requires known { Knows received.now.layout.now received.now.report received.now.bytes.now
-            changed self.old }
+            last.now.bytes.now last.now.changed self.old }
         requires fits { FitsView (items_of received.now.layout.now) self.old }
         requires room { vec_len out.old + max_events (items_of received.now.layout.now)
             ≤ vec_capacity out.old }
@@ -154,14 +154,7 @@ impl View {
         // For the prover: what holds of every layout.
         let _ = item_count(received.layout);
 
-        take_planned::<C>(
-            received,
-            plan,
-            changed,
-            &mut self.states,
-            &mut self.named,
-            out,
-        );
+        take_planned::<C>(received, plan, last, &mut self.states, &mut self.named, out);
     }
 
     /// Appends what changes until the view is the initial one again, as [`changes`] does. There is reserved room for
@@ -246,17 +239,6 @@ impl View {
             _ => None,
         }
     }
-}
-
-/// The initial view of a layout, and room for the events of a report. None for lack of memory.
-pub fn first_view(alloc: Global, layout: &Layout) -> Option<(View, Vec<Event>)>
-    ensures view { IfSome result (λ made. (made.0 ≡ blank (items_of layout.now))
-        × FitsView (items_of layout.now) made.0) }
-    ensures room { IfSome result (λ made. max_events (items_of layout.now) ≤ vec_capacity made.1) }
-{
-    let view = View::initial(alloc, layout).ok()?;
-    let events = Vec::with_capacity(alloc, layout.max_events()).ok()?;
-    Some((view, events))
 }
 
 /// How many places of a control state can be pressed.

@@ -9,10 +9,12 @@ ghost use Rattle.hid_snapshots.specs.ControlStates.{FitsView};
 ghost use Rattle.hid_usages.specs.Appending.{HasSpace, Appends};
 ghost use Rattle.hid_snapshots.specs.Views.{changes_between};
 ghost use Rattle.hid_snapshots.specs.Events.{element_events, key_events, HasPlaces, control_at, usages_at, usage_place, switch_event, value_event, motion_event, switch_events, value_events, motion_events, ups, downs};
+ghost use Rattle.hid_usages.specs.EventSources.{IsSource, usages_of_source};
 ghost use Rattle.hid_usages.specs.KeyArrays.{NoneSetFrom, flag_events};
 ghost use Rattle.hid_usages.specs.Reading.{read_motion};
 ghost use Rattle.hid_usages.specs.Taking.{HasEventRoomAt, changes_at};
 
+use crate::event_source::{EventSource, item_usages, push_motion, usage_in_range};
 use crate::key_search::next_alone;
 use crate::value_range::Bounds;
 use hid_fields::FieldCodec;
@@ -85,6 +87,12 @@ fn usage_at_place(layout: &Layout, item: usize, index: usize) -> Usage
     requires { index < length (usages_at layout.now item) }
     ensures { slice_get (usages_at layout.now item) index ≡ Some result }
 {
+    if layout.entries(item).len() == 1 {
+        let usages = item_usages(layout, item);
+        if index < usages.end as usize {
+            return usage_in_range(&usages, index);
+        }
+    }
     match listed_usage(layout, item, index) {
         Some(usage) => usage,
         None => usage_past(layout, item, index),
@@ -104,7 +112,13 @@ pub(crate) fn usage_at(layout: &Layout, item: usize, index: usize) -> Usage
 }
 
 /// Appends the event of a switch, if it changed.
-fn switch_event(control: ControlId, usage: Usage, before: bool, after: bool, out: &mut Vec<Event>)
+pub(crate) fn switch_event(
+    control: ControlId,
+    usage: Usage,
+    before: bool,
+    after: bool,
+    out: &mut Vec<Event>,
+)
     requires { HasSpace out.old (switch_event control usage before after) }
     ensures { Appends out.old (switch_event control usage before after) out.new }
 {
@@ -137,7 +151,7 @@ pub(crate) fn push_switch_event(
 }
 
 /// Appends the event of a value, if it changed.
-fn value_event(
+pub(crate) fn value_event(
     control: ControlId,
     usage: Usage,
     before: Option<i64>,
@@ -189,26 +203,12 @@ pub(crate) fn push_value_event(
 }
 
 /// Appends the event of a motion, unless it is 0.
-fn motion_event(control: ControlId, usage: Usage, by: i64, out: &mut Vec<Event>)
+pub(crate) fn motion_event(control: ControlId, usage: Usage, by: i64, out: &mut Vec<Event>)
     requires { HasSpace out.old (motion_event control usage by) }
     ensures { Appends out.old (motion_event control usage by) out.new }
 {
     if by != 0 {
         out.push_reserved(Event::Motion { control, usage, by });
-    }
-}
-
-/// Pushes the event of the motion at an index of an item.
-fn push_motion_event(layout: &Layout, item: usize, index: usize, by: i64, out: &mut Vec<Event>)
-    requires index { index < length (usages_at layout.now item) }
-    requires room { (usage : UsageValue) → slice_get (usages_at layout.now item) index ≡ Some usage
-        → HasSpace out.old (motion_event (control_at item index) usage by) }
-    ensures { (usage : UsageValue) → slice_get (usages_at layout.now item) index ≡ Some usage
-        → Appends out.old (motion_event (control_at item index) usage by) out.new }
-{
-    if by != 0 {
-        let control = ControlId { item, index };
-        motion_event(control, usage_at(layout, item, index), by, out);
     }
 }
 
@@ -338,49 +338,41 @@ fn motion<C: FieldCodec>(bounds: &Bounds, numbers: &FieldRun<'_>, index: usize) 
 /// The motions that these numbers carry, by rising index. Those of a byte each, with sign, are read by a loop of their own.
 #[inline(always)]
 pub(crate) fn motions<C: FieldCodec>(
-    layout: &Layout,
-    item: usize,
+    source: &EventSource<'_>,
     bounds: &Bounds,
     numbers: &FieldRun<'_>,
     out: &mut Vec<Event>,
 )
-    requires numbers { length numbers.now ≡ length (usages_at layout.now item) }
-    requires room { HasSpace out.old (motion_events item (usages_at layout.now item)
+    requires source { IsSource source.now }
+    requires numbers { length numbers.now ≡ length (usages_of_source source.now) }
+    requires room { HasSpace out.old (motion_events source.now.item (usages_of_source source.now)
         (map (read_motion bounds.now.least bounds.now.greatest) numbers.now)) }
-    ensures { Appends out.old (motion_events item (usages_at layout.now item)
+    ensures { Appends out.old (motion_events source.now.item (usages_of_source source.now)
         (map (read_motion bounds.now.least bounds.now.greatest) numbers.now)) out.new }
 {
     match numbers.bytes(true) {
-        Some(bytes) => {
-            each_motion::<C>(layout, item, bounds, &FieldRun::of_bytes(bytes, true), out);
-        }
-        None => each_motion::<C>(layout, item, bounds, numbers, out),
+        Some(bytes) => each_motion::<C>(source, bounds, &FieldRun::of_bytes(bytes, true), out),
+        None => each_motion::<C>(source, bounds, numbers, out),
     }
 }
 
 /// The motions that these numbers carry, one by one. Inlined twice: numbers of a byte each need no shifts.
 #[inline(always)]
 fn each_motion<C: FieldCodec>(
-    layout: &Layout,
-    item: usize,
+    source: &EventSource<'_>,
     bounds: &Bounds,
     numbers: &FieldRun<'_>,
     out: &mut Vec<Event>,
 )
-    requires numbers { length numbers.now ≡ length (usages_at layout.now item) }
-    requires room { HasSpace out.old (motion_events item (usages_at layout.now item)
+    requires source { IsSource source.now }
+    requires numbers { length numbers.now ≡ length (usages_of_source source.now) }
+    requires room { HasSpace out.old (motion_events source.now.item (usages_of_source source.now)
         (map (read_motion bounds.now.least bounds.now.greatest) numbers.now)) }
-    ensures { Appends out.old (motion_events item (usages_at layout.now item)
+    ensures { Appends out.old (motion_events source.now.item (usages_of_source source.now)
         (map (read_motion bounds.now.least bounds.now.greatest) numbers.now)) out.new }
 {
     for index in 0..numbers.len() {
-        push_motion_event(
-            layout,
-            item,
-            index,
-            motion::<C>(bounds, numbers, index),
-            out,
-        );
+        push_motion(source, index, motion::<C>(bounds, numbers, index), out);
     }
 }
 

@@ -2,7 +2,7 @@
 
 use hid_fields::{BitCodec, WordCodec};
 use hid_layout::Layout;
-use hid_usages::{Event, Reader, View, changes, first_view};
+use hid_usages::{Event, PlannedView, Reader, View, changes};
 use std::alloc::Global;
 use std::marker::Model;
 
@@ -47,7 +47,7 @@ impl Model for Device {
 
 /// A reader of this layout that has read nothing.
 fn first_reader(alloc: Global, layout: Layout) -> Option<Reader> {
-    match View::initial(alloc, &layout) {
+    match PlannedView::initial(alloc, &layout) {
         Ok(view) => Some(Reader::new(layout, view)),
         Err(_) => {
             drop(layout);
@@ -61,7 +61,12 @@ impl Device {
     pub fn open(alloc: Global, layout: Layout) -> Option<Device> {
         let reader = first_reader(alloc, layout)?;
         let room = reader.max_events();
-        let (plain, actual) = first_view(alloc, reader.layout())?;
+        let Ok(plain) = View::initial(alloc, reader.layout()) else {
+            return None;
+        };
+        let Ok(actual) = Vec::with_capacity(alloc, room) else {
+            return None;
+        };
         let Ok(expected) = Vec::with_capacity(alloc, room) else {
             return None;
         };

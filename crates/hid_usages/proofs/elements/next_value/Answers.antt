@@ -8,10 +8,10 @@ use Rattle.hid_usages.proofs.elements.next_value.Goals as goal
 
 pub loop-index-preserved : goal.loop-index-preserved
 loop-index-preserved g c =
-    let v = to_z w64 (of_z w64 c.number_by_byte-number.result) in
-    let is : v ≡ c.number_by_byte-number.result = search (rules, to_z-of_z) in
-    let number : slice_get c.args.numbers.now c.loop-index.index ≡ Some v = c.number_by_byte-number.ensures ∙ ap (λ (n : ℤ). Some n) (sym is) in
-    kept_next (λ (p : Option ℤ × ℤ). read_value c.args.carriable.now.has_null c.args.carriable.now.bounds.least c.args.carriable.now.bounds.greatest p.0 p.1) c.args.held.now c.args.numbers.now c.args.from c.loop-index.index c.get.result v c.loop-index.invariant c.get.ensures number c.if-not-is_kept.ensures
+    let v = to_z w64 (of_z w64 c.number_at-number.result) in
+    let is : v ≡ c.number_at-number.result = search (rules, to_z-of_z) in
+    let number : slice_get c.args.numbers.now c.loop-index.index ≡ Some v = c.number_at-number.ensures ∙ ap (λ (n : ℤ). Some n) (sym is) in
+    kept_next (λ (p : Option ℤ × ℤ). read_value c.args.carriable.now.has_null c.args.carriable.now.bounds.least c.args.carriable.now.bounds.greatest p.0 p.1) c.args.held.now c.args.numbers.now c.args.from c.loop-index.index c.get.result v c.loop-index.invariant c.get.ensures number c.if-not-is_kept.ensures.kept
 
 pub returns-clause-found : goal.returns-clause-found
 returns-clause-found g c = λ j x v low high h k.

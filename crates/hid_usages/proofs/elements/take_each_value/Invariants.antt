@@ -5,14 +5,14 @@ use Rattle.hid_usages.specs.Keeping.{AreKept}
 use Rattle.hid_usages.proofs.ElementLemmas.{IsReading}
 use Rattle.hid_usages.proofs.elements.take_each_value.Given as goal
 
-abbrev pub invariant-loop-index : goal.invariant-loop-index
-invariant-loop-index g l =
+abbrev pub invariant-loop-found : goal.invariant-loop-found
+invariant-loop-found g l =
     record {
-      reading : IsReading (value_by_number l.carriable) (λ j u p. value_event (control_at l.item j) u p.0 p.1)
-          (usages_at l.layout l.item) l.fn.held l.numbers l.fn.out
-          (value_events_read l.layout l.item l.carriable l.fn.held l.numbers) l.held l.out l.from;
+      reading : IsReading (value_by_number l.carriable) (λ j u p. value_event (control_at l.source.item j) u p.0 p.1)
+          (usages_at l.source.layout.now l.source.item) l.fn.held l.numbers l.fn.out
+          (value_events_read l.source.layout.now l.source.item l.carriable l.fn.held l.numbers) l.held l.out l.from;
       after : AreKept (value_by_number l.carriable) l.held l.numbers l.range.end (length l.held);
     }
 
-abbrev pub decreases-loop-index : goal.decreases-loop-index
-decreases-loop-index g l = length (usages_at l.layout l.item) - l.from
+abbrev pub decreases-loop-found : goal.decreases-loop-found
+decreases-loop-found g l = length (usages_at l.source.layout.now l.source.item) - l.from

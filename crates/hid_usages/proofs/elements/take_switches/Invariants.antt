@@ -8,11 +8,11 @@ use Rattle.hid_usages.proofs.elements.take_switches.Given as goal
 abbrev pub invariant-loop-index : goal.invariant-loop-index
 invariant-loop-index g l =
     record {
-      reading : IsReading switch_by_number (λ j u p. switch_event (control_at l.item j) u p.0 p.1)
-          (usages_at l.layout l.item) l.fn.held l.numbers l.fn.out
-          (switch_events_read l.layout l.item l.fn.held l.numbers) l.held l.out l.from;
+      reading : IsReading switch_by_number (λ j u p. switch_event (control_at l.source.item j) u p.0 p.1)
+          (usages_at l.source.layout.now l.source.item) l.fn.held l.numbers l.fn.out
+          (switch_events_read l.source.layout.now l.source.item l.fn.held l.numbers) l.held l.out l.from;
       after : AreKept switch_by_number l.held l.numbers l.range.end (length l.held);
     }
 
 abbrev pub decreases-loop-index : goal.decreases-loop-index
-decreases-loop-index g l = length (usages_at l.layout l.item) - l.from
+decreases-loop-index g l = length (usages_at l.source.layout.now l.source.item) - l.from

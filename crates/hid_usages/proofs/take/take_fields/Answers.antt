@@ -137,3 +137,6 @@ returns-then-are_bits-clause-appends g c =
     let on : are_bits c.args.listed.now.item.now ≡ true = search rules in
     let reads = reads_as_bits c.args.listed.now.layout.now c.args.bytes.now c.args.listed.now.place c.args.listed.now.item.now c.args.state.now c.requires.listed.layout c.requires.listed.with_data.listed c.requires.listed.input (has_bits c.args.listed.now.item.now on) c.requires.held in
     subst (λ (es : List Event). Appends c.args.out.now es c.take_pattern.new.out) (reads.told c.take_pattern.new.state) c.take_pattern.ensures.appends
+
+pub take_pattern-requires-clause-usages : goal.take_pattern-requires-clause-usages
+take_pattern-requires-clause-usages g c = c.no_usages-usages.ensures c.args.listed.now.layout.now c.args.listed.now.place

@@ -108,3 +108,6 @@ pub returns-in-Array-clause-appends : goal.returns-in-Array-clause-appends
 returns-in-Array-clause-appends g c =
     let reads = reads_keys c.args.listed.now.layout.now c.args.listed.now.place c.args.listed.now.item.now c.entries-entries.result.now c.args.state.now c.args.numbers.now c.requires.listed.input c.in-Array.is c.entries-entries.ensures c.requires.held in
     subst (λ (es : List Event). Appends c.args.out.now es c.take_array.new.out) (reads.told c.take_array.new.state) c.take_array.ensures.appends
+
+pub take_elements-requires-clause-usages : goal.take_elements-requires-clause-usages
+take_elements-requires-clause-usages g c = c.no_usages-usages.ensures c.args.listed.now.layout.now c.args.listed.now.place

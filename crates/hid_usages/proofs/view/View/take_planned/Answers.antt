@@ -19,14 +19,14 @@ take_planned-requires-clause-places g c =
       all = sym c.item_count.ensures.all ∙ c.item_count.ensures.listed;
     }
 
-pub take_planned-requires-clause-planned : goal.take_planned-requires-clause-planned
-take_planned-requires-clause-planned g c = c.requires.plan.each
+pub take_planned-requires-clause-plan : goal.take_planned-requires-clause-plan
+take_planned-requires-clause-plan g c = c.requires.plan
 
 pub take_planned-requires-clause-known : goal.take_planned-requires-clause-known
 take_planned-requires-clause-known g c =
     let r = c.args.received.now in
     let same = c.deref_mut.ensures.value ∙ c.self.view_is in
-    known_of r.layout.now r.report r.bytes.now c.args.changed _ _ (sym same) c.requires.known
+    known_of r.layout.now r.report r.bytes.now c.args.last.now.bytes.now c.args.last.now.changed _ _ (sym same) c.requires.known
 
 pub take_planned-requires-clause-room : goal.take_planned-requires-clause-room
 take_planned-requires-clause-room g c =
