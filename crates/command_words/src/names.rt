@@ -5,15 +5,16 @@ ghost use Rattle.command_words.specs.Names.{is_escaped};
 
 use std::fmt;
 
-/// Whether a character is printed as its number: a control character (Unicode, 23.1).
+/// Whether a character is printed as its number: a control character (Unicode, 23.1), or the byte order mark (23.8).
 pub fn is_escaped(character: char) -> bool
     ensures escaped { result ≡ is_escaped character }
 {
     let code = u32::from(character);
-    code < 0x20 || (0x7F <= code && code < 0xA0)
+    code < 0x20 || (0x7F <= code && code < 0xA0) || code == 0xFEFF
 }
 
-/// A name, in which each control character is printed as its number, as in `\x1B[31mred`. Anything else is printed as it is.
+/// A name, in which each control character is printed as its number, as in `\x1B[31mred`, and a byte order mark too. Anything else is
+/// printed as it is.
 #[derive(Clone, Copy, Debug)]
 pub struct FileName<'a>(pub &'a str);
 

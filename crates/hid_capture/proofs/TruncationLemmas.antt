@@ -10,10 +10,10 @@ use Rattle.usb_capture.specs.declared.urb.UrbEvent.{UrbEvent}
 use Rattle.usb_capture.specs.declared.urb.UrbEvent.TheVariants.{Submitted, Completed, Stalled, Failed}
 use Rattle.usb_capture.specs.UrbRecord.{UrbRecord}
 use Rattle.hid_capture.specs.declared.request.Request.{Request}
-use Rattle.hid_capture.specs.declared.request.Request.TheVariants.{SetAddress, SetConfiguration, GetConfigurationDescriptor, GetReportDescriptor, SetProtocol, Other}
+use Rattle.hid_capture.specs.declared.request.Request.TheVariants.{SetAddress, SetConfiguration, GetConfigurationDescriptor, GetReportDescriptor, SetProtocol, HubPort, Other}
 use Rattle.hid_capture.specs.declared.tables.PendingRequest.{PendingRequest}
 use Rattle.hid_capture.specs.declared.tracker.Content.{Content}
-use Rattle.hid_capture.specs.declared.tracker.Content.TheVariants.{Nothing, Undescribed, Unknown, DeviceDisconnected}
+use Rattle.hid_capture.specs.declared.tracker.Content.TheVariants.{Nothing, Undescribed, Unknown, BootReport, DeviceDisconnected}
 use Rattle.hid_capture.specs.Laws.{is_descriptor, is_report}
 use Rattle.hid_capture.specs.Requests.{request_of}
 use Rattle.hid_capture.specs.Tracking.{Tracking, has_id, is_boot, is_configuration_on, is_described_on, has_descriptor_of, has_data, is_gone, leaves, disconnection, source, silence, content_by, content_from, content_of_bytes, without_request, outcome, outcome_of_description, outcome_of_answer, outcome_of_completion, outcome_of_submission, outcome_of_success, outcome_of_stall, outcome_of_failure, outcome_of_shutdown, disconnection_of, outcome_by_event}
@@ -24,7 +24,7 @@ pub record IsOfData (test : Content → Bool) : Type 0 where
   pub device : (bus device : ℕ) → test (DeviceDisconnected bus device) ≡ false
   pub rest : (t : Tracking) (urb : UrbRecord) (interface : ℕ) → test (outcome_of_description t urb interface true).content ≡ false
   pub bytes : (interface : ℕ) (number : Option ℕ) → test (content_by true interface number) ≡ false
-  pub unknown : test Unknown ≡ false
+  pub boot : test BootReport ≡ false
   pub shutdown : (t : Tracking) (urb : UrbRecord) (from : Option ℕ) → test (outcome_of_shutdown t urb from).content ≡ false
 
 by_if : (test : Content → Bool) (b : Bool) (x y : Content) → test x ≡ false → test y ≡ false → test (if b then x else y) ≡ false
@@ -44,6 +44,7 @@ no_answer test o t urb GetConfigurationDescriptor cut = o.nothing
 no_answer test o t urb (GetReportDescriptor interface) cut =
     subst (λ (b : Bool). test (outcome_of_description t urb interface b).content ≡ false) (sym cut) (o.rest t urb interface)
 no_answer test o t urb (SetProtocol interface boot) cut = o.nothing
+no_answer test o t urb HubPort cut = o.nothing
 no_answer test o t urb Other cut = o.nothing
 
 no_completion : (test : Content → Bool) → IsOfData test → (t : Tracking) (urb : UrbRecord) (found : Option PendingRequest) → urb.is_truncated ≡ true
@@ -56,7 +57,7 @@ no_data : (test : Content → Bool) → IsOfData test → (t : Tracking) (urb : 
 no_data test o t urb None cut = o.nothing
 no_data test o t urb (Some interface) cut =
     let number : Option ℕ = position (has_descriptor_of urb.bus urb.device interface) t.interfaces in
-    by_if test (list_any (is_boot urb.bus urb.device interface) t.boots) Unknown (content_by urb.is_truncated interface number) o.unknown
+    by_if test (list_any (is_boot urb.bus urb.device interface) t.boots) BootReport (content_by urb.is_truncated interface number) o.boot
     (subst (λ (b : Bool). test (content_by b interface number) ≡ false) (sym cut) (o.bytes interface number))
 
 no_transfer : (test : Content → Bool) → IsOfData test → (t : Tracking) (urb : UrbRecord) (direction : Direction) → urb.is_truncated ≡ true
@@ -115,7 +116,7 @@ of_descriptors = record {
   device = λ bus device. refl;
   rest = λ t urb interface. refl;
   bytes = of_bytes;
-  unknown = refl;
+  boot = refl;
   shutdown = of_shutdown;
 }
   where
@@ -137,7 +138,7 @@ of_reports = record {
   device = λ bus device. refl;
   rest = λ t urb interface. refl;
   bytes = of_bytes;
-  unknown = refl;
+  boot = refl;
   shutdown = of_shutdown;
 }
   where

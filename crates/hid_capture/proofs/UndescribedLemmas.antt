@@ -13,15 +13,15 @@ use Rattle.usb_capture.specs.UrbRecord.{UrbRecord}
 use Rattle.hid_capture.specs.declared.configuration.Configuration.{Configuration}
 use Rattle.hid_capture.specs.declared.configuration.InterruptEndpoint.{InterruptEndpoint}
 use Rattle.hid_capture.specs.declared.request.Request.{Request}
-use Rattle.hid_capture.specs.declared.request.Request.TheVariants.{SetAddress, SetConfiguration, GetConfigurationDescriptor, GetReportDescriptor, SetProtocol, Other}
+use Rattle.hid_capture.specs.declared.request.Request.TheVariants.{SetAddress, SetConfiguration, GetConfigurationDescriptor, GetReportDescriptor, SetProtocol, HubPort, Other}
 use Rattle.hid_capture.specs.declared.tables.PendingRequest.{PendingRequest}
 use Rattle.hid_capture.specs.declared.tables.TrackedInterface.{TrackedInterface}
 use Rattle.hid_capture.specs.declared.tracker.Content.{Content}
-use Rattle.hid_capture.specs.declared.tracker.Content.TheVariants.{Nothing, Undescribed, Unknown, DeviceDisconnected}
+use Rattle.hid_capture.specs.declared.tracker.Content.TheVariants.{Nothing, Undescribed, Unknown, BootReport, DeviceDisconnected}
 use Rattle.hid_capture.specs.Descriptors.{endpoints_in, whole_configuration}
 use Rattle.hid_capture.specs.Laws.{is_descriptor, is_report, IsUndescribed}
 use Rattle.hid_capture.specs.Requests.{request_of}
-use Rattle.hid_capture.specs.Tracking.{Tracking, Outcome, has_id, is_at, is_boot, is_configuration_on, is_described_on, is_endpoint_of, is_interface, has_descriptor_of, has_data, is_gone, latest, leaves, most_kept, next_number, is_of_configuration, endpoints_with, with_configuration, with_endpoints, new_interface, disconnection, disconnection_of, source, silence, content_by, content_from, content_of_bytes, without_descriptor_on, with_described, with_interface, with_interface_of, with_interface_in, without_request, with_address, with_answer, outcome, outcome_of_description, outcome_of_descriptor, outcome_of_number, outcome_of_answer, outcome_of_completion, outcome_of_submission, outcome_of_success, outcome_of_stall, outcome_of_failure, outcome_of_shutdown, outcome_by_event}
+use Rattle.hid_capture.specs.Tracking.{Tracking, Outcome, has_id, is_at, is_boot, is_configuration_on, is_described_on, is_endpoint_of, is_interface, has_descriptor_of, has_data, is_gone, latest, leaves, most_kept, next_number, is_of_configuration, endpoints_with, with_configuration, with_endpoints, new_interface, disconnection, disconnection_of, source, silence, after_bytes, lacks_descriptor, content_by, content_from, content_of_bytes, without_descriptor_on, with_described, with_interface, with_interface_of, with_interface_in, without_request, with_address, with_answer, outcome, outcome_of_description, outcome_of_descriptor, outcome_of_number, outcome_of_answer, outcome_of_completion, outcome_of_submission, outcome_of_success, outcome_of_stall, outcome_of_failure, outcome_of_shutdown, outcome_by_event}
 
 -- ---- lists
 
@@ -158,6 +158,7 @@ report_no_answer t urb (SetConfiguration value) =
 report_no_answer t urb GetConfigurationDescriptor = refl
 report_no_answer t urb (GetReportDescriptor interface) = report_no_description t urb interface urb.is_truncated
 report_no_answer t urb (SetProtocol interface boot) = refl
+report_no_answer t urb HubPort = refl
 report_no_answer t urb Other = refl
 
 report_no_completion : (t : Tracking) (urb : UrbRecord) (found : Option PendingRequest) → is_report (outcome_of_completion t urb found).content ≡ false
@@ -167,7 +168,7 @@ report_no_completion t urb (Some r) = report_no_answer (without_request t urb) u
 report_no_data : (t : Tracking) (urb : UrbRecord) (from : Option ℕ) → IsUndescribed t urb.bus urb.device → is_report (content_from t urb from) ≡ false
 report_no_data t urb None none = refl
 report_no_data t urb (Some interface) none =
-    by_if (list_any (is_boot urb.bus urb.device interface) t.boots) Unknown
+    by_if (list_any (is_boot urb.bus urb.device interface) t.boots) BootReport
     (content_by urb.is_truncated interface (position (has_descriptor_of urb.bus urb.device interface) t.interfaces)) refl
     (subst (λ (n : Option ℕ). is_report (content_by urb.is_truncated interface n) ≡ false) (sym unnumbered)
     (by_if (nat_lt interface 256) Undescribed Unknown refl refl))
@@ -278,6 +279,7 @@ stays_answer bus device t urb (SetConfiguration value) none other =
 stays_answer bus device t urb GetConfigurationDescriptor none other = stays_read bus device t urb (whole_configuration urb.payload) none
 stays_answer bus device t urb (GetReportDescriptor interface) none other = stays_description bus device t urb interface urb.is_truncated none other
 stays_answer bus device t urb (SetProtocol interface boot) none other = none
+stays_answer bus device t urb HubPort none other = none
 stays_answer bus device t urb Other none other = none
 
 stays_completion : (bus device : ℕ) (t : Tracking) (urb : UrbRecord) (found : Option PendingRequest) → IsUndescribed t bus device
@@ -285,9 +287,15 @@ stays_completion : (bus device : ℕ) (t : Tracking) (urb : UrbRecord) (found : 
 stays_completion bus device t urb None none other = none
 stays_completion bus device t urb (Some r) none other = stays_answer bus device (without_request t urb) urb (request_of r.setup) none other
 
+-- a transfer that is counted describes nothing
+stays_counted : (bus device : ℕ) (t : Tracking) (urb : UrbRecord) (is_hid : Option Bool) → IsUndescribed t bus device
+    → IsUndescribed (after_bytes t urb is_hid) bus device
+stays_counted bus device t urb None none = none
+stays_counted bus device t urb (Some is_hid) none = none
+
 stays_success : (bus device : ℕ) (t : Tracking) (urb : UrbRecord) (transfer : Transfer) → IsUndescribed t bus device → Stays bus device (outcome_of_success t urb transfer)
 stays_success bus device t urb Control none other = stays_completion bus device t urb (find (has_id urb.bus urb.device urb.id) t.requests) none other
-stays_success bus device t urb Interrupt none other = none
+stays_success bus device t urb Interrupt none other = stays_counted bus device t urb (lacks_descriptor (content_of_bytes t urb urb.direction)) none
 stays_success bus device t urb Isochronous none other = none
 stays_success bus device t urb Bulk none other = none
 

@@ -1,7 +1,7 @@
 -- Values worked out by hand (USB 2.0, 9.6; HID 1.11, appendices B.1 and E.3 to E.5).
 use Rattle.std.proofs.Common.{◌≡◌, ℕ, List, [], ◌∷◌, refl, Some, None, true}
 use Rattle.hid_capture.specs.declared.configuration.Configuration.{Configuration}
-use Rattle.hid_capture.specs.declared.request.Request.TheVariants.{SetAddress, SetConfiguration, GetConfigurationDescriptor, GetReportDescriptor, SetProtocol, Other}
+use Rattle.hid_capture.specs.declared.request.Request.TheVariants.{SetAddress, SetConfiguration, GetConfigurationDescriptor, GetReportDescriptor, SetProtocol, HubPort, Other}
 use Rattle.hid_capture.specs.Descriptors.{whole_configuration, endpoints_in, has_descriptor, interface_after, is_interrupt_in, endpoint_at}
 use Rattle.hid_capture.specs.Requests.{request_of}
 
@@ -25,6 +25,16 @@ get_report_descriptor = refl
 set_boot_protocol : request_of (0x21 ∷ 0x0B ∷ 0x00 ∷ 0 ∷ 0x02 ∷ 0 ∷ 0 ∷ 0 ∷ []) ≡ SetProtocol 2 true
 unfolding request_of
 set_boot_protocol = refl
+
+-- GetPortStatus of the port 1
+get_port_status : request_of (0xA3 ∷ 0x00 ∷ 0x00 ∷ 0 ∷ 0x01 ∷ 0 ∷ 0x04 ∷ 0 ∷ []) ≡ HubPort
+unfolding request_of
+get_port_status = refl
+
+-- ClearPortFeature of the port 1
+clear_port_feature : request_of (0x23 ∷ 0x01 ∷ 0x10 ∷ 0 ∷ 0x01 ∷ 0 ∷ 0x00 ∷ 0 ∷ []) ≡ HubPort
+unfolding request_of
+clear_port_feature = refl
 
 -- a device descriptor is asked for
 get_device : request_of (0x80 ∷ 0x06 ∷ 0x00 ∷ 0x01 ∷ 0 ∷ 0 ∷ 0x12 ∷ 0 ∷ []) ≡ Other

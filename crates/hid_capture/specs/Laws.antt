@@ -2,7 +2,7 @@
 use Rattle.std.specs.Prelude.{◌≡◌, ℕ, Bool, true, false}
 use Rattle.std.specs.List.{list_any}
 use Rattle.hid_capture.specs.declared.tracker.Content.{Content}
-use Rattle.hid_capture.specs.declared.tracker.Content.TheVariants.{Nothing, Descriptor, TruncatedDescriptor, TooManyInterfaces, Report, TruncatedReport, Undescribed, Unknown, InterfaceDisconnected, DeviceDisconnected}
+use Rattle.hid_capture.specs.declared.tracker.Content.TheVariants.{Nothing, Descriptor, TruncatedDescriptor, TooManyInterfaces, Report, TruncatedReport, Undescribed, Unknown, BootReport, InterfaceDisconnected, DeviceDisconnected}
 use Rattle.hid_capture.specs.Tracking.{Tracking, is_described_on}
 
 -- the data of a URB are a descriptor of a numbered interface
@@ -15,6 +15,7 @@ is_descriptor (Report n) = false
 is_descriptor (TruncatedReport n) = false
 is_descriptor Undescribed = false
 is_descriptor Unknown = false
+is_descriptor BootReport = false
 is_descriptor (InterfaceDisconnected n) = false
 is_descriptor (DeviceDisconnected bus device) = false
 
@@ -28,6 +29,7 @@ is_report TooManyInterfaces = false
 is_report (TruncatedReport n) = false
 is_report Undescribed = false
 is_report Unknown = false
+is_report BootReport = false
 is_report (InterfaceDisconnected n) = false
 is_report (DeviceDisconnected bus device) = false
 

@@ -1,4 +1,5 @@
 pub mod Requests
 pub mod Descriptors
+pub mod Undescribed
 pub mod Tracking
 pub mod Laws

@@ -13,24 +13,28 @@ use Rattle.usb_capture.specs.UrbRecord.{UrbRecord}
 use Rattle.hid_capture.specs.declared.configuration.Configuration.{Configuration}
 use Rattle.hid_capture.specs.declared.configuration.InterruptEndpoint.{InterruptEndpoint}
 use Rattle.hid_capture.specs.declared.request.Request.{Request}
-use Rattle.hid_capture.specs.declared.request.Request.TheVariants.{SetAddress, SetConfiguration, GetConfigurationDescriptor, GetReportDescriptor, SetProtocol, Other}
+use Rattle.hid_capture.specs.declared.request.Request.TheVariants.{SetAddress, SetConfiguration, GetConfigurationDescriptor, GetReportDescriptor, SetProtocol, HubPort, Other}
 use Rattle.hid_capture.specs.declared.tables.BootInterface.{BootInterface}
 use Rattle.hid_capture.specs.declared.tables.TrackedInterface.{TrackedInterface}
 use Rattle.hid_capture.specs.declared.tables.PendingRequest.{PendingRequest}
 use Rattle.hid_capture.specs.declared.tracker.Content.{Content}
-use Rattle.hid_capture.specs.declared.tracker.Content.TheVariants.{Nothing, Descriptor, TruncatedDescriptor, TooManyInterfaces, Report, TruncatedReport, Undescribed, Unknown, InterfaceDisconnected, DeviceDisconnected}
+use Rattle.hid_capture.specs.declared.tracker.Content.TheVariants.{Nothing, Descriptor, TruncatedDescriptor, TooManyInterfaces, Report, TruncatedReport, Undescribed, Unknown, BootReport, InterfaceDisconnected, DeviceDisconnected}
 use Rattle.hid_capture.specs.declared.tracker.Tracker.{Tracker}
+use Rattle.hid_capture.specs.declared.undescribed.UndescribedEndpoint.{UndescribedEndpoint}
 use Rattle.hid_capture.specs.Descriptors.{endpoints_in, whole_configuration}
 use Rattle.hid_capture.specs.Requests.{request_of}
+use Rattle.hid_capture.specs.Undescribed.{with_transfer_of, without_endpoint, without_hub}
 
 -- The control transfers that are under way, the interrupt IN endpoints, the configuration that is set on each device, the
--- interfaces in the boot protocol, and the interfaces that have a number: an interface has that of its place.
+-- interfaces in the boot protocol, the interfaces that have a number: an interface has that of its place; and the endpoints whose
+-- data came while no report descriptor was known for them.
 pub record Tracking : Type 0 where
   pub requests : List PendingRequest
   pub endpoints : List InterruptEndpoint
   pub active_configurations : List Configuration
   pub boots : List BootInterface
   pub interfaces : List TrackedInterface
+  pub undescribed : List UndescribedEndpoint
 
 -- what a URB says, and what is known after it
 pub record Outcome : Type 0 where
@@ -231,6 +235,10 @@ with_protocol t bus device interface boot = record t {
       (filter (λ b. not (is_boot bus device interface b)) t.boots);
 }
 
+-- a request goes to a port (USB 2.0, 11.24.2): its device is a hub, whose endpoints say which ports changed
+abbrev pub with_hub : Tracking → ℕ → ℕ → Tracking
+with_hub t bus device = record t { undescribed = without_hub t.undescribed bus device }
+
 -- ---- descriptors
 
 -- an interface without a descriptor: its number may be another's
@@ -279,6 +287,7 @@ outcome_of_answer t urb (SetConfiguration value) =
 outcome_of_answer t urb GetConfigurationDescriptor = silence (with_answer t urb (whole_configuration urb.payload))
 outcome_of_answer t urb (GetReportDescriptor interface) = outcome_of_description t urb interface urb.is_truncated
 outcome_of_answer t urb (SetProtocol interface boot) = silence (with_protocol t urb.bus urb.device interface boot)
+outcome_of_answer t urb HubPort = silence (with_hub t urb.bus urb.device)
 outcome_of_answer t urb Other = silence t
 
 -- a control transfer that is completed
@@ -315,7 +324,7 @@ content_by truncated interface (Some n) = if truncated then TruncatedReport n el
 abbrev pub content_from : Tracking → UrbRecord → Option ℕ → Content
 content_from t urb None = Nothing
 content_from t urb (Some interface) =
-    if list_any (is_boot urb.bus urb.device interface) t.boots then Unknown
+    if list_any (is_boot urb.bus urb.device interface) t.boots then BootReport
     else content_by urb.is_truncated interface (position (has_descriptor_of urb.bus urb.device interface) t.interfaces)
 
 -- a transfer had data: of a truncated frame they may be missing
@@ -328,7 +337,31 @@ content_of_bytes t urb Out = Nothing
 content_of_bytes t urb In =
     if has_data urb then content_from t urb (source t urb.bus urb.device urb.endpoint) else Nothing
 
+-- data without a descriptor: whether their interface is known to be of the class HID
+abbrev pub lacks_descriptor : Content → Option Bool
+lacks_descriptor Undescribed = Some true
+lacks_descriptor Unknown = Some false
+lacks_descriptor content = None
+
+-- what is known after data, of which a transfer is counted if they have no descriptor
+abbrev pub after_bytes : Tracking → UrbRecord → Option Bool → Tracking
+after_bytes t urb None = t
+after_bytes t urb (Some is_hid) =
+    record t { undescribed = with_transfer_of t.undescribed urb.bus urb.device urb.endpoint is_hid }
+
+-- data are these, and what is known after them
+abbrev pub outcome_of_data : Tracking → UrbRecord → Content → Outcome
+outcome_of_data t urb content = record { content = content; after = after_bytes t urb (lacks_descriptor content) }
+
+-- an interrupt transfer
+abbrev pub outcome_of_bytes : Tracking → UrbRecord → Outcome
+outcome_of_bytes t urb = outcome_of_data t urb (content_of_bytes t urb urb.direction)
+
 -- ---- descriptors that are given
+
+-- a descriptor is given for the interface of an endpoint: that is no endpoint without one any more
+abbrev pub with_given : Tracking → ℕ → ℕ → ℕ → Tracking
+with_given t bus device endpoint = record t { undescribed = without_endpoint t.undescribed bus device endpoint }
 
 -- an interface has a descriptor that is given for it, unless it is in the boot protocol
 abbrev pub outcome_of_given_for : Tracking → ℕ → ℕ → Option ℕ → Outcome
@@ -339,7 +372,8 @@ outcome_of_given_for t bus device (Some interface) =
 
 -- the interface of an interrupt IN endpoint has a descriptor that is given for it
 unfoldable pub outcome_of_given : Tracking → ℕ → ℕ → ℕ → Outcome
-outcome_of_given t bus device endpoint = outcome_of_given_for t bus device (source t bus device endpoint)
+outcome_of_given t bus device endpoint =
+    outcome_of_given_for (with_given t bus device endpoint) bus device (source t bus device endpoint)
 
 -- ---- a URB
 
@@ -351,7 +385,7 @@ outcome_of_submission t urb (Some setup) = silence (with_request t urb setup)
 -- a transfer is completed without an error
 abbrev pub outcome_of_success : Tracking → UrbRecord → Transfer → Outcome
 outcome_of_success t urb Control = outcome_of_completion t urb (find (has_id urb.bus urb.device urb.id) t.requests)
-outcome_of_success t urb Interrupt = record { content = content_of_bytes t urb urb.direction; after = t }
+outcome_of_success t urb Interrupt = outcome_of_bytes t urb
 outcome_of_success t urb Isochronous = silence t
 outcome_of_success t urb Bulk = silence t
 
@@ -400,7 +434,8 @@ outcome t urb = outcome_by_event t urb urb.event
 
 -- the beginning of a capture: nothing is known
 abbrev pub nothing_known : Tracking
-nothing_known = record { requests = []; endpoints = []; active_configurations = []; boots = []; interfaces = [] }
+nothing_known =
+    record { requests = []; endpoints = []; active_configurations = []; boots = []; interfaces = []; undescribed = [] }
 
 -- what a tracker of the program knows
 abbrev pub tracking_of : Tracker → Tracking
@@ -410,6 +445,7 @@ tracking_of t = record {
   active_configurations = t.active_configurations.items;
   boots = t.boots.items;
   interfaces = t.interfaces.items;
+  undescribed = t.undescribed.items;
 }
 
 -- what a tracker of the program said, and knows then

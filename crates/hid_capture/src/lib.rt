@@ -6,6 +6,7 @@
 //!   00 09 01 00 ..  and its answer    the configuration that is set
 //!   81 06 00 22 ..  and its answer    Content::Descriptor, of an interface, which has a number from then on
 //!   21 0B 00 00 ..  and its answer    the interface is in the boot protocol: its reports are left alone
+//!   A3 00 ..  and its answer          the device is a hub: its endpoints say which ports changed, and need no report descriptor
 //!   an interrupt IN transfer          Content::Report, where its endpoint and the interface's descriptor are known
 //!   00 05 04 00 ..  and its answer    Content::DeviceDisconnected, where interfaces there had a descriptor
 //!   an endpoint that is gone          Content::InterfaceDisconnected, where its interface had a descriptor
@@ -18,7 +19,8 @@
 //!
 //! [`Tracker::adopt`] gives an interface a descriptor that isn't in the capture. Content::Undescribed is of a HID interface
 //! without one. Content::Unknown is of an endpoint that no configuration has that was read: a hub's status comes like this too,
-//! so that the user has to name the endpoint.
+//! so that the user has to name the endpoint. [`Tracker::undescribed`] has the first sixteen endpoints of both, with the count of
+//! their transfers.
 //!
 //! The rule to know: what wasn't completed without an error says nothing, whatever bytes it has.
 //!
@@ -31,6 +33,8 @@ pub mod laws;
 mod request;
 mod tables;
 mod tracker;
+mod undescribed;
 
 pub use tables::{MAX_INTERFACES, TrackedInterface};
 pub use tracker::{Content, Tracker};
+pub use undescribed::{MAX_UNDESCRIBED, UndescribedEndpoint};

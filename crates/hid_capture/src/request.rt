@@ -1,4 +1,4 @@
-//! The requests on which it depends what the reports of a device are (USB 2.0, table 9-3; HID 1.11, 7.1.1 and 7.2.6).
+//! The requests on which it depends what the reports of a device are (USB 2.0, table 9-3 and 11.24.2; HID 1.11, 7.1.1 and 7.2.6).
 
 ghost use Rattle.std.specs.Prelude.{◌≡◌};
 ghost use Rattle.hid_capture.specs.Requests.{request_of};
@@ -14,6 +14,12 @@ const FROM_INTERFACE: u8 = 0x81;
 
 /// The bmRequestType of a class request that has its data, if any, for an interface.
 const CLASS_TO_INTERFACE: u8 = 0x21;
+
+/// The bmRequestType of a class request that has its data, if any, for a port of a hub.
+const CLASS_TO_PORT: u8 = 0x23;
+
+/// The bmRequestType of a class request for data of a port of a hub.
+const CLASS_FROM_PORT: u8 = 0xA3;
 
 /// The bRequest of SET_ADDRESS.
 const SET_ADDRESS: u8 = 0x05;
@@ -49,6 +55,8 @@ pub enum Request {
     GetReportDescriptor { interface: u8 },
     /// The interface is put into the boot protocol, or into the report protocol.
     SetProtocol { interface: u8, is_boot: bool },
+    /// A request to a port: the device is a hub.
+    HubPort,
     /// Anything else.
     Other,
 }
@@ -76,6 +84,8 @@ pub(crate) fn request_of(setup: [u8; 8]) -> Request
             interface,
             is_boot: low == BOOT_PROTOCOL,
         }
+    } else if kind == CLASS_TO_PORT || kind == CLASS_FROM_PORT {
+        Request::HubPort
     } else {
         Request::Other
     }

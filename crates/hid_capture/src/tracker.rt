@@ -12,6 +12,7 @@ use super::tables::{
     has_described, interface_of, is_in_boot, keep_latest, leaves, next_number, number_interfaces,
     number_of, put_interface, request_at, set_described,
 };
+use super::undescribed::{UndescribedEndpoint, count_transfer, forget_hub, forget_undescribed};
 use std::alloc::{AllocError, Global};
 use usb_capture::{Direction, Transfer, Urb, UrbEvent};
 
@@ -38,9 +39,10 @@ pub enum Content {
     TruncatedReport { interface: u8 },
     /// The data came from a HID interface of which no descriptor is known.
     Undescribed,
-    /// The data came by an interrupt transfer, and aren't known to be a report: no configuration was read that has the endpoint,
-    /// or the interface is in the boot protocol.
+    /// The data came by an interrupt transfer, and aren't known to be a report: no configuration was read that has the endpoint.
     Unknown,
+    /// The data came from an interface in the boot protocol: they are no report of its descriptor.
+    BootReport,
     /// The interface with this number has no descriptor any more: its endpoint is gone.
     InterfaceDisconnected { interface: u8 },
     /// No interface of this device has a descriptor any more, and some had: another device has the address, or the device has
@@ -60,6 +62,8 @@ pub struct Tracker {
     boots: Vec<BootInterface>,
     /// The interfaces that have a number, each at that place.
     interfaces: Vec<TrackedInterface>,
+    /// The endpoints whose data came while no descriptor was known for them.
+    undescribed: Vec<UndescribedEndpoint>,
     ghost few: { vec_len interfaces ≤ MAX_INTERFACES },
 }
 
@@ -67,7 +71,7 @@ impl Tracker {
     ghost use Rattle.std.specs.Prelude.{◌≡◌, ◌++◌, ◌≤◌, true, false, IfOk, OnOk, position, take, vec_len};
     ghost use Rattle.std.specs.List.{find};
     ghost use Rattle.hid_capture.specs.Descriptors.{whole_configuration};
-    ghost use Rattle.hid_capture.specs.Tracking.{has_id, is_interface, nothing_known, outcome_as, tracking_of, outcome, outcome_of_given, outcome_of_answer, outcome_of_address, outcome_of_configuration, outcome_of_description, outcome_of_descriptor, outcome_of_completion, outcome_of_submission, outcome_of_stall, outcome_of_failure, outcome_of_shutdown, disconnection, content_of_leaving, with_protocol, with_endpoints, with_answer, content_of_bytes, has_data, source};
+    ghost use Rattle.hid_capture.specs.Tracking.{has_id, is_interface, nothing_known, outcome_as, tracking_of, outcome, outcome_of_given, outcome_of_answer, outcome_of_address, outcome_of_configuration, outcome_of_description, outcome_of_descriptor, outcome_of_completion, outcome_of_submission, outcome_of_stall, outcome_of_failure, outcome_of_shutdown, disconnection, content_of_leaving, with_protocol, with_endpoints, with_answer, content_of_bytes, lacks_descriptor, outcome_of_bytes, has_data, source};
     ghost use Rattle.usb_capture.specs.UrbRecord.{urb_record};
 
     /// A tracker of a capture of which nothing has come.
@@ -81,6 +85,7 @@ impl Tracker {
             active_configurations: Vec::new(alloc),
             boots: Vec::new(alloc),
             interfaces: Vec::new(alloc),
+            undescribed: Vec::new(alloc),
         }
     }
 
@@ -89,6 +94,21 @@ impl Tracker {
         ensures { result.now ≡ (tracking_of self.now).interfaces }
     {
         self.interfaces.as_slice()
+    }
+
+    /// The endpoints whose data came while no descriptor was known for them, and that weren't given one: the first sixteen, in
+    /// the order in which they came.
+    pub fn undescribed(&self) -> &[UndescribedEndpoint]
+        ensures { result.now ≡ (tracking_of self.now).undescribed }
+    {
+        self.undescribed.as_slice()
+    }
+
+    /// What [`Tracker::undescribed`] has, at the end of a capture.
+    pub fn into_undescribed(self) -> Vec<UndescribedEndpoint>
+        ensures { result.items ≡ (tracking_of self).undescribed }
+    {
+        self.undescribed
     }
 
     /// Takes the next URB, and answers what it says of reports.
@@ -104,7 +124,7 @@ impl Tracker {
             UrbEvent::Submitted => self.submit(urb),
             UrbEvent::Completed => match urb.transfer {
                 Transfer::Control => self.complete(urb),
-                Transfer::Interrupt => Ok(self.receive(urb)),
+                Transfer::Interrupt => self.receive(urb),
                 Transfer::Isochronous | Transfer::Bulk => Ok(Content::Nothing),
             },
             UrbEvent::Stalled => Ok(self.stall(urb)),
@@ -212,6 +232,7 @@ impl Tracker {
             Request::SetProtocol { interface, is_boot } => {
                 self.set_protocol(urb, u16::from(interface), is_boot)?;
             }
+            Request::HubPort => forget_hub(&mut self.undescribed, urb.bus, urb.device),
             Request::Other => {}
         }
         Ok(Content::Nothing)
@@ -385,8 +406,37 @@ impl Tracker {
         !urb.payload.is_empty() || urb.is_truncated
     }
 
-    /// Bytes came by an interrupt transfer.
-    fn receive(&self, urb: &Urb<'_>) -> Content
+    /// Whether the interface of data without a descriptor is known to be of the class HID; none of other contents.
+    fn lacks_descriptor(content: Content) -> Option<bool>
+        ensures { result ≡ lacks_descriptor content }
+    {
+        match content {
+            Content::Undescribed => Some(true),
+            Content::Unknown => Some(false),
+            _ => None,
+        }
+    }
+
+    /// Bytes came by an interrupt transfer: they are counted where no descriptor is known for them.
+    fn receive(&mut self, urb: &Urb<'_>) -> Result<Content, AllocError>
+        ensures { IfOk result (λ content. outcome_as content self.new
+            ≡ outcome_of_bytes (tracking_of self.old) (urb_record urb.now)) }
+    {
+        let content = self.content_of(urb);
+        if let Some(is_hid) = Tracker::lacks_descriptor(content) {
+            count_transfer(
+                &mut self.undescribed,
+                urb.bus,
+                urb.device,
+                urb.endpoint,
+                is_hid,
+            )?;
+        }
+        Ok(content)
+    }
+
+    /// What bytes are that came by an interrupt transfer.
+    fn content_of(&self, urb: &Urb<'_>) -> Content
         ensures { result ≡ content_of_bytes (tracking_of self.now) (urb_record urb.now) urb.now.direction }
     {
         if urb.direction == Direction::Out || !Tracker::has_data(urb) {
@@ -396,7 +446,7 @@ impl Tracker {
             return Content::Nothing;
         };
         if is_in_boot(&self.boots, urb.bus, urb.device, interface) {
-            return Content::Unknown;
+            return Content::BootReport;
         }
         match described_number_of(&self.interfaces, urb.bus, urb.device, interface) {
             Some(number) if urb.is_truncated => Content::TruncatedReport {
@@ -422,6 +472,7 @@ impl Tracker {
         ensures content { IfOk result (λ content.
             outcome_as content self.new ≡ outcome_of_given (tracking_of self.old) bus device endpoint) }
     {
+        forget_undescribed(&mut self.undescribed, bus, device, endpoint);
         let Some(interface) = self.source(bus, device, endpoint) else {
             return Ok(Content::Nothing);
         };

@@ -1,7 +1,7 @@
 -- Texts of C without their comments, and the arrays in them (C11, 5.1.1.2, 6.4.5, 6.4.9 and 6.7.9; our choice: docs/PICTURES.md).
-use Rattle.std.specs.Prelude.{ℕ, ◌==◌, ◌-◌, ◌+◌, Bool, not, true, false, ◌&&◌, ◌||◌, nat_le, List, [], ◌∷◌, ◌++◌, length, slice_index, slice_index_or, take, drop, is_some, if◌then◌else◌, Option, None, Some}
+use Rattle.std.specs.Prelude.{ℕ, ◌==◌, ◌-◌, ◌+◌, Bool, not, ◌&&◌, ◌||◌, nat_le, List, [], ◌∷◌, length, slice_index, slice_index_or, take, drop, is_some, if◌then◌else◌, Option, None, Some}
 use Rattle.std.specs.List.{list_any, list_all, zip, slice_split}
-use Rattle.std.specs.Option.{option_map, option_and_then}
+use Rattle.std.specs.Option.{option_and_then}
 use Rattle.std.specs.Char.{is_ascii_whitespace, is_ascii_digit}
 use Rattle.hid_input.specs.declared.code.Place.{Place}
 use Rattle.hid_input.specs.declared.code.Place.TheVariants.{Code, Slash, Quoted, Escape, Line, Splice, Return, Block, Inner, Star, Turn, Unclear}
@@ -144,11 +144,11 @@ begins_row rest =
     && ((slice_index rest 0 == 44) && (nat_le 1 (length (without_space (drop 1 rest))) && (slice_index (without_space (drop 1 rest)) 0 == 123)))
 
 -- an array ends in front of this, without white space: one of ; , ) and }, and no other row, or nothing
-abbrev pub is_array_behind : List ℕ → Bool
-is_array_behind rest = (length rest == 0) || (is_array_end (slice_index rest 0) && not (begins_row rest))
+abbrev pub may_follow_array : List ℕ → Bool
+may_follow_array rest = (length rest == 0) || (is_array_end (slice_index rest 0) && not (begins_row rest))
 
 abbrev pub ends_array : List ℕ → Bool
-ends_array rest = is_array_behind (without_space rest)
+ends_array rest = may_follow_array (without_space rest)
 
 -- what stands in front of the brace that closes an array
 abbrev pub closed_text : Option ℕ → List ℕ → Option (List ℕ)

@@ -1,5 +1,5 @@
 -- The forms of text that have a descriptor (our choice: docs/PICTURES.md).
-use Rattle.std.specs.Prelude.{◌≡◌, ◌⊎◌, ℕ, true, false, List, Option, None, Some, if◌then◌else◌}
+use Rattle.std.specs.Prelude.{◌≡◌, ℕ, true, false, List, Option, None, Some, if◌then◌else◌}
 use Rattle.std.specs.Option.{option_and_then}
 use Rattle.hid_input.specs.declared.fault.InputCause.TheVariants.{Memory}
 use Rattle.hid_input.specs.declared.fault.InputFault.{InputFault}

@@ -1,18 +1,18 @@
 -- Descriptors in what hid-recorder and usbhid-dump print (our choice: docs/PICTURES.md).
-use Rattle.std.specs.Prelude.{ℕ, ◌==◌, Bool, false, not, ◌&&◌, ◌||◌, nat_le, List, [], ◌∷◌, ◌++◌, length, slice_index, drop, is_some, if◌then◌else◌, Option, None, Some, ◌+◌, take, codes}
-use Rattle.std.specs.List.{slice_split, list_any, list_all, position}
+use Rattle.std.specs.Prelude.{ℕ, ◌==◌, Bool, false, not, ◌&&◌, nat_le, List, [], ◌∷◌, ◌++◌, length, slice_index, drop, is_some, if◌then◌else◌, Option, None, Some, ◌+◌, take, codes}
+use Rattle.std.specs.List.{list_any, list_all, position}
 use Rattle.std.specs.Str.{bytes_eq}
-use Rattle.std.specs.Option.{option_or, option_and_then}
+use Rattle.std.specs.Option.{option_and_then}
 use Rattle.std.specs.Char.{is_ascii_whitespace}
-use Rattle.hid_input.specs.declared.words.WordForm.TheVariants.{Run}
+use Rattle.hid_input.specs.declared.words.WordForm.TheVariants as forms
 use Rattle.hid_input.specs.Numbers.{number_of, without_space, trimmed_text}
 use Rattle.hid_input.specs.Words.{all_bytes, word_bytes}
-use Rattle.hid_input.specs.Hex.{lines_of, spelled_bytes, is_spelled, before_space}
+use Rattle.hid_input.specs.Hex.{words_of, lines_of, is_spelled, before_space}
 use Rattle.hid_input.specs.Dump.{from_place}
 
--- the bytes of hex whose tool writes them in their order: runs of digits, or another spelling
+-- the bytes of hex whose tool writes them in their order: words of hex, marked or not
 unfoldable pub ordered_bytes : List ℕ → Option (List ℕ)
-ordered_bytes hex = option_or (all_bytes (word_bytes Run) (slice_split is_ascii_whitespace hex)) (spelled_bytes hex)
+ordered_bytes hex = all_bytes (word_bytes forms.Hex) (words_of hex)
 
 -- what stands after the letter R and a colon with which a line begins
 abbrev pub behind_letter : List ℕ → Option (List ℕ)

@@ -4,7 +4,7 @@ use Rattle.std.specs.List.{filter, slice_split}
 use Rattle.std.specs.Option.{option_map, option_or, option_and_then}
 use Rattle.std.specs.Char.{digit_value}
 use Rattle.hid_input.specs.declared.words.WordForm.{WordForm}
-use Rattle.hid_input.specs.declared.words.WordForm.TheVariants.{Byte, Pair, Run, Swapped, Octal, Decimal, Signed, Number, Element}
+use Rattle.hid_input.specs.declared.words.WordForm.TheVariants.{Byte, Pair, Run, Hex, Swapped, Octal, Decimal, Signed, Number, Element}
 use Rattle.hid_input.specs.Numbers.{byte_in_base, octal_byte, column_byte, trimmed_text}
 
 -- the words of a text: what stands between the bytes that part them
@@ -101,11 +101,23 @@ run_bytes [] = Some []
 run_bytes (digit ∷ []) = None
 run_bytes (high ∷ low ∷ more) = both (single_byte (byte_of_pair (high ∷ low ∷ []))) (run_bytes more)
 
+-- the bytes of a word of hex, by its digits if it is marked: two for each byte, or one alone
+abbrev pub hex_by : Option (List ℕ) → List ℕ → Option (List ℕ)
+hex_by None word = run_bytes word
+hex_by (Some []) word = None
+hex_by (Some (digit ∷ [])) word = single_byte (byte_of_digits (digit ∷ []))
+hex_by (Some (first ∷ second ∷ more)) word = run_bytes (first ∷ second ∷ more)
+
+-- the bytes of a word of hex, marked or not. Example: 0501, 0x0501 and 0501h are 05 01, and x5 is 05
+abbrev pub hex_bytes : List ℕ → Option (List ℕ)
+hex_bytes word = hex_by (marked_digits word) word
+
 -- the bytes of a word of this form
 abbrev pub word_bytes : WordForm → List ℕ → Option (List ℕ)
 word_bytes Byte word = single_byte (byte_of_word word)
 word_bytes Pair word = single_byte (byte_of_pair word)
 word_bytes Run word = run_bytes word
+word_bytes Hex word = hex_bytes word
 word_bytes Swapped word = option_map reverse (run_bytes word)
 word_bytes Octal word = single_byte (octal_byte word)
 word_bytes Decimal word = single_byte (column_byte 4 word)

@@ -146,6 +146,7 @@ pub fn read_row(alloc: Global, rest: &[u8], form: WordForm) -> Result<Option<Vec
         WordForm::Byte
         | WordForm::Pair
         | WordForm::Run
+        | WordForm::Hex
         | WordForm::Swapped
         | WordForm::Number
         | WordForm::Element => read_words_row(alloc, trimmed_text(rest), form),

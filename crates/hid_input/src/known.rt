@@ -1,9 +1,10 @@
 //! Files that are known by their first bytes, and are no report descriptors.
 
 ghost use Rattle.std.specs.Prelude.{◌≡◌};
-ghost use Rattle.hid_input.specs.Known.{is_capture, are_usb_descriptors, is_compressed, is_program, known_file};
+ghost use Rattle.hid_input.specs.Known.{are_usb_descriptors, is_compressed, is_program, known_file};
 
 use std::fmt;
+use usb_capture::is_capture;
 
 /// What a file is that is no report descriptor.
 #[derive(Clone, Copy, Debug, PartialEq, Eq)]
@@ -34,17 +35,6 @@ impl fmt::Display for KnownFile {
             KnownFile::Program => "a program, without a report descriptor",
         })
     }
-}
-
-/// Whether bytes begin as a capture: pcap in either byte order, of microseconds or nanoseconds, or pcapng.
-fn is_capture(bytes: &[u8]) -> bool
-    ensures { result ≡ is_capture bytes.now }
-{
-    bytes.starts_with(&[0xD4, 0xC3, 0xB2, 0xA1])
-        || bytes.starts_with(&[0xA1, 0xB2, 0xC3, 0xD4])
-        || bytes.starts_with(&[0x4D, 0x3C, 0xB2, 0xA1])
-        || bytes.starts_with(&[0xA1, 0xB2, 0x3C, 0x4D])
-        || bytes.starts_with(&[0x0A, 0x0D, 0x0D, 0x0A])
 }
 
 /// Whether bytes begin with the descriptor of a device, or with those of a configuration and an interface.

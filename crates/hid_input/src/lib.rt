@@ -37,3 +37,4 @@ pub use fault::{InputCause, InputFault};
 pub use known::{KnownFile, known_file};
 pub use reading::{descriptor_in, is_recording};
 pub use recorded::begins_recording;
+pub use words::marked_digits;

@@ -4,7 +4,6 @@ ghost use Rattle.std.specs.Prelude.{◌≡◌, ◌<◌, [], ℕ, List, None, Som
 ghost use Rattle.std.specs.List.{slice_split, position};
 ghost use Rattle.std.specs.Option.{option_map, option_copied, option_and_then};
 ghost use Rattle.std.specs.Char.{is_ascii_whitespace};
-ghost use Rattle.hid_input.specs.Words.{all_bytes, word_bytes};
 ghost use Rattle.hid_input.specs.Hex.{lines_of};
 ghost use Rattle.hid_input.specs.Recorded.{ordered_bytes, after_letter, bytes_behind, counted_bytes, recorded_bytes, has_recorded, is_colon, behind_number, is_heading, block_of, block_below, has_dumped, block_bytes};
 ghost use Rattle.hid_input.specs.Dump.{HasNoOthers};
@@ -16,7 +15,7 @@ use crate::parts::{
     before_space, first_word, from_space, is_empty_line, line_number, lines_of, trimmed_text,
     without_space,
 };
-use crate::spelled::{is_spelled, read_spelled, unspelled_fault};
+use crate::spelled::{is_spelled, unspelled_fault, words_of};
 use crate::ways::has_no_others;
 use crate::words::{WordForm, read_words};
 use std::alloc::{AllocError, Global};
@@ -67,31 +66,17 @@ pub fn has_recorded(text: &[u8]) -> bool
         .any(|line| after_letter(line).is_some())
 }
 
-/// The words of hex, some of which may be empty.
-fn words_at_space(alloc: Global, hex: &[u8]) -> Result<Vec<&[u8]>, AllocError>
-    ensures { IfOk result (λ words. map (λ word. word.now) words.items ≡ slice_split is_ascii_whitespace hex.now) }
-{
-    hex.split(|byte| byte.is_ascii_whitespace()).collect(alloc)
-}
-
-/// The bytes of words of hex digits, two for each, in their order; none where another word stands.
-fn read_runs(alloc: Global, hex: &[u8]) -> Result<Option<Vec<u8>>, AllocError>
-    ensures { IfOk result (λ read. option_map (λ bytes. bytes.items) read ≡ all_bytes (word_bytes WordForm.Run) (slice_split is_ascii_whitespace hex.now)) }
-{
-    let words = words_at_space(alloc, hex)?;
-    read_words(alloc, words.as_slice(), WordForm::Run)
-}
-
-/// The bytes of hex in a line whose tool writes them in their order: words of digits, or another spelling.
+/// The bytes of hex in a line whose tool writes them in their order: words of digits, marked or not.
 #[tactic(auto, unfolding(crate::specs::Recorded::ordered_bytes))]
 fn read_digits(alloc: Global, hex: &[u8]) -> Result<Vec<u8>, InputFault>
     ensures bytes { IfOk result (λ read. ordered_bytes hex.now ≡ Some read.items) }
     ensures faults { (bytes : List ℕ) → ordered_bytes hex.now ≡ Some bytes
         → IfErr result (λ fault. fault ≡ of_text InputCause.Memory) }
 {
-    match read_runs(alloc, hex)? {
+    let words = words_of(alloc, hex)?;
+    match read_words(alloc, words.as_slice(), WordForm::Hex)? {
         Some(bytes) => Ok(bytes),
-        None => read_spelled(alloc, hex),
+        None => Err(unspelled_fault(hex)),
     }
 }
 
@@ -148,7 +133,7 @@ fn read_first(alloc: Global, lines: &[&[u8]]) -> Result<Vec<u8>, InputFault>
 /// The descriptor of the first line that begins with `R:`: `COUNT HEX`.
 ///
 /// # Errors
-/// [`InputCause::NoCount`], [`InputCause::BadCount`], what [`read_spelled`] refuses, with the line; [`InputCause::NoDescriptor`] where there is none.
+/// [`InputCause::NoCount`], [`InputCause::BadCount`], [`InputCause::BadHex`], with the line; [`InputCause::NoDescriptor`] where there is none.
 pub fn read_recorded(alloc: Global, text: &[u8]) -> Result<Vec<u8>, InputFault>
     ensures bytes { IfOk result (λ read. recorded_bytes (lines_of text.now) ≡ Some read.items) }
     ensures faults { (bytes : List ℕ) → recorded_bytes (lines_of text.now) ≡ Some bytes

@@ -9,7 +9,7 @@ ghost use Rattle.hid_input.specs.Hex.{is_separator, words_of, lines_of, is_one_w
 
 use crate::fault::{InputCause, InputFault};
 use crate::parts::{first_word, line_number, place_of, without_space};
-use crate::words::{WordForm, byte_in, is_h, is_x, read_words};
+use crate::words::{WordForm, byte_in, digits_in, is_h, is_x, read_words};
 use std::alloc::{AllocError, Global};
 
 /// The most digits of a word of `od -t x8`. A run of more digits than this has its bytes in their order.
@@ -22,9 +22,10 @@ pub fn is_separator(byte: u8) -> bool
     byte.is_ascii_whitespace() || matches!(byte, b',' | b';' | b':' | b'-' | b'\\')
 }
 
-/// Whether a word is hex digits, two for each byte.
+/// Whether a word is hex digits, two for each byte, marked as hex or not.
 fn is_run(word: &[u8]) -> bool {
-    word.len() % 2 == 0 && word.iter().all(|byte| byte.is_ascii_hexdigit())
+    let digits = digits_in(word);
+    digits.len() % 2 == 0 && digits.iter().all(|byte| byte.is_ascii_hexdigit())
 }
 
 /// With how many bytes a word begins: one, or one for each two digits.
@@ -32,8 +33,9 @@ fn bytes_before(word: &[u8]) -> u64 {
     if byte_in(word).is_some() {
         return 1;
     }
-    let digits = word.iter().position(|byte| !byte.is_ascii_hexdigit());
-    digits.unwrap_or(word.len()) as u64 / 2
+    let digits = digits_in(word);
+    let count = digits.iter().position(|byte| !byte.is_ascii_hexdigit());
+    count.unwrap_or(digits.len()) as u64 / 2
 }
 
 /// How many bytes stand in a line before the first that isn't hex: a byte, or a run of digits. None where all are.

@@ -2,7 +2,7 @@
 
 ghost use Rattle.std.specs.Prelude.{◌≡◌, IfOk, map, reverse, is_some};
 ghost use Rattle.std.specs.Option.{option_map, option_copied};
-ghost use Rattle.hid_input.specs.Words.{all_bytes, IsAdded, single_byte, byte_of_digits, is_x, is_h, marked_digits, byte_of_word, is_prefixed, number_by, number_byte, same_byte, constant_byte, without_suffix, element_byte, run_bytes, word_bytes};
+ghost use Rattle.hid_input.specs.Words.{all_bytes, IsAdded, single_byte, byte_of_digits, is_x, is_h, marked_digits, byte_of_word, is_prefixed, number_by, number_byte, hex_bytes, same_byte, constant_byte, without_suffix, element_byte, run_bytes, word_bytes};
 
 use crate::digits::{byte_of, column_byte, octal_byte, pair_of};
 use crate::parts::trimmed_text;
@@ -17,6 +17,9 @@ pub enum WordForm {
     Pair,
     /// Bytes of two digits each, the first one first.
     Run,
+    /// Bytes of two digits each, the first one first, marked as hex or not; where they are marked, also one byte of one digit:
+    /// `0x0501`, `0x5`.
+    Hex,
     /// Bytes of two digits each, the last one first.
     Swapped,
     /// One byte: a blank and three octal digits.
@@ -45,8 +48,8 @@ pub fn is_h(byte: u8) -> bool
     matches!(byte, b'h' | b'H')
 }
 
-/// The digits after `0x` or `x`, or before `h`.
-fn marked_digits(word: &[u8]) -> Option<&[u8]>
+/// The digits of a word that is marked as hex: after `0x` or `x`, or before `h`. They may be none, or no digits.
+pub fn marked_digits(word: &[u8]) -> Option<&[u8]>
     ensures { option_copied result ≡ marked_digits word.now }
 {
     if word.len() >= 2 && word[0] == b'0' && is_x(word[1]) {
@@ -94,6 +97,14 @@ fn number_byte(word: &[u8]) -> Option<u8>
     match marked_digits(word) {
         Some(digits) => byte_of_digits(digits),
         None => byte_of(word, 10),
+    }
+}
+
+/// The digits of a word of hex, which may be marked.
+pub fn digits_in(word: &[u8]) -> &[u8] {
+    match marked_digits(word) {
+        Some([]) | None => word,
+        Some(digits) => digits,
     }
 }
 
@@ -180,6 +191,21 @@ fn add_run(bytes: &mut Vec<u8>, run: &[u8]) -> Result<bool, AllocError>
     Ok(rest.is_empty())
 }
 
+/// Adds the bytes of a word of hex, marked or not; false where it is none.
+///
+/// # Errors
+/// Out of memory.
+fn add_hex(bytes: &mut Vec<u8>, word: &[u8]) -> Result<bool, AllocError>
+    ensures { IfOk result (λ is_read. IsAdded bytes.old.items (hex_bytes word.now) is_read bytes.new.items) }
+{
+    match marked_digits(word) {
+        None => add_run(bytes, word),
+        Some([]) => Ok(false),
+        Some([digit]) => add_byte(bytes, byte_of_digits(&[*digit])),
+        Some(digits) => add_run(bytes, digits),
+    }
+}
+
 /// Adds the bytes of a run of digits, the last one first; false where it is none.
 ///
 /// # Errors
@@ -212,6 +238,7 @@ fn add_word(
         WordForm::Byte => add_byte(bytes, byte_in(word)),
         WordForm::Pair => add_byte(bytes, pair_of(word)),
         WordForm::Run => add_run(bytes, word),
+        WordForm::Hex => add_hex(bytes, word),
         WordForm::Swapped => add_swapped(alloc, bytes, word),
         WordForm::Octal => add_byte(bytes, octal_byte(word)),
         WordForm::Decimal => add_byte(bytes, column_byte(word, 4)),

@@ -1,7 +1,7 @@
 -- The items of a descriptor as a table (HID 1.11, 6.2.2; the words are those of the standard).
-use Rattle.std.specs.Prelude.{ℕ, ◌+◌, ◌/◌, ◌%◌, ◌^◌, nat_le, drop, Bool, ◌==◌, ◌||◌, List, [], ◌∷◌, ◌++◌, length, slice_get, unwrap_or, map, if◌then◌else◌, Option, None, Some, codes}
+use Rattle.std.specs.Prelude.{ℕ, ◌+◌, ◌/◌, ◌%◌, ◌^◌, nat_le, drop, Bool, true, ◌==◌, ◌||◌, List, [], ◌∷◌, ◌++◌, length, slice_get, unwrap_or, map, if◌then◌else◌, Option, None, Some, codes}
 use Rattle.std.specs.Borrow.{Bor}
-use Rattle.std.specs.Fmt.{decimal, signed_decimal}
+use Rattle.std.specs.Fmt.{decimal, digits, signed_decimal}
 use Rattle.hid_report_descriptor.specs.Items.{EncodedItem, is_main, is_field, INPUT, USAGE_PAGE, COLLECTION}
 use Rattle.hid_report_descriptor.specs.declared.usage.Usage.{Usage}
 use Rattle.hid_items.specs.ItemEncoding.{prefix_of}
@@ -80,13 +80,14 @@ after_page (Some name) = codes ": " ++ name
 abbrev pub page_words : ℕ → List ℕ
 page_words page = hex_text page ++ after_page (page_name page)
 
--- the number of an item: of a page in hex, with its name, and others in decimal, a unit with its words
+-- the number of an item: of a page in hex, with its name; of a unit in hex, whose digits are its system and its powers, with its
+-- words; others in decimal
 abbrev pub number_text : ℕ → EncodedItem → List ℕ
 number_text prefix item =
     if is_item_signed prefix then signed_decimal (signed_number item)
     else if prefix == UNIT_EXPONENT then signed_decimal (exponent_of (item_number item) (signed_number item))
     else if prefix == USAGE_PAGE then page_words (item_number item % 2 ^ 16)
-    else if prefix == UNIT then decimal (item_number item) ++ unit_words (item_number item)
+    else if prefix == UNIT then digits 16 true (item_number item) ++ unit_words (item_number item)
     else decimal (item_number item)
 
 -- what the data of an item say: flags, a kind of collections, a usage or a number

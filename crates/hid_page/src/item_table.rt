@@ -185,7 +185,7 @@ fn print_number(text: &mut String, prefix: u8, item: &Item) -> Result<(), AllocE
     }
     let number = number_of(item);
     if prefix == UNIT {
-        write!(text, "{number}")?;
+        write!(text, "{number:X}")?;
         return print_unit(text, number);
     }
     write!(text, "{number}")

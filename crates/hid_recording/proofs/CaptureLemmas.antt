@@ -18,6 +18,7 @@ use Rattle.usb_capture.specs.declared.format.Format as Format_of
 use Rattle.usb_capture.specs.declared.format.Format.TheVariants.{Unknown, Pcap, Section}
 use Rattle.usb_capture.proofs.BlockLemmas.{any_cut}
 use Rattle.hid_capture.specs.Tracking.{Tracking}
+use Rattle.hid_capture.specs.declared.undescribed.UndescribedEndpoint.{UndescribedEndpoint}
 use Rattle.hid_recording.specs.declared.capture_fault.CaptureCause.{CaptureCause}
 use Rattle.hid_recording.specs.declared.capture_fault.CaptureCause.TheVariants.{Run, Format}
 use Rattle.hid_recording.specs.declared.capture_fault.CaptureRunFault.{CaptureRunFault}
@@ -266,9 +267,9 @@ known_rest (Some xs) (Some ys) read P h f = subst P (sym h) (f ys)
 
 -- all that there was has come
 ends_whole : (given : Option Given) (start now : CapturePlace) (read written : List ℕ) (result : Result Summary CaptureRunFault)
-    → PlaysOn given start read written now → EndsSo now result → CaptureRunsTo given start read written result
+    → PlaysOn given start read written now → EndsSo now result → CaptureRunsTo given start read written result now.tracking.undescribed
 ends_whole given start now read written (Ok summary) taken h =
-    record { last = now; plays = taken; ended = h.0; counts = h.1 }
+    record { last = now; plays = taken; ended = h.0; counts = h.1; undescribed = refl }
 ends_whole given start now read written (Err fault) taken h =
     subst (λ l. CaptureStops given start l written fault) (append-nil read)
     (subst (λ l. CaptureStops given start (read ++ []) l fault) (append-nil written)
@@ -277,16 +278,17 @@ ends_whole given start now read written (Err fault) taken h =
 
 pub whole_capture : (given : Option Given) (start : CapturePlace) (a b c d e : Option (List ℕ)) (read written none : List ℕ) (now : CapturePlace)
     (result : Result Summary CaptureRunFault) → Consumes a b read → Appends c d written → PlaysOn given start read written now
-    → Consumes b e none → none ≡ [] → IsAtEnd e → EndsSo now result → AppendsCaptureFrom given start a c d result
+    → Consumes b e none → none ≡ [] → IsAtEnd e → EndsSo now result → AppendsCaptureFrom given start a c d result now.tracking.undescribed
 whole_capture given start a b c d e read written none now result from grew taken more nothing end ends =
     Consumes-whole a e (read ++ none) _ (Consumes-trans a b e read none from more) end
-    (written, grew, rw nothing (subst (λ l. CaptureRunsTo given start l written result) (sym (append-nil read)) (ends_whole given start now read written result taken ends)))
+    (written, grew, rw nothing (subst (λ l. CaptureRunsTo given start l written result now.tracking.undescribed) (sym (append-nil read)) (ends_whole given start now read written result taken ends)))
 
 -- a cause from outside
 pub outside_capture : (given : Option Given) (start : CapturePlace) (a b c d : Option (List ℕ)) (read written : List ℕ) (now : CapturePlace)
-    (cause : Cause) (fault : CaptureRunFault) → Consumes a b read → Appends c d written → PlaysOn given start read written now
-    → IsOutside cause → fault ≡ end_fault now (Run cause) → AppendsCaptureFrom given start a c d (Err fault)
-outside_capture given start a b c d read written now cause fault from grew taken outside is =
+    (cause : Cause) (fault : CaptureRunFault) (endpoints : List UndescribedEndpoint) → Consumes a b read → Appends c d written
+    → PlaysOn given start read written now → IsOutside cause → fault ≡ end_fault now (Run cause)
+    → AppendsCaptureFrom given start a c d (Err fault) endpoints
+outside_capture given start a b c d read written now cause fault endpoints from grew taken outside is =
     known_rest a b read _ from (λ more. (
       written,
       grew,
@@ -297,12 +299,12 @@ outside_capture given start a b c d read written now cause fault from grew taken
 
 -- the piece that was read ended the run
 pub piece_ends : (given : Option Given) (start : CapturePlace) (a b e c d f : Option (List ℕ)) (read written text piece : List ℕ)
-    (now : CapturePlace) (fault : CaptureRunFault) (result : Result Summary CaptureRunFault) → Consumes a b read → Appends c d written
-    → PlaysOn given start read written now → Consumes b e piece → Appends d f text
+    (now : CapturePlace) (fault : CaptureRunFault) (result : Result Summary CaptureRunFault) (endpoints : List UndescribedEndpoint)
+    → Consumes a b read → Appends c d written → PlaysOn given start read written now → Consumes b e piece → Appends d f text
     → ((more : List ℕ) → CaptureStops given now (piece ++ more) text fault) → IsErrAnd result (λ x. x ≡ fault)
-    → AppendsCaptureFrom given start a c f result
-piece_ends given start a b e c d f read written text piece now fault (Ok u) from grew taken more last stops is = absurd is
-piece_ends given start a b e c d f read written text piece now fault (Err x) from grew taken more last stops is =
+    → AppendsCaptureFrom given start a c f result endpoints
+piece_ends given start a b e c d f read written text piece now fault (Ok u) endpoints from grew taken more last stops is = absurd is
+piece_ends given start a b e c d f read written text piece now fault (Err x) endpoints from grew taken more last stops is =
     known_rest a e (read ++ piece) _ (Consumes-trans a b e read piece from more) (λ after. (
       written ++ text,
       Appends-trans c d f written text grew last,
@@ -353,9 +355,10 @@ cut_ends given now rest part (Run cause) (inr h) = inr (record {
 
 -- where the run ended, by its frame and what was played before it
 cut_run : (given : Option Given) (start : CapturePlace) (bytes written : List ℕ) (result : Result Summary CaptureRunFault) (fault : CaptureRunFault)
+    (endpoints : List UndescribedEndpoint)
     → fault ≡ record { frame = frame_of result; cause = Run causes.Write; played = capture_summary result }
-    → CaptureRunsTo given start bytes written result → CaptureStops given start bytes written fault
-cut_run given start bytes written (Err first) fault is h = subst (λ (f : CaptureRunFault). CaptureStops given start bytes written f) (sym is) (record {
+    → CaptureRunsTo given start bytes written result endpoints → CaptureStops given start bytes written fault
+cut_run given start bytes written (Err first) fault endpoints is h = subst (λ (f : CaptureRunFault). CaptureStops given start bytes written f) (sym is) (record {
   first = h.first;
   rest = h.rest;
   split = h.split;
@@ -367,7 +370,7 @@ cut_run given start bytes written (Err first) fault is h = subst (λ (f : Captur
   whole = h.whole;
   place = ap (λ (f : CaptureRunFault). (let g : CaptureRunFault = record { frame = f.frame; cause = Run causes.Write; played = f.played } in g)) h.place;
 })
-cut_run given start bytes written (Ok summary) fault is h = subst (λ (f : CaptureRunFault). CaptureStops given start bytes written f) (sym is) (record {
+cut_run given start bytes written (Ok summary) fault endpoints is h = subst (λ (f : CaptureRunFault). CaptureStops given start bytes written f) (sym is) (record {
   first = bytes;
   rest = [];
   split = sym (append-nil bytes);
@@ -381,19 +384,22 @@ cut_run given start bytes written (Ok summary) fault is h = subst (λ (f : Captu
 })
 
 pub kept_capture : (given : Option Given) (start : CapturePlace) (a c d e : Option (List ℕ)) (result : Result Summary CaptureRunFault)
-    → AppendsCaptureFrom given start a c d result → Keeps d e → AppendsCaptureFrom given start a c e result
-kept_capture given start None c d e result h k = tt
-kept_capture given start (Some bytes) c d e result h k = (h.0, Appends-kept c d e h.0 h.1 k, h.2)
+    (endpoints : List UndescribedEndpoint) → AppendsCaptureFrom given start a c d result endpoints → Keeps d e
+    → AppendsCaptureFrom given start a c e result endpoints
+kept_capture given start None c d e result endpoints h k = tt
+kept_capture given start (Some bytes) c d e result endpoints h k = (h.0, Appends-kept c d e h.0 h.1 k, h.2)
 
 pub never_flushed : (given : Option Given) (start : CapturePlace) (a c d e : Option (List ℕ)) (result : Result Summary CaptureRunFault)
-    (fault : CaptureRunFault) → fault ≡ record { frame = frame_of result; cause = Run causes.Write; played = capture_summary result }
-    → AppendsCaptureFrom given start a c d result → Keeps d e → AppendsCaptureFrom given start a c e (Err fault)
-never_flushed given start None c d e result fault is h k = tt
-never_flushed given start (Some bytes) c d e result fault is h k =
-    (h.0, Appends-kept c d e h.0 h.1 k, cut_run given start bytes h.0 result fault is h.2)
+    (fault : CaptureRunFault) (endpoints others : List UndescribedEndpoint)
+    → fault ≡ record { frame = frame_of result; cause = Run causes.Write; played = capture_summary result }
+    → AppendsCaptureFrom given start a c d result endpoints → Keeps d e → AppendsCaptureFrom given start a c e (Err fault) others
+never_flushed given start None c d e result fault endpoints others is h k = tt
+never_flushed given start (Some bytes) c d e result fault endpoints others is h k =
+    (h.0, Appends-kept c d e h.0 h.1 k, cut_run given start bytes h.0 result fault endpoints is h.2)
 
 -- memory for the devices ran out before the first read
-pub never_begun : (given : Option Given) (start : CapturePlace) (a c : Option (List ℕ)) (fault : CaptureRunFault) → IsBetween start
-    → fault ≡ end_fault start (Run causes.Memory) → AppendsCaptureFrom given start a c c (Err fault)
-never_begun given start None c fault between is = tt
-never_begun given start (Some bytes) c fault between is = ([], Appends-nil c, outside_stops given start bytes causes.Memory fault between is tt)
+pub never_begun : (given : Option Given) (start : CapturePlace) (a c : Option (List ℕ)) (fault : CaptureRunFault)
+    (endpoints : List UndescribedEndpoint) → IsBetween start → fault ≡ end_fault start (Run causes.Memory)
+    → AppendsCaptureFrom given start a c c (Err fault) endpoints
+never_begun given start None c fault endpoints between is = tt
+never_begun given start (Some bytes) c fault endpoints between is = ([], Appends-nil c, outside_stops given start bytes causes.Memory fault between is tt)

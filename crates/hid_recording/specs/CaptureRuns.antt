@@ -9,6 +9,7 @@ use Rattle.usb_capture.specs.declared.fault.CaptureFault.{CaptureFault}
 use Rattle.usb_capture.specs.declared.fault.Cause as formats
 use Rattle.usb_capture.specs.declared.fault.Cause.TheVariants as format_causes
 use Rattle.hid_capture.specs.Tracking.{Tracking, nothing_known}
+use Rattle.hid_capture.specs.declared.undescribed.UndescribedEndpoint.{UndescribedEndpoint}
 use Rattle.hid_recording.specs.declared.capture_fault.CaptureCause.{CaptureCause}
 use Rattle.hid_recording.specs.declared.capture_fault.CaptureCause.TheVariants.{Run, Format}
 use Rattle.hid_recording.specs.declared.capture_fault.CaptureRunFault.{CaptureRunFault}
@@ -86,13 +87,15 @@ end_fault now cause = record {
 
 -- ---- runs
 
--- All bytes of a capture were played, and a block ends with them. The counts are those of the session after them.
+-- All bytes of a capture were played, and a block ends with them. The counts are those of the session after them, and these are
+-- the endpoints whose data came without a report descriptor.
 pub record CaptureFinishes (given : Option Given) (start : CapturePlace) (bytes written : List ℕ) (summary : Summary)
-    : Type 0 where
+    (endpoints : List UndescribedEndpoint) : Type 0 where
   pub last : CapturePlace
   pub plays : PlaysOn given start bytes written last
   pub ended : last.place.begun ≡ []
   pub counts : summary ≡ summary_of last.session last.session.lines
+  pub undescribed : endpoints ≡ last.tracking.undescribed
 
 -- The run ended at the frame after the first ones: the whole text of those was written, and what the end leaves of that
 -- frame's. What was played before it is counted.
@@ -110,21 +113,24 @@ pub record CaptureStops (given : Option Given) (start : CapturePlace) (bytes wri
   pub place : fault ≡ end_fault now fault.cause
 
 -- what a run of these bytes wrote and answered
-abbrev pub CaptureRunsTo : Option Given → CapturePlace → List ℕ → List ℕ → Result Summary CaptureRunFault → Type 0
-CaptureRunsTo given start bytes written (Ok summary) = CaptureFinishes given start bytes written summary
-CaptureRunsTo given start bytes written (Err fault) = CaptureStops given start bytes written fault
+abbrev pub CaptureRunsTo : Option Given → CapturePlace → List ℕ → List ℕ → Result Summary CaptureRunFault
+    → List UndescribedEndpoint → Type 0
+CaptureRunsTo given start bytes written (Ok summary) endpoints =
+    CaptureFinishes given start bytes written summary endpoints
+CaptureRunsTo given start bytes written (Err fault) endpoints = CaptureStops given start bytes written fault
 
 -- The writer's bytes grew by what a run of the reader's bytes writes from a place on, if the bytes of both are known.
 abbrev pub AppendsCaptureFrom : Option Given → CapturePlace → Option (List ℕ) → Option (List ℕ) → Option (List ℕ)
-    → Result Summary CaptureRunFault → Type 0
-AppendsCaptureFrom given start reader old new result =
-    IfSome reader (λ bytes. (written : List ℕ) × Appends old new written × CaptureRunsTo given start bytes written result)
+    → Result Summary CaptureRunFault → List UndescribedEndpoint → Type 0
+AppendsCaptureFrom given start reader old new result endpoints =
+    IfSome reader (λ bytes. (written : List ℕ) × Appends old new written
+    × CaptureRunsTo given start bytes written result endpoints)
 
 -- the writer's bytes grew by what a run of the reader's bytes, which are a capture, writes
 abbrev pub AppendsCapture : Options → Option Given → Option (List ℕ) → Option (List ℕ) → Option (List ℕ)
-    → Result Summary CaptureRunFault → Type 0
-AppendsCapture options given reader old new result =
-    AppendsCaptureFrom given (capture_at_first options) reader old new result
+    → Result Summary CaptureRunFault → List UndescribedEndpoint → Type 0
+AppendsCapture options given reader old new result endpoints =
+    AppendsCaptureFrom given (capture_at_first options) reader old new result endpoints
 
 -- the frame at which a run ended: the one after the last, where all were played
 abbrev pub frame_of : Result Summary CaptureRunFault → ℕ

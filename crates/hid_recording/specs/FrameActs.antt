@@ -56,6 +56,7 @@ acts_of_content payload (contents.Report n) = act_of_number n (Report n payload)
 acts_of_content payload (contents.TruncatedReport n) = RefusedFrame refusals.Truncated ∷ []
 acts_of_content payload contents.Undescribed = []
 acts_of_content payload contents.Unknown = []
+acts_of_content payload contents.BootReport = []
 acts_of_content payload (contents.InterfaceDisconnected n) = act_of_number n (Disconnection n)
 acts_of_content payload (contents.DeviceDisconnected bus device) = []
 

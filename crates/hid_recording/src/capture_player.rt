@@ -17,7 +17,7 @@ use super::line_fields::{DeviceNumber, device_of};
 use super::moment::put_time;
 use super::player::Player;
 use super::summary::Summary;
-use hid_capture::{Content, TrackedInterface, Tracker};
+use hid_capture::{Content, TrackedInterface, Tracker, UndescribedEndpoint};
 use std::alloc::Global;
 use std::io::Write;
 use usb_capture::{Frame, Urb, read_urb};
@@ -70,6 +70,7 @@ fn act_of_content<'a>(content: Content, payload: &'a [u8]) -> Option<Act<'a>>
         Content::Nothing
         | Content::Undescribed
         | Content::Unknown
+        | Content::BootReport
         | Content::DeviceDisconnected { .. } => None,
     }
 }
@@ -152,6 +153,13 @@ impl<'a> CapturePlayer<'a> {
         ensures { result ≡ summary_of (session_of self.now.player) (session_of self.now.player).lines }
     {
         self.player.summary_so_far()
+    }
+
+    /// The endpoints whose data came without a report descriptor.
+    pub fn into_undescribed(self) -> Vec<UndescribedEndpoint>
+        ensures { result.items ≡ (tracking_of self.entry.tracker).undescribed }
+    {
+        self.tracker.into_undescribed()
     }
 
     /// Plays the next frame, and writes its output.

@@ -3,7 +3,7 @@
 ghost use Rattle.std.specs.Prelude.{◌≡◌, ◌<◌, ◌≤◌, None, length, IfOk, OnOk};
 ghost use Rattle.usb_capture.specs.Capture.{refusal_of};
 ghost use Rattle.usb_capture.specs.Place.{begin};
-ghost use Rattle.hid_capture.specs.Tracking.{nothing_known};
+ghost use Rattle.hid_capture.specs.Tracking.{nothing_known, tracking_of};
 ghost use Rattle.hid_recording.specs.FrameActs.{given_of};
 ghost use Rattle.hid_recording.specs.CaptureRuns.{end_fault, IsBetween, AppendsCaptureFrom, AppendsCapture, AppendsStep, AppendsPiece, frame_of, capture_summary, cause_of_format, EndsSo};
 ghost use Rattle.hid_recording.specs.CaptureRun.{capture_place};
@@ -16,6 +16,7 @@ use super::counted::Counted;
 use super::fault::Cause;
 use super::given::GivenDescriptor;
 use super::options::Options;
+use super::played_capture::PlayedCapture;
 use super::player::Player;
 use super::runs::Watch;
 use super::summary::Summary;
@@ -166,7 +167,8 @@ fn play_pieces<R: Read, W: Write, H: Watch>(
     requires accepted { refusal_of run.old.capture.part ≡ None }
     requires between { IsBetween (capture_place run.old) }
     ensures { AppendsCaptureFrom (given_of run.old.devices.given) (capture_place run.old)
-        (R.remaining reader.old) (W.contents writer.old) (W.contents writer.new) result }
+        (R.remaining reader.old) (W.contents writer.old) (W.contents writer.new) result
+        (tracking_of run.new.devices.tracker).undescribed }
 {
     let mut piece = [0u8; PIECE];
     let mut bytes: u64 = 0;
@@ -196,27 +198,31 @@ fn play_frames<R: Read, W: Write, H: Watch>(
     options: Options,
     given: Option<GivenDescriptor<'_>>,
     watch: &mut H,
-) -> Result<Summary, CaptureRunFault>
+) -> PlayedCapture
     ensures { AppendsCapture options (given_of given.entry) (R.remaining reader.old) (W.contents writer.old)
-        (W.contents writer.new) result }
+        (W.contents writer.new) result.end result.undescribed.items }
 {
     match Player::new(alloc, options, Counted::Frames) {
         Ok(player) => {
             let mut run = CaptureRun::new(alloc, player, given);
-            play_pieces(&mut run, reader, writer, watch)
+            let end = play_pieces(&mut run, reader, writer, watch);
+            PlayedCapture {
+                end,
+                undescribed: run.devices.into_undescribed(),
+            }
         }
-        Err(cause) => Err(end_at(Summary::none(), CaptureCause::Run(cause))),
+        Err(cause) => PlayedCapture {
+            end: Err(end_at(Summary::none(), CaptureCause::Run(cause))),
+            undescribed: Vec::new(alloc),
+        },
     }
 }
 
 /// Plays a capture and writes its output: the reports of its HID devices, by the descriptors that are read in it, or by the
 /// one that is given. A read of 0 bytes ends the capture, and so does the first frame of a strict run that is refused. An
 /// interrupted read is tried again. The output is flushed before each read and at the end, also at a fault, so `writer` may
-/// be a buffer.
-///
-/// # Errors
-/// What ended the run early, at its frame, with what was played before. If the last flush fails, R9 at that frame, whatever
-/// the fault was: else output would be lost without notice.
+/// be a buffer. The end has what ended the run early, at its frame, with what was played before; if the last flush fails, R9 at
+/// that frame, whatever the fault was: else output would be lost without notice.
 pub fn play_capture<R: Read, W: Write, H: Watch>(
     alloc: Global,
     reader: &mut R,
@@ -224,17 +230,20 @@ pub fn play_capture<R: Read, W: Write, H: Watch>(
     options: Options,
     given: Option<GivenDescriptor<'_>>,
     watch: &mut H,
-) -> Result<Summary, CaptureRunFault>
+) -> PlayedCapture
     ensures { AppendsCapture options (given_of given.entry) (R.remaining reader.old) (W.contents writer.old)
-        (W.contents writer.new) result }
+        (W.contents writer.new) result.end result.undescribed.items }
 {
-    let end = play_frames(alloc, reader, writer, options, given, watch);
+    let played = play_frames(alloc, reader, writer, options, given, watch);
     match writer.flush() {
-        Ok(()) => end,
-        Err(_) => Err(CaptureRunFault {
-            frame: frame_of(&end),
-            cause: CaptureCause::Run(Cause::Write),
-            played: capture_summary(&end),
-        }),
+        Ok(()) => played,
+        Err(_) => PlayedCapture {
+            end: Err(CaptureRunFault {
+                frame: frame_of(&played.end),
+                cause: CaptureCause::Run(Cause::Write),
+                played: capture_summary(&played.end),
+            }),
+            undescribed: played.undescribed,
+        },
     }
 }

@@ -22,7 +22,7 @@
 //! a host reassembles packets (`specs/Joining.antt`).
 //!
 //! A capture is played a frame at a time, by the same devices: a refused frame prints its number and the reason. An interface without
-//! a descriptor may be given one ([`GivenDescriptor`]). A device that is gone, or whose descriptor is read again, lets go of what it
+//! a descriptor may be given one ([`GivenDescriptor`]); else its endpoints are named at the end ([`PlayedCapture`]). A device that is gone, or whose descriptor is read again, lets go of what it
 //! holds. Where no frame can be found any more, the run ends ([`CaptureRunFault`]).
 //!
 //! A live device is played a report at a time, each at the time when it was read ([`LiveDevice`]). Where it is gone, it lets go of
@@ -56,6 +56,7 @@ mod live;
 mod moment;
 mod options;
 mod output;
+mod played_capture;
 mod player;
 mod record;
 mod recording;
@@ -72,5 +73,6 @@ pub use given::{EndpointAddress, GivenDescriptor};
 pub use line_fields::read_bytes;
 pub use live::{LiveDevice, LiveFault, Received, play_live};
 pub use options::Options;
+pub use played_capture::PlayedCapture;
 pub use runs::{Watch, play};
 pub use summary::Summary;

@@ -1,39 +1,40 @@
-//! Bytes as a counted line spells them: words of hex with blanks, commas or colons between them, and `0x` in front or not.
+//! Bytes as a counted line spells them: words of hex with blanks, commas and the like between them, marked as hex or not.
 
 ghost use Rattle.std.specs.Prelude.{◌≡◌, ◌<◌, Ok, IfOk, IfSome, MatchResult, length, map, not};
 ghost use Rattle.std.specs.Bool.{OnTrue};
 ghost use Rattle.std.specs.List.{list_all};
 ghost use Rattle.hid_text.specs.Words.{words_of};
-ghost use Rattle.hid_recording.specs.Words.{AddsDigits, IsNone, as_blank, bytes_of, digit_words, is_mark, spelled_bytes, without_prefix};
+ghost use Rattle.hid_recording.specs.Words.{AddsBytes, AddsDigits, IsNone, as_blank, bytes_of, digit_words, is_mark, spelled_bytes, without_mark};
 
 use super::fault::Cause;
 use super::line_fields::{add_word, next_pair};
+use hid_input::marked_digits;
 use hid_text::first_word;
 use std::alloc::{AllocError, Global};
 use std::mem;
 
-/// Whether a byte is a comma or a colon.
+/// Whether a byte may stand between bytes beside blanks.
 fn is_mark(byte: u8) -> bool
     ensures { result ≡ is_mark byte }
 {
-    byte == b',' || byte == b':'
+    matches!(byte, b',' | b'-' | b':' | b';' | b'\\')
 }
 
-/// Whether a text has neither commas nor colons.
+/// Whether a text has no such mark.
 fn is_unmarked(text: &[u8]) -> bool
     ensures { result ≡ list_all (λ b. not (is_mark b)) text.now }
 {
     text.iter().all(|byte| !is_mark(*byte))
 }
 
-/// A byte of a text, a blank for a comma or a colon.
+/// A byte of a text, a blank for such a mark.
 fn as_blank(byte: u8) -> u8
     ensures { result ≡ as_blank byte }
 {
     if is_mark(byte) { b' ' } else { byte }
 }
 
-/// A text with a blank for each comma and each colon.
+/// A text with a blank for each such mark.
 fn with_blanks(alloc: Global, text: &[u8]) -> Result<Vec<u8>, AllocError>
     ensures { IfOk result (λ plain. plain.items ≡ map as_blank text.now) }
 {
@@ -44,18 +45,19 @@ fn with_blanks(alloc: Global, text: &[u8]) -> Result<Vec<u8>, AllocError>
     Ok(plain)
 }
 
-/// A word without the `0x` in front of its digits, if it has one.
-fn without_prefix(word: &[u8]) -> &[u8]
-    ensures { result.now ≡ without_prefix word.now }
+/// Adds the bytes that a word encodes, marked as hex or not: a digit alone is that of a byte where it is marked.
+fn add_marked(alloc: Global, bytes: &mut Vec<u8>, word: &[u8]) -> Result<(), Cause>
+    ensures { AddsBytes bytes.old.items bytes.new.items (without_mark word.now) result }
 {
-    let [b'0', b'x' | b'X', digits @ ..] = word else {
-        return word;
-    };
-    if digits.is_empty() { word } else { digits }
+    match marked_digits(word) {
+        None | Some([]) => add_word(alloc, bytes, word),
+        Some([digit]) => add_word(alloc, bytes, &[b'0', *digit]),
+        Some(digits) => add_word(alloc, bytes, digits),
+    }
 }
 
-/// Adds the bytes that the first word of a text encodes, with `0x` in front or not. Returns what stands after it, or none where
-/// there is no word.
+/// Adds the bytes that the first word of a text encodes, marked as hex or not. Returns what stands after it, or none where there
+/// is no word.
 fn add_digits<'a>(
     alloc: Global,
     bytes: &mut Vec<u8>,
@@ -73,13 +75,13 @@ fn add_digits<'a>(
     let Some((word, more)) = first_word(text) else {
         return Ok(None);
     };
-    match add_word(alloc, bytes, without_prefix(word)) {
+    match add_marked(alloc, bytes, word) {
         Ok(()) => Ok(Some(more)),
         Err(cause) => Err(cause),
     }
 }
 
-/// The bytes that the words of a text encode, with `0x` in front of each or not.
+/// The bytes that the words of a text encode, each marked as hex or not.
 fn read_digits(alloc: Global, text: &[u8]) -> Result<Vec<u8>, Cause>
     ensures { MatchResult result
         (λ bytes. bytes_of (digit_words text.now) ≡ Ok bytes.items)

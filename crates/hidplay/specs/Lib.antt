@@ -4,3 +4,4 @@ pub mod FileFault
 pub mod FileLine
 pub mod EndLine
 pub mod Total
+pub mod UndescribedLine

@@ -1,5 +1,7 @@
 -- The exit status of a run (our choice: docs/RECORDINGS.md).
-use Rattle.std.specs.Prelude.{ℕ, nat_lt, Bool, true, false, if◌then◌else◌, Result, Ok, Err}
+use Rattle.std.specs.Prelude.{ℕ, nat_lt, ◌&&◌, Bool, true, false, if◌then◌else◌, List, Result, Ok, Err}
+use Rattle.std.specs.List.{list_any}
+use Rattle.hid_capture.specs.declared.undescribed.UndescribedEndpoint.{UndescribedEndpoint}
 use Rattle.hid_recording.specs.declared.summary.Summary.{Summary}
 use Rattle.hid_recording.specs.declared.fault.Cause.{Cause}
 use Rattle.hid_recording.specs.declared.fault.Cause.TheVariants.{Refused, LineTooLong, Read, Write, Memory, TooManyReads, Unended}
@@ -51,3 +53,11 @@ ends_all_for strict (Other file) = strict
 abbrev pub ends_all : Bool → Result Summary FileFault → Bool
 ends_all strict (Ok summary) = false
 ends_all strict (Err fault) = ends_all_for strict fault.why
+
+-- a strict run met reports of HID interfaces without a descriptor: they are like a refusal
+abbrev pub lacks_descriptor : Bool → List UndescribedEndpoint → Bool
+lacks_descriptor strict undescribed = strict && list_any (λ one. one.is_hid) undescribed
+
+-- the exit status of such reports
+abbrev pub lack_status : Bool → ℕ
+lack_status lacks = if lacks then 1 else 0

@@ -13,6 +13,7 @@
 //! be written, or memory runs out.
 #![tactic(auto)]
 
+mod advice;
 mod args;
 mod codes;
 mod end_line;
@@ -24,34 +25,41 @@ mod progress;
 mod source;
 mod status;
 mod total;
+mod undescribed_line;
 mod watched_reader;
 
+use advice::advice_of;
 use args::{CliArgs, parse_args};
 use command_words::{FileName, print_refused_words, print_unread_words, words_of};
 use end_line::end_line;
 use fault::{FileFault, Why, before_all};
 use file_line::file_line;
+use hid_capture::UndescribedEndpoint;
 use hid_recording::{Cause, GivenDescriptor, Summary, play_live};
 use hidraw::{ReportFile, descriptor_name, may_have_descriptor, node_of};
 use progress::Progress;
 use source::{Kind, Manner, play_source, read_descriptor};
-use status::{FINE, OUTSIDE, WRONG_USAGE, ends_all, exit_of, worse};
+use status::{FINE, OUTSIDE, WRONG_USAGE, ends_all, exit_of, lack_status, lacks_descriptor, worse};
 use std::alloc::{AllocError, Global};
 use std::fs;
 use std::fs::File;
 use std::io::{self, BufWriter, IsTerminal, Read, Stderr, Write};
 use std::process::ExitCode;
 use total::Total;
+use undescribed_line::UndescribedLine;
 use watched_reader::WatchedReader;
 
-/// What can be done where a name isn't UTF-8.
-const ADVICE: &str = ": give the file by < FILE";
+/// The name of standard input.
+const STANDARD_INPUT: &str = "-";
 
 fn main(rt: HostRuntime) -> ExitCode {
     let alloc = rt.alloc();
     let words = match words_of(&rt) {
         Ok(words) => words,
-        Err(fault) => return ExitCode::from(print_unread_words(&rt, "hidplay", &fault, ADVICE)),
+        Err(fault) => {
+            let advice = advice_of(&rt, &fault);
+            return ExitCode::from(print_unread_words(&rt, "hidplay", &fault, advice));
+        }
     };
     match parse_args(alloc, &words) {
         Ok(asked) => ExitCode::from(play_with_descriptor(&rt, &asked)),
@@ -93,11 +101,20 @@ fn end_of_file(fault: FileFault, failure: Option<io::Error>) -> FileEnd {
     }
 }
 
+/// Whether standard input is one of the files.
+fn plays_standard_input(asked: &CliArgs<'_>) -> bool {
+    asked.files.is_empty() || asked.files.iter().any(|name| *name == STANDARD_INPUT)
+}
+
 /// Reads the descriptor that is given, if one is, and plays each file.
 fn play_with_descriptor(rt: &HostRuntime, asked: &CliArgs<'_>) -> u8 {
     let Some(name) = asked.descriptor else {
         return play_without_descriptor(rt, asked);
     };
+    if name == STANDARD_INPUT && plays_standard_input(asked) {
+        let _ = eprintln!(rt; "hidplay: -: standard input can't be the descriptor and a file too");
+        return WRONG_USAGE;
+    }
     match open_descriptor(rt, name) {
         Ok(bytes) => {
             let given = GivenDescriptor {
@@ -117,7 +134,7 @@ fn play_with_descriptor(rt: &HostRuntime, asked: &CliArgs<'_>) -> u8 {
 fn play_without_descriptor(rt: &HostRuntime, asked: &CliArgs<'_>) -> u8 {
     if asked.kind == Kind::Live {
         if asked.files.is_empty() {
-            return print_no_node(rt, "-");
+            return print_no_node(rt, STANDARD_INPUT);
         }
         for name in &asked.files {
             if !may_have_descriptor(rt, *name) {
@@ -135,14 +152,20 @@ fn print_no_node(rt: &HostRuntime, name: &str) -> u8 {
     WRONG_USAGE
 }
 
-/// The report descriptor in a file.
+/// The report descriptor that a reader gives.
+fn take_descriptor<R: Read + Drop>(alloc: Global, reader: R) -> Result<Vec<u8>, FileEnd> {
+    let mut watched = WatchedReader::new(reader);
+    let read = read_descriptor(alloc, &mut watched);
+    read.map_err(|fault| end_of_file(fault, watched.failure))
+}
+
+/// The report descriptor in a file, or in standard input.
 fn open_descriptor(rt: &HostRuntime, name: &str) -> Result<Vec<u8>, FileEnd> {
+    if name == STANDARD_INPUT {
+        return take_descriptor(rt.alloc(), rt.stdin());
+    }
     match fs::open(rt, name) {
-        Ok(file) => {
-            let mut watched = WatchedReader::new(file);
-            let read = read_descriptor(rt.alloc(), &mut watched);
-            read.map_err(|fault| end_of_file(fault, watched.failure))
-        }
+        Ok(file) => take_descriptor(rt.alloc(), file),
         Err(error) => Err(unread(error)),
     }
 }
@@ -174,20 +197,56 @@ fn play_all(rt: &HostRuntime, asked: &CliArgs<'_>, given: Option<GivenDescriptor
     let mut total = Total::default();
     let mut status = FINE;
     if asked.files.is_empty() {
-        let end = play_one(rt, asked, manner, "-", &mut out);
-        total.add(&end);
-        status = exit_of(&end);
+        status = play_next(rt, asked, manner, STANDARD_INPUT, &mut out, &mut total).status;
     }
     for name in &asked.files {
-        let end = play_one(rt, asked, manner, *name, &mut out);
-        total.add(&end);
-        status = worse(status, exit_of(&end));
-        if ends_all(asked.options.strict, &end) {
+        let next = play_next(rt, asked, manner, *name, &mut out, &mut total);
+        status = worse(status, next.status);
+        if next.is_last {
             break;
         }
     }
     let _ = eprintln!(rt; "{total}");
     status
+}
+
+/// The exit status of a file, and whether it is the last one that is played.
+#[derive(Clone, Copy)]
+struct Next {
+    status: u8,
+    is_last: bool,
+}
+
+/// Plays the next file, adds what was played to the total, and names the endpoints whose reports have no descriptor.
+fn play_next<W: Write>(
+    rt: &HostRuntime,
+    asked: &CliArgs<'_>,
+    manner: Manner<'_>,
+    name: &str,
+    out: &mut W,
+    total: &mut Total,
+) -> Next {
+    let mut undescribed = Vec::new(rt.alloc());
+    let end = play_one(rt, asked, manner, name, &mut undescribed, out);
+    print_undescribed(rt, name, undescribed.as_slice());
+    total.add(&end);
+    let strict = asked.options.strict;
+    let lacks = lacks_descriptor(strict, undescribed.as_slice());
+    Next {
+        status: worse(exit_of(&end), lack_status(lacks)),
+        is_last: ends_all(strict, &end) || lacks,
+    }
+}
+
+/// Says on standard error which endpoints sent reports that have no descriptor, and what can be done.
+fn print_undescribed(rt: &HostRuntime, name: &str, undescribed: &[UndescribedEndpoint]) {
+    let name = FileName(name);
+    for endpoint in undescribed {
+        let line = UndescribedLine {
+            endpoint: *endpoint,
+        };
+        let _ = eprintln!(rt; "{name}: {line}");
+    }
 }
 
 /// Plays one file, and prints what ended it early.
@@ -196,10 +255,11 @@ fn play_one<W: Write>(
     asked: &CliArgs<'_>,
     manner: Manner<'_>,
     name: &str,
+    undescribed: &mut Vec<UndescribedEndpoint>,
     out: &mut W,
 ) -> Result<Summary, FileFault> {
     let end = match print_file(rt.alloc(), asked, name, out) {
-        Ok(()) => play_named(rt, asked, manner, name, out),
+        Ok(()) => play_named(rt, asked, manner, name, undescribed, out),
         Err(cause) => Err(without_words(before_all(cause))),
     };
     match end {
@@ -277,17 +337,18 @@ fn play_named<W: Write>(
     asked: &CliArgs<'_>,
     manner: Manner<'_>,
     name: &str,
+    undescribed: &mut Vec<UndescribedEndpoint>,
     out: &mut W,
 ) -> Result<Summary, FileEnd> {
-    if name == "-" {
-        return play_standard_input(rt, manner, out);
+    if name == STANDARD_INPUT {
+        return play_standard_input(rt, manner, undescribed, out);
     }
     let file = match fs::open(rt, name) {
         Ok(file) => file,
         Err(error) => return Err(unread(error)),
     };
     let Ok(metadata) = file.metadata() else {
-        return play_stream(rt, file, None, manner, out);
+        return play_stream(rt, file, None, manner, undescribed, out);
     };
     match node_of(rt, name, metadata.file_type()) {
         Some(node) if matches!(manner.kind, Kind::Detected | Kind::Live) => {
@@ -295,7 +356,7 @@ fn play_named<W: Write>(
         }
         _ if manner.kind == Kind::Live => play_node(rt, asked, manner, name, file, out),
         // (a pipe has no size)
-        _ => play_stream(rt, file, Some(metadata.len()), manner, out),
+        _ => play_stream(rt, file, Some(metadata.len()), manner, undescribed, out),
     }
 }
 
@@ -303,13 +364,14 @@ fn play_named<W: Write>(
 fn play_standard_input<W: Write>(
     rt: &HostRuntime,
     manner: Manner<'_>,
+    undescribed: &mut Vec<UndescribedEndpoint>,
     out: &mut W,
 ) -> Result<Summary, FileEnd> {
     match manner.given {
         Some(given) if manner.kind == Kind::Live => {
             play_reports(rt, manner, given.bytes, rt.stdin(), out)
         }
-        _ => play_stream(rt, rt.stdin(), None, manner, out),
+        _ => play_stream(rt, rt.stdin(), None, manner, undescribed, out),
     }
 }
 
@@ -319,11 +381,19 @@ fn play_stream<R: Read + Drop, W: Write>(
     reader: R,
     size: Option<u64>,
     manner: Manner<'_>,
+    undescribed: &mut Vec<UndescribedEndpoint>,
     out: &mut W,
 ) -> Result<Summary, FileEnd> {
     let mut watched = WatchedReader::new(reader);
     let mut progress = Progress::new(terminal(rt), size.filter(|size| *size > 0));
-    let end = play_source(rt.alloc(), &mut watched, manner, out, &mut progress);
+    let end = play_source(
+        rt.alloc(),
+        &mut watched,
+        manner,
+        undescribed,
+        out,
+        &mut progress,
+    );
     progress.clear();
     end.map_err(|fault| end_of_file(fault, watched.failure))
 }

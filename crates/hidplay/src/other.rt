@@ -40,7 +40,7 @@ impl fmt::Display for OtherFile {
     }
 }
 
-/// The words that lines of scripts begin with.
+/// The words that lines of scripts begin with: those of `lab_lines` but for `end` (`tools/check/commands` compares them).
 #[rattlefmt::skip]
 const KEYWORDS: [&[u8]; 21] = [
     b"layout", b"values", b"device", b"press", b"release", b"set", b"null", b"move", b"frame", b"poll", b"begin", b"control",

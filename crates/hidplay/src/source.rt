@@ -2,6 +2,7 @@
 
 use super::fault::{FileFault, before_all, other_file, unread_descriptor};
 use super::other::{OtherFile, is_script, other_of};
+use hid_capture::UndescribedEndpoint;
 use hid_input::{InputCause, begins_recording, descriptor_in, is_recording};
 use hid_recording::{
     Cause, GivenDescriptor, Options, Summary, Watch, descriptor_line, play, play_capture,
@@ -149,7 +150,7 @@ pub struct Manner<'a> {
     pub given: Option<GivenDescriptor<'a>>,
 }
 
-/// Plays a file, as what it is.
+/// Plays a file, as what it is. Of a capture `undescribed` has the endpoints whose reports have no descriptor.
 ///
 /// # Errors
 /// Before anything is played: [`Cause::Memory`] where there is none to read with, [`Cause::Read`] and [`Cause::TooManyReads`]
@@ -159,13 +160,14 @@ pub fn play_source<R: Read + Drop, W: Write, H: Watch>(
     alloc: Global,
     reader: R,
     manner: Manner<'_>,
+    undescribed: &mut Vec<UndescribedEndpoint>,
     out: &mut W,
     watch: &mut H,
 ) -> Result<Summary, FileFault> {
     let mut reader = reader;
     let start = read_front(alloc, &mut reader, START)?;
     match BufReader::new(alloc, start.as_slice().chain(reader)) {
-        Ok(mut reader) => play_buffered(alloc, &mut reader, manner, out, watch),
+        Ok(mut reader) => play_buffered(alloc, &mut reader, manner, undescribed, out, watch),
         Err(_) => Err(before_all(Cause::Memory)),
     }
 }
@@ -205,11 +207,14 @@ fn play_detected<R: Read, W: Write, H: Watch>(
     alloc: Global,
     reader: &mut BufReader<R>,
     manner: Manner<'_>,
+    undescribed: &mut Vec<UndescribedEndpoint>,
     out: &mut W,
     watch: &mut H,
 ) -> Result<Summary, FileFault> {
     if begins_capture(reader)? {
-        return Ok(play_capture(alloc, reader, out, manner.options, manner.given, watch)?);
+        let played = play_capture(alloc, reader, out, manner.options, manner.given, watch);
+        *undescribed = played.undescribed;
+        return Ok(played.end?);
     }
     skip_mark(reader)?;
     let _first = first_byte(reader)?;
@@ -237,12 +242,15 @@ fn play_buffered<R: Read, W: Write, H: Watch>(
     alloc: Global,
     reader: &mut BufReader<R>,
     manner: Manner<'_>,
+    undescribed: &mut Vec<UndescribedEndpoint>,
     out: &mut W,
     watch: &mut H,
 ) -> Result<Summary, FileFault> {
     match manner.kind {
         Kind::Binary => play_binary(alloc, reader, out, manner.options, watch),
         Kind::Text => play_text(alloc, reader, out, manner.options, watch),
-        Kind::Detected | Kind::Live => play_detected(alloc, reader, manner, out, watch),
+        Kind::Detected | Kind::Live => {
+            play_detected(alloc, reader, manner, undescribed, out, watch)
+        }
     }
 }

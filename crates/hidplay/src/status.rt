@@ -1,9 +1,11 @@
 //! Exit statuses.
 
 ghost use Rattle.std.specs.Prelude.{◌≡◌, max};
-ghost use Rattle.hidplay.specs.Status.{cause_status, status_of, ends_all_by, ends_all};
+ghost use Rattle.std.specs.List.{list_any};
+ghost use Rattle.hidplay.specs.Status.{cause_status, status_of, ends_all_by, ends_all, lacks_descriptor, lack_status};
 
 use super::fault::{FileFault, Why};
+use hid_capture::UndescribedEndpoint;
 use hid_recording::{Cause, Summary};
 
 /// Nothing was refused.
@@ -64,6 +66,34 @@ pub fn ends_all(strict: bool, end: &Result<Summary, FileFault>) -> bool
             Why::Capture(_) | Why::Descriptor(_) | Why::Other(_) => strict,
         },
     }
+}
+
+/// Whether an endpoint is of a HID interface.
+fn is_hid(endpoint: &UndescribedEndpoint) -> bool
+    ensures { result ≡ endpoint.now.is_hid }
+{
+    endpoint.is_hid
+}
+
+/// Whether one of these endpoints is of a HID interface.
+fn has_hid(undescribed: &[UndescribedEndpoint]) -> bool
+    ensures { result ≡ list_any (λ one. one.is_hid) undescribed.now }
+{
+    undescribed.iter().any(|one| is_hid(one))
+}
+
+/// Whether a strict run met reports of HID interfaces without a descriptor: they are like a refusal.
+pub fn lacks_descriptor(strict: bool, undescribed: &[UndescribedEndpoint]) -> bool
+    ensures { result ≡ lacks_descriptor strict undescribed.now }
+{
+    strict && has_hid(undescribed)
+}
+
+/// The exit status of such reports.
+pub fn lack_status(lacks: bool) -> u8
+    ensures { result ≡ lack_status lacks }
+{
+    if lacks { REFUSED } else { FINE }
 }
 
 /// Of two runs the status of the one that went worse.

@@ -160,6 +160,7 @@ fn add_content(text: &mut String, content: Content) -> Result<(), Unprinted> {
         Content::TruncatedReport { interface } => write!(text, " truncated report {interface}"),
         Content::Undescribed => write!(text, " undescribed"),
         Content::Unknown => write!(text, " unknown"),
+        Content::BootReport => write!(text, " boot report"),
         Content::InterfaceDisconnected { interface } => {
             write!(text, " interface {interface} disconnected")
         }

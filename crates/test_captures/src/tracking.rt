@@ -67,13 +67,17 @@ fn setup_of(word: &str, bytes: &[u8]) -> Option<[u8; 8]> {
 }
 
 impl Subject for TrackerSteps {
-    /// `EVENT BUS.DEVICE NUMBER [truncated] | BYTES`: NUMBER is the id of a control transfer, or an endpoint's number.
+    /// `EVENT BUS.DEVICE NUMBER [truncated] | BYTES`: NUMBER is the id of a control transfer, or an endpoint's number. `undescribed`
+    /// prints the endpoints whose data came without a report descriptor.
     fn step(
         &mut self,
         printed: &mut String,
         table: &Table<'_>,
         given: &str,
     ) -> Result<(), RowFault> {
+        if given == "undescribed" {
+            return print_debug(printed, &self.tracker.undescribed());
+        }
         let (head, body) = split(given, '|');
         let bytes = bytes_of(table, body)?;
         let (word, place) = split(head, ' ');

@@ -1,4 +1,4 @@
-use Rattle.std.proofs.Common.{◌≡◌, ◌≤◌, ℕ, List, Some, length, drop, sym, ap, ◌∙◌, arith, rules}
+use Rattle.std.proofs.Common.{◌≡◌, ◌≤◌, ℕ, Some, length, drop, sym, ap, ◌∙◌, arith, rules}
 use Rattle.hid_input.specs.Characters.{character_byte, character_length}
 use Rattle.hid_input.proofs.StringLemmas.{character_added}
 use Rattle.hid_input.proofs.characters.read_characters.Goals as goal

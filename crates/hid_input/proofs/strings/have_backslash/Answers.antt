@@ -1,4 +1,4 @@
-use Rattle.std.proofs.Common.{ℕ, List, ◌∙◌, rules, tests}
+use Rattle.std.proofs.Common.{ℕ, ◌∙◌, rules, tests}
 use Rattle.std.specs.Global.{Vec}
 use Rattle.std.proofs.lemmas.Iterator.{YieldsList-from_slice}
 use Rattle.std.proofs.lemmas.Iterator.Search.{any_from_yields_List}

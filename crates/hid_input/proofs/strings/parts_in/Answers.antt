@@ -1,4 +1,4 @@
-use Rattle.std.proofs.Common.{◌≡◌, ◌+◌, ◌≤◌, ℕ, List, [], ◌++◌, length, get_or, drop, map, sym, ap, ◌∙◌, arith}
+use Rattle.std.proofs.Common.{◌+◌, ℕ, List, ◌++◌, get_or, drop, map, sym, ap, ◌∙◌, arith}
 use Rattle.std.specs.Global.{Vec}
 use Rattle.hid_input.specs.declared.code.Place.{Place}
 use Rattle.hid_input.specs.declared.code.Place.TheVariants.{Code}

@@ -15,7 +15,7 @@ pub returns-then-is_err : goal.returns-then-is_err
 returns-then-is_err g c =
     let before = c.loop.invariant.0 in
     let kept = Appends-kept _ _ _ before.1 before.3 c.flush.ensures.bytes in
-    outside_capture (given_of c.args.run.now.devices.given) (capture_place c.args.run.now) _ _ _ _ before.0 before.1 (capture_place c.loop.run) causes.Write c.fault.result before.2 kept before.4 tt c.fault.ensures
+    outside_capture (given_of c.args.run.now.devices.given) (capture_place c.args.run.now) _ _ _ _ before.0 before.1 (capture_place c.loop.run) causes.Write c.fault.result [] before.2 kept before.4 tt c.fault.ensures
 
 pub finish-requires : goal.finish-requires
 finish-requires g c = c.loop.invariant.1
@@ -38,14 +38,14 @@ returns-in_err-feed-in-Ok g c =
     let before = c.loop.invariant.0 in
     let kept = Appends-kept _ _ _ before.1 before.3 c.flush.ensures.bytes in
     let told = c.in_err-feed-in-Ok.ensures.told in
-    piece_ends (given_of c.args.run.now.devices.given) (capture_place c.args.run.now) _ _ _ _ _ _ before.0 before.1 told.0 _ (capture_place c.loop.run) c.in_err-feed-in-Ok.field-0.0 _ before.2 kept before.4 c.in-Ok.ensures.bytes.0 told.1
+    piece_ends (given_of c.args.run.now.devices.given) (capture_place c.args.run.now) _ _ _ _ _ _ before.0 before.1 told.0 _ (capture_place c.loop.run) c.in_err-feed-in-Ok.field-0.0 _ _ before.2 kept before.4 c.in-Ok.ensures.bytes.0 told.1
     (stops_as (given_of c.args.run.now.devices.given) (given_of c.loop.run.devices.given) (capture_place c.loop.run) _ told.0 c.in_err-feed-in-Ok.field-0.0 (ap given_of c.loop.invariant.2) told.2) c.from_residual.ensures.1
 
 pub returns-in-Err-2 : goal.returns-in-Err-2
 returns-in-Err-2 g c =
     let before = c.loop.invariant.0 in
     let kept = Appends-kept _ _ _ before.1 before.3 c.flush.ensures.bytes in
-    outside_capture (given_of c.args.run.now.devices.given) (capture_place c.args.run.now) _ _ _ _ before.0 before.1 (capture_place c.loop.run) causes.Read c.fault-in-Err-2.result before.2 kept before.4 tt c.fault-in-Err-2.ensures
+    outside_capture (given_of c.args.run.now.devices.given) (capture_place c.args.run.now) _ _ _ _ before.0 before.1 (capture_place c.loop.run) causes.Read c.fault-in-Err-2.result [] before.2 kept before.4 tt c.fault-in-Err-2.ensures
 
 pub loop-preserved : goal.loop-preserved
 loop-preserved g c =
@@ -71,4 +71,4 @@ loop-preserved g c =
 pub returns : goal.returns
 returns g c =
     let before = c.loop.invariant.0 in
-    outside_capture (given_of c.args.run.now.devices.given) (capture_place c.args.run.now) _ _ _ _ before.0 before.1 (capture_place c.loop.run) causes.TooManyReads c.fault-2.result before.2 before.3 before.4 tt c.fault-2.ensures
+    outside_capture (given_of c.args.run.now.devices.given) (capture_place c.args.run.now) _ _ _ _ before.0 before.1 (capture_place c.loop.run) causes.TooManyReads c.fault-2.result [] before.2 before.3 before.4 tt c.fault-2.ensures
