@@ -62,7 +62,7 @@ fn usbip<'a>(alloc: Global) -> Result<Arg<'a>, AllocError> {
     flag(
         alloc,
         "usbip",
-        "Serve the devices to a USB/IP host on standard input and output",
+        "Serve the devices over USB/IP on standard input and output",
     )
     .conflicts_with("layout")?
     .conflicts_with("names")?

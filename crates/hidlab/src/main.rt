@@ -12,6 +12,7 @@
 #![tactic(auto)]
 
 mod args;
+mod near;
 mod printing;
 mod progress;
 mod run;

@@ -1,9 +1,11 @@
 //! A run: the sources of lines, and the bench that carries them out.
 
-ghost use Rattle.std.specs.Prelude.{◌<◌, vec_len};
+ghost use Rattle.std.specs.Prelude.{◌<◌, ◌≤◌, length, vec_len};
 
+use super::near::question;
 use super::progress::Progress;
 use super::source::{LabSource, name_beside};
+use command_words::ShownBytes;
 use hid_input::{InputCause, InputFault, KnownFile, descriptor_in, known_file};
 use hid_layout::{Layout, Limits};
 use hid_script::{Cause, StepFault};
@@ -11,7 +13,8 @@ use hid_snapshots::ChangeFault;
 use hid_stack::StackFault;
 use lab_expectations::unknown_usage;
 use lab_lines::{
-    Added, Body, ControlName, LabLine, MAX_REPEATS, Unread, diagnose, is_any_name, read_lab_line,
+    Added, Body, ControlName, LabLine, MAX_INCLUDES, MAX_REPEATS, Unread, diagnose, is_any_name,
+    read_control_name, read_lab_line,
 };
 use lab_session::{Bench, LabCause, LabFault, Need, RunEnd, cause_words};
 use std::alloc::{AllocError, Global};
@@ -21,13 +24,16 @@ use std::io::{self, Read, Write};
 /// How many lines a body has at most, and how often a run goes from one source to another.
 const MAX_TURNS: u64 = 1_000_000_000_000;
 
+/// The most bytes of a word of a line, or of the name of a file, that a fault prints.
+const LONGEST_WORD: usize = 256;
+
 /// The most bytes of a file with a descriptor.
 const LONGEST: usize = 1 << 24;
 
 /// Why a line is not carried out, and words that say more than those of the cause, if there are any.
 #[derive(Drop)]
 pub struct Trouble {
-    /// The line of its file.
+    /// The line of its file; 0 where nothing of the script itself can be read.
     pub line: usize,
     pub cause: LabCause,
     pub words: Option<String>,
@@ -69,6 +75,33 @@ fn no_memory(line: usize) -> Trouble {
     bare(line, LabCause::Script(Cause::Memory))
 }
 
+/// Where a long word is cut: before a character that goes on there.
+fn cut_of(word: &[u8]) -> usize
+    requires { LONGEST_WORD < length word.now }
+    ensures { result ≤ length word.now }
+{
+    for back in 0..4 {
+        let end = LONGEST_WORD - back;
+        if word[end] & 0xC0 != 0x80 {
+            return end;
+        }
+    }
+    LONGEST_WORD
+}
+
+/// A word as it is printed: of a long one its first bytes, and two dots.
+///
+/// # Errors
+/// Out of memory.
+fn word_shown(alloc: Global, word: &[u8]) -> Result<String, AllocError> {
+    if word.len() <= LONGEST_WORD {
+        let word = ShownBytes(word);
+        return format!(in alloc; "{word}");
+    }
+    let first = ShownBytes(&word[..cut_of(word)]);
+    format!(in alloc; "{first}..")
+}
+
 /// Which word of a line is wrong, and what was expected there, in words.
 fn syntax_words(alloc: Global, line: &[u8]) -> Result<Option<String>, AllocError> {
     let unread = match read_lab_line(line) {
@@ -78,10 +111,10 @@ fn syntax_words(alloc: Global, line: &[u8]) -> Result<Option<String>, AllocError
     let Unread::Word(word, expected) = unread else {
         return Ok(None);
     };
-    let word = String::from_utf8_lossy(alloc, word)?;
     if word.is_empty() {
         Ok(Some(format!(in alloc; "the line ends: expected is {expected}")?))
     } else {
+        let word = word_shown(alloc, word)?;
         Ok(Some(format!(in alloc; "{word}: expected is {expected}")?))
     }
 }
@@ -101,31 +134,66 @@ pub fn unread_trouble(alloc: Global, number: usize, line: &[u8]) -> Trouble {
     }
 }
 
-/// The name of no usage by which a line names a control, if it does.
-fn misspelt_name(line: &[u8]) -> Option<&[u8]> {
-    let control = match read_lab_line(line) {
-        Ok(LabLine::Change { control, .. }) => control,
-        Ok(LabLine::Click { control, .. }) => control,
-        Ok(LabLine::Expect(expected)) => return unknown_usage(expected),
-        _ => return None,
-    };
+/// Why a word is no control, or no usage of an event.
+#[derive(Clone, Copy)]
+enum NameFault {
+    /// No usage has this name.
+    Unknown,
+    /// It is one of several controls, or a place, and no usage alone.
+    NotAlone,
+}
+
+/// Why a word names no control: no usage has its name.
+fn control_fault(control: ControlName<'_>) -> Option<NameFault> {
     match control {
-        ControlName::Named { name, .. } if !is_any_name(name) => Some(name),
+        ControlName::Named { name, .. } if !is_any_name(name) => Some(NameFault::Unknown),
         _ => None,
     }
 }
 
-/// That no usage has the name that stands in a line, in words, where none has.
+/// Why a word is no usage of an event.
+fn event_fault(word: &[u8]) -> NameFault {
+    match read_control_name(word) {
+        None => NameFault::Unknown,
+        Some(control) => control_fault(control).unwrap_or(NameFault::NotAlone),
+    }
+}
+
+/// The word of a line that stands for a control, or for the usage of an event, and why it is none.
+fn wrong_name(line: &[u8]) -> Option<(&[u8], NameFault)> {
+    let control = match read_lab_line(line) {
+        Ok(LabLine::Change { control, .. }) => control,
+        Ok(LabLine::Click { control, .. }) => control,
+        Ok(LabLine::Expect(expected)) => {
+            let word = unknown_usage(expected)?;
+            return Some((word, event_fault(word)));
+        }
+        _ => return None,
+    };
+    match control {
+        ControlName::Named { name, .. } => Some((name, control_fault(control)?)),
+        _ => None,
+    }
+}
+
+/// Why a name that stands in a line is none, in words.
 ///
 /// # Errors
 /// Out of memory.
 pub fn name_words(alloc: Global, line: &[u8]) -> Result<Option<String>, AllocError> {
-    match misspelt_name(line) {
-        Some(name) => {
-            let name = String::from_utf8_lossy(alloc, name)?;
-            Ok(Some(format!(in alloc; "{name}: no usage has this name")?))
+    let Some((name, fault)) = wrong_name(line) else {
+        return Ok(None);
+    };
+    let shown = word_shown(alloc, name)?;
+    match fault {
+        NameFault::Unknown => {
+            let question = question(alloc, name)?;
+            Ok(Some(format!(in alloc; "{shown}: no usage has this name{question}")?))
         }
-        None => Ok(None),
+        NameFault::NotAlone => {
+            let words = "a line of an event has the usage alone, as 07:04 or Keyboard_A";
+            Ok(Some(format!(in alloc; "{shown}: {words}")?))
+        }
     }
 }
 
@@ -187,10 +255,13 @@ fn file_trouble(
     path: &str,
     error: &io::Error,
 ) -> Trouble {
-    Trouble {
-        line,
-        cause,
-        words: format!(in alloc; "{path}: {error}").ok(),
+    match word_shown(alloc, path.as_bytes()) {
+        Ok(path) => Trouble {
+            line,
+            cause,
+            words: format!(in alloc; "{path}: {error}").ok(),
+        },
+        Err(_) => no_memory(line),
     }
 }
 
@@ -209,13 +280,25 @@ fn read_trouble(alloc: Global, source: &LabSource, fault: &LabFault) -> Trouble 
     }
 }
 
-/// Takes an included file away of which nothing could be read, as a folder: the line that names it is refused then.
+/// Why nothing of the script itself can be read.
+fn script_trouble(alloc: Global, path: &str, error: &io::Error) -> Trouble {
+    Trouble {
+        line: 0,
+        cause: LabCause::Unreadable,
+        words: format!(in alloc; "{path}: it can't be read: {error}").ok(),
+    }
+}
+
+/// Why nothing can be read of the last source, as of a folder. An included one is taken away: the line that names it is refused then.
 fn drop_unread(alloc: Global, sources: &mut Vec<LabSource>) -> Option<Trouble> {
     let count = sources.len();
-    if count < 2 || !sources[count - 1].is_unread() {
+    if count == 0 || !sources[count - 1].is_unread() {
         return None;
     }
     let error = sources[count - 1].file_failure()?;
+    if count == 1 {
+        return Some(script_trouble(alloc, sources[0].name.as_str(), &error));
+    }
     let line = sources[count - 2].last_number();
     let source = sources.pop()?;
     Some(file_trouble(
@@ -319,14 +402,31 @@ pub fn repeat<W: Write>(
     let Ok(name) = sources[last].name.clone() else {
         return Err(no_memory(line));
     };
-    push(sources, LabSource::body(alloc, body, name, line), line)
+    push(
+        sources,
+        LabSource::body(alloc, body, count, name, line),
+        line,
+    )
+}
+
+/// A file whose name isn't UTF-8: it can't be opened.
+fn no_text(alloc: Global, line: usize, name: &[u8]) -> Trouble {
+    let name = ShownBytes(name);
+    Trouble {
+        line,
+        cause: LabCause::Unreadable,
+        words: format!(in alloc; "{name}: not UTF-8").ok(),
+    }
 }
 
 /// The name of a file that the last line of a source names.
 ///
 /// # Errors
-/// X7.
+/// X14 of a name that isn't UTF-8; X7.
 pub fn path_of(alloc: Global, source: &LabSource, name: &[u8]) -> Result<String, Trouble> {
+    let Ok(name) = std::str::from_utf8(name) else {
+        return Err(no_text(alloc, source.last_number(), name));
+    };
     match name_beside(alloc, source.name.as_str(), name) {
         Ok(path) => Ok(path),
         Err(cause) => Err(bare(source.last_number(), cause)),
@@ -347,7 +447,7 @@ pub fn include(
 {
     let alloc = rt.alloc();
     let line = sources[last].last_number();
-    if count_sources(sources.as_slice(), false) > MAX_REPEATS {
+    if count_sources(sources.as_slice(), false) > MAX_INCLUDES {
         let words = "over eight files in one another";
         return Err(in_words(alloc, line, LabCause::TooDeep, words));
     }

@@ -24,6 +24,10 @@ pub struct LabSource {
     pub name: String,
     /// The line of its file before the first one of a body.
     before: usize,
+    /// How often a body comes; 0 of another source.
+    rounds: u16,
+    /// The line that ended the run of the source, of those that it gave; 0 before.
+    ended: usize,
 }
 
 impl LabSource {
@@ -34,6 +38,8 @@ impl LabSource {
             ahead: Ahead::new(alloc, true),
             name,
             before: 0,
+            rounds: 0,
+            ended: 0,
         }
     }
 
@@ -44,16 +50,20 @@ impl LabSource {
             ahead: Ahead::new(alloc, true),
             name,
             before: 0,
+            rounds: 0,
+            ended: 0,
         }
     }
 
-    /// The lines of a body, which stands in a file after this line.
-    pub fn body(alloc: Global, body: Body, name: String, before: usize) -> Self {
+    /// The lines of a body, which come so often and stand in a file after this line.
+    pub fn body(alloc: Global, body: Body, rounds: u16, name: String, before: usize) -> Self {
         LabSource {
             lines: Lines::Repeated(body),
             ahead: Ahead::new(alloc, false),
             name,
             before,
+            rounds,
+            ended: 0,
         }
     }
 
@@ -81,6 +91,23 @@ impl LabSource {
                     .saturating_add(1)
             }
         }
+    }
+
+    /// Of a body that comes several times the round at which it stands, and how many there are.
+    pub fn round(&self) -> Option<(usize, u16)> {
+        let Lines::Repeated(body) = &self.lines else {
+            return None;
+        };
+        if self.rounds < 2 {
+            return None;
+        }
+        let each = (body.lines() as usize).max(1);
+        let lines = if self.ended > 0 {
+            self.ended
+        } else {
+            self.ahead.lines()
+        };
+        Some((lines.saturating_sub(1) / each + 1, self.rounds))
     }
 
     /// The line of its file that was taken last.
@@ -113,11 +140,15 @@ impl LabSource {
         writer: &mut W,
         watch: &mut T,
     ) -> Result<RunEnd, LabFault> {
-        match &mut self.lines {
+        let end = match &mut self.lines {
             Lines::Input(input) => run(bench, &mut self.ahead, input, writer, watch),
             Lines::File(file) => run(bench, &mut self.ahead, file, writer, watch),
             Lines::Repeated(body) => run(bench, &mut self.ahead, body, writer, watch),
+        };
+        if let Err(fault) = &end {
+            self.ended = fault.line;
         }
+        end
     }
 
     /// Takes the next line. Whether there is one.
@@ -141,15 +172,13 @@ impl LabSource {
 ///
 /// # Errors
 /// X7.
-pub fn name_beside(alloc: Global, of: &str, name: &[u8]) -> Result<String, LabCause> {
+pub fn name_beside(alloc: Global, of: &str, name: &str) -> Result<String, LabCause> {
     let mut path = String::new(alloc);
-    let is_absolute = matches!(name, [b'/', ..]);
-    if !is_absolute {
+    if !name.starts_with('/') {
         if let Some(slash) = of.rfind('/') {
             path.push_str(&of[..slash + 1])?;
         }
     }
-    let words = String::from_utf8_lossy(alloc, name)?;
-    path.push_str(words.as_str())?;
+    path.push_str(name)?;
     Ok(path)
 }

@@ -1,11 +1,12 @@
 -- Typed texts, character by character, and the blanks round a text.
 use Rattle.std.proofs.Common.{◌≡◌, ℕ, ◌+◌, ◌-◌, ◌<◌, ◌≤◌, Bool, true, false, List, [], ◌∷◌, length, drop, reverse, get_or, Option, None, Some, cond, nat_eq, refl, sym, ap, subst, ◌∙◌, arith}
+use Rattle.std.proofs.lemmas.Bool.{cond-true}
 use Rattle.std.proofs.lemmas.List.{at_drop_more, at_drop_all, get_or-reverse, length-reverse}
 use Rattle.std.specs.Prelude.{MatchOption, is_some}
 use Rattle.std.specs.List.{prefix_len, suffix_len}
 use Rattle.hid_text.specs.Words.{is_blank}
 use Rattle.lab_lines.specs.Keys.{key_of}
-use Rattle.lab_lines.specs.Typing.{escape_of, next_typed, characters_of, untyped_rest}
+use Rattle.lab_lines.specs.Typing.{escape_of, next_typed, characters_of, untyped_rest, quote_at}
 
 either_typed : (t : Bool) (x b : ℕ) (text more : List ℕ) → MatchOption {T = ℕ × List ℕ} (cond t (Some (x, text)) (Some (b, more))) (cond t (x ∷ characters_of text) (b ∷ characters_of more) ≡ []) (λ s. cond t (x ∷ characters_of text) (b ∷ characters_of more) ≡ s.0 ∷ characters_of s.1)
 either_typed true x b text more = refl
@@ -54,6 +55,55 @@ untyped_passed text character more is some = sym (untyped_some text character mo
 -- a character without a key
 pub untyped_found : (text : List ℕ) (character : ℕ) (more : List ℕ) → Some (character, more) ≡ next_typed text → is_some (key_of character) ≡ false → untyped_rest text ≡ Some text
 untyped_found text character more is none = untyped_some text character more is ∙ ap (λ t. cond t (untyped_rest more) (Some text)) none
+
+either_shorter : (t : Bool) (x b c : ℕ) (text : List ℕ) → MatchOption {T = ℕ × List ℕ} (cond t (Some (x, text)) (Some (b, c ∷ text))) (Unit {0}) (λ s. length s.1 < length (b ∷ c ∷ text))
+either_shorter true x b c text = omega arith
+either_shorter false x b c text = omega arith
+
+shorter_next : (text : List ℕ) → MatchOption {T = ℕ × List ℕ} (next_typed text) (Unit {0}) (λ s. length s.1 < length text)
+shorter_next [] = tt
+shorter_next (b ∷ []) = omega arith
+shorter_next (b ∷ c ∷ text) = either_shorter (nat_eq b 92) (escape_of c) b c text
+
+-- what stands after a character is shorter
+pub typed_shorter : (text : List ℕ) (character : ℕ) (more : List ℕ) → Some (character, more) ≡ next_typed text → length more < length text
+typed_shorter text character more is = subst (λ o. MatchOption {T = ℕ × List ℕ} o (Unit {0}) (λ s. length s.1 < length text)) (sym is) (shorter_next text)
+
+-- ---- quotes
+
+-- what stands before the first bare quote of a text, if its first character is another one
+abbrev Further : List ℕ → ℕ × List ℕ → Type 0
+Further text next = nat_eq (get_or text 0 0) 34 ≡ false → quote_at text + length next.1 ≡ length text + quote_at next.1
+
+two_further : (q t : Bool) (x b c : ℕ) (text : List ℕ) → MatchOption {T = ℕ × List ℕ} (cond t (Some (x, text)) (Some (b, c ∷ text)))
+    ((cond q 0 (cond t (2 + quote_at text) (1 + quote_at (c ∷ text))) ≡ 0) × (length (b ∷ c ∷ text) ≡ 0))
+    (λ s. q ≡ false → cond q 0 (cond t (2 + quote_at text) (1 + quote_at (c ∷ text))) + length s.1 ≡ length (b ∷ c ∷ text) + quote_at s.1)
+two_further true true x b c text = λ none. absurd (cc)
+two_further true false x b c text = λ none. absurd (cc)
+two_further false true x b c text = λ none. omega arith
+two_further false false x b c text = λ none. omega arith
+
+further_next : (text : List ℕ) → MatchOption {T = ℕ × List ℕ} (next_typed text) ((quote_at text ≡ 0) × (length text ≡ 0)) (Further text)
+unfolding quote_at
+further_next [] = (refl, refl)
+further_next (b ∷ []) = λ other. ap (λ q. cond q 0 1 + 0) other
+further_next (b ∷ c ∷ text) = two_further (nat_eq b 34) (nat_eq b 92) (escape_of c) b c text
+
+-- no bare quote is left
+pub quote_end : (text : List ℕ) → None ≡ next_typed text → (quote_at text ≡ 0) × (length text ≡ 0)
+quote_end text is = subst (λ o. MatchOption {T = ℕ × List ℕ} o ((quote_at text ≡ 0) × (length text ≡ 0)) (Further text)) (sym is) (further_next text)
+
+-- another character
+pub quote_further : (text : List ℕ) (character : ℕ) (more : List ℕ) → Some (character, more) ≡ next_typed text
+    → nat_eq (get_or text 0 0) 34 ≡ false → quote_at text + length more ≡ length text + quote_at more
+quote_further text character more is = subst (λ o. MatchOption {T = ℕ × List ℕ} o ((quote_at text ≡ 0) × (length text ≡ 0)) (Further text)) (sym is) (further_next text)
+
+-- a bare quote
+pub quote_here : (text : List ℕ) → nat_eq (get_or text 0 0) 34 ≡ true → quote_at text ≡ 0
+unfolding quote_at
+quote_here [] is = refl
+quote_here (b ∷ []) is = cond-true (nat_eq b 34) 0 1 is
+quote_here (b ∷ c ∷ text) is = cond-true (nat_eq b 34) 0 (cond (nat_eq b 92) (2 + quote_at text) (1 + quote_at (c ∷ text))) is
 
 -- ---- blanks
 

@@ -3,7 +3,7 @@ use Rattle.std.proofs.Common.{◌≡◌, true, false, [], ◌∷◌, Some, None,
 use Rattle.usb_transact.specs.declared.transaction.Fate.TheVariants.{Clean, TokenLost, AckLost}
 use Rattle.lab_lines.specs.Keys.{keyboard_key, key_of}
 use Rattle.lab_lines.specs.Fates.{fate_of_word}
-use Rattle.lab_lines.specs.Typing.{characters_of}
+use Rattle.lab_lines.specs.Typing.{characters_of, quote_at, text_in_quotes}
 use Rattle.lab_lines.specs.Names.{spells, place_of, calls}
 use Rattle.lab_lines.specs.ControlNames.{OfUsage, AtPlace, OfName, control_name_of, last_mark, place_of_word}
 use Rattle.hid_text.specs.Numbers.{usage_of_word, number_of, count_of}
@@ -46,6 +46,15 @@ never_lost = refl
 one_quote : characters_of (97 ∷ 92 ∷ 34 ∷ 98 ∷ []) ≡ 97 ∷ 34 ∷ 98 ∷ []
 unfolding characters_of
 one_quote = refl
+
+-- "a" b is the text a with b after it; in "a\" the last quote is one of the text, which has no end
+closed : text_in_quotes (34 ∷ 97 ∷ 34 ∷ 32 ∷ 98 ∷ []) ≡ Some (97 ∷ [], 32 ∷ 98 ∷ [])
+unfolding quote_at
+closed = refl
+
+endless : text_in_quotes (34 ∷ 97 ∷ 92 ∷ 34 ∷ []) ≡ None
+unfolding quote_at
+endless = refl
 
 enter : characters_of (92 ∷ 110 ∷ []) ≡ 10 ∷ []
 unfolding characters_of

@@ -115,15 +115,20 @@ click_meaning text =
     device_at text >>= (λ dev. at_place place.Control control_name_of (after_word text)
     >>= (λ control. said_at_end (Click dev control) (words_of (after_word (after_word text)))))
 
--- a text between quotes, of characters that keys type
-abbrev pub typing_of : ℕ → List ℕ → Option (List ℕ) → Result Said Refusal
-typing_of dev bytes None = Ok (Typing dev bytes)
-typing_of dev bytes (Some rest) = Err (Wrong rest place.Character)
+-- nothing stands after a text
+abbrev pub typing_end : Said → List Word → Result Said Refusal
+typing_end said [] = Ok said
+typing_end said (word ∷ more) = Err (Wrong word place.TextEnd)
 
--- what stands between quotes
-abbrev pub typing : ℕ → List ℕ → Option (List ℕ) → Result Said Refusal
+-- a text between quotes, of characters that keys type, and the words after it
+abbrev pub typing_of : ℕ → List ℕ → List Word → Option (List ℕ) → Result Said Refusal
+typing_of dev bytes words None = typing_end (Typing dev bytes) words
+typing_of dev bytes words (Some rest) = Err (Wrong rest place.Character)
+
+-- what stands between quotes, and after them
+abbrev pub typing : ℕ → List ℕ → Option (List ℕ × List ℕ) → Result Said Refusal
 typing dev text None = Err (Wrong text place.Text)
-typing dev text (Some bytes) = typing_of dev bytes (untyped_rest bytes)
+typing dev text (Some parts) = typing_of dev parts.0 (words_of parts.1) (untyped_rest parts.0)
 
 -- D "TEXT"
 unfoldable pub type_meaning : List ℕ → Result Said Refusal
@@ -153,10 +158,9 @@ count_meaning make text =
 -- LINE, none, or any
 unfoldable pub expect_meaning : List Word → Result Said Refusal
 expect_meaning [] = Err (Wrong [] place.Line)
-expect_meaning (word ∷ []) =
-    if bytes_eq word (codes "none") then Ok ExpectNone
-    else if bytes_eq word (codes "any") then Ok ExpectAny else Ok (Expect (word ∷ []))
-expect_meaning (word ∷ next ∷ more) = Ok (Expect (word ∷ next ∷ more))
+expect_meaning (word ∷ more) =
+    if bytes_eq word (codes "none") then said_at_end ExpectNone more
+    else if bytes_eq word (codes "any") then said_at_end ExpectAny more else Ok (Expect (word ∷ more))
 
 -- a name of a file
 abbrev pub file_name : List ℕ → Result Said Refusal

@@ -1,5 +1,5 @@
 -- Texts between quotes, which are typed (our choice: docs/LAB.md).
-use Rattle.std.specs.Prelude.{ℕ, ◌-◌, ◌==◌, ◌&&◌, nat_le, List, [], ◌∷◌, length, take, drop, slice_index, if◌then◌else◌, Option, None, Some, is_some}
+use Rattle.std.specs.Prelude.{ℕ, ◌+◌, ◌-◌, ◌==◌, ◌&&◌, nat_lt, List, [], ◌∷◌, length, take, drop, slice_index, if◌then◌else◌, Option, None, Some, is_some}
 use Rattle.std.specs.List.{prefix_len, suffix_len}
 use Rattle.hid_text.specs.Words.{is_blank}
 use Rattle.lab_lines.specs.Keys.{key_of}
@@ -33,8 +33,16 @@ abbrev pub trim : List ℕ → List ℕ
 trim text =
     let front = drop (prefix_len is_blank text) text in take (length front - suffix_len is_blank front) front
 
--- what stands between quotes, where a text begins and ends with one
-abbrev pub text_in_quotes : List ℕ → Option (List ℕ)
+-- how many bytes stand before the first quote that no backslash escapes; all of them where there is none
+unfoldable pub quote_at : List ℕ → ℕ
+quote_at [] = 0
+quote_at (b ∷ []) = if b == 34 then 0 else 1
+quote_at (b ∷ c ∷ text) = if b == 34 then 0 else if b == 92 then 2 + quote_at text else 1 + quote_at (c ∷ text)
+
+-- what stands between quotes, and what stands after them: the text begins with one, and the next one that is not escaped closes
+-- it. Example: "a" b is a, with b after it; "a\" has no end
+abbrev pub text_in_quotes : List ℕ → Option (List ℕ × List ℕ)
 text_in_quotes text =
-    if nat_le 2 (length text) && ((slice_index text 0 == 34) && (slice_index text (length text - 1) == 34))
-    then Some (take (length text - 2) (drop 1 text)) else None
+    let inner = drop 1 text in
+    if (slice_index text 0 == 34) && nat_lt (quote_at inner) (length inner)
+    then Some (take (quote_at inner) inner, drop (quote_at inner + 1) inner) else None

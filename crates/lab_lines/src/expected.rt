@@ -33,6 +33,8 @@ pub enum Expected {
     Text,
     /// A character that a key types.
     Character,
+    /// The end of the line after a text.
+    TextEnd,
     /// A line that was printed, or `none`.
     Line,
     /// The name of a file.
@@ -65,6 +67,7 @@ impl fmt::Display for Expected {
             Expected::Seed => "a seed, up to 18 digits",
             Expected::Text => "a text between quotes",
             Expected::Character => "a character that a key of a US keyboard types",
+            Expected::TextEnd => "the end of the line; a quote inside a text is \\\"",
             Expected::Line => "a line that is printed, none, or any",
             Expected::File => "the name of a file",
             Expected::Arguments => "what this request takes",

@@ -24,8 +24,11 @@ pub const MAX_LAB_LINE: usize = 16_384;
 /// The most bytes of a line of `hidrun`.
 const MAX_LINE: usize = 1024;
 
-/// How many `repeat` may stand in one another, and how many files.
+/// How many `repeat` may stand in one another.
 pub const MAX_REPEATS: usize = 8;
+
+/// How many files that are included may stand in one another.
+pub const MAX_INCLUDES: usize = 8;
 
 /// The most digits of a seed.
 const MAX_SEED_DIGITS: usize = 18;
@@ -227,15 +230,18 @@ fn read_click(text: &[u8]) -> Result<LabLine<'_>, Unread<'_>>
 fn read_typing(dev: u8, text: &[u8]) -> Result<LabLine<'_>, Unread<'_>>
     ensures { reading said_of result ≡ typing dev text.now (text_in_quotes text.now) }
 {
-    let Some(bytes) = quoted(text) else {
+    let Some((bytes, rest)) = quoted(text) else {
         return Err(Unread::Word(text, Expected::Text));
     };
-    match untyped(bytes) {
+    if let Some(rest) = untyped(bytes) {
+        return Err(Unread::Word(rest, Expected::Character));
+    }
+    match first_word(rest) {
         None => Ok(LabLine::Type {
             dev,
             text: TypedText::new(bytes),
         }),
-        Some(rest) => Err(Unread::Word(rest, Expected::Character)),
+        Some((word, _)) => Err(Unread::Word(word, Expected::TextEnd)),
     }
 }
 
@@ -330,11 +336,13 @@ fn read_expect(text: &[u8]) -> Result<LabLine<'_>, Unread<'_>>
     let Some((word, rest)) = first_word(text) else {
         return Err(Unread::Word(b"", Expected::Line));
     };
-    match first_word(rest) {
-        None if word == b"none".as_slice() => Ok(LabLine::ExpectNone),
-        None if word == b"any".as_slice() => Ok(LabLine::ExpectAny),
-        _ => Ok(LabLine::Expect(text)),
+    if word == b"none".as_slice() {
+        return end(LabLine::ExpectNone, rest);
     }
+    if word == b"any".as_slice() {
+        return end(LabLine::ExpectAny, rest);
+    }
+    Ok(LabLine::Expect(text))
 }
 
 /// `FILE`: a name, which may have blanks inside.

@@ -5,7 +5,7 @@ ghost use Rattle.std.specs.List.{prefix_len, suffix_len};
 ghost use Rattle.std.specs.Option.{option_map};
 ghost use Rattle.hid_text.specs.Words.{is_blank};
 ghost use Rattle.lab_lines.specs.Keys.{key_of};
-ghost use Rattle.lab_lines.specs.Typing.{escape_of, next_typed, characters_of, untyped_rest, trim, text_in_quotes};
+ghost use Rattle.lab_lines.specs.Typing.{escape_of, next_typed, characters_of, untyped_rest, trim, quote_at, text_in_quotes};
 
 use super::keys::key_of;
 
@@ -145,13 +145,36 @@ pub(crate) fn trimmed(text: &[u8]) -> &[u8]
     &front[..end]
 }
 
-/// What stands between quotes, where a text begins and ends with one.
-pub(crate) fn quoted(text: &[u8]) -> Option<&[u8]>
-    ensures { option_map (λ bytes. bytes.now) result ≡ text_in_quotes text.now }
+/// How many bytes stand before the first quote that no backslash escapes; all of them where there is none.
+fn quote_at(text: &[u8]) -> usize
+    ensures value { result ≡ quote_at text.now }
+    ensures room { result ≤ length text.now }
 {
-    let length = text.len();
-    if length < 2 || text[0] != b'"' || text[length - 1] != b'"' {
+    let mut rest = text;
+    loop {
+        match next_typed(rest) {
+            None => return text.len(),
+            Some((_, more)) => {
+                if rest[0] == b'"' {
+                    return text.len() - rest.len();
+                }
+                rest = more;
+            }
+        }
+    }
+}
+
+/// What stands between quotes, and what stands after them, where a text begins with one and another closes it.
+pub(crate) fn quoted(text: &[u8]) -> Option<(&[u8], &[u8])>
+    ensures { option_map (λ parts. (parts.0.now, parts.1.now)) result ≡ text_in_quotes text.now }
+{
+    if text.is_empty() || text[0] != b'"' {
         return None;
     }
-    Some(&text[1..length - 1])
+    let inner = &text[1..];
+    let end = quote_at(inner);
+    if end >= inner.len() {
+        return None;
+    }
+    Some((&inner[..end], &inner[end + 1..]))
 }

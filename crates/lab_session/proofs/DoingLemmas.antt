@@ -2,7 +2,7 @@
 use Rattle.std.proofs.Common.{◌≡◌, Bool, true, false, ◌≢◌, ℕ, ◌+◌, ◌<◌, add-one, zero, suc, List, [], ◌∷◌, ◌++◌, refl, sym, ap, ◌∙◌, subst, Option, None, Some, Result, Ok, Err, OnOk, IsErrAnd, inl, inr, ⊎_elim, nat_eq}
 use Rattle.std.proofs.lemmas.Bool.{cases_Bool, eqb-true, eqb-false}
 use Rattle.std.specs.Io.KnownBytes.{Appends}
-use Rattle.std.proofs.KnownBytes.{Appends-nil, Appends-trans}
+use Rattle.std.proofs.KnownBytes.{Appends-nil, Appends-trans, Keeps-refl}
 use Rattle.std.specs.Prelude.{map}
 use Rattle.usb_transact.specs.declared.transaction.Fate.{Fate}
 use Rattle.usb_transact.specs.declared.transaction.Fate.TheVariants.{Clean}
@@ -22,7 +22,7 @@ use Rattle.hid_script.proofs.RepeatLemmas.{no_times, one_more}
 use Rattle.hid_text.specs.declared.fault.LineFault.{LineFault}
 use Rattle.hid_text.specs.Line.{meaning_of}
 use Rattle.lab_session.specs.declared.bench.Bench.{Bench}
-use Rattle.lab_session.specs.Bench.{Does, moment_of}
+use Rattle.lab_session.specs.Bench.{Does, DoesSaid, Stays, moment_of}
 use Rattle.hid_layout.specs.declared.control.ControlId.{ControlId}
 use Rattle.hid_text.specs.Words.{Word, hex_of}
 use Rattle.lab_lines.specs.declared.keys.Key.{Key}
@@ -38,7 +38,10 @@ use Rattle.lab_lines.specs.LabLines as lab
 use Rattle.lab_session.specs.Scripts.{IsUndrawn, script_said}
 use Rattle.lab_session.specs.Parts.{Part, PartPrints, Says}
 use Rattle.lab_session.specs.Chances.{Chance, chance_at, chance_after, fate_by}
+use Rattle.lab_session.specs.Expecting.{Keeps}
+use Rattle.lab_session.specs.Waiting.{KeepsText}
 use Rattle.lab_session.proofs.PrintedLemmas.{part_done}
+use Rattle.lab_session.proofs.WaitLemmas.{keeps_none, keeps_shown, keeps_then}
 use Rattle.lab_session.specs.Printed.{IsPlain, PrintsPart, WritesText, is_styled}
 
 -- one thing and then another
@@ -61,6 +64,7 @@ does_then First Next a b c u v w h k = record {
   options = k.options ∙ h.options;
   written = λ plain. Appends-trans u v w h.text k.text (h.written plain)
       (k.written (subst IsPlain (sym h.options) plain));
+  waits = keeps_then a b c h.text k.text h.options h.waits k.waits;
 }
 
 -- nothing was done
@@ -71,6 +75,7 @@ does_nothing a u = record {
   done = (refl, refl, refl, λ dev. refl);
   options = refl;
   written = λ plain. Appends-nil u;
+  waits = keeps_none a a refl;
 }
 
 -- a poll is a line that polls once
@@ -102,14 +107,16 @@ pub did_part : (part : Part) (a b : Bench) (kept text shown written : List ℕ) 
     → PartPrints part (session_of a.interpreter) (success written (session_of b.interpreter))
     → (is_styled a.options ≡ false → WritesText u v shown r)
     → ((dev : ℕ) → chance_at b.draws dev ≡ chance_at a.draws dev) → b.options ≡ a.options
+    → OnOk r (Keeps a.printer.transcript b.printer.transcript shown)
     → OnOk r (Does (DoesPart part) a b u v)
-did_part part a b kept text shown written u v (Err e) none h same prints k stays options = tt
-did_part part a b kept text shown written u v (Ok x) none h same prints k stays options = record {
+did_part part a b kept text shown written u v (Err e) none h same prints k stays options waits = tt
+did_part part a b kept text shown written u v (Ok x) none h same prints k stays options waits = record {
   parts = part ∷ [];
   text = written;
   done = (refl, prints, stays);
   options = options;
   written = λ plain. subst (Appends u v) (same ∙ kept_text kept text written none h) (k plain.style);
+  waits = keeps_shown a.options.trace a.printer.transcript b.printer.transcript shown written (same ∙ kept_text kept text written none h) waits;
 }
 
 -- a line of a script was carried out, and its text was printed
@@ -118,10 +125,11 @@ pub did_line : (said : Line) (Begun : List ℕ → Type 0) (a b : Bench) (kept t
     → AppendsOutput (Some kept) (Some text) (CarriesOut (session_of a.interpreter) said) Begun part (session_of b.interpreter)
     → (is_styled a.options ≡ false → PrintsPart u v shown part r) → OnOk r (part ≡ Ok tt)
     → ((dev : ℕ) → chance_at b.draws dev ≡ chance_at a.draws dev) → b.options ≡ a.options
+    → OnOk r (Keeps a.printer.transcript b.printer.transcript shown)
     → OnOk r (Does (DoesPart (Says said)) a b u v)
 unfolding PartPrints
-did_line said Begun a b kept text shown u v part (Err e) none same h k is stays options = tt
-did_line said Begun a b kept text shown u v part (Ok x) none same h k is stays options =
+did_line said Begun a b kept text shown u v part (Err e) none same h k is stays options waits = tt
+did_line said Begun a b kept text shown u v part (Ok x) none same h k is stays options waits =
     let told = subst (λ p. AppendsOutput (Some kept) (Some text) (CarriesOut (session_of a.interpreter) said) Begun p (session_of b.interpreter)) is h in
     record {
       parts = Says said ∷ [];
@@ -129,6 +137,7 @@ did_line said Begun a b kept text shown u v part (Ok x) none same h k is stays o
       done = (refl, told.2, stays);
       options = options;
       written = λ plain. subst (Appends u v) (same ∙ kept_text kept text told.0 none told.1) (part_done u v shown part is (k plain.style));
+      waits = keeps_shown a.options.trace a.printer.transcript b.printer.transcript shown told.0 (same ∙ kept_text kept text told.0 none told.1) waits;
     }
 
 -- a device was polled once, and what that printed was printed
@@ -140,8 +149,9 @@ pub did_poll : (dev : ℕ) (said fate : Fate) (idle : Bool) (told : Told) (a b :
     → (is_styled a.options ≡ false → Appends u v shown)
     → chance_at b.draws dev ≡ chance_after (chance_at a.draws dev) said
     → ((other : ℕ) → other ≢ dev → chance_at b.draws other ≡ chance_at a.draws other) → b.options ≡ a.options
+    → Keeps a.printer.transcript b.printer.transcript shown
     → Does (PollsOnce dev said idle) a b u v
-did_poll dev said fate idle told a b kept text shown written u v is none h same prints returns answers k its others options =
+did_poll dev said fate idle told a b kept text shown written u v is none h same prints returns answers k its others options waits =
     let drawn = fate_by (chance_at a.draws dev) said in
     record {
       parts = Says (line.Step (short.Poll dev drawn 1)) ∷ [];
@@ -155,6 +165,7 @@ did_poll dev said fate idle told a b kept text shown written u v is none h same 
       };
       options = options;
       written = λ plain. subst (Appends u v) (same ∙ kept_text kept text written none h) (k plain.style);
+      waits = keeps_shown a.options.trace a.printer.transcript b.printer.transcript shown written (same ∙ kept_text kept text written none h) waits;
     }
 
 -- a try was made, and what that printed was printed
@@ -165,8 +176,9 @@ pub did_try : (dev : ℕ) (said fate : Fate) (a b : Bench) (kept text shown writ
     → (IsPlain a.options → Appends u v shown)
     → chance_at b.draws dev ≡ chance_after (chance_at a.draws dev) said
     → ((other : ℕ) → other ≢ dev → chance_at b.draws other ≡ chance_at a.draws other) → b.options ≡ a.options
+    → KeepsText a b shown
     → Does (Tries dev said) a b u v
-did_try dev said fate a b kept text shown written u v is none h same prints k its others options =
+did_try dev said fate a b kept text shown written u v is none h same prints k its others options waits =
     let drawn = fate_by (chance_at a.draws dev) said in
     record {
       parts = Says (line.Step (short.Control dev drawn 1)) ∷ [];
@@ -179,6 +191,7 @@ did_try dev said fate a b kept text shown written u v is none h same prints k it
       };
       options = options;
       written = λ plain. subst (Appends u v) (same ∙ kept_text kept text written none h) (k plain);
+      waits = subst (KeepsText a b) (same ∙ kept_text kept text written none h) waits;
     }
 
 -- one thing once more
@@ -186,7 +199,7 @@ pub often_more : (Doing : Moment → List Part → List ℕ → Moment → Type 
     → Does (Often n Doing) a b u v → Does Doing b c v w → Does (Often (n + 1) Doing) a c u w
 often_more Doing n a b c u v w h k =
     let both = does_then (Often n Doing) Doing a b c u v w h k in
-    rw add-one (record { parts = both.parts; text = both.text; done = both.done; options = both.options; written = both.written })
+    rw add-one (record { parts = both.parts; text = both.text; done = both.done; options = both.options; written = both.written; waits = both.waits })
 
 -- one thing as often as it was to be done
 pub all_often : (n count : ℕ) (Doing : Moment → List Part → List ℕ → Moment → Type 0) (a b : Bench) (u v : Option (List ℕ)) → n ≡ count
@@ -197,7 +210,7 @@ all_often n count Doing a b u v same h = subst (λ m. Does (Often m Doing) a b u
 pub polled_some : (dev : ℕ) (said : Fate) (idle : Bool) (a b : Bench) (u v : Option (List ℕ))
     → Does (PollsOnce dev said idle) a b u v → Does (Polls dev said) a b u v
 polled_some dev said idle a b u v h =
-    record { parts = h.parts; text = h.text; done = (idle, h.done); options = h.options; written = h.written }
+    record { parts = h.parts; text = h.text; done = (idle, h.done); options = h.options; written = h.written; waits = h.waits }
 
 -- polls up to the one that found nothing to send
 pub settled : (dev n : ℕ) (idle : Bool) (a b c : Bench) (u v w : Option (List ℕ)) → n < 100 → idle ≡ true
@@ -205,7 +218,7 @@ pub settled : (dev n : ℕ) (idle : Bool) (a b c : Bench) (u v w : Option (List 
 settled dev n idle a b c u v w few is h k =
     let last : Does (PollsOnce dev Clean true) b c v w = subst (λ i. Does (PollsOnce dev Clean i) b c v w) is k in
     let both = does_then (Often n (PollsOnce dev Clean false)) (PollsOnce dev Clean true) a b c u v w h last in
-    record { parts = both.parts; text = both.text; done = (n, few, both.done); options = both.options; written = both.written }
+    record { parts = both.parts; text = both.text; done = (n, few, both.done); options = both.options; written = both.written; waits = both.waits }
 
 -- one thing, and then another that ended well
 pub ok_then : {B : Type 0} (r : Result (Unit {0}) B) (First Next : Moment → List Part → List ℕ → Moment → Type 0) (a b c : Bench) (u v w : Option (List ℕ))
@@ -222,7 +235,7 @@ pub does_so : (A B : Moment → List Part → List ℕ → Moment → Type 0) (a
     → ((parts : List Part) (text : List ℕ) → A (moment_of a) parts text (moment_of b) → B (moment_of a) parts text (moment_of b))
     → Does A a b u v → Does B a b u v
 does_so A B a b u v f h =
-    record { parts = h.parts; text = h.text; done = f h.parts h.text h.done; options = h.options; written = h.written }
+    record { parts = h.parts; text = h.text; done = f h.parts h.text h.done; options = h.options; written = h.written; waits = h.waits }
 
 -- what was done, where it ended well, is also this
 pub ok_does_so : {C D : Type 0} (r : Result C D) (A B : Moment → List Part → List ℕ → Moment → Type 0) (a b : Bench) (u v : Option (List ℕ))
@@ -236,9 +249,10 @@ pub did_once : (what : Part) (a b : Bench) (kept text shown : List ℕ) (u v : O
     → AppendsOnce (Some kept) (Some text) (PartPrints what (session_of a.interpreter)) part (session_of b.interpreter)
     → (is_styled a.options ≡ false → PrintsPart u v shown part r) → OnOk r (part ≡ Ok tt)
     → ((dev : ℕ) → chance_at b.draws dev ≡ chance_at a.draws dev) → b.options ≡ a.options
+    → OnOk r (Keeps a.printer.transcript b.printer.transcript shown)
     → OnOk r (Does (DoesPart what) a b u v)
-did_once what a b kept text shown u v part (Err e) none same h k is stays options = tt
-did_once what a b kept text shown u v part (Ok x) none same h k is stays options =
+did_once what a b kept text shown u v part (Err e) none same h k is stays options waits = tt
+did_once what a b kept text shown u v part (Ok x) none same h k is stays options waits =
     let told = subst (λ p. AppendsOnce (Some kept) (Some text) (PartPrints what (session_of a.interpreter)) p (session_of b.interpreter)) is h in
     record {
       parts = what ∷ [];
@@ -246,6 +260,7 @@ did_once what a b kept text shown u v part (Ok x) none same h k is stays options
       done = (refl, told.2, stays);
       options = options;
       written = λ plain. subst (Appends u v) (same ∙ kept_text kept text told.0 none told.1) (part_done u v shown part is (k plain.style));
+      waits = keeps_shown a.options.trace a.printer.transcript b.printer.transcript shown told.0 (same ∙ kept_text kept text told.0 none told.1) waits;
     }
 
 -- a line that was carried out says something
@@ -261,10 +276,11 @@ pub did_script : (bytes : List ℕ) (a b : Bench) (kept text shown : List ℕ) (
     → AppendsOutput (Some kept) (Some text) (LinePrints (session_of a.interpreter) bytes) (LineBegins (session_of a.interpreter) bytes) part (session_of b.interpreter)
     → (is_styled a.options ≡ false → PrintsPart u v shown part r) → OnOk r (part ≡ Ok tt)
     → ((dev : ℕ) → chance_at b.draws dev ≡ chance_at a.draws dev) → b.options ≡ a.options
+    → OnOk r (Keeps a.printer.transcript b.printer.transcript shown)
     → OnOk r (Does (ScriptLineDoes bytes) a b u v)
 unfolding LinePrints PartPrints
-did_script bytes a b kept text shown u v part (Err e) none same h k is stays options = tt
-did_script bytes a b kept text shown u v part (Ok x) none same h k is stays options =
+did_script bytes a b kept text shown u v part (Err e) none same h k is stays options waits = tt
+did_script bytes a b kept text shown u v part (Ok x) none same h k is stays options waits =
     let told = subst (λ p. AppendsOutput (Some kept) (Some text) (LinePrints (session_of a.interpreter) bytes) (LineBegins (session_of a.interpreter) bytes) p (session_of b.interpreter)) is h in
     let line = said_of_meaning (session_of a.interpreter) (session_of b.interpreter) told.0 bytes (meaning_of bytes) refl told.2 in
     record {
@@ -273,6 +289,7 @@ did_script bytes a b kept text shown u v part (Ok x) none same h k is stays opti
       done = (line.0, line.1, (refl, line.2, stays));
       options = options;
       written = λ plain. subst (Appends u v) (same ∙ kept_text kept text told.0 none told.1) (part_done u v shown part is (k plain.style));
+      waits = keeps_shown a.options.trace a.printer.transcript b.printer.transcript shown told.0 (same ∙ kept_text kept text told.0 none told.1) waits;
     }
 
 -- ---- typed keys
@@ -281,7 +298,7 @@ did_script bytes a b kept text shown u v part (Ok x) none same h k is stays opti
 pub typed_none : (dev : ℕ) (rest : List ℕ) (a : Bench) (u : Option (List ℕ)) → characters_of rest ≡ [] → Does (Types dev rest) a a u u
 typed_none dev rest a u none =
     let idle = does_nothing a u in
-    record { parts = idle.parts; text = idle.text; done = ([], ap (map key_of) none, idle.done); options = idle.options; written = idle.written }
+    record { parts = idle.parts; text = idle.text; done = ([], ap (map key_of) none, idle.done); options = idle.options; written = idle.written; waits = idle.waits }
 
 -- a key was clicked, and then those that were still to come
 pub typed_more : (dev character : ℕ) (key : Key) (rest more : List ℕ) (a b c : Bench) (u v w : Option (List ℕ))
@@ -289,11 +306,11 @@ pub typed_more : (dev character : ℕ) (key : Key) (rest more : List ℕ) (a b c
     → Does (ClicksKey dev key) a b u v → Does (Types dev more) b c v w → Does (Types dev rest) a c u w
 typed_more dev character key rest more a b c u v w is typed h k =
     let keys = k.done.0 in
-    let behind : Does (ClicksKeys dev keys) b c v w = record { parts = k.parts; text = k.text; done = k.done.2; options = k.options; written = k.written } in
+    let behind : Does (ClicksKeys dev keys) b c v w = record { parts = k.parts; text = k.text; done = k.done.2; options = k.options; written = k.written; waits = k.waits } in
     let both = does_then (ClicksKey dev key) (ClicksKeys dev keys) a b c u v w h behind in
     let all : map key_of (characters_of rest) ≡ map (λ (x : Key). Some x) (key ∷ keys) =
     ap (map key_of) is ∙ ap (λ o. o ∷ map key_of (characters_of more)) typed ∙ ap (λ l. Some key ∷ l) k.done.1 in
-    record { parts = both.parts; text = both.text; done = (key ∷ keys, all, both.done); options = both.options; written = both.written }
+    record { parts = both.parts; text = both.text; done = (key ∷ keys, all, both.done); options = both.options; written = both.written; waits = both.waits }
 
 -- ---- what lines say
 
@@ -308,15 +325,9 @@ pub does_named : {C D : Type 0} (r : Result C D) (dev : ℕ) (named : Named) (co
     → OnOk r (Does (Doing control) a b u v) → OnOk r (Does (DoesNamed dev named Doing) a b u v)
 does_named r dev named control Doing a b u v is h = ok_does_so r (Doing control) (DoesNamed dev named Doing) a b u v (λ parts text k. (control, is, k)) h
 
--- nothing was done at a moment that stays
-pub same_moment : (a b : Bench) (u : Option (List ℕ)) → moment_of b ≡ moment_of a → b.options ≡ a.options → Does DoesNothing a b u u
-same_moment a b u same options = record {
-  parts = [];
-  text = [];
-  done = (refl, refl, ap (λ (m : Moment). m.session) same, λ dev. ap (λ (m : Moment). m.chance dev) same);
-  options = options;
-  written = λ plain. Appends-nil u;
-}
+-- an expectation at a moment that stays
+pub stays_there : (a b : Bench) (u : Option (List ℕ)) → moment_of b ≡ moment_of a → b.options ≡ a.options → Stays a b u u
+stays_there a b u same options = record { moment = same; options = options; written = Keeps-refl u }
 
 -- a line that says nothing prints nothing
 pub nothing_said : (session : Session) → CarriesOut session line.Nothing (success [] session)
@@ -370,6 +381,14 @@ stays_undrawn given lab.Nothing meaning before after parts text is h none = λ d
 stays_undrawn given (lab.Script bytes) meaning before after parts text is h none = part_none _ before after parts text h.2 none
 stays_undrawn given (lab.Short said) meaning before after parts text is h none = short_none said before after parts text h none
 stays_undrawn given said meaning before after parts text is h none = absurd (cc)
+
+-- a line of hidrun expects nothing, and does what it is defined to
+pub script_does : (said : Said) (meaning : Result Line LineFault) (a b : Bench) (u v : Option (List ℕ)) → script_said said ≡ Some meaning → DoesSaid said a b u v
+    → Does (LineDoes a.options.seed said) a b u v
+script_does lab.Nothing meaning a b u v is h = h
+script_does (lab.Script bytes) meaning a b u v is h = h
+script_does (lab.Short said) meaning a b u v is h = h
+script_does said meaning a b u v is h = absurd (cc)
 
 -- a line that ended since a device had still something to send clicks controls of one
 pub line_unsettled : (said : Said) (r : Result (Unit {0}) LabCause) (after : Moment) → LineUnsettled said r after → r ≡ Err Unsettled → (dev : ℕ) × StaysUnsettled dev after

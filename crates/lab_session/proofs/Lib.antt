@@ -1,4 +1,6 @@
+pub mod CarryLemmas
 pub mod DoingLemmas
+pub mod ExpectingLemmas
 pub mod FateLemmas
 pub mod LawLemmas
 pub mod NothingLemmas
@@ -6,4 +8,5 @@ pub mod PrintedLemmas
 pub mod RunLemmas
 pub mod ScriptLineLemmas
 pub mod Vectors
+pub mod WaitLemmas
 pub mod WordLemmas

@@ -38,7 +38,7 @@ use Rattle.lab_session.specs.Feeds.{IsOutside}
 use Rattle.lab_session.specs.Scripts.{AheadRan, Fails, GoesOn, IsScripts, IsUndrawn, LineRan, PrintsAs, RunsAs, RunsAsScript, RunsFed, StopsHere}
 use Rattle.hid_script.specs.declared.fault.Cause.TheVariants as causes
 use Rattle.hid_script.proofs.PlaceLemmas.{first_begins}
-use Rattle.lab_session.proofs.DoingLemmas.{said_of_meaning, stays_undrawn}
+use Rattle.lab_session.proofs.DoingLemmas.{said_of_meaning, script_does, stays_undrawn}
 use Rattle.lab_session.proofs.ScriptLineLemmas.{asks_nothing, script_old, script_read}
 use Rattle.hid_script.specs.Interpreter.{session_of}
 
@@ -114,13 +114,14 @@ pub ran_on : (old new : Bench) (u v : Option (List ℕ)) (line : List ℕ) (coun
     → PrintsAs u v (meaning_of line) (session_of old.interpreter) (Ok tt) (session_of new.interpreter) → LineRan old new u v line count (Ok asked)
 unfolding LinePrints
 ran_on old new u v line count asked script undrawn h (Ok t, ends, (written, grew, told)) =
-    let read = script_read line h.said script h.read in (
+    let read = script_read line h.said script h.read in
+    let does = script_does h.said (meaning_of line) old new u v read h.does in (
       none_asked asked (h.asks ∙ asks_nothing h.said (meaning_of line) read),
       written,
       grew,
       told,
-      stays_undrawn old.options.seed h.said (meaning_of line) (moment_of old) (moment_of new) h.does.parts h.does.text read h.does.done undrawn,
-      h.does.options,
+      stays_undrawn old.options.seed h.said (meaning_of line) (moment_of old) (moment_of new) does.parts does.text read does.done undrawn,
+      does.options,
     )
 ran_on old new u v line count asked script undrawn h (Err cause, ends, told) = absurd (cc)
 
@@ -148,7 +149,7 @@ pub goes_fail : (first now : Bench) (u v w : Option (List ℕ)) (text rest : Lis
     → GoesOn first u text before now v rest count → Fails v w (session_of now.interpreter) (lines rest) count fault → Fails u w (session_of first.interpreter) (lines text) before fault
 goes_fail first now u v w text rest before count fault h k = (k.0, k.1, h.3 w (Err k.0) k.2)
 
-lines_split : (rest last behind : List ℕ) → IsUnbroken last → rest ≡ last ++ 10 ∷ behind → lines rest ≡ strip_carriage_return last ∷ lines behind
+pub lines_split : (rest last behind : List ℕ) → IsUnbroken last → rest ≡ last ++ 10 ∷ behind → lines rest ≡ strip_carriage_return last ∷ lines behind
 lines_split rest last behind whole is = ap lines is ∙ lines_first last behind whole
 
 pub behind_more : (rest last behind more : List ℕ) → rest ≡ last ++ 10 ∷ behind → rest ++ more ≡ last ++ 10 ∷ (behind ++ more)
@@ -188,15 +189,18 @@ empty_lines (b ∷ line) is = absurd (omega (arith, eqb-true (length (b ∷ line
 pub some_bytes : (line : List ℕ) → nat_eq (length line) 0 ≡ false → 0 < length line
 some_bytes line is = let other = eqb-false (length line) 0 is in omega (arith, other)
 
+pub one_line : (line : List ℕ) → IsUnbroken line → 0 < length line → lines line ≡ line ∷ []
+one_line line whole some = ap lines (sym (append-nil line)) ∙ last_line line whole some
+
 pub last_old : (line : List ℕ) → IsUnbroken line → 0 < length line → All IsScripts (lines line) → IsScripts line
 last_old line whole some h =
-    All-head IsScripts line [] (subst (All IsScripts) (ap lines (sym (append-nil line)) ∙ last_line line whole some) h)
+    All-head IsScripts line [] (subst (All IsScripts) (one_line line whole some) h)
 
 pub last_on : (now next : Bench) (u v : Option (List ℕ)) (line : List ℕ) (count : ℕ) (asked : Option Asked) (summary : Summary) → IsUnbroken line → 0 < length line
     → LineRan now next u v line count (Ok asked) → summary.lines ≡ count + 1 → summary.events ≡ (session_of next.interpreter).events
     → RunsAs u v (session_of now.interpreter) (lines line) count (Ok summary)
 last_on now next u v line count asked summary whole some h lines' events' =
-    lab_behind u v v (session_of now.interpreter) (session_of next.interpreter) (lines line) line [] count h.1 (Ok summary) (ap lines (sym (append-nil line)) ∙ last_line line whole some) h.2 h.3
+    lab_behind u v v (session_of now.interpreter) (session_of next.interpreter) (lines line) line [] count h.1 (Ok summary) (one_line line whole some) h.2 h.3
     (lab_finishes v (session_of next.interpreter) [] (count + 1) summary refl lines' events')
 
 pub last_out : (now next : Bench) (u v : Option (List ℕ)) (line : List ℕ) (count : ℕ) (fault : LabFault) → IsUnbroken line → 0 < length line
@@ -204,7 +208,7 @@ pub last_out : (now next : Bench) (u v : Option (List ℕ)) (line : List ℕ) (c
 last_out now next u v line count fault whole some h = (
   record { line = fault.line; cause = h.1 },
   fault_of fault h.1 h.2,
-  lab_stops u v (session_of now.interpreter) (lines line) line [] count fault.line h.3 h.1 (ap lines (sym (append-nil line)) ∙ last_line line whole some) h.0 h.4 h.5,
+  lab_stops u v (session_of now.interpreter) (lines line) line [] count fault.line h.3 h.1 (one_line line whole some) h.0 h.4 h.5,
 )
 
 -- a run that went on after lines of a text that were carried out
@@ -305,14 +309,15 @@ runs_lines first now next u v w ahead read before old new h k = λ plain undrawn
     let here = h plain undrawn more scripts in
     goes_both first now next u v w (ahead ++ (read ++ more)) (unread old ++ more) (unread new ++ more) before old.lines new.lines here (k here.0 here.1 more here.2)
 
+-- what was handed on, and what was printed then
+pub appends_from : (a b c : Option (List ℕ)) (bs : List ℕ) → Keeps a b → Appends b c bs → Appends a c bs
+appends_from None b c bs k g = tt
+appends_from (Some xs) None c bs k g = absurd k
+appends_from (Some xs) (Some ys) None bs k g = absurd g
+appends_from (Some xs) (Some ys) (Some zs) bs k g = g ∙ ap (λ l. l ++ bs) k
+
 kept_goes : (first now : Bench) (u v w : Option (List ℕ)) (text rest : List ℕ) (before count : ℕ) → Keeps v w → GoesOn first u text before now v rest count → GoesOn first u text before now w rest count
-kept_goes first now u v w text rest before count keeps h = (h.0, h.1, h.2, λ x end runs. h.3 x end (runs.0, Appends-from v w x runs.0 keeps runs.1, runs.2))
-  where
-    Appends-from : (a b c : Option (List ℕ)) (bs : List ℕ) → Keeps a b → Appends b c bs → Appends a c bs
-    Appends-from None b c bs k g = tt
-    Appends-from (Some xs) None c bs k g = absurd k
-    Appends-from (Some xs) (Some ys) None bs k g = absurd g
-    Appends-from (Some xs) (Some ys) (Some zs) bs k g = g ∙ ap (λ l. l ++ bs) k
+kept_goes first now u v w text rest before count keeps h = (h.0, h.1, h.2, λ x end runs. h.3 x end (runs.0, appends_from v w x runs.0 keeps runs.1, runs.2))
 
 -- bytes were read
 pub runs_read : (first now : Bench) (u v w : Option (List ℕ)) (ahead read given left next : List ℕ) (before count n : ℕ) → Keeps v w → next ≡ left ++ given → n ≡ count

@@ -27,7 +27,7 @@ use Rattle.hid_script.specs.Session.{Session}
 use Rattle.lab_lines.specs.declared.expected.Expected.{Expected}
 use Rattle.lab_lines.specs.declared.expected.Expected.TheVariants as place
 use Rattle.lab_lines.specs.ControlNames.{control_name_of}
-use Rattle.lab_lines.specs.LabLines.{Said, Refusal, TooLong, Wrong, ◌>>=◌, word_meaning, first_of, at_place, said_at_end, device_at, click_meaning, typing_of, typing, type_meaning, percent_of, lose_meaning, count_meaning, expect_meaning, file_name, include_meaning, lab_keyword_of, new_meaning, change_word_of, change_meaning, descriptor, attachment_meaning, script_meaning, old_meaning, by_keyword, other_meaning, short_or, lab_meaning}
+use Rattle.lab_lines.specs.LabLines.{Said, Refusal, TooLong, Wrong, ◌>>=◌, word_meaning, first_of, at_place, said_at_end, device_at, click_meaning, typing_end, typing_of, typing, type_meaning, percent_of, lose_meaning, count_meaning, expect_meaning, file_name, include_meaning, lab_keyword_of, new_meaning, change_word_of, change_meaning, descriptor, attachment_meaning, script_meaning, old_meaning, by_keyword, other_meaning, short_or, lab_meaning}
 use Rattle.lab_lines.specs.LabLines as lab
 use Rattle.lab_lines.specs.Typing.{trim, text_in_quotes, untyped_rest}
 use Rattle.lab_session.specs.declared.fault.LabCause.{LabCause}
@@ -104,9 +104,17 @@ click_new text =
     (λ dev. new_then (at_place place.Control control_name_of (after_word text)) _ (place_answers place.Control control_name_of (after_word text))
     (λ control. end_new (lab.Click dev control) (words_of (after_word (after_word text))) refl))
 
-typing_new : (dev : ℕ) (text : List ℕ) (o : Option (List ℕ)) → IsNew (typing dev text o)
+typing_end_new : (said : Said) (words : List Word) → script_said said ≡ None → IsNew (typing_end said words)
+typing_end_new said [] h = h
+typing_end_new said (word ∷ more) h = tt
+
+typing_new : (dev : ℕ) (text : List ℕ) (o : Option (List ℕ × List ℕ)) → IsNew (typing dev text o)
 typing_new dev text None = tt
-typing_new dev text (Some bytes) = elim (untyped_rest bytes) as (λ o. IsNew (typing_of dev bytes o)) [ None ↦ refl | Some rest ↦ tt ]
+typing_new dev text (Some parts) =
+    elim (untyped_rest parts.0) as (λ o. IsNew (typing_of dev parts.0 (words_of parts.1) o)) [
+      | None ↦ typing_end_new (lab.Typing dev parts.0) (words_of parts.1) refl
+      | Some rest ↦ tt
+    ]
 
 type_new : (text : List ℕ) → IsNew (type_meaning text)
 unfolding type_meaning
@@ -131,12 +139,15 @@ count_new make none text =
 expect_new : (words : List Word) → IsNew (expect_meaning words)
 unfolding expect_meaning
 expect_new [] = tt
-expect_new (word ∷ []) =
-    elim (bytes_eq word (codes "none")) as (λ b. IsNew (cond b (Ok lab.ExpectNone) (cond (bytes_eq word (codes "any")) (Ok lab.ExpectAny) (Ok (lab.Expect (word ∷ [])))))) [
-      | true ↦ refl
-      | false ↦ elim (bytes_eq word (codes "any")) as (λ b. IsNew (cond b (Ok lab.ExpectAny) (Ok (lab.Expect (word ∷ []))))) [ true ↦ refl | false ↦ refl ]
+expect_new (word ∷ more) =
+    elim (bytes_eq word (codes "none")) as (λ b. IsNew (cond b (said_at_end lab.ExpectNone more)
+    (cond (bytes_eq word (codes "any")) (said_at_end lab.ExpectAny more) (Ok (lab.Expect (word ∷ more)))))) [
+      | true ↦ end_new lab.ExpectNone more refl
+      | false ↦ elim (bytes_eq word (codes "any")) as (λ b. IsNew (cond b (said_at_end lab.ExpectAny more) (Ok (lab.Expect (word ∷ more))))) [
+        | true ↦ end_new lab.ExpectAny more refl
+        | false ↦ refl
+      ]
     ]
-expect_new (word ∷ next ∷ more) = refl
 
 file_new : (name : List ℕ) → IsNew (file_name name)
 file_new [] = tt

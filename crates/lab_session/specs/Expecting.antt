@@ -2,6 +2,9 @@
 use Rattle.std.specs.Prelude.{◌≡◌, ℕ, true, false, List, [], ◌++◌, if◌then◌else◌, Result, Ok, Err, codes}
 use Rattle.lab_expectations.specs.declared.transcript.Transcript.{Transcript}
 use Rattle.lab_expectations.specs.Expectations.{Answer, Came, Instead, NoLine, TooMuch, Met, answer_at, answer_none, first_required, is_expected_at, is_none_at, outcome, parts_of, waits}
+use Rattle.hid_text.specs.Words.{words_of}
+use Rattle.lab_lines.specs.LabLines.{Said, Refusal}
+use Rattle.lab_lines.specs.LabLines as lab
 use Rattle.lab_lines.specs.declared.lab_line.LabLine.{LabLine}
 use Rattle.lab_lines.specs.declared.lab_line.LabLine.TheVariants as said
 use Rattle.lab_session.specs.declared.fault.LabCause.{LabCause}
@@ -46,3 +49,16 @@ LineExpects (said.Expect expected) old new came result = Expects expected.now ol
 LineExpects said.ExpectNone old new came result = ExpectsNone old new came result
 LineExpects said.ExpectAny old new came result = (result ≡ Ok tt) × IsForgotten new
 LineExpects _ old new came result = Unit {0}
+
+-- what comes of a line, by what it says, if it expects something: it is met, or it isn't
+abbrev pub SaidExpects : Said → Transcript → Transcript → List ℕ → Result (Unit {0}) LabCause → Type 0
+SaidExpects (lab.Expect words) old new came result =
+    (expected : List ℕ) × (words_of expected ≡ words) × Expects expected old new came result
+SaidExpects lab.ExpectNone old new came result = ExpectsNone old new came result
+SaidExpects lab.ExpectAny old new came result = (result ≡ Ok tt) × IsForgotten new
+SaidExpects _ old new came result = Unit {0}
+
+-- what comes of a line, by what is read in it, if it expects something; one that can't be read expects nothing
+abbrev pub ReadExpects : Result Said Refusal → Transcript → Transcript → List ℕ → Result (Unit {0}) LabCause → Type 0
+ReadExpects (Ok said) old new came result = SaidExpects said old new came result
+ReadExpects (Err refusal) old new came result = Unit {0}

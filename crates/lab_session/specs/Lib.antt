@@ -2,6 +2,7 @@ pub mod Acts
 pub mod Ahead
 pub mod Asking
 pub mod Bench
+pub mod Carrying
 pub mod Chances
 pub mod Expecting
 pub mod Feeds
@@ -11,3 +12,4 @@ pub mod Outputs
 pub mod Parts
 pub mod Printed
 pub mod Scripts
+pub mod Waiting

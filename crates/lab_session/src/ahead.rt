@@ -2,7 +2,7 @@
 
 ghost use Rattle.std.specs.Prelude.{◌≡◌, ◌⊎◌, ◌+◌, ◌-◌, ◌^◌, ◌<◌, ◌≤◌, [], true, length, drop, vec_len, IfOk, OnOk, IfErr};
 ghost use Rattle.std.specs.Io.KnownBytes.{Keeps};
-ghost use Rattle.lab_session.specs.Feeds.{Feeds, IsOutside};
+ghost use Rattle.lab_session.specs.Feeds.{EndsReading, Feeds, IsOutside};
 
 use super::fault::LabCause;
 use super::feed::Feed;
@@ -145,6 +145,7 @@ impl Ahead {
         ensures kept { Keeps (W.contents writer.old) (W.contents writer.new) }
         ensures err { IfErr result (λ fault. StopsHere (W.contents writer.old)
             (W.contents writer.new) (unread self.old) self.old.lines fault) }
+        ensures ends { IfErr result (λ fault. EndsReading (unread self.old) self.old.lines fault) }
     {
         if let Err(cause) = self.hand_on(writer) {
             return Err(self.fault(cause));

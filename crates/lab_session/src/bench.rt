@@ -11,9 +11,9 @@ ghost use Rattle.hid_script.specs.LineOutput.{Begins, CarriesOut, LineBegins, Li
 ghost use Rattle.hid_script.specs.Place.{AppendsOnce, AppendsOutput};
 ghost use Rattle.lab_expectations.specs.Expectations.{answer_of};
 ghost use Rattle.lab_session.specs.Asking.{asked_said};
-ghost use Rattle.lab_session.specs.Expecting.{Expects, ExpectsNone, IsForgotten, LineExpects, came_words};
+ghost use Rattle.lab_session.specs.Expecting.{Expects, ExpectsNone, IsForgotten, LineExpects, ReadExpects, came_words};
 ghost use Rattle.lab_session.specs.Parts.{Says, Changes, LaysOut, ShowsValues, Attaches};
-ghost use Rattle.lab_session.specs.Printed.{IsPlain, is_styled, kept_cause};
+ghost use Rattle.lab_session.specs.Printed.{IsPlain, is_styled};
 
 use super::answers::{ends_transfer, has_nothing, is_repeated};
 use super::asked::{Asked, asked_of, unread_cause};
@@ -23,7 +23,7 @@ use super::draws::Draws;
 use super::fault::LabCause;
 use super::options::LabOptions;
 use super::outputs::Outputs;
-use super::printer::Printer;
+use super::printer::{Printer, kept_cause};
 use super::shown::is_styled;
 use hid_layout::{ControlId, ControlKind, Usage};
 use hid_requests::Boot;
@@ -58,30 +58,20 @@ pub struct Bench {
     came: Vec<u8>,
 }
 
-/// Why a part ended early whose text was kept first: where there was no room to keep it, memory ran out.
-fn kept_cause(cause: Cause) -> Cause
-    ensures { result ≡ kept_cause cause }
-{
-    match cause {
-        Cause::Write => Cause::Memory,
-        _ => cause,
-    }
-}
-
 impl Bench {
     ghost use Rattle.hid_script.specs.Interpreter.{session_of};
     ghost use Rattle.hid_script.specs.Session.{Repeats, at_first};
     ghost use Rattle.hid_script.specs.Steps.{StepPrints};
     ghost use Rattle.hid_text.specs.Line.{meaning_of};
-    ghost use Rattle.lab_session.specs.Bench.{Does, DoesLine, moment_of};
+    ghost use Rattle.lab_session.specs.Bench.{Does, DoesLine, DoesSaid, moment_of};
     ghost use Rattle.lab_session.specs.Scripts.{IsScripts, IsUndrawn, PrintsAs, PrintsSaid, end_of};
     ghost use Rattle.lab_session.specs.Chances.{chance_at};
     ghost use Rattle.hid_stack.specs.Attaching.{Finds};
     ghost use Rattle.hid_stack.specs.Rig.{member_at};
     ghost use Rattle.hid_script.specs.LineOutput.{stack_cause};
-    ghost use Rattle.lab_session.specs.Lines.{Clicks, ClicksKey, ClicksShifted, DoesBytes, DoesPart, LineDoes, Loses, NamesControl, Often, PollLineDoes, Polls, PollsOnce, ScriptLineDoes, LineUnsettled, Settles, SettlesChange, ShortLineDoes, StaysUnsettled, Tries, Types, seed_by};
+    ghost use Rattle.lab_session.specs.Lines.{Clicks, ClicksKey, ClicksShifted, DoesBytes, DoesPart, Loses, NamesControl, Often, PollLineDoes, Polls, PollsOnce, ScriptLineDoes, LineUnsettled, Settles, SettlesChange, ShortLineDoes, StaysUnsettled, Tries, Types, seed_by};
     ghost use Rattle.lab_lines.specs.ControlNames.{named_of};
-    ghost use Rattle.lab_lines.specs.LabLines.{said_of};
+    ghost use Rattle.lab_lines.specs.LabLines.{lab_meaning, said_of};
 
     /// A bench without devices.
     ///
@@ -92,6 +82,7 @@ impl Bench {
         ensures session { IfOk result (λ bench. session_of bench.interpreter
             ≡ at_first (record { layout = options.layout; trace = options.trace })) }
         ensures undrawn { IfOk result (λ bench. IsUndrawn (moment_of bench)) }
+        ensures waits { IfOk result (λ bench. IsForgotten bench.printer.transcript) }
     {
         let printed = Options {
             layout: options.layout,
@@ -157,6 +148,8 @@ impl Bench {
         ensures prints { IsPlain self.old.options → IsUndrawn (moment_of self.old) → IsScripts line.now
             → PrintsAs (W.contents writer.old) (W.contents writer.new) (meaning_of line.now)
             (session_of self.old.interpreter) (end_of result) (session_of self.new.interpreter) }
+        ensures expects { ReadExpects (lab_meaning line.now) self.old.printer.transcript
+            self.new.printer.transcript self.new.came.items (end_of result) }
         ensures unsettled { end_of result ≡ Err LabCause.Unsettled
             → (dev : ℕ) × StaysUnsettled dev (moment_of self.new) }
     {
@@ -178,6 +171,8 @@ impl Bench {
         ensures prints { IsPlain self.old.options → IsUndrawn (moment_of self.old) → IsScripts line.now
             → PrintsAs (W.contents writer.old) (W.contents writer.new) (meaning_of line.now)
             (session_of self.old.interpreter) (end_of result) (session_of self.new.interpreter) }
+        ensures expects { ReadExpects (lab_meaning line.now) self.old.printer.transcript
+            self.new.printer.transcript self.new.came.items (end_of result) }
         ensures unsettled { end_of result ≡ Err LabCause.Unsettled
             → (dev : ℕ) × StaysUnsettled dev (moment_of self.new) }
     {
@@ -202,6 +197,8 @@ impl Bench {
         ensures prints { IsPlain self.old.options → IsUndrawn (moment_of self.old) → IsScripts line.now
             → PrintsAs (W.contents writer.old) (W.contents writer.new) (meaning_of line.now)
             (session_of self.old.interpreter) (end_of result) (session_of self.new.interpreter) }
+        ensures expects { ReadExpects (lab_meaning line.now) self.old.printer.transcript
+            self.new.printer.transcript self.new.came.items (end_of result) }
         ensures unsettled { end_of result ≡ Err LabCause.Unsettled
             → (dev : ℕ) × StaysUnsettled dev (moment_of self.new) }
     {
@@ -220,8 +217,8 @@ impl Bench {
     /// Why the line is not carried out; what it printed before stands.
     #[tactic(auto, unfolding(crate::specs::Lines::LineDoes))]
     pub fn carry_out<W: Sink>(&mut self, line: &LabLine<'_>, writer: &mut W) -> Result<(), LabCause>
-        ensures does { OnOk result (Does (LineDoes self.old.options.seed (said_of line.now))
-            self.old self.new (W.contents writer.old) (W.contents writer.new)) }
+        ensures does { OnOk result (DoesSaid (said_of line.now) self.old self.new
+            (W.contents writer.old) (W.contents writer.new)) }
         ensures prints { IsPlain self.old.options → IsUndrawn (moment_of self.old)
             → PrintsSaid (W.contents writer.old) (W.contents writer.new) (said_of line.now)
             (session_of self.old.interpreter) result (session_of self.new.interpreter) }

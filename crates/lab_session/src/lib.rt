@@ -9,8 +9,9 @@
 //! change of one control by its place, and each part is carried out by `hid_script`.
 //!
 //! The promise: a line does and prints what its parts do and print, one after the other, by the clauses of
-//! [`Interpreter`](hid_script::Interpreter) (`does` of [`Bench::carry_out`]). An expectation changes neither. A script of `hidrun` is
-//! carried out as there, in whatever pieces it comes (`script` of [`run`], and of [`run_text`] of a whole text).
+//! [`Interpreter`](hid_script::Interpreter) (`does` of [`Bench::carry_out`]). An expectation changes neither. A run carries out each line
+//! of any text in turn (`carries` of [`run`], and of [`run_text`] of a whole text), and a script of `hidrun` as it is there, in whatever
+//! pieces it comes (`script`).
 #![tactic(auto)]
 
 mod ahead;

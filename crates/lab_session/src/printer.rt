@@ -2,7 +2,7 @@
 
 ghost use Rattle.std.specs.Prelude.{◌≡◌, ◌∷◌, Ok, OnOk, IfErr, [], true, false};
 ghost use Rattle.std.specs.Io.KnownBytes.{Appends};
-ghost use Rattle.lab_session.specs.Printed.{is_styled, IsPlain, WritesText, PrintsPart};
+ghost use Rattle.lab_session.specs.Printed.{is_styled, IsPlain, WritesText, PrintsPart, kept_cause};
 
 use super::options::LabOptions;
 use super::shown::{is_styled, show_lines};
@@ -10,6 +10,16 @@ use hid_script::{Cause, Sink, write_text};
 use hid_stack::Delivered;
 use lab_expectations::{Expectation, Transcript};
 use std::alloc::Global;
+
+/// Why a part ended early whose text was kept first: where there was no room to keep it, memory ran out.
+pub fn kept_cause(cause: Cause) -> Cause
+    ensures { result ≡ kept_cause cause }
+{
+    match cause {
+        Cause::Write => Cause::Memory,
+        _ => cause,
+    }
+}
 
 /// The lines that were printed and not expected yet, and room for lines that are printed with names, places or as JSON.
 #[derive(Drop)]
@@ -24,7 +34,9 @@ impl Printer {
     ghost use Rattle.lab_session.specs.Expecting.{IsForgotten, Keeps, answer_to_none};
 
     /// Nothing was printed.
-    pub fn new(alloc: Global) -> Self {
+    pub fn new(alloc: Global) -> Self
+        ensures { IsForgotten result.transcript }
+    {
         Printer {
             alloc,
             transcript: Transcript::new(alloc),

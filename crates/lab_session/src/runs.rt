@@ -1,6 +1,7 @@
 //! Texts and readers, line by line.
 
-ghost use Rattle.std.specs.Prelude.{◌≡◌, ℕ, ◌+◌, ◌-◌, ◌^◌, ◌<◌, ◌≤◌, ◌++◌, List, All, IfOk, IfSome, IfNone};
+ghost use Rattle.std.specs.Prelude.{◌≡◌, ℕ, ◌+◌, ◌-◌, ◌^◌, ◌<◌, ◌≤◌, ◌++◌, List, [], All, IfOk, IfErr, IfSome, IfNone, Some};
+ghost use Rattle.std.specs.Option.{option_map};
 ghost use Rattle.std.specs.Str.Lines.{lines, strip_carriage_return};
 ghost use Rattle.hid_script.specs.Interpreter.{session_of};
 ghost use Rattle.hid_text.specs.Lines.{IsUnbroken};
@@ -8,6 +9,9 @@ ghost use Rattle.lab_session.specs.Bench.{moment_of};
 ghost use Rattle.lab_session.specs.Printed.{IsPlain};
 ghost use Rattle.lab_session.specs.Ahead.{unread};
 ghost use Rattle.lab_session.specs.Scripts.{AheadRan, IsScripts, IsUndrawn, Leaves, LineRan, LinesRan, RunsAsScript, RunsFed};
+ghost use Rattle.lab_session.specs.Asking.{asked_said};
+ghost use Rattle.lab_session.specs.Carrying.{AheadLines, AsksLast, CameLines, CarriesLine, FedLines, RanLines, RefusesLine};
+ghost use Rattle.lab_session.specs.Feeds.{need_said};
 
 use super::ahead::Ahead;
 use super::asked::Asked;
@@ -102,6 +106,10 @@ fn run_line<'a, W: Sink>(
     ensures script { IsPlain bench.old.options → IsUndrawn (moment_of bench.old) → IsScripts line.now
         → LineRan bench.old bench.new (W.contents writer.old) (W.contents writer.new) line.now before
         result }
+    ensures carries { IfOk result (λ asked. CarriesLine line.now (option_map asked_said asked) bench.old
+        bench.new (W.contents writer.old) (W.contents writer.new)) }
+    ensures refused { IfErr result (λ fault. (fault.line ≡ before + 1)
+        × RefusesLine line.now fault.cause bench.old bench.new) }
 {
     match bench.line(line, writer) {
         Ok(asked) => Ok(asked),
@@ -135,6 +143,9 @@ fn run_last<'a, W: Sink>(
         → All IsScripts (lines line.now)
         → RunsAsScript (W.contents writer.old) (W.contents writer.new)
         (session_of bench.old.interpreter) (lines line.now) before result }
+    ensures carries { RanLines (lines line.now) before bench.old bench.new (W.contents writer.old)
+        (W.contents writer.new) result }
+    ensures last { AsksLast before result }
 {
     if line.is_empty() {
         return Ok(whole(bench, before));
@@ -161,6 +172,8 @@ fn run_lines<'a, W: Sink>(
         → All IsScripts (lines (text.now ++ more))
         → LinesRan bench.old bench.new (W.contents writer.old) (W.contents writer.new) text.now
         before more result }
+    ensures carries { (more : List ℕ) → CameLines text.now before more bench.old bench.new
+        (W.contents writer.old) (W.contents writer.new) result }
     ensures rest { IfOk result (λ done. Leaves text.now before done) }
 {
     let mut rest = text;
@@ -195,6 +208,9 @@ pub fn run_text<'a, W: Sink>(
         → All IsScripts (lines text.now)
         → RunsAsScript (W.contents writer.old) (W.contents writer.new)
         (session_of bench.old.interpreter) (lines text.now) 0 result }
+    // Each line of any text is carried out in turn, up to one that asks for something or ends the run.
+    ensures carries { RanLines (lines text.now) 0 bench.old bench.new (W.contents writer.old)
+        (W.contents writer.new) result }
 {
     match run_lines(bench, 0, text, writer)? {
         Done::Lines { lines, rest } => run_last(bench, lines, rest, writer),
@@ -207,7 +223,11 @@ pub fn run_text<'a, W: Sink>(
 }
 
 /// What a line asks for, which is the last one that was taken.
-fn need_of(ahead: &Ahead, asked: Asked<'_>, line: usize) -> Result<Need, LabFault> {
+fn need_of(ahead: &Ahead, asked: Asked<'_>, line: usize) -> Result<Need, LabFault>
+    ensures need { IfOk result (λ need. need_said need ≡ asked_said asked.entry) }
+    ensures err { IfErr result (λ fault. (fault.line ≡ line)
+        × (fault.cause ≡ LabCause.Script Cause.Memory)) }
+{
     match Need::of(ahead.alloc(), asked) {
         Ok(need) => Ok(need),
         Err(_) => Err(LabFault {
@@ -227,7 +247,10 @@ fn run_ahead<W: Sink>(
         → All IsScripts (lines (unread ahead.old ++ more))
         → AheadRan bench.old bench.new (W.contents writer.old) (W.contents writer.new) ahead.old
         ahead.new more result }
+    ensures carries { (more : List ℕ) → AheadLines ahead.old ahead.new more bench.old bench.new
+        (W.contents writer.old) (W.contents writer.new) result }
     ensures unbroken { IfOk result (λ need. IfNone need (IsUnbroken (unread ahead.new))) }
+    ensures few { IfOk result (λ need. IfNone need (ahead.new.lines < 2 ^ 64 - 2)) }
 {
     if ahead.lines() > MAX_LINES {
         return Err(ahead.fault(Cause::TooManyReads));
@@ -253,18 +276,21 @@ fn run_rest<W: Sink>(
     ahead: &mut Ahead,
     writer: &mut W,
 ) -> Result<RunEnd, LabFault>
-    requires { IsUnbroken (unread ahead.old) }
+    requires unbroken { IsUnbroken (unread ahead.old) }
+    requires few { ahead.old.lines < 2 ^ 64 - 2 }
     ensures script { IsPlain bench.old.options → IsUndrawn (moment_of bench.old)
         → All IsScripts (lines (unread ahead.old))
         → RunsFed (W.contents writer.old) (W.contents writer.new)
         (session_of bench.old.interpreter) (lines (unread ahead.old)) ahead.old.lines result }
+    ensures carries { FedLines (lines (unread ahead.old)) ahead.old.lines ahead.new (Some []) bench.old
+        bench.new (W.contents writer.old) (W.contents writer.new) result }
 {
     match run_last(bench, ahead.lines(), ahead.unread(), writer)? {
         Ran::All(summary) => Ok(RunEnd::All(summary)),
         Ran::Asks { asked, .. } => {
             let line = ahead.lines() + 1;
             let need = need_of(ahead, asked, line)?;
-            ahead.advance(line.min(usize::MAX - 1), 0);
+            ahead.advance(line, 0);
             Ok(RunEnd::Asks(need))
         }
     }
@@ -288,6 +314,11 @@ pub fn run<F: Feed, W: Sink, T: Watch>(
         → RunsFed (W.contents writer.old) (W.contents writer.new)
         (session_of bench.old.interpreter) (lines (unread ahead.old ++ more)) ahead.old.lines
         result) }
+    // Each line of any bytes is carried out in turn, up to one that asks for something or ends the run. Who goes on with what is left
+    // then carries out the lines after it.
+    ensures carries { IfSome (F.remaining feed.old) (λ more. FedLines (lines (unread ahead.old ++ more))
+        ahead.old.lines ahead.new (F.remaining feed.new) bench.old bench.new (W.contents writer.old)
+        (W.contents writer.new) result) }
 {
     for _ in 0..MAX_READS {
         if let Some(need) = run_ahead(bench, ahead, writer)? {

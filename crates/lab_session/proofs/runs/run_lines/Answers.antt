@@ -1,8 +1,13 @@
 use Rattle.hid_text.proofs.PieceLemmas.{behind_line, shorter_behind}
-use Rattle.std.proofs.Common.{[], ◌∷◌, ◌++◌, sym, subst, arith, Ok, Err}
+use Rattle.std.proofs.Common.{[], ◌∷◌, ◌++◌, ◌+◌, refl, sym, subst, arith, None, Some, Ok, Err}
+use Rattle.std.specs.Option.{option_map}
+use Rattle.std.specs.Str.Lines.{lines, strip_carriage_return}
+use Rattle.lab_session.specs.Asking.{asked_said}
+use Rattle.lab_session.specs.Carrying.{CameLines, CarriesLine, RefusesLine}
+use Rattle.lab_session.proofs.CarryLemmas.{asks_next, carried_as, carried_first, carried_next, no_asked, refused_next}
 use Rattle.lab_session.specs.Scripts.{IsScripts, LineRan, LinesRan}
 use Rattle.lab_session.proofs.DoingLemmas.{err_is}
-use Rattle.lab_session.proofs.RunLemmas.{behind_more, goes_on, goes_out, next_old}
+use Rattle.lab_session.proofs.RunLemmas.{behind_more, goes_on, goes_out, goes_start, lines_split, next_old}
 use Rattle.lab_session.proofs.runs.run_lines.Goals as goal
 
 pub returns-in_err-asked-clause-script : goal.returns-in_err-asked-clause-script
@@ -49,4 +54,46 @@ loop-last-preserved g c =
           let line = subst IsScripts (sym c.without_return.ensures) (next_old c.args.bench.now c.loop-last.bench U V (c.args.text.now ++ more) (c.loop-last.rest.now ++ more) c.in-Some.last.now (c.in-Some.behind.now ++ more) c.args.before c.loop-last.count c.in-Some.ensures.0 is h) in
           let ran = subst (λ l. LineRan c.loop-last.bench c.run_line.new.bench V W l c.loop-last.count (Ok c.in_ok-asked.asked)) c.without_return.ensures (c.in_ok-asked.ensures.script h.0 h.1 line) in
           goes_on c.args.bench.now c.loop-last.bench c.run_line.new.bench U V W (c.args.text.now ++ more) (c.loop-last.rest.now ++ more) c.in-Some.last.now (c.in-Some.behind.now ++ more) c.args.before c.loop-last.count c.in_ok-asked.asked c.in-Some.ensures.0 is h ran,
+      λ more.
+          let V = g.W.Sink.contents c.loop-last.writer in
+          let W = g.W.Sink.contents c.run_line.new.writer in
+          let is = lines_split (c.loop-last.rest.now ++ more) c.in-Some.last.now (c.in-Some.behind.now ++ more) c.in-Some.ensures.0 (behind_more c.loop-last.rest.now c.in-Some.last.now c.in-Some.behind.now more c.in-Some.ensures.1) in
+          let carried = subst (λ l. CarriesLine l None c.loop-last.bench c.run_line.new.bench V W) c.without_return.ensures
+          (subst (λ o. CarriesLine c.without_return.result.now (option_map asked_said o) c.loop-last.bench c.run_line.new.bench V W) (no_asked c.in_ok-asked.asked c.in_default-asked.not-Some) c.in_ok-asked.ensures.carries) in
+          carried_next (lines (c.args.text.now ++ more)) (lines (c.loop-last.rest.now ++ more)) (lines (c.in-Some.behind.now ++ more)) (strip_carriage_return c.in-Some.last.now) c.args.before c.loop-last.count
+          c.args.bench.now c.loop-last.bench c.run_line.new.bench (g.W.Sink.contents c.args.writer.now) V W (c.loop-last.invariant.3 more) is carried,
     )
+
+pub loop-last-init : goal.loop-last-init
+loop-last-init g c = (
+  omega arith,
+  ([], refl),
+  λ plain undrawn more old. goes_start c.args.bench.now (g.W.Sink.contents c.args.writer.now) (c.args.text.now ++ more) c.args.before plain undrawn old,
+  λ more. carried_first (lines (c.args.text.now ++ more)) c.args.before c.args.bench.now (g.W.Sink.contents c.args.writer.now),
+)
+
+pub returns-in_err-asked-clause-carries : goal.returns-in_err-asked-clause-carries
+returns-in_err-asked-clause-carries g c = λ more.
+    let U = g.W.Sink.contents c.args.writer.now in
+    let V = g.W.Sink.contents c.loop-last.writer in
+    let W = g.W.Sink.contents c.run_line.new.writer in
+    let is = lines_split (c.loop-last.rest.now ++ more) c.in-Some.last.now (c.in-Some.behind.now ++ more) c.in-Some.ensures.0 (behind_more c.loop-last.rest.now c.in-Some.last.now c.in-Some.behind.now more c.in-Some.ensures.1) in
+    let here = carried_as (lines (c.args.text.now ++ more)) (lines (c.args.text.now ++ more)) (lines (c.loop-last.rest.now ++ more)) (strip_carriage_return c.in-Some.last.now ∷ lines (c.in-Some.behind.now ++ more))
+    c.args.before c.loop-last.count c.loop-last.count c.args.bench.now c.loop-last.bench U V refl is refl (c.loop-last.invariant.3 more) in
+    let refused = subst (λ l. RefusesLine l c.in_err-asked.field-0.0.cause c.loop-last.bench c.run_line.new.bench) c.without_return.ensures c.in_err-asked.ensures.refused.1 in
+    subst (λ r. CameLines c.args.text.now c.args.before more c.args.bench.now c.run_line.new.bench U W r) (sym (err_is c.from_residual.result _ c.from_residual.ensures.1))
+    (refused_next (lines (c.args.text.now ++ more)) (lines (c.in-Some.behind.now ++ more)) (strip_carriage_return c.in-Some.last.now) c.args.before c.loop-last.count c.in_err-asked.field-0.0
+    c.args.bench.now c.loop-last.bench c.run_line.new.bench U V here c.in_err-asked.ensures.refused.0 refused)
+
+pub returns-in-Some-asked-clause-carries : goal.returns-in-Some-asked-clause-carries
+returns-in-Some-asked-clause-carries g c = λ more.
+    let U = g.W.Sink.contents c.args.writer.now in
+    let V = g.W.Sink.contents c.loop-last.writer in
+    let W = g.W.Sink.contents c.run_line.new.writer in
+    let is = lines_split (c.loop-last.rest.now ++ more) c.in-Some.last.now (c.in-Some.behind.now ++ more) c.in-Some.ensures.0 (behind_more c.loop-last.rest.now c.in-Some.last.now c.in-Some.behind.now more c.in-Some.ensures.1) in
+    let here = carried_as (lines (c.args.text.now ++ more)) (lines (c.args.text.now ++ more)) (lines (c.loop-last.rest.now ++ more)) (strip_carriage_return c.in-Some.last.now ∷ lines (c.in-Some.behind.now ++ more))
+    c.args.before c.loop-last.count c.loop-last.count c.args.bench.now c.loop-last.bench U V refl is refl (c.loop-last.invariant.3 more) in
+    let asked = subst (λ l. CarriesLine l (Some (asked_said c.in-Some-asked.asked)) c.loop-last.bench c.run_line.new.bench V W) c.without_return.ensures
+    (subst (λ o. CarriesLine c.without_return.result.now (option_map asked_said o) c.loop-last.bench c.run_line.new.bench V W) c.in-Some-asked.is c.in_ok-asked.ensures.carries) in
+    asks_next (lines (c.args.text.now ++ more)) (lines (c.in-Some.behind.now ++ more)) (strip_carriage_return c.in-Some.last.now) c.args.before c.loop-last.count (c.loop-last.count + 1)
+    (asked_said c.in-Some-asked.asked) c.args.bench.now c.loop-last.bench c.run_line.new.bench U V W here asked refl

@@ -2,6 +2,7 @@ use Rattle.std.proofs.Common.{◌≡◌, ◌+◌, ◌≤◌, ◌++◌, List, ℕ
 use Rattle.std.specs.List.{All}
 use Rattle.std.specs.Str.Lines.{lines}
 use Rattle.lab_session.specs.Bench.{moment_of}
+use Rattle.lab_session.specs.Carrying.{CarriedUpTo}
 use Rattle.lab_session.specs.Printed.{IsPlain}
 use Rattle.lab_session.specs.Scripts.{GoesOn, IsScripts, IsUndrawn}
 use Rattle.lab_session.proofs.runs.run_lines.Given as goal
@@ -13,6 +14,7 @@ invariant-loop-last g l =
     × ((front : List ℕ) × (l.fn.text ≡ front ++ l.rest))
     × (IsPlain l.fn.bench.options → IsUndrawn (moment_of l.fn.bench) → (more : List ℕ) → All IsScripts (lines (l.fn.text ++ more))
     → GoesOn l.fn.bench (g.W.Sink.contents l.fn.writer) (l.fn.text ++ more) l.fn.before l.bench (g.W.Sink.contents l.writer) (l.rest ++ more) l.count)
+    × ((more : List ℕ) → CarriedUpTo (lines (l.fn.text ++ more)) l.fn.before (lines (l.rest ++ more)) l.count l.fn.bench l.bench (g.W.Sink.contents l.fn.writer) (g.W.Sink.contents l.writer))
 
 abbrev pub decreases-loop-last : goal.decreases-loop-last
 decreases-loop-last g l = length l.rest

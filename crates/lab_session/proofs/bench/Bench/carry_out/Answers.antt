@@ -9,10 +9,10 @@ use Rattle.std.proofs.KnownBytes.{Appends-nil}
 use Rattle.hid_script.specs.Interpreter.{session_of}
 use Rattle.hid_script.specs.LineOutput.{LineBegins, LinePrints}
 use Rattle.lab_lines.specs.LabLines.{said_of}
-use Rattle.lab_session.specs.Bench.{Does, moment_of}
+use Rattle.lab_session.specs.Bench.{DoesSaid, moment_of}
 use Rattle.lab_session.specs.Lines.{LineDoes, LineUnsettled}
 use Rattle.lab_session.specs.Scripts.{PrintsSaid}
-use Rattle.lab_session.proofs.DoingLemmas.{does_nothing, err_is, however, nothing_said, same_moment}
+use Rattle.lab_session.proofs.DoingLemmas.{does_nothing, err_is, however, nothing_said, stays_there}
 use Rattle.lab_session.proofs.bench.Bench.carry_out.Goals as goal
 
 -- a line of which who gives the lines does what there is to do
@@ -20,13 +20,13 @@ abbrev IsIdle : LabLine → Type 0
 IsIdle l = (l ≡ said.Nothing) ⊎ (((count : ℕ) × (l ≡ said.Repeat count)) ⊎ ((l ≡ said.End) ⊎ (((name : Bor (List ℕ)) × (l ≡ said.Include name))
     ⊎ ((start : Start) × (boot : Boot) × (name : Bor (List ℕ)) × (l ≡ said.DeviceFile start boot name)))))
 
-idle_does : (given : Option ℕ) (a : Bench) (u : Option (List ℕ)) (l : LabLine) → IsIdle l → Does (LineDoes given (said_of l)) a a u u
+idle_does : (a : Bench) (u : Option (List ℕ)) (l : LabLine) → IsIdle l → DoesSaid (said_of l) a a u u
 unfolding LineDoes
-idle_does given a u l (inl e) = subst (λ x. Does (LineDoes given (said_of x)) a a u u) (sym e) (does_nothing a u)
-idle_does given a u l (inr (inl e)) = subst (λ x. Does (LineDoes given (said_of x)) a a u u) (sym e.1) (does_nothing a u)
-idle_does given a u l (inr (inr (inl e))) = subst (λ x. Does (LineDoes given (said_of x)) a a u u) (sym e) (does_nothing a u)
-idle_does given a u l (inr (inr (inr (inl e)))) = subst (λ x. Does (LineDoes given (said_of x)) a a u u) (sym e.1) (does_nothing a u)
-idle_does given a u l (inr (inr (inr (inr e)))) = subst (λ x. Does (LineDoes given (said_of x)) a a u u) (sym e.3) (does_nothing a u)
+idle_does a u l (inl e) = subst (λ x. DoesSaid (said_of x) a a u u) (sym e) (does_nothing a u)
+idle_does a u l (inr (inl e)) = subst (λ x. DoesSaid (said_of x) a a u u) (sym e.1) (does_nothing a u)
+idle_does a u l (inr (inr (inl e))) = subst (λ x. DoesSaid (said_of x) a a u u) (sym e) (does_nothing a u)
+idle_does a u l (inr (inr (inr (inl e)))) = subst (λ x. DoesSaid (said_of x) a a u u) (sym e.1) (does_nothing a u)
+idle_does a u l (inr (inr (inr (inr e)))) = subst (λ x. DoesSaid (said_of x) a a u u) (sym e.3) (does_nothing a u)
 
 idle_prints : (u : Option (List ℕ)) (session : Session) (l : LabLine) → IsIdle l → PrintsSaid u u (said_of l) session (Ok tt) session
 idle_prints u session l (inl e) = subst (λ x. PrintsSaid u u (said_of x) session (Ok tt) session) (sym e) (Ok tt, refl, ([], Appends-nil u, nothing_said session))
@@ -36,7 +36,7 @@ idle_prints u session l (inr (inr (inr (inl e)))) = subst (λ x. PrintsSaid u u 
 idle_prints u session l (inr (inr (inr (inr e)))) = subst (λ x. PrintsSaid u u (said_of x) session (Ok tt) session) (sym e.3) tt
 
 pub returns-in-Nothing-clause-does : goal.returns-in-Nothing-clause-does
-returns-in-Nothing-clause-does g c = idle_does c.args.self.now.options.seed c.args.self.now (g.W.Sink.contents c.args.writer.now) c.args.line.now c.in-Nothing.is
+returns-in-Nothing-clause-does g c = idle_does c.args.self.now (g.W.Sink.contents c.args.writer.now) c.args.line.now c.in-Nothing.is
 
 pub returns-in-Nothing-clause-prints : goal.returns-in-Nothing-clause-prints
 returns-in-Nothing-clause-prints g c = λ plain undrawn. idle_prints (g.W.Sink.contents c.args.writer.now) (session_of c.args.self.now.interpreter) c.args.line.now c.in-Nothing.is
@@ -54,16 +54,14 @@ returns-in_ok-script_line-in-Script-clause-prints g c = λ plain undrawn.
     (sym c.in-Script.is) (Ok tt, refl, c.in_ok-script_line-in-Script.ensures.prints plain)
 
 pub returns-in-Expect-clause-does : goal.returns-in-Expect-clause-does
-unfolding LineDoes
 returns-in-Expect-clause-does g c =
-    subst (λ l. OnOk c.expect.result (Does (LineDoes c.args.self.now.options.seed (said_of l)) c.args.self.now c.expect.new.self (g.W.Sink.contents c.args.writer.now) (g.W.Sink.contents c.args.writer.now)))
-    (sym c.in-Expect.is) (however c.expect.result _ (same_moment c.args.self.now c.expect.new.self (g.W.Sink.contents c.args.writer.now) c.expect.ensures.moment c.expect.ensures.options))
+    subst (λ l. OnOk c.expect.result (DoesSaid (said_of l) c.args.self.now c.expect.new.self (g.W.Sink.contents c.args.writer.now) (g.W.Sink.contents c.args.writer.now)))
+    (sym c.in-Expect.is) (however c.expect.result _ (stays_there c.args.self.now c.expect.new.self (g.W.Sink.contents c.args.writer.now) c.expect.ensures.moment c.expect.ensures.options))
 
 pub returns-in-ExpectNone-clause-does : goal.returns-in-ExpectNone-clause-does
-unfolding LineDoes
 returns-in-ExpectNone-clause-does g c =
-    subst (λ l. OnOk c.expect_none.result (Does (LineDoes c.args.self.now.options.seed (said_of l)) c.args.self.now c.expect_none.new.self (g.W.Sink.contents c.args.writer.now) (g.W.Sink.contents c.args.writer.now)))
-    (sym c.in-ExpectNone.is) (however c.expect_none.result _ (same_moment c.args.self.now c.expect_none.new.self (g.W.Sink.contents c.args.writer.now) c.expect_none.ensures.moment c.expect_none.ensures.options))
+    subst (λ l. OnOk c.expect_none.result (DoesSaid (said_of l) c.args.self.now c.expect_none.new.self (g.W.Sink.contents c.args.writer.now) (g.W.Sink.contents c.args.writer.now)))
+    (sym c.in-ExpectNone.is) (however c.expect_none.result _ (stays_there c.args.self.now c.expect_none.new.self (g.W.Sink.contents c.args.writer.now) c.expect_none.ensures.moment c.expect_none.ensures.options))
 
 pub returns-in-Expect-clause-unsettled : goal.returns-in-Expect-clause-unsettled
 returns-in-Expect-clause-unsettled g c =
@@ -74,7 +72,6 @@ returns-in-ExpectNone-clause-unsettled g c =
     subst (λ l. LineUnsettled (said_of l) c.expect_none.result (moment_of c.expect_none.new.self)) (sym c.in-ExpectNone.is) c.expect_none.ensures.settled
 
 pub returns-in-ExpectAny-clause-does : goal.returns-in-ExpectAny-clause-does
-unfolding LineDoes
 returns-in-ExpectAny-clause-does g c =
-    subst (λ l. Does (LineDoes c.args.self.now.options.seed (said_of l)) c.args.self.now c.forget.new.self (g.W.Sink.contents c.args.writer.now) (g.W.Sink.contents c.args.writer.now))
-    (sym c.in-ExpectAny.is) (same_moment c.args.self.now c.forget.new.self (g.W.Sink.contents c.args.writer.now) c.forget.ensures.moment c.forget.ensures.options)
+    subst (λ l. DoesSaid (said_of l) c.args.self.now c.forget.new.self (g.W.Sink.contents c.args.writer.now) (g.W.Sink.contents c.args.writer.now))
+    (sym c.in-ExpectAny.is) (stays_there c.args.self.now c.forget.new.self (g.W.Sink.contents c.args.writer.now) c.forget.ensures.moment c.forget.ensures.options)

@@ -6,5 +6,5 @@ use Rattle.lab_session.proofs.bench.Bench.lay_out.Goals as goal
 pub returns : goal.returns
 unfolding PartPrints
 returns g c = record {
-  does = did_once (LaysOut c.args.descriptor.now) c.args.self.now _ c.clear.new.self.items c.lay_out-part.new.writer.items c.as_slice.result.now _ _ c.lay_out-part.result c.print_part.result c.clear.ensures.items c.as_slice.ensures.value c.lay_out-part.ensures.prints c.print_part.ensures.written c.print_part.ensures.ok (λ dev. refl) refl;
+  does = did_once (LaysOut c.args.descriptor.now) c.args.self.now _ c.clear.new.self.items c.lay_out-part.new.writer.items c.as_slice.result.now _ _ c.lay_out-part.result c.print_part.result c.clear.ensures.items c.as_slice.ensures.value c.lay_out-part.ensures.prints c.print_part.ensures.written c.print_part.ensures.ok (λ dev. refl) refl c.print_part.ensures.kept;
 }

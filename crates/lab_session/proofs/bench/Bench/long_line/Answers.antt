@@ -2,9 +2,12 @@ use Rattle.lab_session.specs.Bench.{moment_of}
 use Rattle.std.proofs.Common.{sym, ap, ◌∙◌, subst, Ok, Err}
 use Rattle.hid_text.specs.Line.{meaning_of}
 use Rattle.hid_script.specs.Interpreter.{session_of}
-use Rattle.lab_lines.specs.LabLines.{said_of, refusal_of}
+use Rattle.lab_lines.specs.LabLines.{lab_meaning, said_of, refusal_of}
+use Rattle.lab_session.specs.declared.fault.LabCause.TheVariants.{Script}
+use Rattle.lab_session.specs.Expecting.{ReadExpects}
 use Rattle.lab_session.specs.Scripts.{PrintsAs, end_of}
 use Rattle.lab_session.proofs.DoingLemmas.{err_is, line_unsettled}
+use Rattle.lab_session.proofs.ExpectingLemmas.{expects_said}
 use Rattle.lab_session.proofs.ScriptLineLemmas.{as_script, unread_refused}
 use Rattle.lab_session.proofs.bench.Bench.long_line.Goals as goal
 
@@ -26,3 +29,20 @@ pub returns-in_err-carry_out-in-Ok-clause-unsettled : goal.returns-in_err-carry_
 returns-in_err-carry_out-in-Ok-clause-unsettled g c = λ is.
     line_unsettled (said_of c.in-Ok.said) (Err c.in_err-carry_out-in-Ok.field-0.0) (moment_of c.carry_out.new.self) c.in_err-carry_out-in-Ok.ensures.unsettled
     (sym (ap end_of (err_is c.from_residual.result _ c.from_residual.ensures.1)) ∙ is)
+
+pub returns-in_ok-carry_out-in-Ok-clause-expects : goal.returns-in_ok-carry_out-in-Ok-clause-expects
+returns-in_ok-carry_out-in-Ok-clause-expects g c =
+    subst (λ m. ReadExpects m c.args.self.now.printer.transcript c.carry_out.new.self.printer.transcript c.carry_out.new.self.came.items (Ok tt))
+    c.in-Ok.ensures.exact (expects_said c.in-Ok.said _ _ _ (Ok tt) c.in_ok-carry_out-in-Ok.ensures.expects)
+
+pub returns-in_err-carry_out-in-Ok-clause-expects : goal.returns-in_err-carry_out-in-Ok-clause-expects
+returns-in_err-carry_out-in-Ok-clause-expects g c =
+    subst (λ r. ReadExpects (lab_meaning c.args.line.now) c.args.self.now.printer.transcript c.carry_out.new.self.printer.transcript c.carry_out.new.self.came.items (end_of r))
+    (sym (err_is c.from_residual.result _ c.from_residual.ensures.1))
+    (subst (λ m. ReadExpects m c.args.self.now.printer.transcript c.carry_out.new.self.printer.transcript c.carry_out.new.self.came.items (Err c.in_err-carry_out-in-Ok.field-0.0))
+    c.in-Ok.ensures.exact (expects_said c.in-Ok.said _ _ _ (Err c.in_err-carry_out-in-Ok.field-0.0) c.in_err-carry_out-in-Ok.ensures.expects))
+
+pub returns-in-Err-clause-expects : goal.returns-in-Err-clause-expects
+returns-in-Err-clause-expects g c =
+    subst (λ m. ReadExpects m c.args.self.now.printer.transcript c.args.self.now.printer.transcript c.args.self.now.came.items (Err (Script c.unread_cause.result)))
+    c.in-Err.ensures.exact tt

@@ -6,5 +6,5 @@ use Rattle.lab_session.proofs.bench.Bench.print_values.Goals as goal
 pub returns : goal.returns
 unfolding PartPrints
 returns g c = record {
-  does = did_once (ShowsValues c.args.report.now) c.args.self.now _ c.clear.new.self.items c.print_values_of-part.new.writer.items c.as_slice.result.now _ _ c.print_values_of-part.result c.print_part.result c.clear.ensures.items c.as_slice.ensures.value c.print_values_of-part.ensures.prints c.print_part.ensures.written c.print_part.ensures.ok (λ dev. refl) refl;
+  does = did_once (ShowsValues c.args.report.now) c.args.self.now _ c.clear.new.self.items c.print_values_of-part.new.writer.items c.as_slice.result.now _ _ c.print_values_of-part.result c.print_part.result c.clear.ensures.items c.as_slice.ensures.value c.print_values_of-part.ensures.prints c.print_part.ensures.written c.print_part.ensures.ok (λ dev. refl) refl c.print_part.ensures.kept;
 }

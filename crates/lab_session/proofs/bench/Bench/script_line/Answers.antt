@@ -13,4 +13,4 @@ returns-clause-prints g c = λ plain.
 
 pub returns-clause-does : goal.returns-clause-does
 returns-clause-does g c =
-    did_script c.args.line.now c.args.self.now _ c.clear.new.self.items c.line-part.new.writer.items c.as_slice.result.now _ _ c.line-part.result c.print_part.result c.clear.ensures.items c.as_slice.ensures.value c.line-part.ensures.prints c.print_part.ensures.written c.print_part.ensures.ok (λ dev. refl) refl
+    did_script c.args.line.now c.args.self.now _ c.clear.new.self.items c.line-part.new.writer.items c.as_slice.result.now _ _ c.line-part.result c.print_part.result c.clear.ensures.items c.as_slice.ensures.value c.line-part.ensures.prints c.print_part.ensures.written c.print_part.ensures.ok (λ dev. refl) refl c.print_part.ensures.kept

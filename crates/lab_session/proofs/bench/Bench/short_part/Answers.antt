@@ -14,4 +14,4 @@ returns-clause-prints g c = λ plain.
 pub returns-clause-does : goal.returns-clause-does
 unfolding LineOutcomeOnce times
 returns-clause-does g c =
-    did_line (Step c.args.short.now) _ c.args.self.now _ c.clear.new.self.items c.repeat-part.new.writer.items c.as_slice.result.now _ _ c.repeat-part.result c.print_part.result c.clear.ensures.items c.as_slice.ensures.value c.repeat-part.ensures.prints c.print_part.ensures.written c.print_part.ensures.ok (λ dev. refl) refl
+    did_line (Step c.args.short.now) _ c.args.self.now _ c.clear.new.self.items c.repeat-part.new.writer.items c.as_slice.result.now _ _ c.repeat-part.result c.print_part.result c.clear.ensures.items c.as_slice.ensures.value c.repeat-part.ensures.prints c.print_part.ensures.written c.print_part.ensures.ok (λ dev. refl) refl c.print_part.ensures.kept

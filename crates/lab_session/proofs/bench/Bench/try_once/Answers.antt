@@ -1,9 +1,14 @@
-use Rattle.std.proofs.Common.{◌≡◌, ◌∙◌, [], refl, sym, ap, subst, inr, append-nil, Some, Err}
+use Rattle.std.proofs.Common.{◌≡◌, ◌∙◌, [], refl, sym, ap, subst, inr, append-nil, Some, Ok, Err}
 use Rattle.std.specs.Io.KnownBytes.{Appends}
+use Rattle.std.specs.Prelude.{IfSome, string_bytes}
 use Rattle.std.proofs.KnownBytes.{Appends-trans}
 use Rattle.hid_bus.specs.declared.step.Step.TheVariants.{Control}
-use Rattle.lab_session.proofs.DoingLemmas.{did_try, err_is, however, step_told}
+use Rattle.lab_session.specs.Outputs.{IsAwaited, awaited_at}
+use Rattle.lab_session.specs.Waiting.{Waits}
+use Rattle.lab_session.proofs.DoingLemmas.{did_try, err_is, ok_so, step_told}
+use Rattle.lab_session.proofs.WaitLemmas.{keeps_shown, ok_output}
 use Rattle.lab_session.proofs.PrintedLemmas.{step_ended, step_output, step_printed}
+use Rattle.hid_script.specs.declared.fault.Cause.{Cause}
 use Rattle.hid_script.specs.Interpreter.{session_of}
 use Rattle.hid_script.specs.Place.{AppendsOnce}
 use Rattle.hid_script.specs.Runs.{ending_of}
@@ -47,10 +52,14 @@ returns-in-Ok-Some g c =
       prints = λ plain none. step_output _ _ _ c.as_slice.result.now (Control c.args.dev c.args.said) _ _ c.print_output.result
           (step_told c.args.dev c.args.said c.next_fate-fate.result _ c.clear.new.self.items c.take_step.new.writer.items c.as_slice.result.now told.0 _ _ c.next_fate-fate.ensures.fate none c.clear.ensures.items told.1 c.as_slice.ensures.value told.2)
           (c.in_ok-print.ensures.written plain.style) (c.print_output.ensures.quiet plain.trace) (c.print_output.ensures.memory plain.trace);
-      does = however c.print_output.result _ (did_try c.args.dev c.args.said c.next_fate-fate.result c.args.self.now _ c.clear.new.self.items c.take_step.new.writer.items c.as_slice.result.now told.0 _ _ c.next_fate-fate.ensures.fate c.clear.ensures.items told.1 c.as_slice.ensures.value told.2
+      does = ok_so c.print_output.result (Waits c.args.self.now.options.trace c.args.self.now.printer.transcript c.print_output.new.self.transcript c.as_slice.result.now) _
+          (λ waits. did_try c.args.dev c.args.said c.next_fate-fate.result c.args.self.now _ c.clear.new.self.items c.take_step.new.writer.items c.as_slice.result.now told.0 _ _ c.next_fate-fate.ensures.fate c.clear.ensures.items told.1 c.as_slice.ensures.value told.2
           (λ plain. subst (Appends (g.W.Sink.contents c.args.writer.now) (g.W.Sink.contents c.print_output.new.writer)) (append-nil c.as_slice.result.now)
           (Appends-trans (g.W.Sink.contents c.args.writer.now) (g.W.Sink.contents c.print.new.writer) (g.W.Sink.contents c.print_output.new.writer) c.as_slice.result.now [] (c.in_ok-print.ensures.written plain.style) (c.print_output.ensures.quiet plain.trace)))
-          c.next_fate-fate.ensures.its c.next_fate-fate.ensures.others refl);
+          c.next_fate-fate.ensures.its c.next_fate-fate.ensures.others refl waits)
+          (ok_output c.print_output.result c.args.self.now.options.trace c.args.self.now.printer.transcript c.print.new.self.transcript c.print_output.new.self.transcript c.as_slice.result.now c.as_bytes.result.now c.args.dev (awaited_at c.args.self.now.outputs c.args.dev) c.in_ok-print.ensures.kept
+          (subst (IsAwaited (awaited_at c.args.self.now.outputs c.args.dev) c.args.dev) (sym c.as_bytes.ensures.value)
+          (subst (λ o. IfSome o (λ text. IsAwaited (awaited_at c.args.self.now.outputs c.args.dev) c.args.dev (string_bytes text))) c.in-Ok-Some.field-0-is c.in-Ok-Some.ensures.its)) c.print_output.ensures.kept c.print_output.ensures.optional);
     }
 
 pub returns-in-Ok-None : goal.returns-in-Ok-None
@@ -62,5 +71,8 @@ returns-in-Ok-None g c =
         c.in_ok-print.ensures.written plain.style,
         step_told c.args.dev c.args.said c.next_fate-fate.result _ c.clear.new.self.items c.take_step.new.writer.items c.as_slice.result.now told.0 _ _ c.next_fate-fate.ensures.fate none c.clear.ensures.items told.1 c.as_slice.ensures.value told.2,
       );
-      does = did_try c.args.dev c.args.said c.next_fate-fate.result c.args.self.now _ c.clear.new.self.items c.take_step.new.writer.items c.as_slice.result.now told.0 _ _ c.next_fate-fate.ensures.fate c.clear.ensures.items told.1 c.as_slice.ensures.value told.2 (λ plain. c.in_ok-print.ensures.written plain.style) c.next_fate-fate.ensures.its c.next_fate-fate.ensures.others refl;
+      does = ok_so {A = Unit {0}} {B = Cause} (Ok tt) (Waits c.args.self.now.options.trace c.args.self.now.printer.transcript c.print.new.self.transcript c.as_slice.result.now) _
+          (λ waits. did_try c.args.dev c.args.said c.next_fate-fate.result c.args.self.now _ c.clear.new.self.items c.take_step.new.writer.items c.as_slice.result.now told.0 _ _ c.next_fate-fate.ensures.fate c.clear.ensures.items told.1 c.as_slice.ensures.value told.2
+          (λ plain. c.in_ok-print.ensures.written plain.style) c.next_fate-fate.ensures.its c.next_fate-fate.ensures.others refl waits)
+          (keeps_shown c.args.self.now.options.trace c.args.self.now.printer.transcript c.print.new.self.transcript c.as_slice.result.now c.as_slice.result.now refl c.in_ok-print.ensures.kept);
     }
