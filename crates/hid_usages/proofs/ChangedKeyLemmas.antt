@@ -133,7 +133,7 @@ on_stays bs xs p on = rw on (none (is_on bs p))
     none true = refl
     none false = refl
 
-same_place : (min : ℤ) (p q : ℕ) (v : ℤ) → v ≡ min +ℤ pos p → v ≡ min +ℤ pos q → p ≡ q
+pub same_place : (min : ℤ) (p q : ℕ) (v : ℤ) → v ≡ min +ℤ pos p → v ≡ min +ℤ pos q → p ≡ q
 same_place min p q v h k = omega (arith, ints)
 
 -- no held key is named past the last one
@@ -474,7 +474,7 @@ past_places array held v n long none p is = elim (cases_lt p n) [
       (omega (arith, long, high, length-map (keys_of_array array) (λ (key : Key). key.is_switch))))
 ]
 
-key_at : (array : KeyArray) (p : ℕ) (u : Usage) → slice_get (usages_of_array array) p ≡ Some u → p < length (keys_of_array array) → is_key_place array p ≡ is_key array.item.now p u
+pub key_at : (array : KeyArray) (p : ℕ) (u : Usage) → slice_get (usages_of_array array) p ≡ Some u → p < length (keys_of_array array) → is_key_place array p ≡ is_key array.item.now p u
 key_at array p u here within = ap (λ (o : Option Bool). unwrap_or o false) (key_here array.item.now (usages_of_array array) p u here within)
 
 pub pressable : (array : KeyArray) (held : List Bool) (p : ℕ) (u : Usage) → slice_get (usages_of_array array) p ≡ Some u → p < length (keys_of_array array) → is_key array.item.now p u ≡ true → slice_get held p ≡ Some false

@@ -9,6 +9,7 @@ pub mod KeySearchLemmas
 pub mod ChangedKeyLemmas
 pub mod TakeLemmas
 pub mod PressLemmas
+pub mod SingleKeyLemmas
 pub mod BitLemmas
 pub mod LawLemmas
 pub mod CodePartLemmas

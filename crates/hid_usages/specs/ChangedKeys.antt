@@ -1,5 +1,5 @@
 -- The keys of an array that change from one report to the next, by the numbers of its elements in both (our choice).
-use Rattle.std.specs.Prelude.{◌≡◌, ℕ, ◌<◌, ◌≤◌, ◌⊎◌, ◌==◌, ◌&&◌, Bool, true, false, All, List, length, map, slice_get, Option, Some, None, ℤ, pos, ◌+ℤ◌}
+use Rattle.std.specs.Prelude.{◌≡◌, ◌≢◌, ℕ, ◌<◌, ◌≤◌, ◌⊎◌, ◌==◌, ◌&&◌, Bool, true, false, All, List, [], ◌∷◌, length, map, slice_get, Option, Some, None, ℤ, pos, ◌+ℤ◌}
 use Rattle.std.specs.List.{list_any}
 use Rattle.hid_layout.specs.Controls.{Key}
 use Rattle.hid_snapshots.specs.Words.{is_on, is_alone}
@@ -12,6 +12,7 @@ use Rattle.hid_usages.specs.declared.changed_keys.KeyNumbers.{KeyNumbers}
 use Rattle.hid_usages.specs.declared.changed_keys.TheConstants.{MOST_ELEMENTS}
 use Rattle.hid_usages.specs.declared.elements.ElementRange.{ElementRange}
 use Rattle.hid_usages.specs.declared.key_array.KeyArray.{KeyArray}
+use Rattle.hid_usages.specs.declared.single_key.NamedUsage.{NamedUsage}
 use Rattle.hid_usages.specs.ChangedBits.{SameOutside}
 use Rattle.hid_usages.specs.KeyArrays.{keys_of_array, usages_of_array, is_rollover_number}
 use Rattle.hid_usages.specs.Reading.{FitsFields, keys_at, named_keys_from, read_keys}
@@ -75,3 +76,19 @@ pub record KnowsKeys (listed : ListedItem) (bytes last : List ℕ) (span : BitSp
   pub whole : length last ≡ report_bytes listed.layout.now listed.item.now.report
   pub same : SameOutside bytes last span
   pub left : state_after_bytes listed state last ≡ state
+
+-- the key that the one element of an array names by this number, by place
+abbrev pub key_of_number : KeyArray → ℤ → List Bool
+key_of_number array v = keys_named array (v ∷ [])
+
+-- the number names this usage of an array's list at its place, or none of the list
+abbrev pub NamesUsage : KeyArray → ℤ → Option NamedUsage → Type 0
+NamesUsage array v None = (p : ℕ) → p < length (usages_of_array array) → v ≢ (array.item.now.min +ℤ pos p)
+NamesUsage array v (Some named) =
+    (v ≡ array.item.now.min +ℤ pos named.place) × (slice_get (usages_of_array array) named.place ≡ Some named.usage)
+
+-- the number names this usage, and its place passes; or none that it names does
+abbrev pub FindsUsage : KeyArray → (ℕ → Bool) → ℤ → Option NamedUsage → Type 0
+FindsUsage array test v None = FindsKey array test v None
+FindsUsage array test v (Some named) =
+    FindsKey array test v (Some named.place) × (slice_get (usages_of_array array) named.place ≡ Some named.usage)

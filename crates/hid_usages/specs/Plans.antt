@@ -1,5 +1,5 @@
 -- The plan of a report: of each of its items what reading needs (our choice).
-use Rattle.std.specs.Prelude.{◌≡◌, ◌≢◌, ℕ, ◌+◌, ◌*◌, ◌<◌, ◌≤◌, ◌⊎◌, All, List, length, map, Option, Some, None, slice_get, if◌then◌else◌}
+use Rattle.std.specs.Prelude.{◌≡◌, ◌≢◌, ◌==◌, ℕ, ◌+◌, ◌*◌, ◌<◌, ◌≤◌, ◌⊎◌, All, List, length, map, Option, Some, None, slice_get, if◌then◌else◌}
 use Rattle.hid_report_descriptor.specs.declared.shape.Shape.{Shape}
 use Rattle.hid_report_descriptor.specs.declared.shape.Shape.TheVariants.{Padding, Variable, Array}
 use Rattle.hid_layout.specs.declared.control.ControlKind.{ControlKind}
@@ -25,10 +25,11 @@ kind_of_controls Value = kind.Values
 kind_of_controls NullValue = kind.NullValues
 kind_of_controls Relative = kind.Motions
 
--- as what the fields of an item of a shape are read: up to 32 switches of one bit each are one pattern
+-- as what the fields of an item of a shape are read: up to 32 switches of one bit each are one pattern, and an array of one
+-- element is read by itself
 abbrev pub kind_of_shape : MainItem → Shape → PlannedKind
 kind_of_shape item Padding = kind.Padding
-kind_of_shape item Array = kind.Keys
+kind_of_shape item Array = if item.count == 1 then kind.Key else kind.Keys
 kind_of_shape item Variable = if are_bits item then kind.Bits else kind_of_controls (element_kind item)
 
 -- as what the fields of an item are read

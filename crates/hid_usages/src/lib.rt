@@ -41,6 +41,7 @@ mod report_index;
 mod report_lookup;
 mod report_plans;
 mod reset_events;
+mod single_key;
 mod take;
 mod take_plan;
 mod value_range;

@@ -33,6 +33,8 @@ pub(crate) enum PlannedKind {
     NullValues,
     /// As motions.
     Motions,
+    /// As the key that the one element of an array names.
+    Key,
     /// As keys that the elements of an array name.
     Keys,
 }
@@ -75,7 +77,13 @@ fn planned_kind(item: &MainItem) -> PlannedKind
 {
     match item.shape {
         Shape::Padding => PlannedKind::Padding,
-        Shape::Array => PlannedKind::Keys,
+        Shape::Array => {
+            if item.count == 1 {
+                PlannedKind::Key
+            } else {
+                PlannedKind::Keys
+            }
+        }
         Shape::Variable => variable_kind(item),
     }
 }

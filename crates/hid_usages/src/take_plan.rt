@@ -1,6 +1,6 @@
 //! A report is read by its plan: of the items that have changed bits, the elements that have.
 
-ghost use Rattle.std.specs.Prelude.{◌≡◌, ◌<◌, ◌≤◌, ◌+◌, length, map, slice_get, Some, true};
+ghost use Rattle.std.specs.Prelude.{◌≡◌, ◌<◌, ◌≤◌, ◌+◌, length, map, slice_get, Some, true, [], ◌∷◌};
 ghost use Rattle.hid_layout.specs.Controls.{items_of, controls_of_form};
 ghost use Rattle.hid_layout.specs.declared.control.ControlKind.TheVariants as ControlKind;
 ghost use Rattle.hid_snapshots.specs.ControlStates.{HasRoom, FitsView};
@@ -8,13 +8,13 @@ ghost use Rattle.hid_snapshots.specs.Events.{key_events, usages_at, HasPlaces};
 ghost use Rattle.hid_usages.specs.Appending.{HasSpace, Appends};
 ghost use Rattle.hid_usages.specs.Bits.{are_bits};
 ghost use Rattle.hid_usages.specs.EventSources.{AreUsages};
-ghost use Rattle.hid_usages.specs.Reading.{keys_at};
+ghost use Rattle.hid_usages.specs.Reading.{FitsFields, keys_at};
 ghost use Rattle.hid_usages.specs.Taking.{IsInReport, HasEventRoomAt, NoFlagSet, NoFlagSetFor, form_in, events_of_numbers};
 ghost use Rattle.hid_usages.specs.Taking.{IsReceived, ArePlacesOf, view_received, events_received, state_received, item_events_received};
 ghost use Rattle.hid_usages.specs.Taking.{IsFilled, numbers_of_bytes, state_after_bytes, events_by_bytes};
 ghost use Rattle.hid_usages.specs.Taking.{IsArrayAt};
 ghost use Rattle.hid_layout.specs.Controls.{element_kind};
-ghost use Rattle.hid_layout.specs.Reports.{first_bit};
+ghost use Rattle.hid_layout.specs.Reports.{first_bit, report_bytes};
 ghost use Rattle.hid_usages.specs.Ranges.{HoldsSpan, KnowsListed};
 ghost use Rattle.hid_usages.specs.ChangedKeys.{AreKeyNumbers, KnowsKeys, state_by_array};
 ghost use Rattle.hid_usages.specs.Known.{Knows, KnowsPlace};
@@ -26,6 +26,7 @@ use crate::elements::ElementRange;
 use crate::event_source::ItemUsages;
 use crate::key_array::KeyArray;
 use crate::plan::{PlannedItem, PlannedKind, ReportPlan, items_of_span, next_unpassed};
+use crate::single_key::{NumberChange, change_key, is_rollover, named_usage};
 use crate::take::{
     ElementNumbers, LastReport, ListedItem, ReportBytes, take_array, take_elements, take_flags,
     take_pattern,
@@ -164,6 +165,19 @@ fn take_planned_item<C: FieldCodec>(
                 out,
             );
         }
+        PlannedKind::Key => {
+            take_key::<C>(
+                layout,
+                planned.place,
+                listed.item,
+                at,
+                bytes,
+                last.bytes,
+                state,
+                named,
+                out,
+            );
+        }
         PlannedKind::Keys => take_keys::<C>(&listed, bytes, last, at, state, named, out),
     }
 }
@@ -290,6 +304,91 @@ fn take_variable<C: FieldCodec>(
         numbers: &numbers,
     };
     take_elements::<C>(listed, &carried, state, out);
+}
+
+/// Sets the key of an array of one element, which the last number leaves, by the next one, and appends the events. If the last
+/// number names ErrorRollOver, that doesn't say which key is held.
+#[inline(always)]
+fn take_number<C: FieldCodec>(
+    layout: &Layout,
+    place: usize,
+    change: &NumberChange<'_>,
+    numbers: &FieldRun<'_>,
+    state: &mut ControlState,
+    named: &mut Flags,
+    out: &mut Vec<Event>,
+)
+    requires array { IsArrayAt layout.now place change.now.array.item.now
+        change.now.array.entries.now }
+    requires entries { slice_get layout.now.entries place ≡ Some change.now.array.entries.now }
+    requires fits { FitsFields change.now.array.item.now change.now.next }
+    requires numbers { numbers.now ≡ change.now.next ∷ [] }
+    requires left { state_by_array layout.now place change.now.array state.old
+        (change.now.last ∷ []) ≡ state.old }
+    requires held { HasPlaces state.old (length (keys_at layout.now place)) }
+    requires named { NoFlagSetFor state.old named.old }
+    requires room { HasSpace out.old (key_events place (usages_at layout.now place) state.old
+        (state_by_array layout.now place change.now.array state.old (change.now.next ∷ []))) }
+    ensures state { state.new
+        ≡ state_by_array layout.now place change.now.array state.old (change.now.next ∷ []) }
+    ensures named { named.new ≡ named.old }
+    ensures appends { Appends out.old (key_events place (usages_at layout.now place) state.old
+        state.new) out.new }
+{
+    if let ControlState::Switches(held) = state {
+        let last = named_usage(&change.array, change.last);
+        if is_rollover(&change.array, change.last, last) {
+            take_flags::<C>(layout, place, &change.array, numbers, held, named, out);
+        } else {
+            change_key(layout, place, change, last, held, out);
+        }
+    }
+}
+
+/// Reads the field of an array of one element, which stands at a bit of the bytes, and appends the events of its key. The bytes
+/// of the last report leave the key. Its arguments are no structs, so that the caller keeps none in memory for it.
+#[inline(never)]
+fn take_key<C: FieldCodec>(
+    layout: &Layout,
+    place: usize,
+    item: &MainItem,
+    at: usize,
+    bytes: &[u8],
+    last: &[u8],
+    state: &mut ControlState,
+    named: &mut Flags,
+    out: &mut Vec<Event>,
+)
+    requires listed { IsFilled (record { layout = layout; place = place; item = item })
+        bytes.now }
+    requires shape { item.now.shape ≡ Shape.Array }
+    requires single { item.now.count ≡ 1 }
+    requires at { at ≡ first_bit layout.now + item.now.offset }
+    requires whole { length last.now ≡ report_bytes layout.now item.now.report }
+    requires left { state_after_bytes (record { layout = layout; place = place; item = item })
+        state.old last.now ≡ state.old }
+    requires held { HasRoom (controls_of_form (form_in
+        (record { layout = layout; place = place; item = item }))) state.old }
+    requires named { NoFlagSetFor state.old named.old }
+    requires room { HasSpace out.old (events_by_bytes
+        (record { layout = layout; place = place; item = item }) state.old bytes.now) }
+    ensures state { state.new ≡ state_after_bytes
+        (record { layout = layout.entry; place = place; item = item.entry }) state.old bytes.now }
+    ensures named { named.new ≡ named.old }
+    ensures appends { Appends out.old (events_of_numbers
+        (record { layout = layout.entry; place = place; item = item.entry }) state.old state.new
+        (numbers_of_bytes (record { layout = layout.entry; place = place; item = item.entry })
+        bytes.now)) out.new }
+{
+    let entries = layout.entries(place);
+    let before = FieldRun::new(last, at, item.size, item.min < 0, item.count as usize);
+    let numbers = FieldRun::new(bytes, at, item.size, item.min < 0, item.count as usize);
+    let change = NumberChange {
+        array: KeyArray { item, entries },
+        last: before.number::<C>(0),
+        next: numbers.number::<C>(0),
+    };
+    take_number::<C>(layout, place, &change, &numbers, state, named, out);
 }
 
 /// How many keys of an array are few: comparing all of them takes less than finding those that change.
