@@ -6,6 +6,7 @@ use Rattle.hid_input.specs.Numbers.{number_of}
 use Rattle.hid_input.specs.Characters.{characters_bytes}
 use Rattle.hid_input.specs.Strings.{parts_of, strings_bytes}
 use Rattle.hid_input.specs.Hex.{spelled_bytes, is_spelled, first_word, is_offset}
+use Rattle.hid_input.specs.Decimal.{begins_no_item}
 use Rattle.hid_input.specs.Dump.{dump_of, dumps_of, dumps_in, line_below, row_bytes, words_row, enclosed_bytes, parted_bytes, shown_bytes, cells_bytes}
 
 with_a_blank : spelled_bytes (codes "05 a1") ≡ Some (0x05 ∷ 0xA1 ∷ [])
@@ -174,3 +175,13 @@ three_hex_digits = refl
 over_two_lines : strings_bytes (codes "\"\\x0\\" ++ 10 ∷ codes "5\"") ≡ Some (0x05 ∷ [])
 unfolding strings_bytes parts_of characters_bytes number_of
 over_two_lines = refl
+
+-- DB has a local tag that is reserved, 13, and 10 a main tag, 1
+a_word_of_assembly : begins_no_item (0xDB ∷ 0x05 ∷ 0x01 ∷ []) ≡ true
+a_word_of_assembly = refl
+
+an_offset_of_a_row : begins_no_item (0x10 ∷ 0x05 ∷ 0x01 ∷ []) ≡ true
+an_offset_of_a_row = refl
+
+a_usage_page_of_two_bytes : begins_no_item (0x06 ∷ 0x00 ∷ 0xFF ∷ []) ≡ false
+a_usage_page_of_two_bytes = refl

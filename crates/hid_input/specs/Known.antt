@@ -1,6 +1,7 @@
 -- Files that are known by their first bytes, and are no report descriptors (our choice: docs/PICTURES.md).
-use Rattle.std.specs.Prelude.{ℕ, Bool, ◌&&◌, ◌||◌, nat_le, List, [], ◌∷◌, length, drop, if◌then◌else◌, Option, None, Some, codes, nat_eq}
-use Rattle.std.specs.List.{starts_with}
+use Rattle.std.specs.Prelude.{ℕ, ◌==◌, Bool, ◌&&◌, ◌||◌, nat_le, List, [], ◌∷◌, length, slice_index, take, drop, if◌then◌else◌, Option, None, Some, codes, nat_eq}
+use Rattle.std.specs.List.{starts_with, list_all}
+use Rattle.std.specs.Char.{is_ascii_whitespace}
 use Rattle.usb_capture.specs.Extent.{is_capture}
 use Rattle.hid_input.specs.declared.known.KnownFile.{KnownFile}
 use Rattle.hid_input.specs.declared.known.KnownFile.TheVariants.{Capture, UsbDescriptors, Compressed, Program}
@@ -33,6 +34,20 @@ known_file bytes =
     else (if are_usb_descriptors bytes then Some UsbDescriptors
     else (if is_compressed bytes then Some Compressed
     else (if is_program bytes then Some Program else None)))
+
+-- a character of ASCII that is printed
+abbrev pub is_printed : ℕ → Bool
+is_printed byte = nat_le 32 byte && nat_le byte 126
+
+-- a byte of text with control characters: a character, white space, a zero as UTF-16 has it, or ESC
+abbrev pub is_written : ℕ → Bool
+is_written byte = is_printed byte || (is_ascii_whitespace byte || ((byte == 0) || (byte == 27)))
+
+-- bytes begin as text does: the first eight are characters, white space, zeros or ESC, and one of the first two is printed
+abbrev pub begins_text : List ℕ → Bool
+begins_text bytes =
+    nat_le 8 (length bytes)
+    && ((is_printed (slice_index bytes 0) || is_printed (slice_index bytes 1)) && list_all is_written (take 8 bytes))
 
 -- what it is, and what can be done, in words
 abbrev pub known_text : KnownFile → List ℕ

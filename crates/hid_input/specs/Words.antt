@@ -56,6 +56,16 @@ marked_digits word =
     else (if nat_le 1 (length word) && is_x (slice_index word 0) then Some (drop 1 word)
     else (if nat_le 1 (length word) && is_h (slice_index word (length word - 1)) then Some (take (length word - 1) word) else None))
 
+-- the digits that are marked, or the whole word where none are
+abbrev pub digits_by : Option (List ℕ) → List ℕ → List ℕ
+digits_by None word = word
+digits_by (Some []) word = word
+digits_by (Some (digit ∷ digits)) word = digit ∷ digits
+
+-- the digits of a word of hex, marked or not
+abbrev pub digits_of : List ℕ → List ℕ
+digits_of word = digits_by (marked_digits word) word
+
 -- the byte of a word: a pair of digits, or one or two that are marked, as 0x5, x05 and 05h
 abbrev pub byte_of_word : List ℕ → Option ℕ
 byte_of_word word = option_or (byte_of_pair word) (option_and_then byte_of_digits (marked_digits word))

@@ -1,10 +1,14 @@
 //! Files that are known by their first bytes, and are no report descriptors.
 
 ghost use Rattle.std.specs.Prelude.{◌≡◌};
-ghost use Rattle.hid_input.specs.Known.{are_usb_descriptors, is_compressed, is_program, known_file};
+ghost use Rattle.std.specs.List.{list_all};
+ghost use Rattle.hid_input.specs.Known.{are_usb_descriptors, is_compressed, is_program, known_file, is_printed, is_written, begins_text};
 
 use std::fmt;
 use usb_capture::is_capture;
+
+/// How many of the first bytes are looked at for characters.
+const FIRST: usize = 8;
 
 /// What a file is that is no report descriptor.
 #[derive(Clone, Copy, Debug, PartialEq, Eq)]
@@ -81,4 +85,36 @@ pub fn known_file(bytes: &[u8]) -> Option<KnownFile>
     } else {
         None
     }
+}
+
+/// Whether a byte is a character of ASCII that is printed.
+fn is_printed(byte: u8) -> bool
+    ensures { result ≡ is_printed byte }
+{
+    b' ' <= byte && byte <= b'~'
+}
+
+/// Whether a byte may stand in text with control characters: a character, white space, ESC, or a zero as UTF-16 has it.
+fn is_written(byte: u8) -> bool
+    ensures { result ≡ is_written byte }
+{
+    is_printed(byte) || byte.is_ascii_whitespace() || byte == 0 || byte == 0x1B
+}
+
+/// Whether each byte may stand in such text.
+fn are_written(bytes: &[u8]) -> bool
+    ensures { result ≡ list_all is_written bytes.now }
+{
+    bytes.iter().all(|byte| is_written(*byte))
+}
+
+/// Whether one of the first two bytes is printed, and each of the first eight is of a text. A descriptor may begin so too: one that
+/// can be read is one.
+pub fn begins_text(bytes: &[u8]) -> bool
+    ensures { result ≡ begins_text bytes.now }
+{
+    if bytes.len() < FIRST {
+        return false;
+    }
+    (is_printed(bytes[0]) || is_printed(bytes[1])) && are_written(&bytes[..FIRST])
 }

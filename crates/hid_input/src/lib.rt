@@ -34,7 +34,7 @@ mod ways;
 mod words;
 
 pub use fault::{InputCause, InputFault};
-pub use known::{KnownFile, known_file};
+pub use known::{KnownFile, begins_text, known_file};
 pub use reading::{descriptor_in, is_recording};
 pub use recorded::begins_recording;
 pub use words::marked_digits;

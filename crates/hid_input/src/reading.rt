@@ -4,7 +4,7 @@ ghost use Rattle.std.specs.Prelude.{◌≡◌, ℕ, false, true, List, Some, IfO
 ghost use Rattle.std.specs.List.{list_all};
 ghost use Rattle.hid_input.specs.Hex.{spelled_bytes};
 ghost use Rattle.hid_input.specs.Dump.{IsDump, HasNoOthers};
-ghost use Rattle.hid_input.specs.Decimal.{begins_with_count, HasNoOtherHex, IsOnlyHex};
+ghost use Rattle.hid_input.specs.Decimal.{is_prefix, begins_no_item, HasNoOtherHex, IsOnlyHex};
 ghost use Rattle.hid_input.specs.Forms.{form_of, Encodes, IsAlone, IsFaultOf, IsMemory};
 ghost use Rattle.hid_input.specs.Faults.{of_text, IsOfHex};
 ghost use Rattle.hid_input.specs.Text.{is_space, is_text_byte, has_printed, is_text, is_utf16, without_mark};
@@ -13,7 +13,7 @@ use crate::code::{has_array, read_array, unclear_code};
 use crate::decimal::add_decimal;
 use crate::fault::{InputCause, InputFault};
 use crate::form::{TextForm, are_digits, form_of};
-use crate::items::read_listed;
+use crate::items::{PREFIXES, read_listed};
 use crate::parts::line_number;
 use crate::recorded::{has_record, read_dumped, read_recorded};
 use crate::spelled::read_spelled;
@@ -118,11 +118,19 @@ fn read_offset_dump(alloc: Global, text: &[u8]) -> Result<Vec<u8>, InputFault>
     }
 }
 
-/// Whether the first byte begins no item of a descriptor, but may be an offset, or the number of a line or of a column.
-fn begins_with_count(bytes: &[u8]) -> bool
-    ensures { result ≡ begins_with_count bytes.now }
+/// Whether a byte is the prefix of an item, with any code of a size (HID 1.11, 6.2.2.4, 6.2.2.7 and 6.2.2.8).
+fn is_prefix(byte: u8) -> bool
+    ensures { result ≡ is_prefix byte }
 {
-    bytes.len() >= 1 && bytes[0] <= 3
+    PREFIXES.iter().any(|prefix| *prefix == byte & 0xFC)
+}
+
+/// Whether the first byte begins no item of a descriptor, but may be an offset, the number of a line or of a column, or a word such
+/// as `db` of assemblers.
+fn begins_no_item(bytes: &[u8]) -> bool
+    ensures { result ≡ begins_no_item bytes.now }
+{
+    bytes.len() >= 1 && !is_prefix(bytes[0])
 }
 
 /// The bytes of hex, which may be decimal, and of which a first column may count the bytes: in each way in which the text can be
@@ -153,7 +161,7 @@ fn read_hex(alloc: Global, text: &[u8]) -> Result<Vec<u8>, InputFault>
         → IfErr result (λ fault. fault ≡ of_text InputCause.Memory) }
 {
     let bytes = read_one_way(alloc, text)?;
-    if begins_with_count(bytes.as_slice()) {
+    if begins_no_item(bytes.as_slice()) {
         return Err(InputFault::of_text(InputCause::TwoWays));
     }
     Ok(bytes)

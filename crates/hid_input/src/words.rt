@@ -2,7 +2,7 @@
 
 ghost use Rattle.std.specs.Prelude.{◌≡◌, IfOk, map, reverse, is_some};
 ghost use Rattle.std.specs.Option.{option_map, option_copied};
-ghost use Rattle.hid_input.specs.Words.{all_bytes, IsAdded, single_byte, byte_of_digits, is_x, is_h, marked_digits, byte_of_word, is_prefixed, number_by, number_byte, hex_bytes, same_byte, constant_byte, without_suffix, element_byte, run_bytes, word_bytes};
+ghost use Rattle.hid_input.specs.Words.{all_bytes, IsAdded, single_byte, byte_of_digits, is_x, is_h, marked_digits, digits_of, byte_of_word, is_prefixed, number_by, number_byte, hex_bytes, same_byte, constant_byte, without_suffix, element_byte, run_bytes, word_bytes};
 
 use crate::digits::{byte_of, column_byte, octal_byte, pair_of};
 use crate::parts::trimmed_text;
@@ -100,8 +100,10 @@ fn number_byte(word: &[u8]) -> Option<u8>
     }
 }
 
-/// The digits of a word of hex, which may be marked.
-pub fn digits_in(word: &[u8]) -> &[u8] {
+/// The digits of a word of hex: those that are marked, or the whole word where none are.
+pub fn digits_in(word: &[u8]) -> &[u8]
+    ensures { result.now ≡ digits_of word.now }
+{
     match marked_digits(word) {
         Some([]) | None => word,
         Some(digits) => digits,

@@ -19,7 +19,7 @@ mod status;
 
 use args::{CliArgs, parse_args};
 use command_words::{FileName, print_refused_words, print_unread_words, words_of};
-use hid_input::{InputCause, InputFault, KnownFile, descriptor_in, known_file};
+use hid_input::{InputCause, InputFault, KnownFile, begins_text, descriptor_in, known_file};
 use hid_layout::{Cause, Layout, LayoutFault, Limits, MAX_DESCRIPTOR, long_report};
 use hid_notation::RefusalText;
 use hid_page::{Form, MAX_DRAWN, draw, draw_refused};
@@ -44,6 +44,9 @@ const COLUMNS: u16 = 80;
 /// The most bytes of a descriptor that are read. One that is longer is refused at byte 4,096, and the item that begins there
 /// has 258 at most.
 const MOST: usize = MAX_DESCRIPTOR + 258;
+
+/// What is reported of characters that are read as bytes: text with control characters, in which no descriptor is looked for.
+const CONTROLS: &str = "text, not a descriptor: write it without control characters, as UTF-8";
 
 /// What can be done where a name isn't UTF-8.
 const ADVICE: &str = ": give the file by < FILE";
@@ -131,14 +134,27 @@ fn draw_file(rt: &HostRuntime, asked: &CliArgs<'_>) -> u8 {
     }
 }
 
+/// What a file is that has no descriptor, if it is known: by its first bytes, or as text with control characters.
+fn known_words(rt: &HostRuntime, name: &str, bytes: &[u8]) -> Option<u8> {
+    if let Some(known) = known_file(bytes) {
+        return Some(print_known(rt, name, known));
+    }
+    if begins_text(bytes) {
+        let name = FileName(name);
+        let _ = eprintln!(rt; "hidmap: {name}: {CONTROLS}");
+        return Some(REFUSED);
+    }
+    None
+}
+
 /// Draws a descriptor, or what it is refused for.
 fn draw_bytes(rt: &HostRuntime, asked: &CliArgs<'_>, descriptor: &[u8]) -> u8 {
     let descriptor = &descriptor[..descriptor.len().min(MOST)];
     match Layout::parse_within(rt.alloc(), Limits::Real, descriptor) {
         Ok(layout) => {
             if layout.reports().is_empty() {
-                if let Some(known) = known_file(descriptor) {
-                    return print_known(rt, asked.file, known);
+                if let Some(status) = known_words(rt, asked.file, descriptor) {
+                    return status;
                 }
                 let name = FileName(asked.file);
                 let _ = eprintln!(rt; "hidmap: {name}: no reports");
@@ -208,8 +224,8 @@ fn draw_refusal(
 ) -> u8
     requires { length descriptor.now ≤ MOST }
 {
-    if let Some(known) = known_file(descriptor) {
-        return print_known(rt, asked.file, known);
+    if let Some(status) = known_words(rt, asked.file, descriptor) {
+        return status;
     }
     let name = FileName(asked.file);
     let _ = eprintln!(rt; "hidmap: {name}: {refusal}");
