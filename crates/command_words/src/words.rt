@@ -1,6 +1,6 @@
 //! The words of the command line.
 
-ghost use Rattle.std.specs.Prelude.{◌≡◌, IsOk, IfOk, IfErr, string_bytes};
+ghost use Rattle.std.specs.Prelude.{◌≡◌, ◌∷◌, [], ◌++◌, ◌+◌, length, IsOk, IfOk, OnOk, IfErr, string_bytes};
 ghost use Rattle.std.specs.Str.{IsUtf8};
 
 use crate::names::{FileName, ShownBytes};
@@ -103,7 +103,10 @@ impl Words {
     }
 
     /// Adds a word.
-    fn push(&mut self, alloc: Global, word: String) -> Result<(), AllocError> {
+    fn push(&mut self, alloc: Global, word: String) -> Result<(), AllocError>
+        ensures given { OnOk result (self.new.given.items ≡ self.old.given.items ++ word ∷ []) }
+        ensures shown { OnOk result (length self.new.shown.items ≡ 1 + length self.old.shown.items) }
+    {
         let name = FileName(word.as_str());
         let shown = format!(in alloc; "{name}")?;
         self.shown.push(shown).map_err(AllocError::from)?;
