@@ -197,10 +197,14 @@ impl Draft {
         }
     }
 
-    /// Adds a range of usages, for so many fields or for a few more.
+    /// Adds a range of usages, for so many fields, for a few more, or of as many as an array of many keys has.
     fn usage_range(&mut self, dice: &mut Dice, count: u32) -> Result<(), Stop> {
         let least = dice.below(5);
-        let more = if dice.one_in(4) { dice.below(250) } else { 0 };
+        let more = match dice.below(16) {
+            0 => dice.within(513, 65_000),
+            1..=4 => dice.below(250),
+            _ => 0,
+        };
         let greatest = least.saturating_add(count).saturating_add(more);
         self.writer.number(Item::UsageMinimum, least)?;
         self.writer.number(Item::UsageMaximum, greatest)
