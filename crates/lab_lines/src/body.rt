@@ -7,6 +7,7 @@ ghost use Rattle.lab_lines.specs.Roles.{repeat_role, role_of, depth_after, added
 
 use hid_text::{first_word, read_count};
 use std::alloc::{AllocError, Global};
+use std::mem::swap;
 
 /// The most bytes of a body, line feeds included.
 pub const MAX_BODY: usize = 1 << 20;
@@ -92,11 +93,15 @@ fn rounds_of(alloc: Global, text: &[u8], most: u16) -> Result<(Vec<u8>, u16), Al
     ensures count { IfOk result (λ r. (0 < r.1) × (r.1 ≤ most)) }
     ensures room { IfOk result (λ r. (0 < length r.0.items) × (length r.0.items ≤ 4096)) }
 {
-    let mut rounds = Vec::from_slice(alloc, text)?;
+    let mut rounds = Vec::with_capacity(alloc, PIECE)?;
+    let mut twice = Vec::with_capacity(alloc, PIECE)?;
+    rounds.extend_from_slice(text)?;
     let mut count = 1;
     while count <= most / 2 && rounds.len() <= PIECE / 2 {
-        let half = Vec::from_slice(alloc, rounds.as_slice())?;
-        rounds.extend_from_slice(half.as_slice())?;
+        twice.clear();
+        twice.extend_from_slice(rounds.as_slice())?;
+        twice.extend_from_slice(rounds.as_slice())?;
+        swap(&mut rounds, &mut twice);
         count += count;
     }
     Ok((rounds, count))
