@@ -7,6 +7,7 @@ pub mod NothingLemmas
 pub mod PrintedLemmas
 pub mod RunLemmas
 pub mod ScriptLineLemmas
+pub mod ShortLemmas
 pub mod Vectors
 pub mod WaitLemmas
 pub mod WordLemmas

@@ -161,6 +161,12 @@ ShortLineDoes (short.Poll dev fate count) = PollLineDoes dev fate count
 ShortLineDoes (short.Control dev fate count) = Often count (Tries dev fate)
 ShortLineDoes said = DoesPart (Says (line.Step said))
 
+-- a short line is one part: it polls so often under one fate, or polls and tries nothing
+abbrev pub IsOnePart : Moment → ShortLine → Type 0
+IsOnePart before (short.Poll dev fate count) = before.chance dev ≡ None
+IsOnePart before (short.Control dev fate count) = ⊥
+IsOnePart before said = Unit {0}
+
 -- a line of a script, as hid_text reads it
 abbrev pub ScriptLineDoes : List ℕ → Moment → List Part → List ℕ → Moment → Type 0
 ScriptLineDoes bytes before parts text after =

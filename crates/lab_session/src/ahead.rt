@@ -11,6 +11,7 @@ use hid_script::{Cause, Sink};
 use hid_text::split_line;
 use lab_lines::MAX_LAB_LINE;
 use std::alloc::{AllocError, Global};
+use std::mem::swap;
 
 /// The most bytes of a line with the one carriage return at its end.
 const MAX_BEGUN: usize = MAX_LAB_LINE + 1;
@@ -23,6 +24,8 @@ const MAX_READS: u32 = 1_000_000;
 pub struct Ahead {
     alloc: Global,
     bytes: Vec<u8>,
+    /// Room for the bytes that are left before a read, which is used again.
+    spare: Vec<u8>,
     from: usize,
     lines: usize,
     waits: bool,
@@ -42,6 +45,7 @@ impl Ahead {
         Ahead {
             alloc,
             bytes: Vec::new(alloc),
+            spare: Vec::new(alloc),
             from: 0,
             lines: 0,
             waits,
@@ -96,9 +100,11 @@ impl Ahead {
         ensures from { OnOk result (self.new.from ≡ 0) }
         ensures lines { self.new.lines ≡ self.old.lines }
     {
-        let kept = Vec::from_slice(self.alloc, self.unread())?;
+        self.spare.clear();
+        self.spare
+            .extend_from_slice(&self.bytes.as_slice()[self.from..])?;
         self.from = 0;
-        self.bytes = kept;
+        swap(&mut self.bytes, &mut self.spare);
         Ok(())
     }
 

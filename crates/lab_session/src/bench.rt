@@ -1,6 +1,6 @@
 //! The bench between two lines, and how a line is carried out.
 
-ghost use Rattle.std.specs.Prelude.{◌≡◌, ◌||◌, ℕ, List, Option, None, Err, IfOk, IfErr, OnOk, is_some};
+ghost use Rattle.std.specs.Prelude.{◌≡◌, ◌||◌, true, ℕ, List, Option, None, Err, IfOk, IfErr, OnOk, is_some};
 ghost use Rattle.std.specs.Option.{option_map};
 ghost use Rattle.hid_text.specs.declared.change_kind.ChangeKind.TheVariants.{Press, Release};
 ghost use Rattle.hid_bus.specs.declared.step.Step.TheVariants as Taking;
@@ -11,13 +11,14 @@ ghost use Rattle.hid_script.specs.LineOutput.{Begins, CarriesOut, LineBegins, Li
 ghost use Rattle.hid_script.specs.Place.{AppendsOnce, AppendsOutput};
 ghost use Rattle.lab_expectations.specs.Expectations.{answer_of};
 ghost use Rattle.lab_session.specs.Asking.{asked_said};
+ghost use Rattle.lab_lines.specs.LabLines.{Short};
 ghost use Rattle.lab_session.specs.Expecting.{Expects, ExpectsNone, IsForgotten, LineExpects, ReadExpects, came_words};
 ghost use Rattle.lab_session.specs.Parts.{Says, Changes, LaysOut, ShowsValues, Attaches};
 ghost use Rattle.lab_session.specs.Printed.{IsPlain, is_styled};
 
 use super::answers::{ends_transfer, has_nothing, is_repeated};
 use super::asked::{Asked, asked_of, unread_cause};
-use super::controls::{kind_of, kind_of_usage, no_control};
+use super::controls::{kind_of, no_control, refused_control};
 use super::counts::Counts;
 use super::draws::Draws;
 use super::fault::LabCause;
@@ -29,7 +30,7 @@ use hid_layout::{ControlId, ControlKind, Usage};
 use hid_requests::Boot;
 use hid_script::{Cause, Interpreter, Options, Sink};
 use hid_stack::{StackFault, Start, Step};
-use hid_text::{ChangeKind, ShortLine, read_short, says_nothing};
+use hid_text::{ChangeKind, ShortLine, read_short};
 use lab_expectations::{Expectation, unknown_usage};
 use lab_lines::{
     ControlName, Key, LEFT_SHIFT, LabLine, TypedText, find_control, key_of, read_hex, read_lab_line,
@@ -63,13 +64,13 @@ impl Bench {
     ghost use Rattle.hid_script.specs.Session.{Repeats, at_first};
     ghost use Rattle.hid_script.specs.Steps.{StepPrints};
     ghost use Rattle.hid_text.specs.Line.{meaning_of};
-    ghost use Rattle.lab_session.specs.Bench.{Does, DoesLine, DoesSaid, moment_of};
+    ghost use Rattle.lab_session.specs.Bench.{Does, DoesLine, DoesSaid, EndsPart, moment_of};
     ghost use Rattle.lab_session.specs.Scripts.{IsScripts, IsUndrawn, PrintsAs, PrintsSaid, end_of};
     ghost use Rattle.lab_session.specs.Chances.{chance_at};
     ghost use Rattle.hid_stack.specs.Attaching.{Finds};
     ghost use Rattle.hid_stack.specs.Rig.{member_at};
     ghost use Rattle.hid_script.specs.LineOutput.{stack_cause};
-    ghost use Rattle.lab_session.specs.Lines.{Clicks, ClicksKey, ClicksShifted, DoesBytes, DoesPart, Loses, NamesControl, Often, PollLineDoes, Polls, PollsOnce, ScriptLineDoes, LineUnsettled, Settles, SettlesChange, ShortLineDoes, StaysUnsettled, Tries, Types, seed_by};
+    ghost use Rattle.lab_session.specs.Lines.{Clicks, ClicksKey, ClicksShifted, DoesBytes, DoesPart, IsOnePart, Loses, NamesControl, Often, PollLineDoes, Polls, PollsOnce, ScriptLineDoes, LineUnsettled, Settles, SettlesChange, ShortLineDoes, StaysUnsettled, Tries, Types, seed_by};
     ghost use Rattle.lab_lines.specs.ControlNames.{named_of};
     ghost use Rattle.lab_lines.specs.LabLines.{lab_meaning, said_of};
 
@@ -103,7 +104,7 @@ impl Bench {
         })
     }
 
-    /// What was counted.
+    /// What was counted: of polls no more than their number, unless a summary is asked for or each is made by itself.
     pub fn counts(&self) -> Counts {
         let mut counts = self.counts;
         counts.events = self.events();
@@ -137,7 +138,7 @@ impl Bench {
     ///
     /// # Errors
     /// X1 or X2 where no line of the bench stands there; else why it is not carried out. What it printed before stands.
-    #[inline(always)] // a comment does nothing
+    #[inline(never)] // an empty line makes no room for what a line says
     pub fn line<'a, W: Sink>(
         &mut self,
         line: &'a [u8],
@@ -153,36 +154,70 @@ impl Bench {
         ensures unsettled { end_of result ≡ Err LabCause.Unsettled
             → (dev : ℕ) × StaysUnsettled dev (moment_of self.new) }
     {
-        if says_nothing(line) {
+        let Some(short) = read_short(line) else {
+            return self.long_line(line, writer);
+        };
+        if !self.is_one_part(&short) {
+            return self.some_parts(&short, writer);
+        }
+        self.counts.add_line(&short);
+        self.text.clear();
+        let part = self.interpreter.repeat(&short, &mut self.text);
+        if part.is_ok() && self.text.as_slice().is_empty() {
             return Ok(None);
         }
-        self.some_line(line, writer)
+        self.end_part(&short, part, writer)
     }
 
-    /// Reads any line, and carries it out: no new line is a short one.
-    #[inline(never)] // an empty line makes no room for what a line says
-    fn some_line<'a, W: Sink>(
+    /// Whether a short line is one part: none of its polls and tries is made by itself.
+    #[inline(always)] // a few comparisons
+    fn is_one_part(&self, short: &ShortLine) -> bool
+        ensures { result ≡ true → IsOnePart (moment_of self.now) short.now }
+    {
+        match *short {
+            ShortLine::Poll { dev, .. } => !self.polls_singly(dev),
+            ShortLine::Control { .. } => false,
+            _ => true,
+        }
+    }
+
+    /// Carries out any short line.
+    #[inline(never)] // most are one part
+    fn some_parts<'a, W: Sink>(
         &mut self,
-        line: &'a [u8],
+        short: &ShortLine,
         writer: &mut W,
     ) -> Result<Option<Asked<'a>>, LabCause>
-        ensures does { IfOk result (λ asked. DoesLine line.now (option_map asked_said asked) self.old
+        ensures does { IfOk result (λ asked. (asked ≡ None) × Does (ShortLineDoes short.now) self.old
             self.new (W.contents writer.old) (W.contents writer.new)) }
-        ensures prints { IsPlain self.old.options → IsUndrawn (moment_of self.old) → IsScripts line.now
-            → PrintsAs (W.contents writer.old) (W.contents writer.new) (meaning_of line.now)
+        ensures prints { IsPlain self.old.options → IsUndrawn (moment_of self.old)
+            → PrintsSaid (W.contents writer.old) (W.contents writer.new) (Short short.now)
             (session_of self.old.interpreter) (end_of result) (session_of self.new.interpreter) }
-        ensures expects { ReadExpects (lab_meaning line.now) self.old.printer.transcript
-            self.new.printer.transcript self.new.came.items (end_of result) }
-        ensures unsettled { end_of result ≡ Err LabCause.Unsettled
-            → (dev : ℕ) × StaysUnsettled dev (moment_of self.new) }
+        ensures settled { end_of result ≡ Err LabCause.Unsettled → ⊥ }
     {
-        match read_short(line) {
-            Some(short) => {
-                self.short_line(&short, writer)?;
-                Ok(None)
-            }
-            None => self.long_line(line, writer),
-        }
+        self.short_line(short, writer)?;
+        Ok(None)
+    }
+
+    /// Prints what a short line printed, and notes the control of a change that is refused.
+    #[inline(never)] // most short lines print nothing
+    fn end_part<'a, W: Sink>(
+        &mut self,
+        short: &ShortLine,
+        part: Result<(), Cause>,
+        writer: &mut W,
+    ) -> Result<Option<Asked<'a>>, LabCause>
+        ensures { EndsPart self.old self.new (W.contents writer.old) (W.contents writer.new) part result }
+    {
+        self.control = refused_control(self.interpreter.rig(), short, &part);
+        self.printer.print_part(
+            &self.options,
+            part,
+            self.text.as_slice(),
+            self.interpreter.delivered(),
+            writer,
+        )?;
+        Ok(None)
     }
 
     /// Reads a line that isn't short, or any other, and carries it out.
@@ -278,7 +313,6 @@ impl Bench {
     }
 
     /// A short line of a script, whose fates are those that it says.
-    #[inline(always)] // most lines are short
     fn short_part<W: Sink>(&mut self, short: &ShortLine, writer: &mut W) -> Result<(), Cause>
         ensures prints { IsPlain self.old.options → AppendsOutput (W.contents writer.old)
             (W.contents writer.new)
@@ -397,7 +431,6 @@ impl Bench {
     }
 
     /// A short line of a script, with the fates that are drawn.
-    #[inline(always)] // most lines are short
     #[tactic(auto, unfolding(crate::specs::Lines::ShortLineDoes))]
     fn short_line<W: Sink>(&mut self, short: &ShortLine, writer: &mut W) -> Result<(), Cause>
         ensures prints { IsPlain self.old.options → IsUndrawn (moment_of self.old)
@@ -411,21 +444,17 @@ impl Bench {
         match *short {
             ShortLine::Poll { dev, fate, count } => self.poll_line(dev, fate, count, writer),
             ShortLine::Control { dev, fate, count } => self.tries(dev, fate, count, writer),
-            ShortLine::Press { dev, usage }
-            | ShortLine::Release { dev, usage }
-            | ShortLine::Null { dev, usage }
-            | ShortLine::Set { dev, usage, .. }
-            | ShortLine::Move { dev, usage, .. } => {
-                match self.short_part(short, writer) {
-                    Ok(()) => Ok(()),
-                    Err(cause) => {
-                        self.control = kind_of_usage(self.interpreter.rig(), dev, usage);
-                        Err(cause)
-                    }
-                }
-            }
-            ShortLine::Frame { .. } | ShortLine::Reset { .. } | ShortLine::Halt { .. } => {
-                self.short_part(short, writer)
+            ShortLine::Press { .. }
+            | ShortLine::Release { .. }
+            | ShortLine::Null { .. }
+            | ShortLine::Set { .. }
+            | ShortLine::Move { .. }
+            | ShortLine::Frame { .. }
+            | ShortLine::Reset { .. }
+            | ShortLine::Halt { .. } => {
+                let end = self.short_part(short, writer);
+                self.control = refused_control(self.interpreter.rig(), short, &end);
+                end
             }
         }
     }
@@ -439,7 +468,6 @@ impl Bench {
     }
 
     /// `poll D FATE N`.
-    #[inline(always)] // most lines poll
     fn poll_line<W: Sink>(
         &mut self,
         dev: u8,
@@ -459,7 +487,7 @@ impl Bench {
         if self.polls_singly(dev) {
             return self.polls(dev, fate, count, writer);
         }
-        self.counts.add_polls(fate, u64::from(count));
+        self.counts.add_polls(u64::from(count));
         self.short_part(&ShortLine::Poll { dev, fate, count }, writer)
     }
 

@@ -1,9 +1,10 @@
 //! What a run counts.
 
+use hid_text::ShortLine;
 use std::fmt;
 use usb_transact::Fate;
 
-/// How often what happened. Counts stop at the greatest `u64`.
+/// How often what happened. Counts stop at the greatest `u64`. Fates and repetitions of polls are counted where a summary is asked for.
 #[derive(Clone, Copy, Debug, Default, PartialEq, Eq)]
 pub struct Counts {
     /// Polls.
@@ -45,15 +46,23 @@ impl Counts {
         }
     }
 
-    /// Counts polls under one fate, whose data the host may have had or not.
-    pub fn add_polls(&mut self, fate: Fate, count: u64) {
+    /// Counts polls of which nothing but their number is asked for.
+    pub fn add_polls(&mut self, count: u64) {
         add(&mut self.polls, count);
-        self.add_fate(fate, count);
+    }
+
+    /// Counts the polls of a line, if it polls, and nothing but their number.
+    #[inline(always)] // one comparison
+    pub fn add_line(&mut self, line: &ShortLine) {
+        if let ShortLine::Poll { count, .. } = *line {
+            self.add_polls(u64::from(count));
+        }
     }
 
     /// Counts a poll.
     pub fn add_poll(&mut self, fate: Fate, is_repeated: bool) {
-        self.add_polls(fate, 1);
+        self.add_polls(1);
+        self.add_fate(fate, 1);
         if is_repeated {
             add(&mut self.repeated, 1);
         }

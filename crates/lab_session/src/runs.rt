@@ -21,7 +21,7 @@ use super::feed::Feed;
 use super::need::Need;
 use super::watch::Watch;
 use hid_script::{Cause, Sink, Summary};
-use hid_text::split_line;
+use hid_text::{says_nothing, split_line};
 
 /// How many lines a source has at most.
 const MAX_LINES: usize = 1_000_000_000_000;
@@ -111,6 +111,9 @@ fn run_line<'a, W: Sink>(
     ensures refused { IfErr result (λ fault. (fault.line ≡ before + 1)
         × RefusesLine line.now fault.cause bench.old bench.new) }
 {
+    if says_nothing(line) {
+        return Ok(None);
+    }
     match bench.line(line, writer) {
         Ok(asked) => Ok(asked),
         Err(cause) => Err(LabFault {
@@ -179,16 +182,19 @@ fn run_lines<'a, W: Sink>(
     let mut rest = text;
     let mut count = before;
     while let Some((last, behind)) = split_line(rest) {
-        let asked = run_line(bench, count, without_return(last), writer)?;
+        match run_line(bench, count, without_return(last), writer) {
+            Ok(None) => {}
+            Ok(Some(asked)) => {
+                return Ok(Done::Asks {
+                    asked,
+                    lines: count + 1,
+                    rest: behind,
+                });
+            }
+            Err(fault) => return Err(fault),
+        }
         count += 1;
         rest = behind;
-        if let Some(asked) = asked {
-            return Ok(Done::Asks {
-                asked,
-                lines: count,
-                rest,
-            });
-        }
     }
     Ok(Done::Lines { lines: count, rest })
 }

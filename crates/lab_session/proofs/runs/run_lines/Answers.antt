@@ -1,40 +1,38 @@
 use Rattle.hid_text.proofs.PieceLemmas.{behind_line, shorter_behind}
-use Rattle.std.proofs.Common.{[], ◌∷◌, ◌++◌, ◌+◌, refl, sym, subst, arith, None, Some, Ok, Err}
+use Rattle.std.proofs.Common.{◌≡◌, [], ◌∷◌, ◌++◌, ◌+◌, refl, sym, subst, arith, None, Some, Ok, Err}
 use Rattle.std.specs.Option.{option_map}
 use Rattle.std.specs.Str.Lines.{lines, strip_carriage_return}
 use Rattle.lab_session.specs.Asking.{asked_said}
 use Rattle.lab_session.specs.Carrying.{CameLines, CarriesLine, RefusesLine}
-use Rattle.lab_session.proofs.CarryLemmas.{asks_next, carried_as, carried_first, carried_next, no_asked, refused_next}
+use Rattle.lab_session.proofs.CarryLemmas.{asks_next, carried_as, carried_first, carried_next, refused_next}
 use Rattle.lab_session.specs.Scripts.{IsScripts, LineRan, LinesRan}
-use Rattle.lab_session.proofs.DoingLemmas.{err_is}
 use Rattle.lab_session.proofs.RunLemmas.{behind_more, goes_on, goes_out, goes_start, lines_split, next_old}
 use Rattle.lab_session.proofs.runs.run_lines.Goals as goal
 
-pub returns-in_err-asked-clause-script : goal.returns-in_err-asked-clause-script
-returns-in_err-asked-clause-script g c = λ plain undrawn more old.
+pub returns-in-Err-clause-script : goal.returns-in-Err-clause-script
+returns-in-Err-clause-script g c = λ plain undrawn more old.
     let h = c.loop-last.invariant.2 plain undrawn more old in
     let U = g.W.Sink.contents c.args.writer.now in
     let V = g.W.Sink.contents c.loop-last.writer in
     let W = g.W.Sink.contents c.run_line.new.writer in
     let is = behind_more c.loop-last.rest.now c.in-Some.last.now c.in-Some.behind.now more c.in-Some.ensures.1 in
     let line = subst IsScripts (sym c.without_return.ensures) (next_old c.args.bench.now c.loop-last.bench U V (c.args.text.now ++ more) (c.loop-last.rest.now ++ more) c.in-Some.last.now (c.in-Some.behind.now ++ more) c.args.before c.loop-last.count c.in-Some.ensures.0 is h) in
-    let ran = subst (λ l. LineRan c.loop-last.bench c.run_line.new.bench V W l c.loop-last.count (Err c.in_err-asked.field-0.0)) c.without_return.ensures (c.in_err-asked.ensures.script h.0 h.1 line) in
-    subst (λ r. LinesRan c.args.bench.now c.run_line.new.bench U W c.args.text.now c.args.before more r) (sym (err_is c.from_residual.result _ c.from_residual.ensures.1))
-    (goes_out c.args.bench.now c.loop-last.bench c.run_line.new.bench U V W (c.args.text.now ++ more) (c.loop-last.rest.now ++ more) c.in-Some.last.now (c.in-Some.behind.now ++ more) c.args.before c.loop-last.count c.in_err-asked.field-0.0 c.in-Some.ensures.0 is h ran)
+    let ran = subst (λ l. LineRan c.loop-last.bench c.run_line.new.bench V W l c.loop-last.count (Err c.in-Err.fault)) c.without_return.ensures (c.in-Err.ensures.script h.0 h.1 line) in
+    (goes_out c.args.bench.now c.loop-last.bench c.run_line.new.bench U V W (c.args.text.now ++ more) (c.loop-last.rest.now ++ more) c.in-Some.last.now (c.in-Some.behind.now ++ more) c.args.before c.loop-last.count c.in-Err.fault c.in-Some.ensures.0 is h ran)
 
-pub returns-in-Some-asked-clause-script : goal.returns-in-Some-asked-clause-script
-returns-in-Some-asked-clause-script g c = λ plain undrawn more old.
+pub returns-in-Ok-Some-clause-script : goal.returns-in-Ok-Some-clause-script
+returns-in-Ok-Some-clause-script g c = λ plain undrawn more old.
     let h = c.loop-last.invariant.2 plain undrawn more old in
     let U = g.W.Sink.contents c.args.writer.now in
     let V = g.W.Sink.contents c.loop-last.writer in
     let bytes = behind_more c.loop-last.rest.now c.in-Some.last.now c.in-Some.behind.now more c.in-Some.ensures.1 in
     let line = subst IsScripts (sym c.without_return.ensures) (next_old c.args.bench.now c.loop-last.bench U V (c.args.text.now ++ more) (c.loop-last.rest.now ++ more) c.in-Some.last.now (c.in-Some.behind.now ++ more) c.args.before c.loop-last.count c.in-Some.ensures.0 bytes h) in
-    let none = (c.in_ok-asked.ensures.script h.0 h.1 line).0 in
-    let is = c.in-Some-asked.is in
+    let none = (c.in-Ok-Some.ensures.script h.0 h.1 line).0 in
+    let is = c.in-Ok-Some.is in
     absurd (cc)
 
-pub returns-in-Some-asked-clause-rest : goal.returns-in-Some-asked-clause-rest
-returns-in-Some-asked-clause-rest g c =
+pub returns-in-Ok-Some-clause-rest : goal.returns-in-Ok-Some-clause-rest
+returns-in-Ok-Some-clause-rest g c =
     let before = c.loop-last.invariant.1 in (
       (before.0 ++ (c.in-Some.last.now ++ 10 ∷ []), behind_line c.args.text.now before.0 c.loop-last.rest.now c.in-Some.last.now c.in-Some.behind.now before.1 c.in-Some.ensures.1),
       omega (arith, c.loop-last.invariant.0, shorter_behind c.loop-last.rest.now c.in-Some.last.now c.in-Some.behind.now c.in-Some.ensures.1),
@@ -52,14 +50,16 @@ loop-last-preserved g c =
           let W = g.W.Sink.contents c.run_line.new.writer in
           let is = behind_more c.loop-last.rest.now c.in-Some.last.now c.in-Some.behind.now more c.in-Some.ensures.1 in
           let line = subst IsScripts (sym c.without_return.ensures) (next_old c.args.bench.now c.loop-last.bench U V (c.args.text.now ++ more) (c.loop-last.rest.now ++ more) c.in-Some.last.now (c.in-Some.behind.now ++ more) c.args.before c.loop-last.count c.in-Some.ensures.0 is h) in
-          let ran = subst (λ l. LineRan c.loop-last.bench c.run_line.new.bench V W l c.loop-last.count (Ok c.in_ok-asked.asked)) c.without_return.ensures (c.in_ok-asked.ensures.script h.0 h.1 line) in
-          goes_on c.args.bench.now c.loop-last.bench c.run_line.new.bench U V W (c.args.text.now ++ more) (c.loop-last.rest.now ++ more) c.in-Some.last.now (c.in-Some.behind.now ++ more) c.args.before c.loop-last.count c.in_ok-asked.asked c.in-Some.ensures.0 is h ran,
+          let ran = subst (λ l. LineRan c.loop-last.bench c.run_line.new.bench V W l c.loop-last.count (Ok c.in-Ok-None.field-0)) c.without_return.ensures (c.in-Ok-None.ensures.script h.0 h.1 line) in
+          goes_on c.args.bench.now c.loop-last.bench c.run_line.new.bench U V W (c.args.text.now ++ more) (c.loop-last.rest.now ++ more) c.in-Some.last.now (c.in-Some.behind.now ++ more) c.args.before c.loop-last.count c.in-Ok-None.field-0 c.in-Some.ensures.0 is h ran,
       λ more.
           let V = g.W.Sink.contents c.loop-last.writer in
           let W = g.W.Sink.contents c.run_line.new.writer in
           let is = lines_split (c.loop-last.rest.now ++ more) c.in-Some.last.now (c.in-Some.behind.now ++ more) c.in-Some.ensures.0 (behind_more c.loop-last.rest.now c.in-Some.last.now c.in-Some.behind.now more c.in-Some.ensures.1) in
+          let is_ok = c.in-Ok-None.is in
+          let none : c.in-Ok-None.field-0 ≡ None = cc in
           let carried = subst (λ l. CarriesLine l None c.loop-last.bench c.run_line.new.bench V W) c.without_return.ensures
-          (subst (λ o. CarriesLine c.without_return.result.now (option_map asked_said o) c.loop-last.bench c.run_line.new.bench V W) (no_asked c.in_ok-asked.asked c.in_default-asked.not-Some) c.in_ok-asked.ensures.carries) in
+          (subst (λ o. CarriesLine c.without_return.result.now (option_map asked_said o) c.loop-last.bench c.run_line.new.bench V W) none c.in-Ok-None.ensures.carries) in
           carried_next (lines (c.args.text.now ++ more)) (lines (c.loop-last.rest.now ++ more)) (lines (c.in-Some.behind.now ++ more)) (strip_carriage_return c.in-Some.last.now) c.args.before c.loop-last.count
           c.args.bench.now c.loop-last.bench c.run_line.new.bench (g.W.Sink.contents c.args.writer.now) V W (c.loop-last.invariant.3 more) is carried,
     )
@@ -72,28 +72,29 @@ loop-last-init g c = (
   λ more. carried_first (lines (c.args.text.now ++ more)) c.args.before c.args.bench.now (g.W.Sink.contents c.args.writer.now),
 )
 
-pub returns-in_err-asked-clause-carries : goal.returns-in_err-asked-clause-carries
-returns-in_err-asked-clause-carries g c = λ more.
+pub returns-in-Err-clause-carries : goal.returns-in-Err-clause-carries
+returns-in-Err-clause-carries g c = λ more.
     let U = g.W.Sink.contents c.args.writer.now in
     let V = g.W.Sink.contents c.loop-last.writer in
     let W = g.W.Sink.contents c.run_line.new.writer in
     let is = lines_split (c.loop-last.rest.now ++ more) c.in-Some.last.now (c.in-Some.behind.now ++ more) c.in-Some.ensures.0 (behind_more c.loop-last.rest.now c.in-Some.last.now c.in-Some.behind.now more c.in-Some.ensures.1) in
     let here = carried_as (lines (c.args.text.now ++ more)) (lines (c.args.text.now ++ more)) (lines (c.loop-last.rest.now ++ more)) (strip_carriage_return c.in-Some.last.now ∷ lines (c.in-Some.behind.now ++ more))
     c.args.before c.loop-last.count c.loop-last.count c.args.bench.now c.loop-last.bench U V refl is refl (c.loop-last.invariant.3 more) in
-    let refused = subst (λ l. RefusesLine l c.in_err-asked.field-0.0.cause c.loop-last.bench c.run_line.new.bench) c.without_return.ensures c.in_err-asked.ensures.refused.1 in
-    subst (λ r. CameLines c.args.text.now c.args.before more c.args.bench.now c.run_line.new.bench U W r) (sym (err_is c.from_residual.result _ c.from_residual.ensures.1))
-    (refused_next (lines (c.args.text.now ++ more)) (lines (c.in-Some.behind.now ++ more)) (strip_carriage_return c.in-Some.last.now) c.args.before c.loop-last.count c.in_err-asked.field-0.0
-    c.args.bench.now c.loop-last.bench c.run_line.new.bench U V here c.in_err-asked.ensures.refused.0 refused)
+    let refused = subst (λ l. RefusesLine l c.in-Err.fault.cause c.loop-last.bench c.run_line.new.bench) c.without_return.ensures c.in-Err.ensures.refused.1 in
+    (refused_next (lines (c.args.text.now ++ more)) (lines (c.in-Some.behind.now ++ more)) (strip_carriage_return c.in-Some.last.now) c.args.before c.loop-last.count c.in-Err.fault
+    c.args.bench.now c.loop-last.bench c.run_line.new.bench U V here c.in-Err.ensures.refused.0 refused)
 
-pub returns-in-Some-asked-clause-carries : goal.returns-in-Some-asked-clause-carries
-returns-in-Some-asked-clause-carries g c = λ more.
+pub returns-in-Ok-Some-clause-carries : goal.returns-in-Ok-Some-clause-carries
+returns-in-Ok-Some-clause-carries g c = λ more.
     let U = g.W.Sink.contents c.args.writer.now in
     let V = g.W.Sink.contents c.loop-last.writer in
     let W = g.W.Sink.contents c.run_line.new.writer in
     let is = lines_split (c.loop-last.rest.now ++ more) c.in-Some.last.now (c.in-Some.behind.now ++ more) c.in-Some.ensures.0 (behind_more c.loop-last.rest.now c.in-Some.last.now c.in-Some.behind.now more c.in-Some.ensures.1) in
     let here = carried_as (lines (c.args.text.now ++ more)) (lines (c.args.text.now ++ more)) (lines (c.loop-last.rest.now ++ more)) (strip_carriage_return c.in-Some.last.now ∷ lines (c.in-Some.behind.now ++ more))
     c.args.before c.loop-last.count c.loop-last.count c.args.bench.now c.loop-last.bench U V refl is refl (c.loop-last.invariant.3 more) in
-    let asked = subst (λ l. CarriesLine l (Some (asked_said c.in-Some-asked.asked)) c.loop-last.bench c.run_line.new.bench V W) c.without_return.ensures
-    (subst (λ o. CarriesLine c.without_return.result.now (option_map asked_said o) c.loop-last.bench c.run_line.new.bench V W) c.in-Some-asked.is c.in_ok-asked.ensures.carries) in
+    let is_ok = c.in-Ok-Some.is in
+    let some : c.in-Ok-Some.field-0 ≡ Some c.in-Ok-Some.asked = cc in
+    let asked = subst (λ l. CarriesLine l (Some (asked_said c.in-Ok-Some.asked)) c.loop-last.bench c.run_line.new.bench V W) c.without_return.ensures
+    (subst (λ o. CarriesLine c.without_return.result.now (option_map asked_said o) c.loop-last.bench c.run_line.new.bench V W) some c.in-Ok-Some.ensures.carries) in
     asks_next (lines (c.args.text.now ++ more)) (lines (c.in-Some.behind.now ++ more)) (strip_carriage_return c.in-Some.last.now) c.args.before c.loop-last.count (c.loop-last.count + 1)
-    (asked_said c.in-Some-asked.asked) c.args.bench.now c.loop-last.bench c.run_line.new.bench U V W here asked refl
+    (asked_said c.in-Ok-Some.asked) c.args.bench.now c.loop-last.bench c.run_line.new.bench U V W here asked refl

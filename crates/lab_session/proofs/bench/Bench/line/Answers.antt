@@ -1,15 +1,60 @@
-use Rattle.hid_script.specs.Interpreter.{session_of}
-use Rattle.std.proofs.Common.{refl, Ok}
-use Rattle.lab_session.proofs.NothingLemmas.{nothing_done, nothing_expects, nothing_prints}
+use Rattle.std.proofs.Common.{◌≡◌, true, refl, sym, subst, ◌∙◌, Ok}
+use Rattle.hid_script.specs.LineOutput.{LineOutcomeOnce, times}
+use Rattle.lab_session.specs.Expecting.{ReadExpects}
+use Rattle.lab_session.specs.Scripts.{end_of}
+use Rattle.lab_session.proofs.ScriptLineLemmas.{short_read}
+use Rattle.lab_session.proofs.ShortLemmas.{none_there, ok_is, parts_done, quiet_end, short_ends}
 use Rattle.lab_session.proofs.bench.Bench.line.Goals as goal
 
-pub returns-then-says_nothing-clause-does : goal.returns-then-says_nothing-clause-does
-returns-then-says_nothing-clause-does g c = nothing_done c.args.line.now c.args.self.now (g.W.Sink.contents c.args.writer.now) (c.if-says_nothing.ensures refl)
+pub returns-then-not-is_one_part-clause-does : goal.returns-then-not-is_one_part-clause-does
+returns-then-not-is_one_part-clause-does g c =
+    parts_done c.args.line.now c.in-Some.short _ _ _ _ c.some_parts.result (sym c.in-Some.ensures.exact) c.some_parts.ensures.does
 
-pub returns-then-says_nothing-clause-prints : goal.returns-then-says_nothing-clause-prints
-returns-then-says_nothing-clause-prints g c = λ plain undrawn old.
-    nothing_prints (g.W.Sink.contents c.args.writer.now) (session_of c.args.self.now.interpreter) c.args.line.now (c.if-says_nothing.ensures refl)
+pub returns-then-not-is_one_part-clause-expects : goal.returns-then-not-is_one_part-clause-expects
+returns-then-not-is_one_part-clause-expects g c =
+    subst (λ m. ReadExpects m c.args.self.now.printer.transcript c.some_parts.new.self.printer.transcript c.some_parts.new.self.came.items (end_of c.some_parts.result))
+    (sym (short_read c.args.line.now c.in-Some.short (sym c.in-Some.ensures.exact))) tt
 
-pub returns-then-says_nothing-clause-expects : goal.returns-then-says_nothing-clause-expects
-returns-then-says_nothing-clause-expects g c =
-    nothing_expects c.args.line.now c.args.self.now.printer.transcript c.args.self.now.printer.transcript c.args.self.now.came.items (Ok tt) (c.if-says_nothing.ensures refl)
+pub returns-then-is_empty-clause-does : goal.returns-then-is_empty-clause-does
+unfolding LineOutcomeOnce times
+returns-then-is_empty-clause-does g c =
+    let one : c.is_one_part.result ≡ true = cc in
+    let ok = ok_is c.repeat-part.result (sym c.is_ok.ensures.value ∙ c.if-is_ok.true) in
+    let none = sym c.as_slice.ensures.value ∙ none_there c.as_slice.result.now (sym c.is_empty.ensures ∙ c.if-is_empty.true) in
+    (short_ends {a = c.args.self.now} (quiet_end _ _ c.repeat-part.result ok none) c.in-Some.ensures.short (c.is_one_part.ensures one) c.clear.ensures.items c.repeat-part.ensures.prints refl refl refl).does
+
+pub returns-then-is_empty-clause-prints : goal.returns-then-is_empty-clause-prints
+unfolding LineOutcomeOnce times
+returns-then-is_empty-clause-prints g c = λ plain undrawn old.
+    let one : c.is_one_part.result ≡ true = cc in
+    let ok = ok_is c.repeat-part.result (sym c.is_ok.ensures.value ∙ c.if-is_ok.true) in
+    let none = sym c.as_slice.ensures.value ∙ none_there c.as_slice.result.now (sym c.is_empty.ensures ∙ c.if-is_empty.true) in
+    (short_ends {a = c.args.self.now} (quiet_end _ _ c.repeat-part.result ok none) c.in-Some.ensures.short (c.is_one_part.ensures one) c.clear.ensures.items c.repeat-part.ensures.prints refl refl refl).prints plain
+
+pub returns-then-is_empty-clause-expects : goal.returns-then-is_empty-clause-expects
+returns-then-is_empty-clause-expects g c =
+    subst (λ m. ReadExpects m c.args.self.now.printer.transcript c.args.self.now.printer.transcript c.args.self.now.came.items (Ok tt))
+    (sym (short_read c.args.line.now c.in-Some.short (sym c.in-Some.ensures.exact))) tt
+
+pub returns-clause-does : goal.returns-clause-does
+unfolding LineOutcomeOnce times
+returns-clause-does g c =
+    let one : c.is_one_part.result ≡ true = cc in
+    (short_ends {a = c.args.self.now} c.end_part.ensures c.in-Some.ensures.short (c.is_one_part.ensures one) c.clear.ensures.items c.repeat-part.ensures.prints refl refl refl).does
+
+pub returns-clause-prints : goal.returns-clause-prints
+unfolding LineOutcomeOnce times
+returns-clause-prints g c = λ plain undrawn old.
+    let one : c.is_one_part.result ≡ true = cc in
+    (short_ends {a = c.args.self.now} c.end_part.ensures c.in-Some.ensures.short (c.is_one_part.ensures one) c.clear.ensures.items c.repeat-part.ensures.prints refl refl refl).prints plain
+
+pub returns-clause-expects : goal.returns-clause-expects
+returns-clause-expects g c =
+    subst (λ m. ReadExpects m c.args.self.now.printer.transcript c.end_part.new.self.printer.transcript c.end_part.new.self.came.items (end_of c.end_part.result))
+    (sym (short_read c.args.line.now c.in-Some.short (sym c.in-Some.ensures.exact))) tt
+
+pub returns-clause-unsettled : goal.returns-clause-unsettled
+unfolding LineOutcomeOnce times
+returns-clause-unsettled g c = λ is.
+    let one : c.is_one_part.result ≡ true = cc in
+    absurd ((short_ends {a = c.args.self.now} c.end_part.ensures c.in-Some.ensures.short (c.is_one_part.ensures one) c.clear.ensures.items c.repeat-part.ensures.prints refl refl refl).settled is)
