@@ -13,6 +13,7 @@ use Rattle.hid_script.specs.declared.fault.Cause.{Cause}
 use Rattle.hid_script.specs.Interpreter.{session_of}
 use Rattle.hid_script.specs.LineOutput.{BeginsMeant, MeaningPrints}
 use Rattle.hid_script.specs.Place.{AppendsOutput}
+use Rattle.hid_script.specs.Session.{Session}
 use Rattle.lab_expectations.specs.declared.transcript.Transcript.{Transcript}
 use Rattle.lab_expectations.specs.Expectations.{waits}
 use Rattle.lab_lines.specs.LabLines.{lab_meaning}
@@ -125,3 +126,13 @@ ok_is (Err cause) is = absurd (cc)
 pub none_there : (items : List ℕ) → nat_eq (length items) 0 ≡ true → items ≡ []
 none_there [] is = refl
 none_there (byte ∷ more) is = absurd (omega (arith, eqb-true (length (byte ∷ more)) 0 is))
+
+-- what is printed of a short line whose one part printed nothing
+pub quiet_prints : (bytes : List ℕ) (said : ShortLine) (session next : Session) (kept text : List ℕ) (u : Option (List ℕ)) (part : Result (Unit {0}) Cause)
+    → meaning_of bytes ≡ Ok (line.Step said) → kept ≡ []
+    → AppendsOutput (Some kept) (Some text) (MeaningPrints session (Ok (line.Step said))) (BeginsMeant session (Ok (line.Step said))) part next
+    → part ≡ Ok tt → text ≡ [] → PrintsAs u u (meaning_of bytes) session (Ok tt) next
+quiet_prints bytes said session next kept text u part is empty h ok none =
+    let printed : PrintsPart u u text part (Ok tt) = subst (λ p. PrintsPart u u text p (Ok tt)) (sym ok) (Ok tt, subst (Appends u u) (sym none) (Appends-nil u), refl) in
+    subst (λ m. PrintsAs u u m session (Ok tt) next) (sym is)
+    (Ok tt, refl, kept_printed u u kept text text session next (Ok (line.Step said)) part (Ok tt) empty refl h printed)

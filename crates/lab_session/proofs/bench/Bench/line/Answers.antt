@@ -3,7 +3,7 @@ use Rattle.hid_script.specs.LineOutput.{LineOutcomeOnce, times}
 use Rattle.lab_session.specs.Expecting.{ReadExpects}
 use Rattle.lab_session.specs.Scripts.{end_of}
 use Rattle.lab_session.proofs.ScriptLineLemmas.{short_read}
-use Rattle.lab_session.proofs.ShortLemmas.{none_there, ok_is, parts_done, quiet_end, short_ends}
+use Rattle.lab_session.proofs.ShortLemmas.{none_there, ok_is, parts_done, quiet_end, quiet_prints, short_ends}
 use Rattle.lab_session.proofs.bench.Bench.line.Goals as goal
 
 pub returns-then-not-is_one_part-clause-does : goal.returns-then-not-is_one_part-clause-does
@@ -26,10 +26,9 @@ returns-then-is_empty-clause-does g c =
 pub returns-then-is_empty-clause-prints : goal.returns-then-is_empty-clause-prints
 unfolding LineOutcomeOnce times
 returns-then-is_empty-clause-prints g c = λ plain undrawn old.
-    let one : c.is_one_part.result ≡ true = cc in
     let ok = ok_is c.repeat-part.result (sym c.is_ok.ensures.value ∙ c.if-is_ok.true) in
     let none = sym c.as_slice.ensures.value ∙ none_there c.as_slice.result.now (sym c.is_empty.ensures ∙ c.if-is_empty.true) in
-    (short_ends {a = c.args.self.now} (quiet_end _ _ c.repeat-part.result ok none) c.in-Some.ensures.short (c.is_one_part.ensures one) c.clear.ensures.items c.repeat-part.ensures.prints refl refl refl).prints plain
+    quiet_prints c.args.line.now c.in-Some.short _ _ c.clear.new.self.items c.repeat-part.new.writer.items _ c.repeat-part.result c.in-Some.ensures.short c.clear.ensures.items c.repeat-part.ensures.prints ok none
 
 pub returns-then-is_empty-clause-expects : goal.returns-then-is_empty-clause-expects
 returns-then-is_empty-clause-expects g c =
