@@ -35,7 +35,10 @@ fn common_start(name: &[u8], word: &[u8]) -> usize
 }
 
 /// How many bytes two words end with alike.
-fn common_end(name: &[u8], word: &[u8]) -> usize {
+fn common_end(name: &[u8], word: &[u8]) -> usize
+    ensures name { result ≤ length name.now }
+    ensures word { result ≤ length word.now }
+{
     let most = name.len().min(word.len());
     for at in 0..most {
         if fold(name[name.len() - 1 - at]) != fold(word[word.len() - 1 - at]) {
@@ -53,22 +56,25 @@ fn are_swapped(name: &[u8], word: &[u8]) -> bool {
     }
 }
 
+/// The fewest bytes of words that are compared: of fewer too many differ in one byte.
+const LEAST: usize = 4;
+
 /// Whether two words differ in one byte that is there, missing or another one, or in two that are swapped.
 fn is_near(name: &[u8], word: &[u8]) -> bool {
     let most = name.len().max(word.len());
     let least = name.len().min(word.len());
-    if most - least > 1 {
+    if most - least > 1 || least < LEAST {
         return false;
     }
-    let before = common_start(name, word);
-    let name = &name[before..];
-    let word = &word[before..];
-    let left = name.len().max(word.len()) - common_end(name, word).min(name.len());
+    let start = common_start(name, word);
+    let name = &name[start..];
+    let word = &word[start..];
+    let left = name.len().max(word.len()) - common_end(name, word);
     left < 2 || (left == 2 && most == least && are_swapped(name, word))
 }
 
 /// What stands in a name before a border, if that is there.
-fn before<'a>(name: &'a [u8], border: &[u8]) -> &'a [u8] {
+fn up_to<'a>(name: &'a [u8], border: &[u8]) -> &'a [u8] {
     for at in 0..name.len() {
         if name[at..].starts_with(border) {
             return &name[..at];
@@ -79,9 +85,7 @@ fn before<'a>(name: &'a [u8], border: &[u8]) -> &'a [u8] {
 
 /// Whether a word is near to a name of the tables, or to what stands in it before ` and ` or ` (`.
 fn is_near_name(name: &[u8], word: &[u8]) -> bool {
-    is_near(name, word)
-        || is_near(before(name, b" and "), word)
-        || is_near(before(name, b" ("), word)
+    is_near(name, word) || is_near(up_to(name, b" and "), word) || is_near(up_to(name, b" ("), word)
 }
 
 /// The first name of a page that a word is near to.

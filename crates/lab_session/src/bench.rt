@@ -138,7 +138,7 @@ impl Bench {
     ///
     /// # Errors
     /// X1 or X2 where no line of the bench stands there; else why it is not carried out. What it printed before stands.
-    #[inline(never)] // an empty line makes no room for what a line says
+    #[inline(never)] // run_line sets none of its locals to zero for an empty line
     pub fn line<'a, W: Sink>(
         &mut self,
         line: &'a [u8],
@@ -177,7 +177,14 @@ impl Bench {
         match *short {
             ShortLine::Poll { dev, .. } => !self.polls_singly(dev),
             ShortLine::Control { .. } => false,
-            _ => true,
+            ShortLine::Press { .. }
+            | ShortLine::Release { .. }
+            | ShortLine::Null { .. }
+            | ShortLine::Set { .. }
+            | ShortLine::Move { .. }
+            | ShortLine::Frame { .. }
+            | ShortLine::Reset { .. }
+            | ShortLine::Halt { .. } => true,
         }
     }
 

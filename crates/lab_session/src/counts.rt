@@ -5,6 +5,7 @@ use std::fmt;
 use usb_transact::Fate;
 
 /// How often what happened. Counts stop at the greatest `u64`. Fates and repetitions of polls are counted where a summary is asked for.
+/// They are printed as two lines, of which the second has the fates.
 #[derive(Clone, Copy, Debug, Default, PartialEq, Eq)]
 pub struct Counts {
     /// Polls.
@@ -90,7 +91,7 @@ impl fmt::Display for Counts {
         let lost = lost_of(token, reply, ack);
         write!(
             f,
-            "polls {polls}, tries {tries}, lost {lost}, repeated {repeated}, events {events}; clean {clean}, token {token}, reply {reply}, ack {ack}"
+            "polls {polls}, tries {tries}, lost {lost}, repeated {repeated}, events {events}\nclean {clean}, token {token}, reply {reply}, ack {ack}"
         )
     }
 }
