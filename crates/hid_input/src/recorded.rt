@@ -32,8 +32,10 @@ fn after_letter(line: &[u8]) -> Option<&[u8]>
     }
 }
 
-/// Whether a line is one of a recording: `D:`, `E:`, `I:`, `N:`, `P:` or `R:`, or the head of a dump of usbhid-dump.
+/// Whether a line is one of a recording: `D:`, `E:`, `I:`, `N:`, `P:` or `R:`, or the head of a dump of usbhid-dump. One after
+/// blanks is taken for such too, so that it isn't passed over: what plays recordings refuses it by name.
 fn is_record(line: &[u8]) -> bool {
+    let line = line.trim_ascii_start();
     if matches!(line, [b'D' | b'E' | b'I' | b'N' | b'P' | b'R', b':', ..]) {
         return true;
     }
