@@ -2,8 +2,11 @@
 # `make help` prints the words after ##.
 
 HIDRUN := bin/hidrun
+# (hidplay and hidmap are started by a launcher, which isn't proved; the proved programs are in bin/programs)
 HIDPLAY := bin/hidplay
 HIDMAP := bin/hidmap
+PLAYER := bin/programs/hidplay
+MAPPER := bin/programs/hidmap
 HIDSERVE := bin/hidserve
 HIDATTACH := bin/hidattach
 HIDLAB := bin/hidlab
@@ -53,7 +56,9 @@ hidlab: $(HIDLAB)  ## bin/hidlab, the test bench
 hidserve: $(HIDSERVE)  ## bin/hidserve, which serves the devices of a script over USB/IP
 hidattach: $(HIDATTACH)  ## bin/hidattach, which reads a device of a USB/IP server
 
-PROGRAMS := hidrun hidplay hidmap hidlab hidserve hidattach hid_bench test_readers
+LAUNCHED := hidplay hidmap
+OTHERS := hidrun hidlab hidserve hidattach hid_bench test_readers
+PROGRAMS := $(LAUNCHED) $(OTHERS)
 # (folders too, so that a file that was removed is seen)
 SOURCES := $(shell find crates/*/src crates/*/specs crates/*/proofs 2> /dev/null)
 
@@ -64,17 +69,24 @@ $(foreach name,$(PROGRAMS),crates/$(name)/out/$(name)) crates/hidstack/out/libhi
 	tools/proof/build $(word 2,$(subst /, ,$@))
 
 .SECONDEXPANSION:
-$(PROGRAMS:%=bin/%): bin/%: crates/$$*/out/$$*
+$(OTHERS:%=bin/%): bin/%: crates/$$*/out/$$*
 	mkdir -p bin
 	cp $< $@
 
+$(LAUNCHED:%=bin/programs/%): bin/programs/%: crates/$$*/out/$$*
+	mkdir -p bin/programs
+	cp $< $@
+
+$(LAUNCHED:%=bin/%): bin/%: bin/programs/% tools/user/launcher
+	cp tools/user/launcher $@
+
 # Plays a folder of recordings with GNU parallel, stops in the middle and resumes: docs/SCALE.md.
-scale: $(HIDPLAY)  ## plays a folder of recordings in parallel
-	tools/check/scale $(HIDPLAY)
+scale: $(PLAYER)  ## plays a folder of recordings in parallel
+	tools/check/scale $(PLAYER)
 
 # Counts the instructions of a report in hidplay, by callgrind, and measures the memory for a recording of 1 GB.
-play-cost: $(HIDPLAY)  ## counts the instructions of a report in hidplay
-	tools/measure/cost hidplay $(HIDPLAY)
+play-cost: $(PLAYER)  ## counts the instructions of a report in hidplay
+	tools/measure/cost hidplay $(PLAYER)
 
 # Counts the instructions of the stack's work, by callgrind: the table of docs/SPEED.md; then those of the C library's calls, if
 # there are a C compiler and valgrind.
@@ -117,6 +129,7 @@ DOCUMENTS := $(SHARED)/doc/rulohevian
 
 install: $(HIDRUN) $(HIDPLAY) $(HIDMAP) $(HIDLAB) $(HIDSERVE) $(HIDATTACH) library  ## installs programs, library and documents: PREFIX=/usr/local DESTDIR=
 	install -Dm755 -t $(DESTDIR)$(PREFIX)/bin $(HIDRUN) $(HIDPLAY) $(HIDMAP) $(HIDLAB) $(HIDSERVE) $(HIDATTACH) tools/user/play-into tools/user/join-results
+	install -Dm755 -t $(DESTDIR)$(PREFIX)/libexec/rulohevian $(PLAYER) $(MAPPER)
 	install -Dm644 -t $(DESTDIR)$(LIBDIR) bin/lib/libhidstack.a
 	install -Dm755 -t $(DESTDIR)$(LIBDIR) bin/lib/libhidstack.so.$(LIBRARY_VERSION)
 	cp -P bin/lib/libhidstack.so bin/lib/libhidstack.so.$(MAJOR) $(DESTDIR)$(LIBDIR)
@@ -150,11 +163,13 @@ PICTURED := $(shell grep -l '^N:' examples/recordings/*.hid) $(wildcard examples
 examples: $(HIDRUN) $(HIDPLAY) $(HIDMAP) $(HIDLAB) $(HIDSERVE) $(HIDATTACH) $(BENCH)  ## runs all examples on the proved programs
 	tools/check/second-reader examples/*/*.script
 	tools/check/recordings examples/*/*.hid
-	tools/check/pictures $(HIDMAP) $(PICTURED)
-	tools/check/inputs $(HIDMAP) examples/recordings/*.hid
-	tools/check/hidplay $(HIDPLAY)
-	tools/check/damaged-captures $(HIDPLAY)
-	tools/check/commands $(HIDRUN) $(HIDPLAY) $(HIDMAP) $(HIDLAB) $(HIDSERVE) $(HIDATTACH) $(BENCH)
+	tools/check/pictures $(MAPPER) $(PICTURED)
+	tools/check/inputs $(MAPPER) examples/recordings/*.hid
+	tools/check/hidplay $(PLAYER)
+	tools/check/damaged-captures $(PLAYER)
+	tools/check/commands $(HIDRUN) $(PLAYER) $(MAPPER) $(HIDLAB) $(HIDSERVE) $(HIDATTACH) $(BENCH)
+	tools/check/commands $(HIDPLAY) $(HIDMAP)
+	tools/check/launcher $(HIDPLAY) $(HIDMAP)
 	tools/check/manual $(HIDRUN) $(HIDPLAY) $(HIDMAP) $(HIDLAB) $(HIDSERVE) $(HIDATTACH)
 	tools/check/serve $(HIDSERVE)
 	tools/check/served-lab $(HIDLAB) $(HIDATTACH)
@@ -189,9 +204,9 @@ format:  ## checks that each file is as rt fmt writes it
 	@find crates -name out -prune -o \( -name '*.rt' -o -name '*.antt' \) -print | xargs $(dir $(realpath $(shell command -v rt)))rattle fmt --check
 
 # Compares the proved programs with the second reader, on descriptors of the examples with some bytes changed, and on made ones.
-descriptors: $(HIDRUN) $(HIDPLAY)  ## compares hidrun and hidplay with the second reader: COUNT=20000
+descriptors: $(HIDRUN) $(PLAYER)  ## compares hidrun and hidplay with the second reader: COUNT=20000
 	tools/check/second-reader --random $(COUNT) $(HIDRUN)
-	tools/check/second-reader --recordings $(COUNT) $(HIDPLAY)
+	tools/check/second-reader --recordings $(COUNT) $(PLAYER)
 
 # Reads random reports by a Reader, which has plans, and by the plain program of a View, of made devices and of those of the examples;
 # fails at the first difference.
@@ -202,13 +217,13 @@ readers: $(READERS)  ## compares both readings of random reports: REPORTS=100000
 # with tshark, and on what QEMU's own keyboard, mouse and tablet send; tries hidserve, hidlab and hidattach with that kernel:
 # docs/COMPARISON.md. Not part of the gate. It needs qemu-system-x86, tshark, socat, gcc and Debian's apt, fetches kernel,
 # busybox and usbip into bin/linux, and says what it leaves out.
-compare-linux: $(HIDPLAY) $(HIDSERVE) $(HIDATTACH) $(HIDLAB)  ## compares hidplay with Linux, tshark and QEMU, USB/IP with Linux: SEED=1
-	tools/compare/tshark $(HIDPLAY) --seed $(SEED) --self-test
-	tools/compare/linux $(HIDPLAY) --seed $(SEED) --self-test
-	tools/compare/qemu $(HIDPLAY)
-	tools/compare/captures $(HIDPLAY)
-	tools/compare/usbip bin/hidserve bin/hidattach $(HIDPLAY) bin/hidlab --self-test
-	tools/compare/usbip bin/hidserve bin/hidattach $(HIDPLAY) bin/hidlab
+compare-linux: $(PLAYER) $(HIDSERVE) $(HIDATTACH) $(HIDLAB)  ## compares hidplay with Linux, tshark and QEMU, USB/IP with Linux: SEED=1
+	tools/compare/tshark $(PLAYER) --seed $(SEED) --self-test
+	tools/compare/linux $(PLAYER) --seed $(SEED) --self-test
+	tools/compare/qemu $(PLAYER)
+	tools/compare/captures $(PLAYER)
+	tools/compare/usbip bin/hidserve bin/hidattach $(PLAYER) bin/hidlab --self-test
+	tools/compare/usbip bin/hidserve bin/hidattach $(PLAYER) bin/hidlab
 
 # Runs each example script on the proved program, and each test of calls that take memory, with each of its allocations
 # refused in turn: half a minute. It needs a C compiler, and the test programs that `rt ci` or `rt test` made from the current

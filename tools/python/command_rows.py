@@ -23,7 +23,7 @@ class Command:
         self.files, self.pipes, self.pieces = files_of(row.file), {}, []
         self.stdin, self.stdout, self.stderr = "open", "open", "open"
         self.printed, self.said, self.named, self.items, self.status = list(row.told), [], None, None, 0
-        self.parts, self.others = [], []
+        self.parts, self.others, self.variables = [], [], {}
         self.is_read = row.question == COMMAND and all([self.take(step) for step in row.steps])
 
     def __str__(self):
@@ -33,9 +33,14 @@ class Command:
         """What stands on standard input."""
         return b"".join(self.pieces)
 
+    def is_of_launcher(self):
+        """Whether a launcher comes to the same: each word is UTF-8, and no variable is set."""
+        texts = [it if isinstance(it, bytes) else it.encode() for it in self.words]
+        return not self.variables and all(it.decode(errors="replace").encode() == it for it in texts)
+
     def is_plain(self):
         """Whether it takes nothing but words, bytes on standard input and files, and its whole text is known."""
-        return self.stdin == self.stdout == self.stderr == "open" and self.items is None and not self.parts and not self.pipes
+        return self.stdin == self.stdout == self.stderr == "open" and self.items is None and not self.parts and not self.pipes and not self.variables
 
     def take(self, step):
         """Takes a step; whether there is such a one."""
@@ -62,12 +67,14 @@ class Command:
         return True
 
     def put(self, key, data):
-        """Puts bytes in a file, a pipe, a word or on standard input; whether they go there."""
+        """Puts bytes in a file, a pipe, a variable, a word or on standard input; whether they go there."""
         times = re.fullmatch(r"stdin (\d+) times", key)
         if key.startswith("file "):
             self.files[key.removeprefix("file ")] = data
         elif key.startswith("pipe "):
             self.pipes.setdefault(key.removeprefix("pipe "), []).append(data)
+        elif key.startswith("variable "):
+            self.variables[key.removeprefix("variable ")] = data
         elif key == "word":
             self.words.append(data)
         elif key == "stdin" or times:

@@ -12,9 +12,11 @@
 #![tactic(auto)]
 
 mod names;
+mod opened;
 mod refused;
 mod words;
 
 pub use names::{FileName, ShownBytes, is_escaped};
+pub use opened::{OPENED_FILES, opened_path, path_of, shown_name};
 pub use refused::{matches_of, print_refused_words};
-pub use words::{Words, WordsFault, print_unread_words, word_of, words_of};
+pub use words::{Words, WordsFault, print_unread_words, word_of, words_of, words_of_files};

@@ -4,8 +4,9 @@ ghost use Rattle.std.specs.Prelude.{◌≡◌, ◌∷◌, [], ◌++◌, ◌+◌,
 ghost use Rattle.std.specs.Str.{IsUtf8};
 
 use crate::names::{FileName, ShownBytes};
+use crate::opened::{OPENED_FILES, opened_path, shown_name};
 use std::alloc::{AllocError, Global};
-use std::env::{Env, FillError};
+use std::env::{self, Env, FillError};
 
 /// The command line is wrong.
 pub const WRONG_USAGE: u8 = 2;
@@ -107,7 +108,7 @@ impl Words {
         ensures given { OnOk result (self.new.given.items ≡ self.old.given.items ++ word ∷ []) }
         ensures shown { OnOk result (length self.new.shown.items ≡ 1 + length self.old.shown.items) }
     {
-        let name = FileName(word.as_str());
+        let name = FileName(shown_name(word.as_str()));
         let shown = format!(in alloc; "{name}")?;
         self.shown.push(shown).map_err(AllocError::from)?;
         self.given.push(word).map_err(AllocError::from)
@@ -125,6 +126,44 @@ pub fn words_of(rt: &HostRuntime) -> Result<Words, WordsFault> {
             break;
         };
         words.push(rt.alloc(), word_of(bytes)?)?;
+    }
+    Ok(words)
+}
+
+/// The word of bytes that aren't UTF-8, by the path that leads to its file, if the launcher tells one.
+///
+/// # Errors
+/// A [`WordsFault`]: memory ran out, or the bytes where no path is told.
+fn opened_word(rt: &HostRuntime, files: Option<&str>, place: usize, bytes: Vec<u8>) -> Result<String, WordsFault> {
+    match files.and_then(|files| opened_path(files, place)) {
+        Some(path) => {
+            let name = ShownBytes(bytes.as_slice());
+            let word = format!(in rt.alloc(); "{name}\0{path}")?;
+            Ok(word)
+        }
+        None => Err(WordsFault::NotText(bytes)),
+    }
+}
+
+/// The words of the command line, of a program that may be given files with names that aren't UTF-8. Such a word is what
+/// [`shown_name`] and [`path_of`](crate::path_of) take apart, if the launcher opened its file.
+///
+/// # Errors
+/// A [`WordsFault`]: memory ran out, or the first word that isn't UTF-8 and whose file isn't open.
+pub fn words_of_files(rt: &HostRuntime) -> Result<Words, WordsFault> {
+    let files = env::var(rt, OPENED_FILES).ok();
+    let mut words = Words::new(rt.alloc());
+    for place in 0..usize::MAX {
+        let Some(bytes) = read_word(rt, place)? else {
+            break;
+        };
+        let word = match word_of(bytes) {
+            Err(WordsFault::NotText(bytes)) => {
+                opened_word(rt, files.as_ref().map(|files| files.as_str()), place, bytes)?
+            }
+            read => read?,
+        };
+        words.push(rt.alloc(), word)?;
     }
     Ok(words)
 }

@@ -18,7 +18,9 @@ mod args;
 mod status;
 
 use args::{CliArgs, parse_args};
-use command_words::{FileName, print_refused_words, print_unread_words, words_of};
+use command_words::{
+    FileName, path_of, print_refused_words, print_unread_words, shown_name, words_of_files,
+};
 use hid_input::{InputCause, InputFault, KnownFile, begins_text, descriptor_in, known_file};
 use hid_layout::{Cause, Layout, LayoutFault, Limits, MAX_DESCRIPTOR, long_report};
 use hid_notation::RefusalText;
@@ -53,7 +55,7 @@ const ADVICE: &str = ": give the file by < FILE";
 
 fn main(rt: HostRuntime) -> ExitCode {
     let alloc = rt.alloc();
-    let words = match words_of(&rt) {
+    let words = match words_of_files(&rt) {
         Ok(words) => words,
         Err(fault) => return ExitCode::from(print_unread_words(&rt, "hidmap", &fault, ADVICE)),
     };
@@ -85,7 +87,7 @@ fn print_unread_fault(rt: &HostRuntime, name: &str, error: &io::Error) -> u8 {
     if error.kind() == io::ErrorKind::OutOfMemory {
         return print_outside_fault(rt, NO_MEMORY);
     }
-    let name = FileName(name);
+    let name = FileName(shown_name(name));
     let _ = eprintln!(rt; "hidmap: {name}: it can't be read: {error}");
     OUTSIDE
 }
@@ -102,7 +104,7 @@ fn read_named(rt: &HostRuntime, name: &str) -> io::Result<Vec<u8>> {
     if name == "-" {
         read_some(rt, rt.stdin())
     } else {
-        read_some(rt, fs::open(rt, name)?)
+        read_some(rt, fs::open(rt, path_of(name))?)
     }
 }
 
@@ -114,7 +116,7 @@ fn draw_file(rt: &HostRuntime, asked: &CliArgs<'_>) -> u8 {
         Err(error) => return print_unread_fault(rt, name, &error),
     };
     if bytes.len() > LONGEST {
-        let name = FileName(name);
+        let name = FileName(shown_name(name));
         let _ = eprintln!(rt; "hidmap: {name}: over {LONGEST} bytes");
         return REFUSED;
     }
@@ -127,7 +129,7 @@ fn draw_file(rt: &HostRuntime, asked: &CliArgs<'_>) -> u8 {
             },
         ) => print_outside_fault(rt, NO_MEMORY),
         Err(fault) => {
-            let name = FileName(name);
+            let name = FileName(shown_name(name));
             let _ = eprintln!(rt; "hidmap: {name}: {fault}");
             REFUSED
         }
@@ -140,7 +142,7 @@ fn known_words(rt: &HostRuntime, name: &str, bytes: &[u8]) -> Option<u8> {
         return Some(print_known(rt, name, known));
     }
     if begins_text(bytes) {
-        let name = FileName(name);
+        let name = FileName(shown_name(name));
         let _ = eprintln!(rt; "hidmap: {name}: {CONTROLS}");
         return Some(REFUSED);
     }
@@ -156,7 +158,7 @@ fn draw_bytes(rt: &HostRuntime, asked: &CliArgs<'_>, descriptor: &[u8]) -> u8 {
                 if let Some(status) = known_words(rt, asked.file, descriptor) {
                     return status;
                 }
-                let name = FileName(asked.file);
+                let name = FileName(shown_name(asked.file));
                 let _ = eprintln!(rt; "hidmap: {name}: no reports");
             }
             draw_layout(rt, &layout, descriptor, asked.form)
@@ -176,7 +178,7 @@ fn draw_bytes(rt: &HostRuntime, asked: &CliArgs<'_>, descriptor: &[u8]) -> u8 {
 
 /// What a file is that has no descriptor.
 fn print_known(rt: &HostRuntime, name: &str, known: KnownFile) -> u8 {
-    let name = FileName(name);
+    let name = FileName(shown_name(name));
     let _ = eprintln!(rt; "hidmap: {name}: {known}");
     REFUSED
 }
@@ -227,7 +229,7 @@ fn draw_refusal(
     if let Some(status) = known_words(rt, asked.file, descriptor) {
         return status;
     }
-    let name = FileName(asked.file);
+    let name = FileName(shown_name(asked.file));
     let _ = eprintln!(rt; "hidmap: {name}: {refusal}");
     match asked.form {
         Form::Svg(_) | Form::Characters(_) => REFUSED,

@@ -30,7 +30,9 @@ mod watched_reader;
 
 use advice::advice_of;
 use args::{CliArgs, parse_args};
-use command_words::{FileName, print_refused_words, print_unread_words, words_of};
+use command_words::{
+    FileName, path_of, print_refused_words, print_unread_words, shown_name, words_of_files,
+};
 use end_line::end_line;
 use fault::{FileFault, Why, before_all};
 use file_line::file_line;
@@ -54,7 +56,7 @@ const STANDARD_INPUT: &str = "-";
 
 fn main(rt: HostRuntime) -> ExitCode {
     let alloc = rt.alloc();
-    let words = match words_of(&rt) {
+    let words = match words_of_files(&rt) {
         Ok(words) => words,
         Err(fault) => {
             let advice = advice_of(&rt, &fault);
@@ -137,7 +139,7 @@ fn play_without_descriptor(rt: &HostRuntime, asked: &CliArgs<'_>) -> u8 {
             return print_no_node(rt, STANDARD_INPUT);
         }
         for name in &asked.files {
-            if !may_have_descriptor(rt, *name) {
+            if !may_have_descriptor(rt, path_of(*name)) {
                 return print_no_node(rt, *name);
             }
         }
@@ -147,7 +149,7 @@ fn play_without_descriptor(rt: &HostRuntime, asked: &CliArgs<'_>) -> u8 {
 
 /// Says on standard error that a file can't be played live without a descriptor.
 fn print_no_node(rt: &HostRuntime, name: &str) -> u8 {
-    let name = FileName(name);
+    let name = FileName(shown_name(name));
     let _ = eprintln!(rt; "hidplay: {name}: no hidraw node: --live needs --descriptor");
     WRONG_USAGE
 }
@@ -164,7 +166,7 @@ fn open_descriptor(rt: &HostRuntime, name: &str) -> Result<Vec<u8>, FileEnd> {
     if name == STANDARD_INPUT {
         return take_descriptor(rt.alloc(), rt.stdin());
     }
-    match fs::open(rt, name) {
+    match fs::open(rt, path_of(name)) {
         Ok(file) => take_descriptor(rt.alloc(), file),
         Err(error) => Err(unread(error)),
     }
@@ -172,7 +174,7 @@ fn open_descriptor(rt: &HostRuntime, name: &str) -> Result<Vec<u8>, FileEnd> {
 
 /// Says on standard error what ended a file: its name, its place if it has one, the code, and the system's words.
 fn print_fault(rt: &HostRuntime, name: &str, end: &FileEnd) {
-    let name = FileName(name);
+    let name = FileName(shown_name(name));
     let FileFault { place, why, .. } = end.fault;
     let _ = match (place.counted(), end.system) {
         (Some((word, number)), Some(system)) => {
@@ -240,7 +242,7 @@ fn play_next<W: Write>(
 
 /// Says on standard error which endpoints sent reports that have no descriptor, and what can be done.
 fn print_undescribed(rt: &HostRuntime, name: &str, undescribed: &[UndescribedEndpoint]) {
-    let name = FileName(name);
+    let name = FileName(shown_name(name));
     for endpoint in undescribed {
         let line = UndescribedLine {
             endpoint: *endpoint,
@@ -311,12 +313,12 @@ fn print_file<W: Write>(
         return Ok(());
     }
     let told = if asked.options.json {
-        let Ok(line) = file_line(alloc, name) else {
+        let Ok(line) = file_line(alloc, shown_name(name)) else {
             return Err(Cause::Memory);
         };
         out.write_all(line.as_slice())
     } else {
-        let name = FileName(name);
+        let name = FileName(shown_name(name));
         writeln!(out, "file {name}")
     };
     told.map_err(|_| Cause::Write)
@@ -343,18 +345,19 @@ fn play_named<W: Write>(
     if name == STANDARD_INPUT {
         return play_standard_input(rt, manner, undescribed, out);
     }
-    let file = match fs::open(rt, name) {
+    let path = path_of(name);
+    let file = match fs::open(rt, path) {
         Ok(file) => file,
         Err(error) => return Err(unread(error)),
     };
     let Ok(metadata) = file.metadata() else {
         return play_stream(rt, file, None, manner, undescribed, out);
     };
-    match node_of(rt, name, metadata.file_type()) {
+    match node_of(rt, path, metadata.file_type()) {
         Some(node) if matches!(manner.kind, Kind::Detected | Kind::Live) => {
             play_node(rt, asked, manner, node.as_str(), file, out)
         }
-        _ if manner.kind == Kind::Live => play_node(rt, asked, manner, name, file, out),
+        _ if manner.kind == Kind::Live => play_node(rt, asked, manner, path, file, out),
         // (a pipe has no size)
         _ => play_stream(rt, file, Some(metadata.len()), manner, undescribed, out),
     }
@@ -410,13 +413,15 @@ fn play_node<W: Write>(
     if let Some(given) = manner.given {
         return play_reports(rt, manner, given.bytes, file, out);
     }
-    let Ok(name) = descriptor_name(rt.alloc(), asked.system, node) else {
+    let Ok(path) = descriptor_name(rt.alloc(), path_of(asked.system), node) else {
         return Err(without_words(before_all(Cause::Memory)));
     };
-    match open_descriptor(rt, name.as_str()) {
+    match open_descriptor(rt, path.as_str()) {
         Ok(bytes) => play_reports(rt, manner, bytes.as_slice(), file, out),
         Err(end) => {
-            print_fault(rt, name.as_str(), &end);
+            if let Ok(name) = descriptor_name(rt.alloc(), shown_name(asked.system), node) {
+                print_fault(rt, name.as_str(), &end);
+            }
             Err(end)
         }
     }
