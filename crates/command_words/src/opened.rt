@@ -1,5 +1,8 @@
 //! Files whose names aren't UTF-8: the launcher opens them, and the program reads them by paths that lead to what is open.
 
+ghost use Rattle.std.specs.Prelude.{◌≡◌};
+ghost use Rattle.command_words.specs.Opened.{shown_name, path_of};
+
 /// The variable in which the launcher tells what it opened: words with one blank between them, each the place of a name on the
 /// command line, `=`, and a path.
 pub const OPENED_FILES: &str = "HID_OPEN_FILES";
@@ -20,7 +23,9 @@ pub fn opened_path(files: &str, place: usize) -> Option<&str> {
 }
 
 /// The name of a file as it is printed, before control characters are escaped: other bytes than UTF-8 are escapes in it.
-pub fn shown_name(word: &str) -> &str {
+pub fn shown_name(word: &str) -> &str
+    ensures name { result.now ≡ shown_name word.now }
+{
     match word.split_once(END) {
         Some((name, _)) => name,
         None => word,
@@ -28,7 +33,9 @@ pub fn shown_name(word: &str) -> &str {
 }
 
 /// The path by which the file of a word is opened.
-pub fn path_of(word: &str) -> &str {
+pub fn path_of(word: &str) -> &str
+    ensures path { result.now ≡ path_of word.now }
+{
     match word.split_once(END) {
         Some((_, path)) => path,
         None => word,

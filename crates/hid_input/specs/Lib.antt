@@ -11,6 +11,7 @@ pub mod Numbers
 pub mod Parts
 pub mod Readings
 pub mod Recorded
+pub mod Records
 pub mod Strings
 pub mod Text
 pub mod Words

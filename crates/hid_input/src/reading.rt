@@ -8,6 +8,7 @@ ghost use Rattle.hid_input.specs.Decimal.{is_prefix, begins_no_item, HasNoOtherH
 ghost use Rattle.hid_input.specs.Forms.{form_of, Encodes, IsAlone, IsFaultOf, IsMemory};
 ghost use Rattle.hid_input.specs.Faults.{of_text, IsOfHex};
 ghost use Rattle.hid_input.specs.Text.{is_space, is_text_byte, has_printed, is_text, is_utf16, without_mark};
+ghost use Rattle.hid_input.specs.Records.{is_recording};
 
 use crate::code::{has_array, read_array, unclear_code};
 use crate::decimal::add_decimal;
@@ -251,7 +252,9 @@ pub fn descriptor_in(alloc: Global, bytes: &[u8]) -> Result<Vec<u8>, InputFault>
 }
 
 /// Whether bytes are the text of a recording: some line is one that hid-recorder or usbhid-dump writes.
-pub fn is_recording(bytes: &[u8]) -> bool {
+pub fn is_recording(bytes: &[u8]) -> bool
+    ensures { result ≡ is_recording bytes.now }
+{
     let text = without_mark(bytes);
     is_text(text) && has_record(text)
 }

@@ -1,11 +1,12 @@
 //! Descriptors in what hid-recorder and usbhid-dump print.
 
-ghost use Rattle.std.specs.Prelude.{◌≡◌, ◌<◌, [], ℕ, List, None, Some, length, IfOk, IfSome, IfErr, map};
-ghost use Rattle.std.specs.List.{slice_split, position};
+ghost use Rattle.std.specs.Prelude.{◌≡◌, ◌<◌, [], ℕ, List, None, Some, length, not, IfOk, IfSome, IfErr, map};
+ghost use Rattle.std.specs.List.{slice_split, position, find};
 ghost use Rattle.std.specs.Option.{option_map, option_copied, option_and_then};
 ghost use Rattle.std.specs.Char.{is_ascii_whitespace};
 ghost use Rattle.hid_input.specs.Hex.{lines_of};
 ghost use Rattle.hid_input.specs.Recorded.{ordered_bytes, after_letter, bytes_behind, counted_bytes, recorded_bytes, has_recorded, is_colon, behind_number, is_heading, block_of, block_below, has_dumped, block_bytes};
+ghost use Rattle.hid_input.specs.Records.{is_record_letter, begins_with_letter, is_head, is_record, has_record, is_passed, begins_recording};
 ghost use Rattle.hid_input.specs.Dump.{HasNoOthers};
 ghost use Rattle.hid_input.specs.Faults.{of_text, IsOfHex};
 
@@ -32,32 +33,67 @@ fn after_letter(line: &[u8]) -> Option<&[u8]>
     }
 }
 
+/// Whether a byte is the letter of a line of hid-recorder.
+fn is_record_letter(byte: u8) -> bool
+    ensures { result ≡ is_record_letter byte }
+{
+    matches!(byte, b'D' | b'E' | b'I' | b'N' | b'P' | b'R')
+}
+
+/// Whether a text begins with such a letter and a colon.
+fn begins_with_letter(text: &[u8]) -> bool
+    ensures { result ≡ begins_with_letter text.now }
+{
+    text.len() >= 2 && is_record_letter(text[0]) && text[1] == b':'
+}
+
+/// Whether a word is the head of a dump of usbhid-dump.
+fn is_head(word: &[u8]) -> bool
+    ensures { result ≡ is_head word.now }
+{
+    word.ends_with(b":DESCRIPTOR") || word.ends_with(b":STREAM")
+}
+
 /// Whether a line is one of a recording: `D:`, `E:`, `I:`, `N:`, `P:` or `R:`, or the head of a dump of usbhid-dump. One after
 /// blanks is taken for such too, so that it isn't passed over: what plays recordings refuses it by name.
-fn is_record(line: &[u8]) -> bool {
-    let line = line.trim_ascii_start();
-    if matches!(line, [b'D' | b'E' | b'I' | b'N' | b'P' | b'R', b':', ..]) {
-        return true;
-    }
-    let head = first_word(line);
-    head.ends_with(b":DESCRIPTOR") || head.ends_with(b":STREAM")
+fn is_record(line: &[u8]) -> bool
+    ensures { result ≡ is_record line.now }
+{
+    begins_with_letter(without_space(line)) || is_head(first_word(line))
 }
 
 /// Whether some line of a text is one of a recording.
-pub fn has_record(text: &[u8]) -> bool {
-    text.split(|byte| *byte == b'\n').any(is_record)
+pub fn has_record(text: &[u8]) -> bool
+    ensures { result ≡ has_record text.now }
+{
+    text.split(|byte| *byte == b'\n')
+        .any(|line| is_record(line))
+}
+
+/// Whether a line says nothing: it is empty or a comment.
+fn is_passed(line: &[u8]) -> bool
+    ensures { result ≡ is_passed line.now }
+{
+    is_empty_line(line) || (!line.is_empty() && line[0] == b'#')
+}
+
+/// The first line that is neither empty nor a comment.
+fn first_said(text: &[u8]) -> Option<&[u8]>
+    ensures { option_copied result ≡ find (λ line. not (is_passed line)) (lines_of text.now) }
+{
+    text.split(|byte| *byte == b'\n')
+        .find(|line| !is_passed(line))
 }
 
 /// Whether a text begins as recordings do: the first of its lines that is neither empty nor a comment is one of a recording.
 /// So is a text that has no other lines yet.
-pub fn begins_recording(text: &[u8]) -> bool {
-    for line in text.split(|byte| *byte == b'\n') {
-        let is_passed = line.trim_ascii().is_empty() || line.starts_with(b"#");
-        if !is_passed {
-            return is_record(line);
-        }
+pub fn begins_recording(text: &[u8]) -> bool
+    ensures { result ≡ begins_recording text.now }
+{
+    match first_said(text) {
+        Some(line) => is_record(line),
+        None => true,
     }
-    true
 }
 
 /// Whether a line of hid-recorder has a descriptor.
@@ -135,7 +171,8 @@ fn read_first(alloc: Global, lines: &[&[u8]]) -> Result<Vec<u8>, InputFault>
 /// The descriptor of the first line that begins with `R:`: `COUNT HEX`.
 ///
 /// # Errors
-/// [`InputCause::NoCount`], [`InputCause::BadCount`], [`InputCause::BadHex`], with the line; [`InputCause::NoDescriptor`] where there is none.
+/// [`InputCause::NoCount`], [`InputCause::BadCount`], [`InputCause::BadHex`], with the line; [`InputCause::NoDescriptor`] where
+/// there is none.
 pub fn read_recorded(alloc: Global, text: &[u8]) -> Result<Vec<u8>, InputFault>
     ensures bytes { IfOk result (λ read. recorded_bytes (lines_of text.now) ≡ Some read.items) }
     ensures faults { (bytes : List ℕ) → recorded_bytes (lines_of text.now) ≡ Some bytes
