@@ -6,6 +6,6 @@ use Rattle.std.specs.List.{position_or_len, before_first, after_first}
 abbrev pub shown_name : List ℕ → List ℕ
 shown_name word = before_first (λ b. b == 0) word
 
--- the path by which the file is opened: what stands behind the NUL; without one the name
+-- the path by which the file is opened: what stands after the NUL; without one the name
 abbrev pub path_of : List ℕ → List ℕ
 path_of word = if position_or_len (λ b. b == 0) word == length word then word else after_first (λ b. b == 0) word

@@ -5,7 +5,8 @@
 //!                     |                                                +-- a word that is refused --> print_refused_words
 //!                     +-- WordsFault: out of memory, or the first word that isn't UTF-8 --> print_unread_words
 //! ```
-//! The rule to know: paths are text, so a file whose name isn't UTF-8 can't be opened by its name. Standard input can have it.
+//! The rule to know: paths are text, so a file whose name isn't UTF-8 can't be opened by its name. A launcher opens it, and gives a
+//! path that leads to it (`words_of_files`); else standard input can have it.
 //!
 //! The promise: bytes that are UTF-8 are a word, the word has them, and others are refused with them (`text`, `bytes` and `fault` on
 //! [`word_of`]); the characters that are printed as numbers are the control characters (`escaped`). What a terminal gets is tested.

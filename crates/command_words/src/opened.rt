@@ -3,14 +3,14 @@
 ghost use Rattle.std.specs.Prelude.{◌≡◌};
 ghost use Rattle.command_words.specs.Opened.{shown_name, path_of};
 
-/// The variable in which the launcher tells what it opened: words with one blank between them, each the place of a name on the
+/// The variable in which the launcher names what it opened: words with one blank between them, each the place of a name on the
 /// command line, `=`, and a path.
 pub const OPENED_FILES: &str = "HID_OPEN_FILES";
 
 /// What stands between a name and the path of its file. No word of a command line has this character.
 const END: char = '\0';
 
-/// The path that leads to the file whose name has this place, if one is told.
+/// The path that leads to the file whose name has this place, if there is one.
 pub fn opened_path(files: &str, place: usize) -> Option<&str> {
     for file in files.split(' ') {
         if let Some((number, path)) = file.split_once('=') {

@@ -130,10 +130,10 @@ pub fn words_of(rt: &HostRuntime) -> Result<Words, WordsFault> {
     Ok(words)
 }
 
-/// The word of bytes that aren't UTF-8, by the path that leads to its file, if the launcher tells one.
+/// The word of bytes that aren't UTF-8, by the path that leads to its file, if the launcher gave one.
 ///
 /// # Errors
-/// A [`WordsFault`]: memory ran out, or the bytes where no path is told.
+/// A [`WordsFault`]: memory ran out, or the bytes where there is no path.
 fn opened_word(rt: &HostRuntime, files: Option<&str>, place: usize, bytes: Vec<u8>) -> Result<String, WordsFault> {
     match files.and_then(|files| opened_path(files, place)) {
         Some(path) => {

@@ -29,10 +29,10 @@ with_transfer_of known bus device endpoint is_hid =
 abbrev pub without_endpoint : List UndescribedEndpoint → ℕ → ℕ → ℕ → List UndescribedEndpoint
 without_endpoint known bus device endpoint = filter (λ one. not (is_undescribed bus device endpoint one)) known
 
--- an endpoint is one of this device
-abbrev pub is_on : ℕ → ℕ → UndescribedEndpoint → Bool
-is_on bus device known = (known.bus == bus) && (known.device == device)
+-- an endpoint is one of this device, of a hub by what is known: no interface of HID has it
+abbrev pub is_on_hub : ℕ → ℕ → UndescribedEndpoint → Bool
+is_on_hub bus device known = (known.bus == bus) && ((known.device == device) && not known.is_hid)
 
--- the endpoints without those of a device: it is a hub
+-- the endpoints without those of a device that is a hub
 abbrev pub without_hub : List UndescribedEndpoint → ℕ → ℕ → List UndescribedEndpoint
-without_hub known bus device = filter (λ one. not (is_on bus device one)) known
+without_hub known bus device = filter (λ one. not (is_on_hub bus device one)) known

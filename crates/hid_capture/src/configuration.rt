@@ -1,4 +1,5 @@
-//! The interrupt IN endpoints of a configuration, and the HID interfaces that have them (USB 2.0, 9.6.3, 9.6.5 and 9.6.6; HID 1.11, 4.1 and 4.4).
+//! The interrupt IN endpoints of a configuration, and the HID interfaces that have them (USB 2.0, 9.6.3, 9.6.5 and 9.6.6;
+//! HID 1.11, 4.1 and 4.4).
 
 ghost use Rattle.std.specs.Prelude.{◌≡◌, ◌++◌, ◌≤◌, true, None, length, IfOk, OnOk, IfSome};
 ghost use Rattle.hid_capture.specs.Descriptors.{byte, has_descriptor, interface_after, is_interrupt_in, endpoint_at, endpoints_in, whole_configuration};

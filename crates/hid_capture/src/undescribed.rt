@@ -2,7 +2,7 @@
 
 ghost use Rattle.std.specs.Prelude.{◌≡◌, not, filter, map, OnOk};
 ghost use Rattle.std.specs.List.{list_any};
-ghost use Rattle.hid_capture.specs.Undescribed.{is_undescribed, with_transfer, with_endpoint, with_transfer_of, is_on};
+ghost use Rattle.hid_capture.specs.Undescribed.{is_undescribed, with_transfer, with_endpoint, with_transfer_of, is_on_hub};
 
 use std::alloc::AllocError;
 
@@ -112,16 +112,16 @@ pub(crate) fn forget_undescribed(
     known.retain(|one| !is_undescribed(one, bus, device, endpoint));
 }
 
-/// Whether an endpoint is of this device.
-fn is_on(known: &UndescribedEndpoint, bus: u16, device: u16) -> bool
-    ensures { result ≡ is_on bus device known.now }
+/// Whether an endpoint is of this device, and not known as one of a HID interface: that was another device at the address.
+fn is_on_hub(known: &UndescribedEndpoint, bus: u16, device: u16) -> bool
+    ensures { result ≡ is_on_hub bus device known.now }
 {
-    known.bus == bus && known.device == device
+    known.bus == bus && known.device == device && !known.is_hid
 }
 
-/// Forgets the endpoints of a device: it is a hub, and they say which ports changed.
+/// Forgets the endpoints of a device that is a hub: they say which ports changed.
 pub(crate) fn forget_hub(known: &mut Vec<UndescribedEndpoint>, bus: u16, device: u16)
-    ensures { known.new.items ≡ filter (λ one. not (is_on bus device one)) known.old.items }
+    ensures { known.new.items ≡ filter (λ one. not (is_on_hub bus device one)) known.old.items }
 {
-    known.retain(|one| !is_on(one, bus, device));
+    known.retain(|one| !is_on_hub(one, bus, device));
 }

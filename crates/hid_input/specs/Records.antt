@@ -4,6 +4,7 @@ use Rattle.std.specs.List.{list_any, list_all, find, ends_with}
 use Rattle.std.specs.Char.{is_ascii_whitespace}
 use Rattle.hid_input.specs.Numbers.{without_space}
 use Rattle.hid_input.specs.Hex.{lines_of, first_word}
+use Rattle.hid_input.specs.Known.{begins_text}
 use Rattle.hid_input.specs.Text.{is_text, without_mark}
 
 -- a letter of hid-recorder's lines: D, E, I, N, P or R
@@ -39,6 +40,6 @@ is_record_or_none (Some line) = is_record line
 abbrev pub begins_recording : List ℕ → Bool
 begins_recording text = is_record_or_none (find (λ line. not (is_passed line)) (lines_of text))
 
--- bytes are the text of a recording
+-- bytes are the text of a recording, whose first bytes are characters if others are control characters
 abbrev pub is_recording : List ℕ → Bool
-is_recording bytes = is_text (without_mark bytes) && has_record (without_mark bytes)
+is_recording bytes = (is_text (without_mark bytes) || begins_text (without_mark bytes)) && has_record (without_mark bytes)

@@ -16,6 +16,7 @@ use crate::fault::{InputCause, InputFault};
 use crate::form::{TextForm, are_digits, form_of};
 use crate::items::{PREFIXES, read_listed};
 use crate::parts::line_number;
+use crate::known::begins_text;
 use crate::recorded::{has_record, read_dumped, read_recorded};
 use crate::spelled::read_spelled;
 use crate::strings::{has_string, read_string};
@@ -251,10 +252,11 @@ pub fn descriptor_in(alloc: Global, bytes: &[u8]) -> Result<Vec<u8>, InputFault>
     Ok(Vec::from_slice(alloc, bytes)?)
 }
 
-/// Whether bytes are the text of a recording: some line is one that hid-recorder or usbhid-dump writes.
+/// Whether bytes are the text of a recording: some line is one that hid-recorder or usbhid-dump writes. Control characters may stand
+/// in such a text, as in the name of a device, where its first eight bytes are characters.
 pub fn is_recording(bytes: &[u8]) -> bool
     ensures { result ≡ is_recording bytes.now }
 {
     let text = without_mark(bytes);
-    is_text(text) && has_record(text)
+    (is_text(text) || begins_text(text)) && has_record(text)
 }

@@ -21,9 +21,10 @@
 //! whose descriptor is refused or can't be read has none up to its next one. A report that comes in chunks is reassembled as
 //! a host reassembles packets (`specs/Joining.antt`).
 //!
-//! A capture is played a frame at a time, by the same devices: a refused frame prints its number and the reason. An interface without
-//! a descriptor may be given one ([`GivenDescriptor`]); else its endpoints are named at the end ([`PlayedCapture`]). A device that is gone, or whose descriptor is read again, lets go of what it
-//! holds. Where no frame can be found any more, the run ends ([`CaptureRunFault`]).
+//! A capture is played a frame at a time, by the same devices: a refused frame prints its number and the reason. An interface
+//! without a descriptor may be given one ([`GivenDescriptor`]); else its endpoints are named at the end ([`PlayedCapture`]). A
+//! device that is gone, or whose descriptor is read again, lets go of what it holds. Where no frame can be found any more, the run
+//! ends ([`CaptureRunFault`]).
 //!
 //! A live device is played a report at a time, each at the time when it was read ([`LiveDevice`]). Where it is gone, it lets go of
 //! what it holds.
