@@ -134,7 +134,12 @@ pub fn words_of(rt: &HostRuntime) -> Result<Words, WordsFault> {
 ///
 /// # Errors
 /// A [`WordsFault`]: memory ran out, or the bytes where there is no path.
-fn opened_word(rt: &HostRuntime, files: Option<&str>, place: usize, bytes: Vec<u8>) -> Result<String, WordsFault> {
+fn opened_word(
+    rt: &HostRuntime,
+    files: Option<&str>,
+    place: usize,
+    bytes: Vec<u8>,
+) -> Result<String, WordsFault> {
     match files.and_then(|files| opened_path(files, place)) {
         Some(path) => {
             let name = ShownBytes(bytes.as_slice());
