@@ -174,9 +174,12 @@ impl Interpreter {
         }
     }
 
-    /// Carries out a line as often as it says, up to the first time that it is refused. The output of each time is written
-    /// before the next.
-    fn carry_out<W: Sink>(&mut self, line: &Line, writer: &mut W) -> Result<(), Cause>
+    /// Carries out a line that was read as often as it says, up to the first time that it is refused. The output of each time is
+    /// written before the next.
+    ///
+    /// # Errors
+    /// As [`Interpreter::line`].
+    pub fn carry_out<W: Sink>(&mut self, line: &Line, writer: &mut W) -> Result<(), Cause>
         ensures prints { AppendsOutput (W.contents writer.old) (W.contents writer.new)
             (CarriesOut (session_of self.old) line.now)
             (Begins (times line.now) (LineOutcomeOnce line.now) (session_of self.old)) result

@@ -26,7 +26,7 @@ use Rattle.hid_script.proofs.PrintingLemmas.{Done, done_both, done_nothing, step
 use Rattle.lab_lines.specs.declared.keys.Key.{Key}
 use Rattle.lab_session.specs.Acts.{PartActs, AllAct}
 use Rattle.lab_session.specs.Laws.{IsItsParts, ClicksAreParts, KeysAreParts, ShortLinesAreParts, LinesAreParts, PartsPrintLives}
-use Rattle.lab_session.specs.Lines.{Moment, DoesNothing, DoesPart, Then, Often, PollsOnce, Polls, Tries, Settles, SettlesChange, Clicks, ClicksShifted, ClicksKey, ClicksKeys, PollLineDoes, ShortLineDoes, ScriptLineDoes, DoesBytes, Types, Loses, LineDoes, seed_by}
+use Rattle.lab_session.specs.Lines.{Moment, DoesNothing, DoesPart, Then, Often, PollsOnce, Polls, Tries, Settles, SettlesChange, Clicks, ClicksShifted, ClicksKey, ClicksKeys, PollLineDoes, TryLineDoes, ShortLineDoes, ScriptLineDoes, DoesBytes, Types, Loses, LineDoes, seed_by}
 use Rattle.lab_session.specs.Parts.{Part, Says, Changes, LaysOut, ShowsValues, Attaches, PartPrints, AllCarry}
 
 -- ---- lines are their parts
@@ -103,10 +103,14 @@ its_parts_poll_line : (dev : ℕ) (fate : Fate) (count : ℕ) → IsItsParts (Po
 its_parts_poll_line dev fate count before after parts text (inl h) = its_parts_part (Says (line.Step (short.Poll dev fate count))) before after parts text h.1
 its_parts_poll_line dev fate count before after parts text (inr h) = its_parts_often (Polls dev fate) (its_parts_poll dev fate) count before after parts text h
 
+its_parts_try_line : (dev : ℕ) (fate : Fate) (count : ℕ) → IsItsParts (TryLineDoes dev fate count)
+its_parts_try_line dev fate count before after parts text (inl h) = its_parts_part (Says (line.Step (short.Control dev fate count))) before after parts text h.1
+its_parts_try_line dev fate count before after parts text (inr h) = its_parts_often (Tries dev fate) (its_parts_try dev fate) count before after parts text h
+
 pub short_lines_are_parts : ShortLinesAreParts
 unfolding ShortLineDoes
 short_lines_are_parts (short.Poll dev fate count) before after parts text h = its_parts_poll_line dev fate count before after parts text h
-short_lines_are_parts (short.Control dev fate count) before after parts text h = its_parts_often (Tries dev fate) (its_parts_try dev fate) count before after parts text h
+short_lines_are_parts (short.Control dev fate count) before after parts text h = its_parts_try_line dev fate count before after parts text h
 short_lines_are_parts said before after parts text h = its_parts_part (Says (line.Step said)) before after parts text h
 
 its_parts_bytes : (part : List ℕ → Part) (words : List Word) → IsItsParts (DoesBytes part words)

@@ -39,7 +39,7 @@ pub one_part : (said : ShortLine) (before after : Moment) (parts : List Part) (t
     → DoesPart (Says (line.Step said)) before parts text after → ShortLineDoes said before parts text after
 unfolding ShortLineDoes
 one_part (short.Poll dev fate count) before after parts text none h = inl (none, h)
-one_part (short.Control dev fate count) before after parts text none h = absurd none
+one_part (short.Control dev fate count) before after parts text none h = inl (none, h)
 one_part said before after parts text none h = h
 
 keeps_nothing : (t : Transcript) (text : List ℕ) → text ≡ [] → Keeps t t text

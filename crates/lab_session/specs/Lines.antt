@@ -155,16 +155,22 @@ PollLineDoes dev fate count before parts text after =
     ((before.chance dev ≡ None) × DoesPart (Says (line.Step (short.Poll dev fate count))) before parts text after)
     ⊎ Often count (Polls dev fate) before parts text after
 
+-- `control D FATE N`: the line itself where nothing is drawn of the device; else so many tries, each with its fate
+abbrev pub TryLineDoes : ℕ → Fate → ℕ → Moment → List Part → List ℕ → Moment → Type 0
+TryLineDoes dev fate count before parts text after =
+    ((before.chance dev ≡ None) × DoesPart (Says (line.Step (short.Control dev fate count))) before parts text after)
+    ⊎ Often count (Tries dev fate) before parts text after
+
 -- a short line of a script
 unfoldable pub ShortLineDoes : ShortLine → Moment → List Part → List ℕ → Moment → Type 0
 ShortLineDoes (short.Poll dev fate count) = PollLineDoes dev fate count
-ShortLineDoes (short.Control dev fate count) = Often count (Tries dev fate)
+ShortLineDoes (short.Control dev fate count) = TryLineDoes dev fate count
 ShortLineDoes said = DoesPart (Says (line.Step said))
 
--- a short line is one part: it polls so often under one fate, or polls and tries nothing
+-- a short line is one part: it polls or tries so often under one fate, or polls and tries nothing
 abbrev pub IsOnePart : Moment → ShortLine → Type 0
 IsOnePart before (short.Poll dev fate count) = before.chance dev ≡ None
-IsOnePart before (short.Control dev fate count) = ⊥
+IsOnePart before (short.Control dev fate count) = before.chance dev ≡ None
 IsOnePart before said = Unit {0}
 
 -- a line of a script, as hid_text reads it

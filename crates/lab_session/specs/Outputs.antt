@@ -1,12 +1,12 @@
 -- The lines of Output reports that take effect (our choice: docs/LAB.md; USB HID 1.11, 7.2.2).
-use Rattle.std.specs.Prelude.{◌≡◌, ℕ, nat_lt, List, [], ◌∷◌, ◌++◌, drop, codes, if◌then◌else◌, Option, None, Some, Ok, slice_get}
+use Rattle.std.specs.Prelude.{◌≡◌, ℕ, nat_lt, List, [], ◌∷◌, ◌++◌, drop, codes, if◌then◌else◌, Option, None, Some, slice_get}
 use Rattle.std.specs.Fmt.{decimal}
 use Rattle.hid_report_descriptor.specs.declared.report.ReportKind.TheVariants.{Output}
 use Rattle.hid_requests.specs.declared.request.Request.{Request}
 use Rattle.hid_requests.specs.declared.request.Request.TheVariants.{SetReport}
 use Rattle.hid_notation.specs.Text.{bytes_text}
+use Rattle.hid_text.specs.declared.line.Line.{Line}
 use Rattle.hid_text.specs.declared.line.Line.TheVariants.{Begin}
-use Rattle.hid_text.specs.Line.{meaning_of}
 use Rattle.lab_session.specs.declared.outputs.Outputs.{Outputs}
 use Rattle.lab_session.specs.declared.outputs.PendingOutput.{PendingOutput}
 
@@ -35,8 +35,8 @@ abbrev pub awaited_at : Outputs → ℕ → Option SetOutput
 awaited_at outputs dev = output_at_place (slice_get outputs.pending dev)
 
 -- a line begins a request of this device
-abbrev pub BeginsRequestOf : List ℕ → ℕ → Type 0
-BeginsRequestOf line dev = (request : Request) × (meaning_of line ≡ Ok (Begin dev request))
+abbrev pub BeginsRequestOf : Line → ℕ → Type 0
+BeginsRequestOf line dev = (request : Request) × (line ≡ Begin dev request)
 
 -- the bytes after the ID byte, where reports have IDs
 abbrev pub after_id : ℕ → List ℕ → List ℕ

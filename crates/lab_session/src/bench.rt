@@ -9,10 +9,9 @@ ghost use Rattle.hid_text.specs.declared.short.ShortLine.TheVariants as Shorts;
 ghost use Rattle.hid_text.specs.Words.{words_of};
 ghost use Rattle.hid_script.specs.LineOutput.{Begins, CarriesOut, LineBegins, LineOutcomeOnce, LinePrints, times};
 ghost use Rattle.hid_script.specs.Place.{AppendsOnce, AppendsOutput};
-ghost use Rattle.lab_expectations.specs.Expectations.{answer_of};
 ghost use Rattle.lab_session.specs.Asking.{asked_said};
 ghost use Rattle.lab_lines.specs.LabLines.{Short};
-ghost use Rattle.lab_session.specs.Expecting.{Expects, ExpectsNone, IsForgotten, LineExpects, ReadExpects, came_words};
+ghost use Rattle.lab_session.specs.Expecting.{IsForgotten, LineExpects, ReadExpects};
 ghost use Rattle.lab_session.specs.Parts.{Says, Changes, LaysOut, ShowsValues, Attaches};
 ghost use Rattle.lab_session.specs.Printed.{IsPlain, is_styled};
 
@@ -30,12 +29,11 @@ use hid_layout::{ControlId, ControlKind, Usage};
 use hid_requests::Boot;
 use hid_script::{Cause, Interpreter, Options, Sink};
 use hid_stack::{StackFault, Start, Step};
-use hid_text::{ChangeKind, ShortLine, read_short};
-use lab_expectations::{Expectation, unknown_usage};
+use hid_text::{ChangeKind, Line, ShortLine, read_line, read_short};
 use lab_lines::{
     ControlName, Key, LEFT_SHIFT, LabLine, TypedText, find_control, key_of, read_hex, read_lab_line,
 };
-use std::alloc::{AllocError, Global};
+use std::alloc::Global;
 use usb_transact::Fate;
 
 /// How often a change is polled for until the device has nothing to send.
@@ -49,14 +47,14 @@ pub struct Bench {
     interpreter: Interpreter,
     draws: Draws,
     outputs: Outputs,
-    printer: Printer,
+    pub(super) printer: Printer,
     counts: Counts,
     /// What the interpreter prints of a part.
     text: Vec<u8>,
     /// The control of a change that was refused.
     control: Option<(Usage, ControlKind)>,
     /// What came in place of a line that was expected.
-    came: Vec<u8>,
+    pub(super) came: Vec<u8>,
 }
 
 impl Bench {
@@ -67,6 +65,7 @@ impl Bench {
     ghost use Rattle.lab_session.specs.Bench.{Does, DoesLine, DoesSaid, EndsPart, moment_of};
     ghost use Rattle.lab_session.specs.Scripts.{IsScripts, IsUndrawn, PrintsAs, PrintsSaid, end_of};
     ghost use Rattle.lab_session.specs.Chances.{chance_at};
+    ghost use Rattle.lab_session.specs.Outputs.{awaited_at};
     ghost use Rattle.hid_stack.specs.Attaching.{Finds};
     ghost use Rattle.hid_stack.specs.Rig.{member_at};
     ghost use Rattle.hid_script.specs.LineOutput.{stack_cause};
@@ -176,7 +175,7 @@ impl Bench {
     {
         match *short {
             ShortLine::Poll { dev, .. } => !self.polls_singly(dev),
-            ShortLine::Control { .. } => false,
+            ShortLine::Control { dev, .. } => !self.tries_singly(dev),
             ShortLine::Press { .. }
             | ShortLine::Release { .. }
             | ShortLine::Null { .. }
@@ -227,7 +226,7 @@ impl Bench {
         Ok(None)
     }
 
-    /// Reads a line that isn't short, or any other, and carries it out.
+    /// Reads a line that isn't short, and carries it out.
     #[inline(never)] // a short line makes no room for what another one says
     fn long_line<'a, W: Sink>(
         &mut self,
@@ -312,9 +311,24 @@ impl Bench {
         ensures does { OnOk result (Does (ScriptLineDoes line.now) self.old self.new
             (W.contents writer.old) (W.contents writer.new)) }
     {
+        match &read_line(line) {
+            Ok(said) => self.said_line(said, writer),
+            Err(fault) => Err(Cause::from(*fault)),
+        }
+    }
+
+    /// A line of a script that was read, and isn't short.
+    fn said_line<W: Sink>(&mut self, said: &Line, writer: &mut W) -> Result<(), Cause>
+        ensures prints { IsPlain self.old.options → AppendsOutput (W.contents writer.old)
+            (W.contents writer.new) (CarriesOut (session_of self.old.interpreter) said.now)
+            (Begins (times said.now) (LineOutcomeOnce said.now) (session_of self.old.interpreter))
+            result (session_of self.new.interpreter) }
+        ensures does { OnOk result (Does (DoesPart (Says said.now)) self.old self.new
+            (W.contents writer.old) (W.contents writer.new)) }
+    {
         self.text.clear();
-        let part = self.interpreter.line(line, &mut self.text);
-        self.outputs.note(self.interpreter.rig(), line);
+        let part = self.interpreter.carry_out(said, &mut self.text);
+        self.outputs.note(self.interpreter.rig(), said);
         self.printer
             .print_part(&self.options, part, self.text.as_slice(), &[], writer)
     }
@@ -472,6 +486,15 @@ impl Bench {
             || is_some (chance_at self.now.draws dev)) }
     {
         self.options.summary || is_styled(&self.options) || self.draws.are_drawn(dev)
+    }
+
+    /// Whether each try of a device has to be made by itself: as of polls, or since an Output report may take effect by it.
+    fn tries_singly(&self, dev: u8) -> bool
+        ensures { result ≡ ((self.now.options.summary || is_styled self.now.options
+            || is_some (chance_at self.now.draws dev))
+            || is_some (awaited_at self.now.outputs dev)) }
+    {
+        self.polls_singly(dev) || self.outputs.awaits(dev)
     }
 
     /// `poll D FATE N`.
@@ -767,64 +790,5 @@ impl Bench {
         };
         self.draws.lose(dev, percent, seed);
         Ok(())
-    }
-
-    /// Whether the next line that was printed is this one. The name of no usage is refused as in other lines.
-    fn expect(&mut self, expected: &[u8]) -> Result<(), LabCause>
-        ensures moment { moment_of self.new ≡ moment_of self.old }
-        ensures options { self.new.options ≡ self.old.options }
-        ensures expects { Expects expected.now self.old.printer.transcript
-            self.new.printer.transcript self.new.came.items result }
-        ensures settled { result ≡ Err LabCause.Unsettled → ⊥ }
-    {
-        if self.printer.expect(expected) {
-            return Ok(());
-        }
-        if unknown_usage(expected).is_some() {
-            return Err(LabCause::Script(no_control()));
-        }
-        match keep_answer(self.printer.answer(expected), &mut self.came) {
-            Ok(()) => Err(LabCause::Unmet),
-            Err(_) => Err(LabCause::Script(Cause::Memory)),
-        }
-    }
-
-    /// Passes over all that was printed.
-    fn forget(&mut self)
-        ensures moment { moment_of self.new ≡ moment_of self.old }
-        ensures options { self.new.options ≡ self.old.options }
-        ensures expects { IsForgotten self.new.printer.transcript }
-    {
-        self.printer.forget();
-    }
-
-    /// Whether all that was printed has been expected.
-    fn expect_none(&mut self) -> Result<(), LabCause>
-        ensures moment { moment_of self.new ≡ moment_of self.old }
-        ensures options { self.new.options ≡ self.old.options }
-        ensures expects { ExpectsNone self.old.printer.transcript self.new.printer.transcript
-            self.new.came.items result }
-        ensures settled { result ≡ Err LabCause.Unsettled → ⊥ }
-    {
-        if self.printer.expect_none() {
-            return Ok(());
-        }
-        match keep_answer(self.printer.answer_to_none(), &mut self.came) {
-            Ok(()) => Err(LabCause::Unmet),
-            Err(_) => Err(LabCause::Script(Cause::Memory)),
-        }
-    }
-}
-
-/// Keeps what came in place of what is expected.
-fn keep_answer(answer: Expectation<'_>, came: &mut Vec<u8>) -> Result<(), AllocError>
-    ensures { OnOk result (came.new.items ≡ came_words (answer_of answer.entry)) }
-{
-    came.clear();
-    match answer {
-        Expectation::Met => Ok(()),
-        Expectation::Other(line) => came.extend_from_slice(line),
-        Expectation::Nothing => came.extend_from_slice(b"nothing"),
-        Expectation::TooMuch => came.extend_from_slice(b"over 1 MiB since the last expect"),
     }
 }

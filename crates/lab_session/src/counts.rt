@@ -4,7 +4,7 @@ use hid_text::ShortLine;
 use std::fmt;
 use usb_transact::Fate;
 
-/// How often what happened. Counts stop at the greatest `u64`. Fates and repetitions of polls are counted where a summary is asked for.
+/// How often what happened. Counts stop at the greatest `u64`. Fates and repetitions are counted where a summary is asked for.
 /// They are printed as two lines, of which the second has the fates.
 #[derive(Clone, Copy, Debug, Default, PartialEq, Eq)]
 pub struct Counts {
@@ -52,11 +52,13 @@ impl Counts {
         add(&mut self.polls, count);
     }
 
-    /// Counts the polls of a line, if it polls, and nothing but their number.
-    #[inline(always)] // one comparison
+    /// Counts the polls or the tries of a line, if it makes any, and nothing but their number.
+    #[inline(always)] // two comparisons
     pub fn add_line(&mut self, line: &ShortLine) {
-        if let ShortLine::Poll { count, .. } = *line {
-            self.add_polls(u64::from(count));
+        match *line {
+            ShortLine::Poll { count, .. } => self.add_polls(u64::from(count)),
+            ShortLine::Control { count, .. } => add(&mut self.tries, u64::from(count)),
+            _ => {}
         }
     }
 

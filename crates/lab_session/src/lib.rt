@@ -21,6 +21,7 @@ mod bench;
 mod controls;
 mod counts;
 mod draws;
+mod expecting;
 mod fault;
 mod feed;
 pub mod laws;

@@ -1,13 +1,13 @@
 //! Output reports that a host sets, as they take effect.
 
-ghost use Rattle.std.specs.Prelude.{◌≡◌, ◌≢◌, ◌<◌, ℕ, None, Some, Ok, IfOk, IfSome};
+ghost use Rattle.std.specs.Prelude.{◌≡◌, ◌≢◌, ◌<◌, ℕ, None, Some, IfOk, IfSome, is_some};
 ghost use Rattle.lab_session.specs.Outputs.{IsAwaited, after_id, output_of_pending, output_set_by, output_text};
 
 use arrayvec::ArrayVec;
 use hid_layout::ReportKind;
 use hid_notation::print_bytes;
 use hid_stack::{Request, Rig};
-use hid_text::{Line, read_line};
+use hid_text::Line;
 use std::alloc::{AllocError, Global};
 
 /// One more than the greatest number of a device: they count from 1.
@@ -98,7 +98,6 @@ impl Outputs {
     ghost use Rattle.std.specs.Prelude.{string_bytes};
     ghost use Rattle.hid_requests.specs.declared.request.Request.{Request};
     ghost use Rattle.hid_text.specs.declared.line.Line.TheVariants as Lines;
-    ghost use Rattle.hid_text.specs.Line.{meaning_of};
     ghost use Rattle.lab_session.specs.Outputs.{BeginsRequestOf, awaited_at};
 
     /// None is to be set.
@@ -111,18 +110,31 @@ impl Outputs {
     }
 
     /// Keeps which Output report a line is to set, if it begins a request. Of other devices nothing changes.
-    pub fn note(&mut self, rig: &Rig, line: &[u8])
-        ensures its { (dev : ℕ) → (request : Request) → dev < 8
-            → meaning_of line.now ≡ Ok (Lines.Begin dev request)
+    pub fn note(&mut self, rig: &Rig, line: &Line)
+        ensures its { (dev : ℕ) → (request : Request) → dev < 8 → line.now ≡ Lines.Begin dev request
             → awaited_at self.new dev ≡ output_set_by request }
         ensures others { (dev : ℕ) → (BeginsRequestOf line.now dev → ⊥)
             → awaited_at self.new dev ≡ awaited_at self.old dev }
     {
-        if let Ok(Line::Begin { dev, request }) = &read_line(line) {
+        if let Line::Begin { dev, request } = line {
             let number = usize::from(*dev);
             if number < NUMBERS {
                 self.pending[number] = pending_output(rig, *dev, request);
             }
+        }
+    }
+
+    /// Whether an Output report of a device is awaited.
+    pub fn awaits(&self, dev: u8) -> bool
+        ensures { result ≡ is_some (awaited_at self.now dev) }
+    {
+        let number = usize::from(dev);
+        if number >= NUMBERS {
+            return false;
+        }
+        match &self.pending[number] {
+            Some(_) => true,
+            None => false,
         }
     }
 

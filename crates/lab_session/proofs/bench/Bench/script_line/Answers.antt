@@ -1,16 +1,24 @@
-use Rattle.std.proofs.Common.{refl}
+use Rattle.std.proofs.Common.{◌≡◌, Ok, Err, sym, ◌∙◌}
 use Rattle.hid_text.specs.Line.{meaning_of}
 use Rattle.hid_script.specs.Interpreter.{session_of}
-use Rattle.hid_script.specs.LineOutput.{LineBegins, LinePrints}
-use Rattle.lab_session.proofs.DoingLemmas.{did_script}
-use Rattle.lab_session.proofs.PrintedLemmas.{kept_printed}
+use Rattle.hid_script.proofs.SessionLemmas.{line_written, line_refused}
+use Rattle.lab_session.specs.Lines.{DoesPart, ScriptLineDoes}
+use Rattle.lab_session.specs.Parts.{Says}
+use Rattle.lab_session.proofs.DoingLemmas.{ok_does_so}
 use Rattle.lab_session.proofs.bench.Bench.script_line.Goals as goal
 
-pub returns-clause-prints : goal.returns-clause-prints
-unfolding LinePrints LineBegins
-returns-clause-prints g c = λ plain.
-    kept_printed _ _ c.clear.new.self.items c.line-part.new.writer.items c.as_slice.result.now (session_of c.args.self.now.interpreter) (session_of c.line-part.new.self) (meaning_of c.args.line.now) c.line-part.result c.print_part.result c.clear.ensures.items c.as_slice.ensures.value c.line-part.ensures.prints (c.print_part.ensures.written plain.style)
+pub returns-in-Ok-clause-prints : goal.returns-in-Ok-clause-prints
+returns-in-Ok-clause-prints g c = λ plain.
+    let is : c.read_line.result ≡ Ok c.in-Ok.said = cc in
+    line_written _ _ (session_of c.args.self.now.interpreter) c.args.line.now c.in-Ok.said _ _ (sym c.read_line.ensures.exact ∙ is) (c.said_line.ensures.prints plain)
 
-pub returns-clause-does : goal.returns-clause-does
-returns-clause-does g c =
-    did_script c.args.line.now c.args.self.now _ c.clear.new.self.items c.line-part.new.writer.items c.as_slice.result.now _ _ c.line-part.result c.print_part.result c.clear.ensures.items c.as_slice.ensures.value c.line-part.ensures.prints c.print_part.ensures.written c.print_part.ensures.ok (λ dev. refl) refl c.print_part.ensures.kept
+pub returns-in-Err-clause-prints : goal.returns-in-Err-clause-prints
+returns-in-Err-clause-prints g c = λ plain.
+    let is : c.read_line.result ≡ Err c.in-Err.fault = cc in
+    line_refused _ (session_of c.args.self.now.interpreter) c.args.line.now c.in-Err.fault (Err c.from.result) (session_of c.args.self.now.interpreter) (sym c.read_line.ensures.exact ∙ is) c.from.ensures
+
+pub returns-in-Ok-clause-does : goal.returns-in-Ok-clause-does
+returns-in-Ok-clause-does g c =
+    let is : c.read_line.result ≡ Ok c.in-Ok.said = cc in
+    let says : meaning_of c.args.line.now ≡ Ok c.in-Ok.said = sym c.read_line.ensures.exact ∙ is in
+    ok_does_so c.said_line.result (DoesPart (Says c.in-Ok.said)) (ScriptLineDoes c.args.line.now) _ _ _ _ (λ parts text k. (c.in-Ok.said, says, k)) c.said_line.ensures.does
