@@ -128,13 +128,9 @@ impl Outputs {
     pub fn awaits(&self, dev: u8) -> bool
         ensures { result ≡ is_some (awaited_at self.now dev) }
     {
-        let number = usize::from(dev);
-        if number >= NUMBERS {
-            return false;
-        }
-        match &self.pending[number] {
-            Some(_) => true,
-            None => false,
+        match self.pending.get(usize::from(dev)) {
+            Some(Some(_)) => true,
+            Some(None) | None => false,
         }
     }
 
