@@ -369,7 +369,8 @@ unfolding ShortLineDoes
 short_none (short.Poll dev fate count) before after parts text (inl h) none = part_none _ before after parts text h.1 none
 short_none (short.Poll dev fate count) before after parts text (inr h) none =
     often_none (Polls dev fate) (λ b a p t k. drawn_none dev fate b a k.1.drawn) count before after parts text h none
-short_none (short.Control dev fate count) before after parts text h none =
+short_none (short.Control dev fate count) before after parts text (inl h) none = part_none _ before after parts text h.1 none
+short_none (short.Control dev fate count) before after parts text (inr h) none =
     often_none (Tries dev fate) (λ b a p t k. drawn_none dev fate b a k.drawn) count before after parts text h none
 short_none said before after parts text h none = part_none _ before after parts text h none
 
