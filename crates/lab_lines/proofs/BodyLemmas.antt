@@ -67,3 +67,9 @@ unfolding copies
 rounds_first left rounds text less =
     let e : suc (left - 1) ≡ rounds + suc ((left - rounds) - 1) = omega (arith, less) in
     ap (λ n. copies n text) e ∙ copies_sum rounds (suc ((left - rounds) - 1)) text
+
+-- a text with a byte, once at least, isn't empty
+pub copies_some : (n : ℕ) (text : List ℕ) → 0 < n → 0 < length text → copies n text ≡ [] → ⊥
+unfolding copies
+copies_some zero text some bytes none = absurd (omega (arith, some))
+copies_some (suc n) text some bytes none = absurd (omega (arith, bytes, length-append text (copies n text), ap length none))

@@ -1,5 +1,5 @@
 -- What a line of the bench says, or which word of it is wrong (our choice: docs/LAB.md).
-use Rattle.std.specs.Prelude.{ℕ, ◌==◌, nat_le, nat_lt, List, [], ◌∷◌, length, drop, slice_index, if◌then◌else◌, Option, None, Some, Result, Ok, Err, codes, ℤ}
+use Rattle.std.specs.Prelude.{◌≡◌, ℕ, ◌==◌, false, nat_le, nat_lt, List, [], ◌∷◌, length, drop, slice_index, if◌then◌else◌, Option, None, Some, Result, Ok, Err, codes, ℤ}
 use Rattle.std.specs.Str.{bytes_eq}
 use Rattle.hid_requests.specs.declared.boot.Boot.{Boot}
 use Rattle.hid_bus.specs.declared.start.Start.{Start}
@@ -250,6 +250,13 @@ other_meaning line [] = Ok Nothing
 other_meaning line (first ∷ more) =
     if slice_index first 0 == 35 then Ok Nothing
     else by_keyword line first (after_word line) (lab_keyword_of first)
+
+-- a first word of no new line, no change, no device and no comment
+pub record IsKept (word : Word) : Type 0 where
+  pub new : lab_keyword_of word ≡ None
+  pub change : change_word_of word ≡ None
+  pub device : bytes_eq word (codes "device") ≡ false
+  pub comment : (slice_index word 0 == 35) ≡ false
 
 -- a line that is short says what it says to hidrun
 abbrev pub short_or : Option ShortLine → Result Said Refusal → Result Said Refusal

@@ -115,6 +115,10 @@ pub struct Body {
     depth: usize,
     at: usize,
     left: u16,
+    /// The text so often, as it was given last; none where a line came since.
+    rounds: (Vec<u8>, u16),
+    ghost whole: { rounds.0.items ≡ copies rounds.1 text.items },
+    ghost fitting: { length rounds.0.items ≤ 4096 },
     ghost short: { vec_len text ≤ 2 ^ 20 },
     ghost nested: { depth ≤ vec_len text },
     ghost within: { at ≤ vec_len text },
@@ -124,6 +128,7 @@ impl Body {
     ghost use Rattle.lab_lines.specs.Bodies.{text_to_come, Gives};
 
     /// No line yet, to be carried out so often.
+    #[tactic(auto, unfolding(crate::specs::Copies::copies))]
     pub fn new(alloc: Global, count: u16) -> Self
         ensures none { result.text.items ≡ [] }
         ensures closed { result.depth ≡ 0 }
@@ -136,6 +141,7 @@ impl Body {
             depth: 0,
             at: 0,
             left: count,
+            rounds: (Vec::new(alloc), 0),
         }
     }
 
@@ -148,6 +154,7 @@ impl Body {
     ///
     /// # Errors
     /// Out of memory.
+    #[tactic(auto, unfolding(crate::specs::Copies::copies))]
     pub fn add(&mut self, line: &[u8]) -> Result<Added, AllocError>
         // What comes of the line, by what it is to the body and by the room that is left.
         ensures added { IfOk result (λ added. added ≡ added_by self.old.depth
@@ -173,6 +180,7 @@ impl Body {
             return Ok(Added::TooLong);
         }
         let depth = depth_after(self.depth, role);
+        self.rounds = (Vec::new(*self.text.allocator()), 0);
         self.text.extend_from_slice(line)?;
         self.text.push(b'\n')?;
         self.depth = depth;
@@ -209,6 +217,22 @@ impl Body {
         self.at == 0 && self.left > 2 && !self.text.is_empty() && self.text.len() <= PIECE / 2
     }
 
+    /// Makes room for whole rounds, of which several are to come, unless the last ones that were given are as many at most.
+    fn keep_rounds(&mut self) -> Result<(), AllocError>
+        requires { (1 < self.old.left) × (0 < vec_len self.old.text) × (vec_len self.old.text ≤ 2048) }
+        ensures text { self.new.text ≡ self.old.text }
+        ensures at { self.new.at ≡ self.old.at }
+        ensures left { self.new.left ≡ self.old.left }
+        ensures some { OnOk result ((0 < self.new.rounds.1) × (self.new.rounds.1 < self.new.left)) }
+    {
+        if self.rounds.1 > 0 && self.rounds.1 < self.left {
+            return Ok(());
+        }
+        let alloc = *self.text.allocator();
+        self.rounds = rounds_of(alloc, self.text.as_slice(), self.left - 1)?;
+        Ok(())
+    }
+
     /// Gives whole rounds, of which several are to come.
     fn give_rounds(&mut self, room: &mut Vec<u8>) -> Result<(), AllocError>
         requires { (self.old.at ≡ 0) × (1 < self.old.left) × (0 < vec_len self.old.text)
@@ -216,10 +240,9 @@ impl Body {
         ensures { OnOk result (Gives (text_to_come self.old) (text_to_come self.new)
             room.old.items room.new.items true) }
     {
-        let alloc = *self.text.allocator();
-        let (rounds, count) = rounds_of(alloc, self.text.as_slice(), self.left - 1)?;
-        room.extend_from_slice(rounds.as_slice())?;
-        self.left -= count;
+        self.keep_rounds()?;
+        room.extend_from_slice(self.rounds.0.as_slice())?;
+        self.left -= self.rounds.1;
         Ok(())
     }
 
