@@ -31,7 +31,7 @@ use hid_script::{Cause, Interpreter, Options, Sink};
 use hid_stack::{StackFault, Start, Step};
 use hid_text::{ChangeKind, Line, ShortLine, read_line, read_short};
 use lab_lines::{
-    ControlName, Key, LEFT_SHIFT, LabLine, TypedText, find_control, key_of, read_hex, read_lab_line,
+    ControlName, Key, LEFT_SHIFT, LabLine, TypedText, find_control, key_of, read_hex, read_longer,
 };
 use std::alloc::Global;
 use usb_transact::Fate;
@@ -61,7 +61,7 @@ impl Bench {
     ghost use Rattle.hid_script.specs.Interpreter.{session_of};
     ghost use Rattle.hid_script.specs.Session.{Repeats, at_first};
     ghost use Rattle.hid_script.specs.Steps.{StepPrints};
-    ghost use Rattle.hid_text.specs.Line.{meaning_of};
+    ghost use Rattle.hid_text.specs.Line.{meaning_of, short_of};
     ghost use Rattle.lab_session.specs.Bench.{Does, DoesLine, DoesSaid, EndsPart, moment_of};
     ghost use Rattle.lab_session.specs.Scripts.{IsScripts, IsUndrawn, PrintsAs, PrintsSaid, end_of};
     ghost use Rattle.lab_session.specs.Chances.{chance_at};
@@ -154,7 +154,7 @@ impl Bench {
             → (dev : ℕ) × StaysUnsettled dev (moment_of self.new) }
     {
         let Some(short) = read_short(line) else {
-            return self.long_line(line, writer);
+            return self.longer_line(line, writer);
         };
         if !self.is_one_part(&short) {
             return self.some_parts(&short, writer);
@@ -227,12 +227,13 @@ impl Bench {
     }
 
     /// Reads a line that isn't short, and carries it out.
-    #[inline(never)] // a short line makes no room for what another one says
-    fn long_line<'a, W: Sink>(
+    #[inline(never)] // a line of `hidrun` makes no room for what another one says
+    pub(super) fn long_line<'a, W: Sink>(
         &mut self,
         line: &'a [u8],
         writer: &mut W,
     ) -> Result<Option<Asked<'a>>, LabCause>
+        requires { short_of (meaning_of line.now) ≡ None }
         ensures does { IfOk result (λ asked. DoesLine line.now (option_map asked_said asked) self.old
             self.new (W.contents writer.old) (W.contents writer.new)) }
         ensures prints { IsPlain self.old.options → IsUndrawn (moment_of self.old) → IsScripts line.now
@@ -243,7 +244,7 @@ impl Bench {
         ensures unsettled { end_of result ≡ Err LabCause.Unsettled
             → (dev : ℕ) × StaysUnsettled dev (moment_of self.new) }
     {
-        match read_lab_line(line) {
+        match read_longer(line) {
             Ok(said) => {
                 self.carry_out(&said, writer)?;
                 Ok(asked_of(said))
@@ -295,15 +296,12 @@ impl Bench {
             LabLine::Lose { dev, percent, seed } => { Ok(self.lose(dev, percent, seed)?) }
             LabLine::Expect(expected) => self.expect(expected),
             LabLine::ExpectNone => self.expect_none(),
-            LabLine::ExpectAny => {
-                self.forget();
-                Ok(())
-            }
+            LabLine::ExpectAny => self.expect_any(),
         }
     }
 
     /// A line of a script that isn't short.
-    fn script_line<W: Sink>(&mut self, line: &[u8], writer: &mut W) -> Result<(), Cause>
+    pub(super) fn script_line<W: Sink>(&mut self, line: &[u8], writer: &mut W) -> Result<(), Cause>
         ensures prints { IsPlain self.old.options → AppendsOutput (W.contents writer.old)
             (W.contents writer.new) (LinePrints (session_of self.old.interpreter) line.now)
             (LineBegins (session_of self.old.interpreter) line.now) result

@@ -1,6 +1,6 @@
 //! What a line expects of the lines that were printed.
 
-ghost use Rattle.std.specs.Prelude.{◌≡◌, Err, OnOk};
+ghost use Rattle.std.specs.Prelude.{◌≡◌, Ok, Err, OnOk};
 ghost use Rattle.lab_expectations.specs.Expectations.{answer_of};
 ghost use Rattle.lab_session.specs.Expecting.{came_words};
 
@@ -36,12 +36,14 @@ impl Bench {
     }
 
     /// Passes over all that was printed.
-    pub(super) fn forget(&mut self)
+    pub(super) fn expect_any(&mut self) -> Result<(), LabCause>
         ensures moment { moment_of self.new ≡ moment_of self.old }
         ensures options { self.new.options ≡ self.old.options }
+        ensures result { result ≡ Ok tt }
         ensures expects { IsForgotten self.new.printer.transcript }
     {
         self.printer.forget();
+        Ok(())
     }
 
     /// Whether all that was printed has been expected.

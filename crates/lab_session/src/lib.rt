@@ -30,6 +30,7 @@ mod options;
 mod outputs;
 mod printer;
 mod runs;
+mod scripted;
 mod shown;
 mod watch;
 mod words;

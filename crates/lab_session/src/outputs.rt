@@ -53,6 +53,19 @@ fn pending_output(rig: &Rig, dev: u8, request: &Request) -> Option<PendingOutput
     })
 }
 
+/// Whether a request is to set an Output report.
+fn sets_output(request: &Request) -> bool
+    ensures { result ≡ is_some (output_set_by request.now) }
+{
+    match request {
+        Request::SetReport {
+            kind: ReportKind::Output,
+            ..
+        } => true,
+        _ => false,
+    }
+}
+
 /// The bytes after the ID byte, where reports have IDs.
 fn after_id(id: u8, bytes: &[u8]) -> &[u8]
     ensures { result.now ≡ after_id id bytes.now }
@@ -117,10 +130,22 @@ impl Outputs {
             → awaited_at self.new dev ≡ awaited_at self.old dev }
     {
         if let Line::Begin { dev, request } = line {
-            let number = usize::from(*dev);
-            if number < NUMBERS {
-                self.pending[number] = pending_output(rig, *dev, request);
+            if sets_output(request) || self.awaits(*dev) {
+                self.keep(rig, *dev, request);
             }
+        }
+    }
+
+    /// Keeps which Output report a request of a device is to set.
+    #[inline(never)] // most requests set none, and make no room for its bytes
+    fn keep(&mut self, rig: &Rig, dev: u8, request: &Request)
+        ensures its { dev < 8 → awaited_at self.new dev ≡ output_set_by request.now }
+        ensures others { (other : ℕ) → other ≢ dev
+            → awaited_at self.new other ≡ awaited_at self.old other }
+    {
+        let number = usize::from(dev);
+        if number < NUMBERS {
+            self.pending[number] = pending_output(rig, dev, request);
         }
     }
 

@@ -73,5 +73,5 @@ returns-in-ExpectNone-clause-unsettled g c =
 
 pub returns-in-ExpectAny-clause-does : goal.returns-in-ExpectAny-clause-does
 returns-in-ExpectAny-clause-does g c =
-    subst (λ l. DoesSaid (said_of l) c.args.self.now c.forget.new.self (g.W.Sink.contents c.args.writer.now) (g.W.Sink.contents c.args.writer.now))
-    (sym c.in-ExpectAny.is) (stays_there c.args.self.now c.forget.new.self (g.W.Sink.contents c.args.writer.now) c.forget.ensures.moment c.forget.ensures.options)
+    subst (λ l. OnOk c.expect_any.result (DoesSaid (said_of l) c.args.self.now c.expect_any.new.self (g.W.Sink.contents c.args.writer.now) (g.W.Sink.contents c.args.writer.now)))
+    (sym c.in-ExpectAny.is) (however c.expect_any.result _ (stays_there c.args.self.now c.expect_any.new.self (g.W.Sink.contents c.args.writer.now) c.expect_any.ensures.moment c.expect_any.ensures.options))

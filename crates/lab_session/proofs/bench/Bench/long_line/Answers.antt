@@ -15,15 +15,15 @@ pub returns-in_err-carry_out-in-Ok-clause-prints : goal.returns-in_err-carry_out
 returns-in_err-carry_out-in-Ok-clause-prints g c = λ plain undrawn old.
     subst (λ r. PrintsAs (g.W.Sink.contents c.args.writer.now) (g.W.Sink.contents c.carry_out.new.writer) (meaning_of c.args.line.now) (session_of c.args.self.now.interpreter) (end_of r) (session_of c.carry_out.new.self.interpreter))
     (sym (err_is c.from_residual.result _ c.from_residual.ensures.1))
-    (as_script _ _ c.args.line.now (said_of c.in-Ok.said) _ _ (Err c.in_err-carry_out-in-Ok.field-0.0) old (sym c.in-Ok.ensures.exact) (c.in_err-carry_out-in-Ok.ensures.prints plain undrawn))
+    (as_script _ _ c.args.line.now (said_of c.in-Ok.said) _ _ (Err c.in_err-carry_out-in-Ok.field-0.0) old (sym (c.in-Ok.ensures.exact c.requires)) (c.in_err-carry_out-in-Ok.ensures.prints plain undrawn))
 
 pub returns-in_ok-carry_out-in-Ok-clause-prints : goal.returns-in_ok-carry_out-in-Ok-clause-prints
 returns-in_ok-carry_out-in-Ok-clause-prints g c = λ plain undrawn old.
-    as_script _ _ c.args.line.now (said_of c.in-Ok.said) _ _ (Ok tt) old (sym c.in-Ok.ensures.exact) (c.in_ok-carry_out-in-Ok.ensures.prints plain undrawn)
+    as_script _ _ c.args.line.now (said_of c.in-Ok.said) _ _ (Ok tt) old (sym (c.in-Ok.ensures.exact c.requires)) (c.in_ok-carry_out-in-Ok.ensures.prints plain undrawn)
 
 pub returns-in-Err-clause-prints : goal.returns-in-Err-clause-prints
 returns-in-Err-clause-prints g c = λ plain undrawn old.
-    unread_refused _ c.args.line.now (refusal_of c.in-Err.unread) c.unread_cause.result _ _ old (sym c.in-Err.ensures.exact) c.unread_cause.ensures
+    unread_refused _ c.args.line.now (refusal_of c.in-Err.unread) c.unread_cause.result _ _ old (sym (c.in-Err.ensures.exact c.requires)) c.unread_cause.ensures
 
 pub returns-in_err-carry_out-in-Ok-clause-unsettled : goal.returns-in_err-carry_out-in-Ok-clause-unsettled
 returns-in_err-carry_out-in-Ok-clause-unsettled g c = λ is.
@@ -33,16 +33,16 @@ returns-in_err-carry_out-in-Ok-clause-unsettled g c = λ is.
 pub returns-in_ok-carry_out-in-Ok-clause-expects : goal.returns-in_ok-carry_out-in-Ok-clause-expects
 returns-in_ok-carry_out-in-Ok-clause-expects g c =
     subst (λ m. ReadExpects m c.args.self.now.printer.transcript c.carry_out.new.self.printer.transcript c.carry_out.new.self.came.items (Ok tt))
-    c.in-Ok.ensures.exact (expects_said c.in-Ok.said _ _ _ (Ok tt) c.in_ok-carry_out-in-Ok.ensures.expects)
+    (c.in-Ok.ensures.exact c.requires) (expects_said c.in-Ok.said _ _ _ (Ok tt) c.in_ok-carry_out-in-Ok.ensures.expects)
 
 pub returns-in_err-carry_out-in-Ok-clause-expects : goal.returns-in_err-carry_out-in-Ok-clause-expects
 returns-in_err-carry_out-in-Ok-clause-expects g c =
     subst (λ r. ReadExpects (lab_meaning c.args.line.now) c.args.self.now.printer.transcript c.carry_out.new.self.printer.transcript c.carry_out.new.self.came.items (end_of r))
     (sym (err_is c.from_residual.result _ c.from_residual.ensures.1))
     (subst (λ m. ReadExpects m c.args.self.now.printer.transcript c.carry_out.new.self.printer.transcript c.carry_out.new.self.came.items (Err c.in_err-carry_out-in-Ok.field-0.0))
-    c.in-Ok.ensures.exact (expects_said c.in-Ok.said _ _ _ (Err c.in_err-carry_out-in-Ok.field-0.0) c.in_err-carry_out-in-Ok.ensures.expects))
+    (c.in-Ok.ensures.exact c.requires) (expects_said c.in-Ok.said _ _ _ (Err c.in_err-carry_out-in-Ok.field-0.0) c.in_err-carry_out-in-Ok.ensures.expects))
 
 pub returns-in-Err-clause-expects : goal.returns-in-Err-clause-expects
 returns-in-Err-clause-expects g c =
     subst (λ m. ReadExpects m c.args.self.now.printer.transcript c.args.self.now.printer.transcript c.args.self.now.came.items (Err (Script c.unread_cause.result)))
-    c.in-Err.ensures.exact tt
+    (c.in-Err.ensures.exact c.requires) tt
