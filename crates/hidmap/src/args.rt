@@ -40,7 +40,7 @@ fn width<'a>(alloc: Global) -> Result<Arg<'a>, AllocError> {
         .long("width")
         .value_name("N")
         .value_parser(value_parser!(u16))
-        .help("Draw characters for N columns (COLUMNS, else 80)")
+        .help("Draw characters for N columns (the terminal's, else 80)")
         .conflicts_with("svg")
 }
 

@@ -1,5 +1,5 @@
 -- Files that aren't played, and what they are (our choice: docs/RECORDINGS.md).
-use Rattle.std.specs.Prelude.{ℕ, ◌==◌, Bool, false, List, [], ◌∷◌, if◌then◌else◌, codes}
+use Rattle.std.specs.Prelude.{ℕ, ◌==◌, Bool, true, false, List, [], ◌∷◌, if◌then◌else◌, codes}
 use Rattle.std.specs.List.{slice_split, list_any}
 use Rattle.std.specs.Str.{bytes_eq}
 use Rattle.hid_input.specs.Known.{known_text}
@@ -7,7 +7,7 @@ use Rattle.hid_input.specs.declared.known.KnownFile.{KnownFile}
 use Rattle.hid_input.specs.declared.known.KnownFile.TheVariants.{Capture, UsbDescriptors, Compressed, Program}
 use Rattle.hid_text.specs.Words.{Word, words_of}
 use Rattle.hidplay.specs.declared.other.OtherFile.{OtherFile}
-use Rattle.hidplay.specs.declared.other.OtherFile.TheVariants.{Known, Script}
+use Rattle.hidplay.specs.declared.other.OtherFile.TheVariants.{Known, Script, Text}
 
 -- What a file is that is known by its first bytes, in words: a capture is known so only where a descriptor is wanted.
 abbrev pub other_known_text : KnownFile → List ℕ
@@ -20,6 +20,7 @@ other_known_text Program = known_text Program
 abbrev pub other_text : OtherFile → List ℕ
 other_text (Known file) = other_known_text file
 other_text Script = codes "a script: hidrun and hidlab run it"
+other_text Text = codes "text, not a descriptor: write it without control characters, as UTF-8"
 
 -- the words that lines of scripts begin with (docs/SCRIPT.md and docs/LAB.md)
 abbrev pub keywords : List Word
@@ -36,6 +37,11 @@ is_one_of words word = list_any (λ known. bytes_eq known word) words
 abbrev pub is_comment : Word → Bool
 is_comment [] = false
 is_comment (first ∷ rest) = first == 35
+
+-- a line of these words says nothing: it has none, or is a comment
+abbrev pub says_nothing : List Word → Bool
+says_nothing [] = true
+says_nothing (word ∷ words) = is_comment word
 
 -- whether a line of these words begins a script; where it says nothing, what comes later
 abbrev pub begins_script : List Word → Bool → Bool

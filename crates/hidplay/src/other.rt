@@ -5,9 +5,9 @@ ghost use Rattle.std.specs.List.{list_any};
 ghost use Rattle.std.specs.Str.{bytes_eq};
 ghost use Rattle.std.specs.Option.{unwrap_or};
 ghost use Rattle.hid_text.specs.Words.{words_of};
-ghost use Rattle.hidplay.specs.Other.{is_comment, begins_script, is_script};
+ghost use Rattle.hidplay.specs.Other.{is_comment, begins_script, is_script, says_nothing};
 
-use hid_input::{KnownFile, known_file};
+use hid_input::{KnownFile, begins_text, known_file};
 use hid_layout::{Layout, LayoutFault, Limits};
 use hid_report_descriptor::Cause;
 use hid_text::{first_word, split_line};
@@ -21,6 +21,8 @@ pub enum OtherFile {
     Known(KnownFile),
     /// A script of `hidrun` or `hidlab`.
     Script,
+    /// Text with control characters, or in another encoding than UTF-8.
+    Text,
 }
 
 impl fmt::Display for OtherFile {
@@ -36,6 +38,9 @@ impl fmt::Display for OtherFile {
             }
             OtherFile::Known(known) => write!(f, "{known}"),
             OtherFile::Script => f.write_str("a script: hidrun and hidlab run it"),
+            OtherFile::Text => f.write_str(
+                "text, not a descriptor: write it without control characters, as UTF-8",
+            ),
         }
     }
 }
@@ -86,16 +91,26 @@ pub fn is_script(text: &[u8]) -> bool
     begins_script(rest).unwrap_or(false)
 }
 
+/// Whether a line says nothing: it has no word, or is a comment.
+pub fn says_nothing(line: &[u8]) -> bool
+    ensures { result ≡ says_nothing (words_of line.now) }
+{
+    match first_word(line) {
+        None => true,
+        Some((word, _)) => is_comment(word),
+    }
+}
+
 /// What the bytes of a descriptor are if they are known for another file: they are refused as a descriptor, or have no report.
 pub fn other_of(alloc: Global, descriptor: &[u8]) -> Option<OtherFile> {
-    let known = known_file(descriptor)?;
+    let other = match known_file(descriptor) {
+        Some(known) => OtherFile::Known(known),
+        None if begins_text(descriptor) => OtherFile::Text,
+        None => return None,
+    };
     let has_reports = match Layout::parse_within(alloc, Limits::Real, descriptor) {
         Ok(layout) => !layout.reports().is_empty(),
         Err(LayoutFault { cause, .. }) => cause == Cause::Memory,
     };
-    if has_reports {
-        None
-    } else {
-        Some(OtherFile::Known(known))
-    }
+    if has_reports { None } else { Some(other) }
 }

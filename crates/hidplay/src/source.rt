@@ -1,12 +1,13 @@
 //! What a file is: the text of a recording, a capture, or a report descriptor in any of its forms.
 
 use super::fault::{FileFault, before_all, other_file, unread_descriptor};
-use super::other::{OtherFile, is_script, other_of};
+use super::other::{OtherFile, is_script, other_of, says_nothing};
 use hid_capture::UndescribedEndpoint;
 use hid_input::{InputCause, begins_recording, descriptor_in, is_recording};
 use hid_recording::{
     Cause, GivenDescriptor, Options, Summary, Watch, descriptor_line, play, play_capture,
 };
+use hid_text::split_line;
 use std::alloc::Global;
 use std::io::{BufRead, BufReader, ErrorKind, Read, Write};
 use usb_capture::is_capture;
@@ -49,26 +50,78 @@ fn first_byte<R: Read>(reader: &mut BufReader<R>) -> Result<Option<u8>, FileFaul
     Err(before_all(Cause::TooManyReads))
 }
 
-/// The first bytes of a file, up to the read that brings so many or more; a read is of 8,192 bytes at most.
+/// Adds what a read brings, of 8,192 bytes at most. Whether it brought anything: nothing stands after the file's end.
 ///
 /// # Errors
 /// [`Cause::Memory`], [`Cause::Read`] and [`Cause::TooManyReads`], before anything is played.
-fn read_front<R: Read>(alloc: Global, reader: &mut R, most: usize) -> Result<Vec<u8>, FileFault> {
-    let mut bytes = Vec::new(alloc);
+fn read_piece<R: Read>(bytes: &mut Vec<u8>, reader: &mut R) -> Result<bool, FileFault> {
     let mut piece = [0u8; 8192];
     for _ in 0..MAX_READS {
         match reader.read(&mut piece) {
-            Ok(0) => return Ok(bytes),
             Ok(count) => {
-                if bytes.extend_from_slice(&piece[..count]).is_err() {
-                    return Err(before_all(Cause::Memory));
-                }
-                if bytes.len() >= most {
-                    return Ok(bytes);
-                }
+                return match bytes.extend_from_slice(&piece[..count]) {
+                    Ok(()) => Ok(count > 0),
+                    Err(_) => Err(before_all(Cause::Memory)),
+                };
             }
             Err(error) if error.kind() == ErrorKind::Interrupted => {}
             Err(_) => return Err(before_all(Cause::Read)),
+        }
+    }
+    Err(before_all(Cause::TooManyReads))
+}
+
+/// Adds what follows in a file, up to the read with which there are so many bytes or more.
+///
+/// # Errors
+/// Those of [`read_piece`].
+fn read_on<R: Read>(bytes: &mut Vec<u8>, reader: &mut R, most: usize) -> Result<(), FileFault> {
+    for _ in 0..MAX_READS {
+        if most <= bytes.len() || !read_piece(bytes, reader)? {
+            return Ok(());
+        }
+    }
+    Err(before_all(Cause::TooManyReads))
+}
+
+/// The first bytes of a file, up to the read that brings so many or more.
+///
+/// # Errors
+/// Those of [`read_piece`].
+fn read_front<R: Read>(alloc: Global, reader: &mut R, most: usize) -> Result<Vec<u8>, FileFault> {
+    let mut bytes = Vec::new(alloc);
+    read_on(&mut bytes, reader, most)?;
+    Ok(bytes)
+}
+
+/// What stands in a text after its first lines, each with its end, that say nothing.
+fn after_passed(text: &[u8]) -> &[u8] {
+    let mut rest = text;
+    while let Some((line, behind)) = split_line(rest) {
+        if !says_nothing(line) {
+            return rest;
+        }
+        rest = behind;
+    }
+    rest
+}
+
+/// The first bytes of a file, up to the read that brings the end of a line that says something, so that however a file is
+/// read it is taken for the same; or up to as many as a descriptor can take.
+///
+/// # Errors
+/// Those of [`read_piece`].
+fn read_beginning<R: Read>(alloc: Global, reader: &mut R) -> Result<Vec<u8>, FileFault> {
+    let mut bytes = Vec::new(alloc);
+    let mut passed = 0;
+    for _ in 0..MAX_READS {
+        let rest = after_passed(&bytes[passed.min(bytes.len())..]);
+        if LONGEST <= bytes.len() || split_line(rest).is_some() {
+            return Ok(bytes);
+        }
+        passed = bytes.len().saturating_sub(rest.len());
+        if !read_piece(&mut bytes, reader)? {
+            return Ok(bytes);
         }
     }
     Err(before_all(Cause::TooManyReads))
@@ -176,12 +229,14 @@ pub fn play_source<R: Read + Drop, W: Write, H: Watch>(
 /// recording.
 fn play_other<R: Read, W: Write, H: Watch>(
     alloc: Global,
+    beginning: Vec<u8>,
     reader: &mut BufReader<R>,
     out: &mut W,
     options: Options,
     watch: &mut H,
 ) -> Result<Summary, FileFault> {
-    let front = read_front(alloc, reader, LONGEST)?;
+    let mut front = beginning;
+    read_on(&mut front, reader, LONGEST)?;
     if !is_recording(front.as_slice()) {
         match descriptor_in(alloc, front.as_slice()) {
             Ok(bytes) => {
@@ -217,11 +272,12 @@ fn play_detected<R: Read, W: Write, H: Watch>(
         return Ok(played.end?);
     }
     skip_mark(reader)?;
-    let _first = first_byte(reader)?;
-    if begins_recording(reader.buffer()) {
-        Ok(play(alloc, reader, out, manner.options, watch)?)
+    let beginning = read_beginning(alloc, reader)?;
+    if begins_recording(beginning.as_slice()) {
+        let mut recording = beginning.as_slice().chain(reader);
+        Ok(play(alloc, &mut recording, out, manner.options, watch)?)
     } else {
-        play_other(alloc, reader, out, manner.options, watch)
+        play_other(alloc, beginning, reader, out, manner.options, watch)
     }
 }
 
