@@ -1,5 +1,5 @@
 //! Random report descriptors, most of which are accepted: several report IDs or none, fields of any width and range, switches,
-//! arrays, null values, motions and padding, in few items or many.
+//! arrays, null values, motions and padding, in few items or many; reports of one element; arrays of many keys beside other items.
 
 use crate::dice::Dice;
 use crate::stop::Stop;
@@ -14,6 +14,9 @@ const PAGES: [u32; 8] = [0x01, 0x01, 0x07, 0x08, 0x09, 0x0C, 0x0D, 0xFF00];
 const FLAGS: [u32; 16] = [
     0x01, 0x03, 0x00, 0x00, 0x40, 0x04, 0x02, 0x02, 0x02, 0x02, 0x02, 0x06, 0x06, 0x42, 0x62, 0x102,
 ];
+
+/// Flags of arrays: without a null value, and with one (HID 1.11, 6.2.2.5).
+const ARRAYS: [u32; 2] = [0x00, 0x40];
 
 /// What a descriptor is like.
 #[derive(Clone, Copy, Debug)]
@@ -69,9 +72,10 @@ pub fn some_descriptor(alloc: Global, dice: &mut Dice) -> Result<Writer, Stop> {
     };
     let manner = some_manner(dice);
     draft.begin(dice)?;
-    for k in 0..manner.items {
-        draft.structure(dice, k, &manner)?;
-        draft.main_item(dice, k, &manner)?;
+    match dice.below(8) {
+        0 => draft.single_elements(dice, manner.ids)?,
+        1 => draft.wide_arrays(dice, manner.ids)?,
+        _ => draft.main_items(dice, &manner)?,
     }
     draft.end()?;
     let Draft { writer, .. } = draft;
@@ -97,6 +101,15 @@ impl Draft {
     fn end(&mut self) -> Result<(), Stop> {
         for _ in 0..self.collections {
             self.writer.bare(Item::EndCollection)?;
+        }
+        Ok(())
+    }
+
+    /// Adds main items of any kind.
+    fn main_items(&mut self, dice: &mut Dice, manner: &Manner) -> Result<(), Stop> {
+        for k in 0..manner.items {
+            self.structure(dice, k, manner)?;
+            self.main_item(dice, k, manner)?;
         }
         Ok(())
     }
@@ -142,6 +155,124 @@ impl Draft {
             1 => self.writer.number(Item::Feature, flags),
             _ => self.writer.number(Item::Input, flags),
         }
+    }
+
+    /// Adds reports of one element each, by rising IDs, or one without an ID.
+    fn single_elements(&mut self, dice: &mut Dice, ids: u32) -> Result<(), Stop> {
+        if ids == 0 {
+            return self.single_element(dice);
+        }
+        for id in 1..=ids.min(8) {
+            self.writer.number(Item::ReportId, id)?;
+            self.single_element(dice)?;
+        }
+        Ok(())
+    }
+
+    /// Adds a report of one element of any kind, padding after it or none, and seldom before it.
+    fn single_element(&mut self, dice: &mut Dice) -> Result<(), Stop> {
+        if dice.one_in(8) {
+            self.padding(dice)?;
+        }
+        match dice.below(8) {
+            0 | 1 => self.single_switch(dice)?,
+            2 => self.single_variable(dice, 0x02)?,
+            3 => self.single_variable(dice, 0x42)?,
+            4 => self.single_variable(dice, 0x06)?,
+            5 => self.wide_array(dice, 1)?,
+            _ => self.single_key(dice)?,
+        }
+        for _ in 0..dice.below(3) {
+            self.padding(dice)?;
+        }
+        Ok(())
+    }
+
+    /// Adds a switch of one bit or of several.
+    fn single_switch(&mut self, dice: &mut Dice) -> Result<(), Stop> {
+        let size = match dice.below(4) {
+            0 | 1 => 1,
+            2 => 8,
+            _ => dice.within(2, 32),
+        };
+        self.range(size, 0, 1)?;
+        self.usage_range(dice, 1)?;
+        self.input(1, 0x02)
+    }
+
+    /// Adds an element of any range with these flags.
+    fn single_variable(&mut self, dice: &mut Dice, flags: u32) -> Result<(), Stop> {
+        self.fields(dice)?;
+        self.usage_range(dice, 1)?;
+        self.input(1, flags)
+    }
+
+    /// Adds an array of one element, for keys of any page.
+    fn single_key(&mut self, dice: &mut Dice) -> Result<(), Stop> {
+        self.fields(dice)?;
+        let count = dice.within(1, 300);
+        self.usage_range(dice, count)?;
+        self.input(1, dice.one_of(&ARRAYS))
+    }
+
+    /// Adds so many fields of an Input report.
+    fn input(&mut self, count: u32, flags: u32) -> Result<(), Stop> {
+        self.writer.number(Item::ReportCount, count)?;
+        self.writer.number(Item::Input, flags)
+    }
+
+    /// Adds bits that mean nothing.
+    fn padding(&mut self, dice: &mut Dice) -> Result<(), Stop> {
+        self.writer.number(Item::ReportSize, dice.within(1, 16))?;
+        self.input(dice.within(1, 3), 0x01)
+    }
+
+    /// Adds arrays of many keys, beside other items or alone, in one report or several.
+    fn wide_arrays(&mut self, dice: &mut Dice, ids: u32) -> Result<(), Stop> {
+        let manner = Manner {
+            items: dice.within(1, 5),
+            most: 8,
+            ids: ids.min(3),
+            steady: 1,
+        };
+        for k in 0..manner.items {
+            self.structure(dice, k, &manner)?;
+            if dice.one_in(2) {
+                self.main_item(dice, k, &manner)?;
+            } else {
+                let count = some_count(dice);
+                self.wide_array(dice, count)?;
+            }
+        }
+        let count = some_count(dice);
+        self.wide_array(dice, count)
+    }
+
+    /// Adds an array of over 512 keys, mostly with ErrorRollOver among them.
+    fn wide_array(&mut self, dice: &mut Dice, count: u32) -> Result<(), Stop> {
+        let least = dice.below(3);
+        let more = dice.within(513, 700);
+        let size = match dice.below(5) {
+            0..=2 => 8,
+            3 => 16,
+            _ => dice.within(7, 20),
+        };
+        let (_, greatest) = ends(size, false);
+        self.range(size, i64::from(dice.below(2)), greatest.min(1000))?;
+        if dice.one_in(4) {
+            self.keyboard_usages(least, least.saturating_add(dice.below(9)))?;
+        }
+        self.keyboard_usages(least, least.saturating_add(more))?;
+        self.input(count, dice.one_of(&ARRAYS))
+    }
+
+    /// Adds a range of usages of the keyboard page (HID Usage Tables, Keyboard/Keypad Page).
+    fn keyboard_usages(&mut self, least: u32, greatest: u32) -> Result<(), Stop> {
+        const PAGE: u32 = 0x0007_0000;
+        self.writer
+            .number(Item::UsageMinimum, PAGE.saturating_add(least))?;
+        self.writer
+            .number(Item::UsageMaximum, PAGE.saturating_add(greatest))
     }
 
     /// Adds the size and the range of fields.
@@ -216,6 +347,15 @@ impl Draft {
             self.writer.number(Item::Usage, dice.within(0x30, 0x3F))?;
         }
         Ok(())
+    }
+}
+
+/// How many elements an array of many keys has: one, as many as a keyboard's, or up to more than are looked at one by one.
+fn some_count(dice: &mut Dice) -> u32 {
+    match dice.below(4) {
+        0 => 1,
+        1 | 2 => dice.within(2, 6),
+        _ => dice.within(1, 40),
     }
 }
 

@@ -1,8 +1,9 @@
-//! What a device sends: reports that are random, and alike enough that much of them stays.
+//! What a device sends: reports that are random, and alike enough that much of them stays; arrays that name ErrorRollOver, and
+//! then the same keys again, or others.
 
 use crate::dice::Dice;
 use crate::stop::Stop;
-use hid_layout::{Element, Layout, ReportKind};
+use hid_layout::{Element, Layout, ReportKind, Shape, usage_at};
 use std::alloc::Global;
 
 /// An Input report of a device.
@@ -12,6 +13,8 @@ struct Sent {
     report: usize,
     /// Its bytes, as it was sent last.
     bytes: Vec<u8>,
+    /// Its bytes before an array of it named ErrorRollOver; empty where none does.
+    held: Vec<u8>,
 }
 
 /// What a device sends next.
@@ -105,14 +108,60 @@ fn change_element(dice: &mut Dice, layout: &Layout, place: usize, bytes: &mut [u
         return;
     }
     if let Some(element) = layout.element(place, j) {
-        let first = if layout.numbered() { 8 } else { 0 };
         let number = number_of(dice, &element);
-        set_bits(
-            bytes,
-            element.bit.saturating_add(first),
-            element.width,
-            number,
-        );
+        set_element(layout, &element, number, bytes);
+    }
+}
+
+/// Writes the number of an element.
+fn set_element(layout: &Layout, element: &Element, number: i64, bytes: &mut [u8]) {
+    let first = if layout.numbered() { 8 } else { 0 };
+    set_bits(
+        bytes,
+        element.bit.saturating_add(first),
+        element.width,
+        number,
+    );
+}
+
+/// The number by which an element of an item names ErrorRollOver, if its first usages have it.
+fn rollover_number(layout: &Layout, place: usize) -> Option<i64> {
+    const FIRST_USAGES: usize = 4;
+    let item = layout.items().get(place)?;
+    if item.shape != Shape::Array {
+        return None;
+    }
+    let least = item.min;
+    if place >= layout.items().len() {
+        return None;
+    }
+    let entries = layout.entries(place);
+    for k in 0..FIRST_USAGES {
+        if usage_at(entries, k).is_some_and(|usage| usage.is_rollover()) {
+            return Some(least.saturating_add(k as i64));
+        }
+    }
+    None
+}
+
+/// Makes elements of an array name ErrorRollOver: all, or one of them.
+fn roll_over(dice: &mut Dice, layout: &Layout, place: usize, bytes: &mut [u8]) {
+    let (Some(number), Some(item)) = (rollover_number(layout, place), layout.items().get(place))
+    else {
+        return;
+    };
+    let count = item.count as usize;
+    let one = dice.place(count);
+    let are_all = !dice.one_in(4);
+    if place >= layout.items().len() {
+        return;
+    }
+    for j in 0..count {
+        if are_all || j == one {
+            if let Some(element) = layout.element(place, j) {
+                set_element(layout, &element, number, bytes);
+            }
+        }
     }
 }
 
@@ -161,8 +210,53 @@ impl Sent {
         }
     }
 
-    /// Changes what is sent, or nothing of it.
-    fn change(&mut self, dice: &mut Dice, layout: &Layout) {
+    /// Makes all arrays, or some of them, name ErrorRollOver; the bytes before are kept.
+    fn roll_over(&mut self, dice: &mut Dice, layout: &Layout) -> Result<(), Stop> {
+        if self.report >= layout.reports().len() {
+            return Ok(());
+        }
+        if self.held.is_empty() {
+            self.held.extend_from_slice(&self.bytes)?;
+        }
+        let are_all = dice.one_in(2);
+        for place in layout.plan(self.report) {
+            if are_all || dice.one_in(2) {
+                roll_over(dice, layout, *place, &mut self.bytes);
+            }
+        }
+        Ok(())
+    }
+
+    /// Goes back to the bytes before an array named ErrorRollOver, if one did.
+    fn roll_back(&mut self) -> Result<(), Stop> {
+        if !self.held.is_empty() {
+            self.bytes.clear();
+            self.bytes.extend_from_slice(&self.held)?;
+            self.held.clear();
+        }
+        Ok(())
+    }
+
+    /// Changes what is sent, or nothing of it; arrays may name ErrorRollOver, or no more.
+    fn change(&mut self, dice: &mut Dice, layout: &Layout) -> Result<(), Stop> {
+        let has_rolled_over = !self.held.is_empty();
+        match dice.below(12) {
+            0 => self.roll_over(dice, layout),
+            1..=3 if has_rolled_over => self.roll_back(),
+            4 | 5 if has_rolled_over => {
+                self.roll_back()?;
+                self.change_some(dice, layout);
+                Ok(())
+            }
+            _ => {
+                self.change_some(dice, layout);
+                Ok(())
+            }
+        }
+    }
+
+    /// Changes some bits or elements, or none.
+    fn change_some(&mut self, dice: &mut Dice, layout: &Layout) {
         let numbered = layout.numbered();
         match dice.below(16) {
             0..=3 => {}
@@ -189,6 +283,7 @@ impl Sender {
                 inputs.push(Sent {
                     report: place,
                     bytes,
+                    held: Vec::new(alloc),
                 })?;
             }
         }
@@ -214,7 +309,7 @@ impl Sender {
         }
         self.bytes.clear();
         if let Some(sent) = self.inputs.get_mut(self.current) {
-            sent.change(dice, layout);
+            sent.change(dice, layout)?;
             self.bytes.extend_from_slice(&sent.bytes)?;
         }
         if dice.one_in(20) {
