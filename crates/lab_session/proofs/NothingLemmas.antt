@@ -1,11 +1,8 @@
 -- Lines that say nothing to hidrun, which the bench passes over.
-use Rattle.std.proofs.Common.{◌≡◌, ◌<◌, ◌≤◌, ℕ, List, [], ◌∷◌, Option, None, Some, Result, Ok, Err, arith, get_or, length, refl, subst, sym}
-use Rattle.std.specs.Prelude.{position}
+use Rattle.std.proofs.Common.{◌≡◌, ℕ, List, [], ◌∷◌, Option, None, Some, Result, Ok, Err, refl}
 use Rattle.std.proofs.KnownBytes.{Appends-nil}
 use Rattle.hid_text.specs.declared.line.Line.TheVariants as line
 use Rattle.hid_text.specs.Line.{meaning_of}
-use Rattle.hid_text.specs.Words.{is_no_blank}
-use Rattle.hid_text.proofs.PartLemmas.{comment_line}
 use Rattle.hid_script.specs.LineOutput.{LineBegins, LinePrints}
 use Rattle.hid_script.specs.Session.{Session}
 use Rattle.hid_script.specs.Interpreter.{session_of}
@@ -72,9 +69,3 @@ nothing_expects bytes old new came r is = nothing_expects_by bytes (lab_meaning 
 pub nothing_prints : (u : Option (List ℕ)) (session : Session) (bytes : List ℕ) → meaning_of bytes ≡ Ok line.Nothing → PrintsAs u u (meaning_of bytes) session (Ok tt) session
 unfolding LinePrints LineBegins
 nothing_prints u session bytes is = (Ok tt, refl, nothing_written u session bytes is)
-
--- a comment from its first byte on
-pub first_comment : (bytes : List ℕ) → length bytes ≤ 1024 → 0 < length bytes → get_or bytes 0 0 ≡ 35 → meaning_of bytes ≡ Ok line.Nothing
-first_comment [] room some mark = absurd (omega (arith, some))
-first_comment (byte ∷ more) room some mark =
-    comment_line (byte ∷ more) 0 room (subst (λ b. position is_no_blank (b ∷ more) ≡ Some 0) (sym mark) refl) mark

@@ -1,11 +1,9 @@
 //! Texts and readers, line by line.
 
-ghost use Rattle.std.specs.Prelude.{◌≡◌, ℕ, ◌+◌, ◌-◌, ◌^◌, ◌<◌, ◌≤◌, ◌++◌, List, [], All, IfOk, IfErr, IfSome, IfNone, IsTrue, Some, Ok};
+ghost use Rattle.std.specs.Prelude.{◌≡◌, ℕ, ◌+◌, ◌-◌, ◌^◌, ◌<◌, ◌≤◌, ◌++◌, List, [], All, IfOk, IfErr, IfSome, IfNone, Some};
 ghost use Rattle.std.specs.Option.{option_map};
 ghost use Rattle.std.specs.Str.Lines.{lines, strip_carriage_return};
 ghost use Rattle.hid_script.specs.Interpreter.{session_of};
-ghost use Rattle.hid_text.specs.declared.line.Line.TheVariants as Line;
-ghost use Rattle.hid_text.specs.Line.{meaning_of};
 ghost use Rattle.hid_text.specs.Lines.{IsUnbroken};
 ghost use Rattle.lab_session.specs.Bench.{moment_of};
 ghost use Rattle.lab_session.specs.Printed.{IsPlain};
@@ -27,9 +25,6 @@ use hid_text::{says_nothing, split_line};
 
 /// How many lines a source has at most.
 const MAX_LINES: usize = 1_000_000_000_000;
-
-/// The most bytes of a comment that is known by its first byte.
-const MAX_COMMENT: usize = 1024;
 
 /// How many reads a run makes at most.
 const MAX_READS: u64 = 1 << 40;
@@ -99,17 +94,6 @@ pub(crate) fn without_return(line: &[u8]) -> &[u8]
     }
 }
 
-/// Whether a line says nothing: most of those are comments from their first byte on.
-#[inline(always)] // a few comparisons
-fn is_idle(line: &[u8]) -> bool
-    ensures { IsTrue result → meaning_of line.now ≡ Ok Line.Nothing }
-{
-    if line.len() <= MAX_COMMENT && !line.is_empty() && line[0] == b'#' {
-        return true;
-    }
-    says_nothing(line)
-}
-
 /// Carries out a line, with so many lines before it.
 #[inline(always)] // most lines do little
 fn run_line<'a, W: Sink>(
@@ -127,7 +111,7 @@ fn run_line<'a, W: Sink>(
     ensures refused { IfErr result (λ fault. (fault.line ≡ before + 1)
         × RefusesLine line.now fault.cause bench.old bench.new) }
 {
-    if is_idle(line) {
+    if says_nothing(line) {
         return Ok(None);
     }
     match bench.line(line, writer) {

@@ -4,16 +4,16 @@ use Rattle.lab_session.proofs.NothingLemmas.{nothing_done, nothing_expects, noth
 use Rattle.lab_session.proofs.RunLemmas.{ran_on, ran_out}
 use Rattle.lab_session.proofs.runs.run_line.Goals as goal
 
-pub returns-then-is_idle-clause-script : goal.returns-then-is_idle-clause-script
-returns-then-is_idle-clause-script g c = λ plain undrawn old.
+pub returns-then-says_nothing-clause-script : goal.returns-then-says_nothing-clause-script
+returns-then-says_nothing-clause-script g c = λ plain undrawn old.
     let U = g.W.Sink.contents c.args.writer.now in
-    let is = c.if-is_idle.ensures refl in
+    let is = c.if-says_nothing.ensures refl in
     ran_on c.args.bench.now c.args.bench.now U U c.args.line.now c.args.before None old undrawn (nothing_done c.args.line.now c.args.bench.now U is)
     (nothing_prints U (session_of c.args.bench.now.interpreter) c.args.line.now is)
 
-pub returns-then-is_idle-clause-carries : goal.returns-then-is_idle-clause-carries
-returns-then-is_idle-clause-carries g c =
-    let is = c.if-is_idle.ensures refl in
+pub returns-then-says_nothing-clause-carries : goal.returns-then-says_nothing-clause-carries
+returns-then-says_nothing-clause-carries g c =
+    let is = c.if-says_nothing.ensures refl in
     let same = c.args.bench.now.printer.transcript in
     record {
       does = nothing_done c.args.line.now c.args.bench.now (g.W.Sink.contents c.args.writer.now) is;
