@@ -217,7 +217,7 @@ impl Body {
         self.at == 0 && self.left > 2 && !self.text.is_empty() && self.text.len() <= PIECE / 2
     }
 
-    /// Makes room for whole rounds, of which several are to come, unless the last ones that were given are as many at most.
+    /// Puts whole rounds together, of which several are to come. Those that were given last are kept where fewer than are left.
     fn keep_rounds(&mut self) -> Result<(), AllocError>
         requires { (1 < self.old.left) × (0 < vec_len self.old.text) × (vec_len self.old.text ≤ 2048) }
         ensures text { self.new.text ≡ self.old.text }

@@ -155,7 +155,7 @@ PollLineDoes dev fate count before parts text after =
     ((before.chance dev ≡ None) × DoesPart (Says (line.Step (short.Poll dev fate count))) before parts text after)
     ⊎ Often count (Polls dev fate) before parts text after
 
--- `control D FATE N`: the line itself where nothing is drawn of the device; else so many tries, each with its fate
+-- `control D FATE N`: the line itself, which is only where nothing is drawn of the device; or so many tries, each with its fate
 abbrev pub TryLineDoes : ℕ → Fate → ℕ → Moment → List Part → List ℕ → Moment → Type 0
 TryLineDoes dev fate count before parts text after =
     ((before.chance dev ≡ None) × DoesPart (Says (line.Step (short.Control dev fate count))) before parts text after)

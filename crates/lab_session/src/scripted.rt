@@ -20,7 +20,7 @@ impl Bench {
     ghost use Rattle.lab_session.specs.Scripts.{IsScripts, IsUndrawn, PrintsAs, end_of};
     ghost use Rattle.lab_session.specs.Lines.{StaysUnsettled};
 
-    /// Carries out a line that isn't short.
+    /// Carries out a line that isn't short: as one that `hidrun` alone has where its first word says so, else as one of the bench.
     #[inline(never)] // a short line makes no room for what another one says
     pub(super) fn longer_line<'a, W: Sink>(
         &mut self,
