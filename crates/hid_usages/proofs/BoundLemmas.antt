@@ -34,7 +34,7 @@ abbrev pub AreBounds : MainItem → ℤ → ℤ → Type 0
 AreBounds item least greatest = (v : ℤ) → FitsFields item v → is_in least greatest v ≡ is_encodable item v
 
 -- a number that fits a field is one of those from its least to its greatest
-field_bounds : (min v : ℤ) (w : ℕ) → FitsField v w (is_negative min) → (least_value min w ≤ℤ v) × (v ≤ℤ greatest_value min w)
+pub field_bounds : (min v : ℤ) (w : ℕ) → FitsField v w (is_negative min) → (least_value min w ≤ℤ v) × (v ≤ℤ greatest_value min w)
 field_bounds (pos n) v w fits = by_sign (int_lt (pos n) (pos 0)) refl
   where
     by_sign : (b : Bool) → int_lt (pos n) (pos 0) ≡ b → (cond b (neg_ℤ (pos (2 ^ (w - 1)))) (pos 0) ≤ℤ v) × (v ≤ℤ cond b (pos (2 ^ (w - 1) - 1)) (pos (2 ^ w - 1)))

@@ -361,13 +361,13 @@ pub record BecomesFrom (target start : ℕ → Bool) (n : ℕ) (held : List Bool
   pub done : (i : ℕ) → i < from → is_on held i ≡ target i
   pub rest : (i : ℕ) → from ≤ i → is_on held i ≡ start i
 
-set_on : (ps : List Bool) (i : ℕ) (b : Bool) → i < length ps → is_on (slice_set ps i b) i ≡ b
+pub set_on : (ps : List Bool) (i : ℕ) (b : Bool) → i < length ps → is_on (slice_set ps i b) i ≡ b
 set_on ps i b h = ap (λ (o : Option Bool). unwrap_or o false) (set_here ps i b h)
 
-set_other : (ps : List Bool) (i k : ℕ) (b : Bool) → (i ≡ k → ⊥) → is_on (slice_set ps i b) k ≡ is_on ps k
+pub set_other : (ps : List Bool) (i k : ℕ) (b : Bool) → (i ≡ k → ⊥) → is_on (slice_set ps i b) k ≡ is_on ps k
 set_other ps i k b ne = ap (λ (o : Option Bool). unwrap_or o false) (set_there ps i k b ne)
 
-set_long : (ps : List Bool) (i : ℕ) (b : Bool) → length (slice_set ps i b) ≡ length ps
+pub set_long : (ps : List Bool) (i : ℕ) (b : Bool) → length (slice_set ps i b) ≡ length ps
 set_long [] i b = refl
 set_long (p ∷ ps) zero b = refl
 set_long (p ∷ ps) (suc i) b = ap suc (set_long ps i b)

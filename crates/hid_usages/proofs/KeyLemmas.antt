@@ -36,14 +36,14 @@ named_none item i (key ∷ keys) =
     no_key true = refl
     no_key false = refl
 
-names_more : (item : MainItem) (vs : List ℤ) (v : ℤ) (i : ℕ) → names_key item (vs ++ v ∷ []) i ≡ (names_key item vs i || int_eq v (item.min +ℤ pos i))
+pub names_more : (item : MainItem) (vs : List ℤ) (v : ℤ) (i : ℕ) → names_key item (vs ++ v ∷ []) i ≡ (names_key item vs i || int_eq v (item.min +ℤ pos i))
 names_more item vs v i = list_any-append (λ w. int_eq w (item.min +ℤ pos i)) vs (v ∷ []) ∙ last (int_eq v (item.min +ℤ pos i)) (names_key item vs i)
   where
     last : (b a : Bool) → (a || (b || false)) ≡ (a || b)
     last true a = refl
     last false a = refl
 
-not_named : (item : MainItem) (v : ℤ) (i : ℕ) → v ≢ (item.min +ℤ pos i) → int_eq v (item.min +ℤ pos i) ≡ false
+pub not_named : (item : MainItem) (v : ℤ) (i : ℕ) → v ≢ (item.min +ℤ pos i) → int_eq v (item.min +ℤ pos i) ≡ false
 not_named item v i ne = elim (cases_Bool (int_eq v (item.min +ℤ pos i))) [ inl e ↦ absurd (ne ((Decides-int_eq v (item.min +ℤ pos i)).0 e)) | inr e ↦ e ]
 
 -- a number that names no key adds none

@@ -3,7 +3,7 @@ use Rattle.std.proofs.Common.{◌≡◌, ◌≢◌, ℕ, zero, suc, ◌+◌, ◌
 use Rattle.std.specs.Int.{bit_at, bit_not, trailing_zeros, div_ceil}
 use mir.Syntax.{w64}
 use Rattle.std.proofs.lemmas.Bool.{cases_lt}
-use Rattle.std.proofs.lemmas.Nat.Bits.{bit_at-lt, bit_at_and, bit_at_not}
+use Rattle.std.proofs.lemmas.Nat.Bits.{bit_at-lt, bit_at-zero, bit_at_and, bit_at_not}
 use Rattle.std.proofs.lemmas.Option.{unwrap_or-slice_get}
 use Rattle.hid_snapshots.specs.Words.{switch_words, is_on, is_alone, is_bit, IsFirst}
 use Rattle.hid_snapshots.proofs.WordLemmas.{bit_is_on, enough, words_in-length, on_within, none_left, lowest_left, none_in_word, found_in_word}
@@ -77,4 +77,45 @@ none_past ps qs ws vs from k is others_are none_set past none i low high =
     elim (cases_lt i (64 * k)) [
       | inl lt ↦ none i low lt
       | inr ge ↦ ap (λ (b : Bool). b && not (is_on qs i)) (none_set i (omega (arith, long, others_long, past, ge, high)))
+    ]
+
+-- none is alone from an end on, or past the words of both
+pub none_behind : (ps qs : List Bool) (ws vs : List ℕ) (from end k : ℕ) → ws ≡ switch_words ps → vs ≡ switch_words qs → NoneSetFrom end ps → end ≤ length qs → min (min (div_ceil end 64) (length ws)) (length vs) ≤ k
+    → ((i : ℕ) → from ≤ i → i < 64 * k → is_alone ps qs i ≡ false) → (i : ℕ) → from ≤ i → i < length ps → is_alone ps qs i ≡ false
+none_behind ps qs ws vs from end k is others_are none_set room past none i low high =
+    let long : length ws ≡ div_ceil (length ps) 64 = ap length is ∙ words_in-length (div_ceil (length ps) 64) ps in
+    let others_long : length vs ≡ div_ceil (length qs) 64 = ap length others_are ∙ words_in-length (div_ceil (length qs) 64) qs in
+    elim (cases_lt i (64 * k)) [
+      | inl lt ↦ none i low lt
+      | inr ge ↦ ap (λ (b : Bool). b && not (is_on qs i)) (none_set i (omega (arith, long, others_long, past, ge, high, room)))
+    ]
+
+-- a bit that is 1 is a place that is pressed
+bit_is_pressed : (ps : List Bool) (ws : List ℕ) (k b : ℕ) → b < 64 → ws ≡ switch_words ps → is_alone_bit (get_or ws k 0) 0 b ≡ is_on ps (64 * k + b)
+bit_is_pressed ps ws k b h is =
+    ap (λ (n : ℕ). (bit_at (get_or ws k 0) b == 1) && not (n == 1)) (bit_at-zero b) ∙ all (bit_at (get_or ws k 0) b == 1) ∙ bit_is_place ps ws k b h is
+  where
+    all : (x : Bool) → (x && true) ≡ x
+    all true = refl
+    all false = refl
+
+pub found_pressed : (ps : List Bool) (ws : List ℕ) (from start k bit : ℕ) → ws ≡ switch_words ps → start ≡ from - 64 * k → ((i : ℕ) → from ≤ i → i < 64 * k → is_on ps i ≡ false)
+    → IsFirst (is_alone_bit (get_or ws k 0) 0) start 64 bit → IsFirst (is_on ps) from (length ps) (64 * k + bit)
+found_pressed ps ws from start k bit is start_is none first =
+    let found = found_in_word (is_alone_bit (get_or ws k 0) 0) (is_on ps) from start k (k + 1) bit start_is (omega arith) (λ b h. bit_is_pressed ps ws k b h is) none first in
+    record { low = found.low; high = on_within ps (64 * k + bit) found.hit; before = found.before; hit = found.hit }
+
+pub none_pressed_in : (ps : List Bool) (ws : List ℕ) (from start k : ℕ) → ws ≡ switch_words ps → start ≡ from - 64 * k → ((i : ℕ) → from ≤ i → i < 64 * k → is_on ps i ≡ false)
+    → ((b : ℕ) → start ≤ b → b < 64 → is_alone_bit (get_or ws k 0) 0 b ≡ false) → (i : ℕ) → from ≤ i → i < 64 * (k + 1) → is_on ps i ≡ false
+none_pressed_in ps ws from start k is start_is none not_here =
+    none_in_word (is_alone_bit (get_or ws k 0) 0) (is_on ps) from start k start_is (λ b h. bit_is_pressed ps ws k b h is) none not_here
+
+-- none is pressed from an end on, or past the words
+pub none_pressed_behind : (ps : List Bool) (ws : List ℕ) (from end k : ℕ) → ws ≡ switch_words ps → NoneSetFrom end ps → min (div_ceil end 64) (length ws) ≤ k
+    → ((i : ℕ) → from ≤ i → i < 64 * k → is_on ps i ≡ false) → (i : ℕ) → from ≤ i → i < length ps → is_on ps i ≡ false
+none_pressed_behind ps ws from end k is none_set past none i low high =
+    let long : length ws ≡ div_ceil (length ps) 64 = ap length is ∙ words_in-length (div_ceil (length ps) 64) ps in
+    elim (cases_lt i (64 * k)) [
+      | inl lt ↦ none i low lt
+      | inr ge ↦ none_set i (omega (arith, long, past, ge, high))
     ]

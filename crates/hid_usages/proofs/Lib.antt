@@ -7,6 +7,7 @@ pub mod NamedLemmas
 pub mod KeyLemmas
 pub mod KeySearchLemmas
 pub mod ChangedKeyLemmas
+pub mod ManyElementLemmas
 pub mod TakeLemmas
 pub mod PressLemmas
 pub mod SingleKeyLemmas

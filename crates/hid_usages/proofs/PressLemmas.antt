@@ -107,7 +107,7 @@ keys_are layout i m es elements rolls n form there heads =
     of_shape us Array h = refl
 
 -- a number that names a place and fits its field is one that an element can carry if it is no greater than the greatest
-place_encodable : (m : MainItem) (v : ℤ) (p : ℕ) → FitsFields m v → v ≡ m.min +ℤ pos p → is_encodable m (m.min +ℤ pos p) ≡ int_le v m.max
+pub place_encodable : (m : MainItem) (v : ℤ) (p : ℕ) → FitsFields m v → v ≡ m.min +ℤ pos p → is_encodable m (m.min +ℤ pos p) ≡ int_le v m.max
 place_encodable m v p fits is =
     let least = (both_true (int_le m.min v) (int_le v v) (inside m.min v v (omega (arith, ints)) (omega (arith, ints)))).0 in
     ap (is_encodable m) (sym is) ∙ sym (in_range m m.min m.max refl refl v fits) ∙ ap (λ (b : Bool). b && int_le v m.max) least

@@ -9,7 +9,6 @@ use Rattle.hid_snapshots.specs.declared.control_state.ControlState.{ControlState
 use Rattle.hid_usages.specs.declared.changed_bits.BitSpan.{BitSpan}
 use Rattle.hid_usages.specs.declared.take.ListedItem.{ListedItem}
 use Rattle.hid_usages.specs.declared.changed_keys.KeyNumbers.{KeyNumbers}
-use Rattle.hid_usages.specs.declared.changed_keys.TheConstants.{MOST_ELEMENTS}
 use Rattle.hid_usages.specs.declared.elements.ElementRange.{ElementRange}
 use Rattle.hid_usages.specs.declared.key_array.KeyArray.{KeyArray}
 use Rattle.hid_usages.specs.declared.single_key.NamedUsage.{NamedUsage}
@@ -57,7 +56,6 @@ RollsWithin array numbers range false =
 pub record AreKeyNumbers (change : KeyNumbers) : Type 0 where
   pub entries : length change.array.entries.now ≤ 64
   pub fits : All (FitsFields change.array.item.now) change.next.now
-  pub few : length change.next.now ≤ MOST_ELEMENTS
   pub count : length change.last.now ≡ length change.next.now
   pub within : change.range.end ≤ length change.next.now
   pub same : (j : ℕ) → (j < change.range.first) ⊎ (change.range.end ≤ j) → slice_get change.last.now j ≡ slice_get change.next.now j

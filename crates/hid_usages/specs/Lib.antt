@@ -15,6 +15,7 @@ pub mod EventSources
 pub mod ChangedBits
 pub mod SameWords
 pub mod ChangedKeys
+pub mod ManyElements
 pub mod Plans
 pub mod Known
 pub mod PlannedReports

@@ -183,6 +183,7 @@ fn released_places<C: FieldCodec>(
     held: &Flags,
 ) -> ArrayVec<u32, MOST_ELEMENTS>
     requires numbers { AreKeyNumbers change.now }
+    requires few { length change.now.next.now ≤ MOST_ELEMENTS }
     requires held { held.now ≡ keys_before change.now }
     ensures { ListsAlone (keys_before change.now) (keys_after change.now) result.items }
 {
@@ -203,6 +204,7 @@ fn pressed_places<C: FieldCodec>(
     held: &Flags,
 ) -> ArrayVec<u32, MOST_ELEMENTS>
     requires numbers { AreKeyNumbers change.now }
+    requires few { length change.now.next.now ≤ MOST_ELEMENTS }
     requires held { HoldsBoth (keys_before change.now) (keys_after change.now) held.now }
     ensures { ListsAlone (keys_after change.now) (keys_before change.now) result.items }
 {
@@ -256,6 +258,7 @@ fn release_keys<C: FieldCodec>(
     requires array { IsArrayAt layout.now item change.now.array.item.now
         change.now.array.entries.now }
     requires numbers { AreKeyNumbers change.now }
+    requires few { length change.now.next.now ≤ MOST_ELEMENTS }
     requires held { held.old ≡ keys_before change.now }
     requires room { HasSpace out.old (ups item (usages_at layout.now item)
         (keys_before change.now) (keys_after change.now)) }
@@ -286,6 +289,7 @@ fn press_keys<C: FieldCodec>(
     requires array { IsArrayAt layout.now item change.now.array.item.now
         change.now.array.entries.now }
     requires numbers { AreKeyNumbers change.now }
+    requires few { length change.now.next.now ≤ MOST_ELEMENTS }
     requires held { HoldsBoth (keys_before change.now) (keys_after change.now) held.old }
     requires room { HasSpace out.old (downs item (usages_at layout.now item)
         (keys_before change.now) (keys_after change.now)) }
@@ -304,22 +308,29 @@ fn press_keys<C: FieldCodec>(
     }
 }
 
-/// Whether an element of the last report names ErrorRollOver: its numbers then don't say which keys are held.
+/// Whether one of the numbers names ErrorRollOver.
 #[inline(always)]
-pub(crate) fn rolled_over<C: FieldCodec>(change: &KeyNumbers<'_>) -> bool
-    requires { AreKeyNumbers change.now }
-    ensures { result ≡ list_any (is_rollover_number change.now.array) change.now.last.now }
+pub(crate) fn roll_over<C: FieldCodec>(array: &KeyArray<'_>, numbers: &FieldRun<'_>) -> bool
+    requires { length array.now.entries.now ≤ 64 }
+    ensures { result ≡ list_any (is_rollover_number array.now) numbers.now }
 {
     let all = ElementRange {
         first: 0,
-        end: change.last.len(),
+        end: numbers.len(),
     };
-    rolls_within::<C>(
-        &change.array,
-        sole_rollover(&change.array),
-        change.last,
-        all,
-    )
+    rolls_within::<C>(array, sole_rollover(array), numbers, all)
+}
+
+/// Whether one of the numbers names ErrorRollOver, asked where that is seldom needed: not inlined.
+#[inline(never)]
+pub(crate) fn roll_over_apart<C: FieldCodec>(
+    array: &KeyArray<'_>,
+    numbers: &FieldRun<'_>,
+) -> bool
+    requires { length array.now.entries.now ≤ 64 }
+    ensures { result ≡ list_any (is_rollover_number array.now) numbers.now }
+{
+    roll_over::<C>(array, numbers)
 }
 
 /// Sets the held keys of an array by the next numbers, and appends their events. If a number names ErrorRollOver, the keys
@@ -335,6 +346,7 @@ pub(crate) fn change_keys<C: FieldCodec>(
     requires array { IsArrayAt layout.now item change.now.array.item.now
         change.now.array.entries.now }
     requires numbers { AreKeyNumbers change.now }
+    requires few { length change.now.next.now ≤ MOST_ELEMENTS }
     requires held { held.old ≡ keys_before change.now }
     requires last { list_any (is_rollover_number change.now.array) change.now.last.now ≡ false }
     requires room { HasSpace out.old (key_events item (usages_at layout.now item)

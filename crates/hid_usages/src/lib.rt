@@ -33,6 +33,7 @@ mod event_source;
 mod key_array;
 mod key_search;
 pub mod laws;
+mod many_elements;
 mod plan;
 mod planned_report;
 mod reader;

@@ -22,6 +22,7 @@ ghost use Rattle.hid_usages.specs.Ranges.{LeaveOthers};
 
 use crate::bits::{are_bits, take_bits};
 use crate::changed_bits::BitSpan;
+use crate::changed_keys::roll_over_apart;
 use crate::elements::{Carriable, ElementRange, take_switches, take_values};
 use crate::event_source::{EventSource, ItemUsages, no_usages};
 use crate::key_array::{KeyArray, read_keys};
@@ -353,6 +354,37 @@ pub(crate) fn take_flags<C: FieldCodec>(
     } else {
         named.release_first(held.len());
     }
+}
+
+/// Sets the held keys of an array by these numbers, as [`take_flags`] does. Whether a number names ErrorRollOver is asked first,
+/// so that a report of it walks no usages.
+#[inline(always)]
+pub(crate) fn take_unless_rollover<C: FieldCodec>(
+    layout: &Layout,
+    place: usize,
+    array: &KeyArray<'_>,
+    numbers: &FieldRun<'_>,
+    held: &mut Flags,
+    named: &mut Flags,
+    out: &mut Vec<Event>,
+)
+    requires array { IsArrayAt layout.now place array.now.item.now array.now.entries.now }
+    requires fits { All (FitsFields array.now.item.now) numbers.now }
+    requires held { length held.old ≡ length (keys_at layout.now place) }
+    requires named { NoFlagSetFor (ControlState.Switches held.old) named.old }
+    requires room { HasSpace out.old (key_events place (usages_at layout.now place)
+        (ControlState.Switches held.old)
+        (keys_by_array layout.now place array.now held.old numbers.now)) }
+    ensures held { ControlState.Switches held.new
+        ≡ keys_by_array layout.now place array.now held.old numbers.now }
+    ensures named { named.new ≡ named.old }
+    ensures appends { Appends out.old (key_events place (usages_at layout.now place)
+        (ControlState.Switches held.old) (ControlState.Switches held.new)) out.new }
+{
+    if roll_over_apart::<C>(array, numbers) {
+        return;
+    }
+    take_flags::<C>(layout, place, array, numbers, held, named, out);
 }
 
 /// Sets keys by the first of these flags, appends the changes, and releases all of the flags.

@@ -1,6 +1,6 @@
 //! A report is read by its plan: of the items that have changed bits, the elements that have.
 
-ghost use Rattle.std.specs.Prelude.{◌≡◌, ◌<◌, ◌≤◌, ◌+◌, length, map, slice_get, Some, true, [], ◌∷◌};
+ghost use Rattle.std.specs.Prelude.{All, ◌≡◌, ◌<◌, ◌≤◌, ◌+◌, length, map, slice_get, Some, true, [], ◌∷◌};
 ghost use Rattle.hid_layout.specs.Controls.{items_of, controls_of_form};
 ghost use Rattle.hid_layout.specs.declared.control.ControlKind.TheVariants as ControlKind;
 ghost use Rattle.hid_snapshots.specs.ControlStates.{HasRoom, FitsView};
@@ -17,19 +17,21 @@ ghost use Rattle.hid_layout.specs.Controls.{element_kind};
 ghost use Rattle.hid_layout.specs.Reports.{first_bit, report_bytes};
 ghost use Rattle.hid_usages.specs.Ranges.{HoldsSpan, KnowsListed};
 ghost use Rattle.hid_usages.specs.ChangedKeys.{AreKeyNumbers, KnowsKeys, state_by_array};
+ghost use Rattle.hid_usages.specs.ManyElements.{IsListedArray};
 ghost use Rattle.hid_usages.specs.Known.{Knows, KnowsPlace};
 ghost use Rattle.hid_usages.specs.Plans.{IsPlan, IsPlannedItem, place_of};
 
 use crate::changed_bits::BitSpan;
-use crate::changed_keys::{KeyNumbers, MOST_ELEMENTS, change_keys, rolled_over};
+use crate::changed_keys::{KeyNumbers, MOST_ELEMENTS, change_keys, roll_over};
 use crate::elements::ElementRange;
 use crate::event_source::ItemUsages;
 use crate::key_array::KeyArray;
+use crate::many_elements::take_within;
 use crate::plan::{PlannedItem, PlannedKind, ReportPlan, items_of_span, next_unpassed};
 use crate::single_key::{NumberChange, change_key, is_rollover, named_usage};
 use crate::take::{
-    ElementNumbers, LastReport, ListedItem, ReportBytes, take_array, take_elements, take_flags,
-    take_pattern,
+    ElementNumbers, LastReport, ListedItem, ReportBytes, take_array, take_elements, take_pattern,
+    take_unless_rollover,
 };
 use crate::value_range::Bounds;
 use hid_fields::FieldCodec;
@@ -338,7 +340,7 @@ fn take_number<C: FieldCodec>(
     if let ControlState::Switches(held) = state {
         let last = named_usage(&change.array, change.last);
         if is_rollover(&change.array, change.last, last) {
-            take_flags::<C>(layout, place, &change.array, numbers, held, named, out);
+            take_unless_rollover::<C>(layout, place, &change.array, numbers, held, named, out);
         } else {
             change_key(layout, place, change, last, held, out);
         }
@@ -394,15 +396,11 @@ fn take_key<C: FieldCodec>(
 /// How many keys of an array are few: comparing all of them takes less than finding those that change.
 const FEW_KEYS: usize = 512;
 
-/// Whether the keys of an array that change are found by the numbers of its elements.
+/// Whether an array has so many keys that those that change are found by the numbers of its elements.
 #[inline(always)]
-fn is_found_by_elements(item: &MainItem, state: &ControlState) -> bool
-    ensures { result ≡ true → item.now.count ≤ MOST_ELEMENTS }
-{
+fn has_many_keys(state: &ControlState) -> bool {
     match state {
-        ControlState::Switches(held) => {
-            FEW_KEYS < held.len() && item.count as usize <= MOST_ELEMENTS
-        }
+        ControlState::Switches(held) => { FEW_KEYS < held.len() }
         ControlState::Absent
         | ControlState::Values(_)
         | ControlState::Motions(_)
@@ -435,7 +433,7 @@ fn take_keys<C: FieldCodec>(
         (numbers_of_bytes listed.now bytes.now)) out.new }
 {
     let item = listed.item;
-    if is_found_by_elements(item, state) {
+    if has_many_keys(state) {
         let ListedItem { layout, place, .. } = *listed;
         take_keys_apart::<C>(
             layout,
@@ -453,6 +451,61 @@ fn take_keys<C: FieldCodec>(
         let entries = listed.layout.entries(listed.place);
         let numbers = FieldRun::new(bytes, at, item.size, item.min < 0, item.count as usize);
         take_array::<C>(listed, entries, &numbers, state, named, out);
+    }
+}
+
+/// How many comparisons of elements are few: they take less than a search of the places that the fields can name.
+const FEW_PAIRS: usize = 16;
+
+/// Whether the keys that change are found by comparing those elements of a range that have changed bits with all elements. Else
+/// the places that fields of up to 16 bits can name are searched: 128 of them take as much as a comparison.
+#[inline(always)]
+fn compares_elements(change: &KeyNumbers<'_>) -> bool
+    ensures { result ≡ true → length change.now.next.now ≤ MOST_ELEMENTS }
+{
+    let count = change.next.len();
+    if MOST_ELEMENTS < count {
+        return false;
+    }
+    let changed = change
+        .range
+        .end
+        .saturating_sub(change.range.first)
+        .min(count);
+    changed * count <= FEW_PAIRS + (1usize << change.array.item.size.min(16)) / 128
+}
+
+/// Sets the keys of an array, which the last numbers leave, by the next ones, and appends their events.
+#[inline(always)]
+fn take_key_numbers<C: FieldCodec>(
+    layout: &Layout,
+    place: usize,
+    change: &KeyNumbers<'_>,
+    state: &mut ControlState,
+    named: &mut Flags,
+    out: &mut Vec<Event>,
+)
+    requires array { IsArrayAt layout.now place change.now.array.item.now
+        change.now.array.entries.now }
+    requires listed { IsListedArray layout.now place change.now.array }
+    requires numbers { AreKeyNumbers change.now }
+    requires last { All (FitsFields change.now.array.item.now) change.now.last.now }
+    requires left { state_by_array layout.now place change.now.array state.old change.now.last.now
+        ≡ state.old }
+    requires held { HasPlaces state.old (length (keys_at layout.now place)) }
+    requires named { NoFlagSetFor state.old named.old }
+    requires room { HasSpace out.old (key_events place (usages_at layout.now place) state.old
+        (state_by_array layout.now place change.now.array state.old change.now.next.now)) }
+    ensures state { state.new
+        ≡ state_by_array layout.now place change.now.array state.old change.now.next.now }
+    ensures named { named.new ≡ named.old }
+    ensures appends { Appends out.old (key_events place (usages_at layout.now place) state.old
+        state.new) out.new }
+{
+    if compares_elements(change) {
+        take_change::<C>(layout, place, change, state, named, out);
+    } else {
+        take_within::<C>(layout, place, change, state, named, out);
     }
 }
 
@@ -474,7 +527,6 @@ fn take_many_keys<C: FieldCodec>(
     requires held { HasRoom (controls_of_form (form_in listed.now)) state.old }
     requires named { NoFlagSetFor state.old named.old }
     requires room { HasSpace out.old (events_by_bytes listed.now state.old bytes.now) }
-    requires few { listed.now.item.now.count ≤ MOST_ELEMENTS }
     ensures state { state.new ≡ state_after_bytes listed.now state.old bytes.now }
     ensures named { named.new ≡ named.old }
     ensures appends { Appends out.old (events_of_numbers listed.now state.old state.new
@@ -490,7 +542,7 @@ fn take_many_keys<C: FieldCodec>(
         last: &before,
         next: &numbers,
     };
-    take_change::<C>(listed.layout, listed.place, &change, state, named, out);
+    take_key_numbers::<C>(listed.layout, listed.place, &change, state, named, out);
 }
 
 /// Reads the fields of an array as [`take_keys`] does. Not inlined, as few arrays have so many keys; its arguments are no
@@ -519,7 +571,6 @@ fn take_keys_apart<C: FieldCodec>(
     requires named { NoFlagSetFor state.old named.old }
     requires room { HasSpace out.old (events_by_bytes
         (record { layout = layout; place = place; item = item }) state.old bytes.now) }
-    requires few { item.now.count ≤ MOST_ELEMENTS }
     ensures state { state.new ≡ state_after_bytes
         (record { layout = layout.entry; place = place; item = item.entry }) state.old bytes.now }
     ensures named { named.new ≡ named.old }
@@ -554,6 +605,7 @@ fn take_change<C: FieldCodec>(
     requires array { IsArrayAt layout.now place change.now.array.item.now
         change.now.array.entries.now }
     requires numbers { AreKeyNumbers change.now }
+    requires few { length change.now.next.now ≤ MOST_ELEMENTS }
     requires left { state_by_array layout.now place change.now.array state.old change.now.last.now
         ≡ state.old }
     requires held { HasPlaces state.old (length (keys_at layout.now place)) }
@@ -604,6 +656,7 @@ fn take_numbered<C: FieldCodec>(
     requires array { IsArrayAt layout.now place change.now.array.item.now
         change.now.array.entries.now }
     requires numbers { AreKeyNumbers change.now }
+    requires few { length change.now.next.now ≤ MOST_ELEMENTS }
     requires left { state_by_array layout.now place change.now.array state.old change.now.last.now
         ≡ state.old }
     requires held { HasPlaces state.old (length (keys_at layout.now place)) }
@@ -617,8 +670,8 @@ fn take_numbered<C: FieldCodec>(
         state.new) out.new }
 {
     if let ControlState::Switches(held) = state {
-        if rolled_over::<C>(change) {
-            take_flags::<C>(layout, place, &change.array, change.next, held, named, out);
+        if roll_over::<C>(&change.array, change.last) {
+            take_unless_rollover::<C>(layout, place, &change.array, change.next, held, named, out);
         } else {
             change_keys::<C>(layout, place, change, held, out);
         }

@@ -248,17 +248,24 @@ impl Draft {
         self.wide_array(dice, count)
     }
 
-    /// Adds an array of over 512 keys, mostly with ErrorRollOver among them.
+    /// Adds an array of over 512 keys, mostly with ErrorRollOver among them: of fields that name all of them or few, and from a
+    /// number on that may be far below those that the fields can hold.
     fn wide_array(&mut self, dice: &mut Dice, count: u32) -> Result<(), Stop> {
         let least = dice.below(3);
         let more = dice.within(513, 700);
-        let size = match dice.below(5) {
+        let size = match dice.below(7) {
             0..=2 => 8,
             3 => 16,
+            4 => dice.within(1, 6),
             _ => dice.within(7, 20),
         };
-        let (_, greatest) = ends(size, false);
-        self.range(size, i64::from(dice.below(2)), greatest.min(1000))?;
+        let first = if dice.one_in(3) {
+            dice.between(-600, -1)
+        } else {
+            i64::from(dice.below(2))
+        };
+        let (_, greatest) = ends(size, first < 0);
+        self.range(size, first, greatest.min(1000))?;
         if dice.one_in(4) {
             self.keyboard_usages(least, least.saturating_add(dice.below(9)))?;
         }
@@ -350,12 +357,13 @@ impl Draft {
     }
 }
 
-/// How many elements an array of many keys has: one, as many as a keyboard's, or up to more than are looked at one by one.
+/// How many elements an array of many keys has: one, as many as a keyboard's, or up to more than are compared with each other.
 fn some_count(dice: &mut Dice) -> u32 {
-    match dice.below(4) {
+    match dice.below(5) {
         0 => 1,
         1 | 2 => dice.within(2, 6),
-        _ => dice.within(1, 40),
+        3 => dice.within(1, 40),
+        _ => dice.within(33, 70),
     }
 }
 

@@ -10,9 +10,13 @@ take_numbered-requires-in-Some-bytes-clause-numbers g c =
     record {
       entries = c.requires.numbers.entries;
       fits = subst (All (FitsFields c.args.change.now.array.item.now)) next c.requires.numbers.fits;
-      few = omega (arith, c.requires.numbers.few, ap (λ (l : List ℤ). length l) next);
       count = sym (ap (λ (l : List ℤ). length l) last) ∙ c.requires.numbers.count ∙ ap (λ (l : List ℤ). length l) next;
       within = omega (arith, c.requires.numbers.within, ap (λ (l : List ℤ). length l) next);
       same = λ j outside.
           sym (ap (λ (l : List ℤ). slice_get l j) last) ∙ c.requires.numbers.same j outside ∙ ap (λ (l : List ℤ). slice_get l j) next;
     }
+
+pub take_numbered-requires-in-Some-bytes-clause-few : goal.take_numbered-requires-in-Some-bytes-clause-few
+take_numbered-requires-in-Some-bytes-clause-few g c =
+    let next : c.args.change.now.next.now ≡ c.of_bytes-in-Some-bytes.result = c.in-Some-bytes.ensures.0 ∙ sym c.of_bytes-in-Some-bytes.ensures in
+    omega (arith, c.requires.few, ap (λ (l : List ℤ). length l) next)

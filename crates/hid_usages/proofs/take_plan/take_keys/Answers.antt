@@ -68,8 +68,8 @@ take_array-requires-clause-room g c =
     ∙ reads.told (state_after_numbers_at layout place item c.args.state.now c.new-numbers.result) in
     subst (HasSpace c.args.out.now) (sym told) (subst (λ (ns : List ℤ). HasSpace c.args.out.now (events_of_numbers_at layout place item c.args.state.now (state_after_numbers_at layout place item c.args.state.now ns) ns)) (sym numbers) c.requires.room)
 
-pub returns-else-is_found_by_elements-clause-state : goal.returns-else-is_found_by_elements-clause-state
-returns-else-is_found_by_elements-clause-state g c =
+pub returns-else-has_many_keys-clause-state : goal.returns-else-has_many_keys-clause-state
+returns-else-has_many_keys-clause-state g c =
     let layout = c.args.listed.now.layout.now in
     let place = c.args.listed.now.place in
     let item = c.args.listed.now.item.now in
@@ -77,8 +77,8 @@ returns-else-is_found_by_elements-clause-state g c =
     let reads = reads_keys layout place item c.entries-entries.result.now c.args.state.now c.new-numbers.result c.requires.listed.input c.requires.shape c.entries-entries.ensures c.requires.held in
     c.take_array.ensures.state ∙ reads.read ∙ ap (state_after_numbers_at layout place item c.args.state.now) numbers
 
-pub returns-else-is_found_by_elements-clause-appends : goal.returns-else-is_found_by_elements-clause-appends
-returns-else-is_found_by_elements-clause-appends g c =
+pub returns-else-has_many_keys-clause-appends : goal.returns-else-has_many_keys-clause-appends
+returns-else-has_many_keys-clause-appends g c =
     let layout = c.args.listed.now.layout.now in
     let place = c.args.listed.now.place in
     let item = c.args.listed.now.item.now in
@@ -86,6 +86,3 @@ returns-else-is_found_by_elements-clause-appends g c =
     let reads = reads_keys layout place item c.entries-entries.result.now c.args.state.now c.new-numbers.result c.requires.listed.input c.requires.shape c.entries-entries.ensures c.requires.held in
     subst (λ (ns : List ℤ). Appends c.args.out.now (events_of_numbers_at layout place item c.args.state.now c.take_array.new.state ns) c.take_array.new.out) numbers
     (subst (λ (es : List Event). Appends c.args.out.now es c.take_array.new.out) (reads.told c.take_array.new.state) c.take_array.ensures.appends)
-
-pub take_keys_apart-requires-clause-few : goal.take_keys_apart-requires-clause-few
-take_keys_apart-requires-clause-few g c = c.is_found_by_elements.ensures c.if-is_found_by_elements.true

@@ -1,0 +1,9 @@
+use Rattle.hid_snapshots.specs.declared.control_state.ControlState.TheVariants.{Switches}
+use Rattle.hid_snapshots.specs.Events.{usages_at}
+use Rattle.hid_usages.proofs.EventLemmas.{nothing_appended}
+use Rattle.hid_usages.proofs.ViewLemmas.{same_keys}
+use Rattle.hid_usages.proofs.take.take_unless_rollover.Goals as goal
+
+pub returns-then-roll_over_apart-clause-appends : goal.returns-then-roll_over_apart-clause-appends
+returns-then-roll_over_apart-clause-appends g c =
+    nothing_appended c.args.out.now _ (same_keys c.args.place (usages_at c.args.layout.now c.args.place) (Switches c.args.held.now))
