@@ -1,12 +1,9 @@
 -- The keys of an array by the places that its fields can name.
-use Rattle.std.proofs.Common.{◌≡◌, ◌≢◌, ℕ, zero, suc, ◌+◌, ◌*◌, ◌-◌, ◌/◌, ◌<◌, ◌≤◌, ◌⊎◌, ◌==◌, inl, inr, ◌&&◌, ◌||◌, not, nat_lt, cond, min, Bool, true, false, All, List, [], ◌∷◌, ◌++◌, length, map, drop, get_or, replicate, Option, Some, None, ℤ, pos, negsuc, ◌+ℤ◌, ◌-ℤ◌, ◌≤ℤ◌, int_le, refl, sym, ap, ◌∙◌, subst, arith}
-use Rattle.std.specs.List.{list_any, slice_get, slice_set, zip}
+use Rattle.std.proofs.Common.{◌≡◌, ◌≢◌, ℕ, zero, suc, ◌+◌, ◌-◌, ◌<◌, ◌≤◌, ◌⊎◌, inl, inr, ◌&&◌, ◌||◌, not, nat_lt, cond, min, Bool, true, false, All, List, [], ◌∷◌, ◌++◌, length, map, drop, replicate, Option, Some, None, ℤ, pos, negsuc, ◌+ℤ◌, ◌-ℤ◌, ◌≤ℤ◌, int_le, refl, sym, ap, ◌∙◌, subst, arith}
+use Rattle.std.specs.List.{list_any, slice_get, slice_set}
 use Rattle.std.specs.Option.{is_some, option_map}
-use Rattle.std.specs.Int.{bit_at, div_ceil}
-use Rattle.std.specs.Ordering.{int_eq}
 use Rattle.std.proofs.lemmas.Bool.{cases_Bool, cases_lt, cases_eq, lt-ltb, le-ltb}
 use Rattle.std.proofs.lemmas.Int.{ints}
-use Rattle.std.proofs.lemmas.Nat.Bits.{bit_at-zero}
 use Rattle.std.proofs.lemmas.Bool.Decides.{Decides-int_eq}
 use Rattle.std.proofs.lemmas.List.{length-map}
 use Rattle.hid_report_descriptor.specs.declared.usage.Usage.{Usage}
@@ -18,7 +15,7 @@ use Rattle.hid_layout.specs.Controls.{Key, rollover_from, is_encodable}
 use Rattle.hid_snapshots.specs.declared.event.Event.{Event}
 use Rattle.hid_snapshots.specs.declared.event.Event.TheVariants as event
 use Rattle.hid_snapshots.specs.Events.{control_at, down_event, element_list_events}
-use Rattle.hid_snapshots.specs.Words.{switch_words, is_on, is_alone, IsFirst, FindsFirst}
+use Rattle.hid_snapshots.specs.Words.{is_on, is_alone, FindsFirst}
 use Rattle.hid_snapshots.proofs.WordLemmas.{on_within}
 use Rattle.hid_snapshots.proofs.ItemLemmas.{got}
 use Rattle.hid_usages.specs.declared.elements.ElementRange.{ElementRange}
@@ -29,11 +26,11 @@ use Rattle.hid_usages.specs.ManyElements.{places_below, HoldsNameable, MarksPlac
 use Rattle.hid_usages.specs.Reading.{FitsFields, names_key}
 use Rattle.hid_usages.proofs.BoundLemmas.{field_bounds, fits_at}
 use Rattle.hid_usages.proofs.ChangedKeyLemmas.{key_named, named_key, named_number, named_long, name_there, set_on, set_other}
-use Rattle.hid_usages.proofs.EventLemmas.{each_quiet, element_list_events-from, length_zip}
+use Rattle.hid_usages.proofs.EventLemmas.{each_quiet, element_list_events-from}
 use Rattle.hid_usages.proofs.KeyLemmas.{names_more, not_named, no_rollover_named}
 use Rattle.hid_usages.proofs.PressLemmas.{tells, place_encodable}
 use Rattle.std.proofs.lemmas.List.Elements.{All-head, All-tail}
-use Rattle.hid_usages.proofs.RoomLemmas.{none_on, off_at}
+use Rattle.hid_usages.proofs.RoomLemmas.{none_on}
 
 -- ---- the places that fields can name
 

@@ -321,18 +321,6 @@ pub(crate) fn roll_over<C: FieldCodec>(array: &KeyArray<'_>, numbers: &FieldRun<
     rolls_within::<C>(array, sole_rollover(array), numbers, all)
 }
 
-/// Whether one of the numbers names ErrorRollOver, asked where that is seldom needed: not inlined.
-#[inline(never)]
-pub(crate) fn roll_over_apart<C: FieldCodec>(
-    array: &KeyArray<'_>,
-    numbers: &FieldRun<'_>,
-) -> bool
-    requires { length array.now.entries.now ≤ 64 }
-    ensures { result ≡ list_any (is_rollover_number array.now) numbers.now }
-{
-    roll_over::<C>(array, numbers)
-}
-
 /// Sets the held keys of an array by the next numbers, and appends their events. If a number names ErrorRollOver, the keys
 /// stay (HID 1.11, appendix C).
 #[inline(always)]

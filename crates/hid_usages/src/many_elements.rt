@@ -1,7 +1,7 @@
 //! The keys of an array with many elements that change from one report to the next. The places that its fields can name are
 //! searched word by word, and its other usages never are (our choice).
 
-ghost use Rattle.std.specs.Prelude.{All, ◌≡◌, ◌<◌, ◌≤◌, ◌*◌, ◌^◌, ◌||◌, ◌+ℤ◌, ℕ, ℤ, false, length, pos, replicate, slice_get, Some};
+ghost use Rattle.std.specs.Prelude.{All, ◌≡◌, ◌<◌, ◌≤◌, ◌*◌, ◌^◌, ◌||◌, ◌+ℤ◌, ℤ, false, length, pos, replicate, slice_get, Some};
 ghost use Rattle.std.specs.List.{list_any};
 ghost use Rattle.hid_report_descriptor.specs.declared.usage.Usage.{Usage as UsageValue};
 ghost use Rattle.hid_layout.specs.Reports.{HasElements};

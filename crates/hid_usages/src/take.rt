@@ -22,7 +22,7 @@ ghost use Rattle.hid_usages.specs.Ranges.{LeaveOthers};
 
 use crate::bits::{are_bits, take_bits};
 use crate::changed_bits::BitSpan;
-use crate::changed_keys::roll_over_apart;
+use crate::changed_keys::roll_over;
 use crate::elements::{Carriable, ElementRange, take_switches, take_values};
 use crate::event_source::{EventSource, ItemUsages, no_usages};
 use crate::key_array::{KeyArray, read_keys};
@@ -358,7 +358,7 @@ pub(crate) fn take_flags<C: FieldCodec>(
 
 /// Sets the held keys of an array by these numbers, as [`take_flags`] does. Whether a number names ErrorRollOver is asked first,
 /// so that a report of it walks no usages.
-#[inline(always)]
+#[inline(never)]
 pub(crate) fn take_unless_rollover<C: FieldCodec>(
     layout: &Layout,
     place: usize,
@@ -381,7 +381,7 @@ pub(crate) fn take_unless_rollover<C: FieldCodec>(
     ensures appends { Appends out.old (key_events place (usages_at layout.now place)
         (ControlState.Switches held.old) (ControlState.Switches held.new)) out.new }
 {
-    if roll_over_apart::<C>(array, numbers) {
+    if roll_over::<C>(array, numbers) {
         return;
     }
     take_flags::<C>(layout, place, array, numbers, held, named, out);

@@ -1,6 +1,6 @@
 //! A report is read by its plan: of the items that have changed bits, the elements that have.
 
-ghost use Rattle.std.specs.Prelude.{All, ◌≡◌, ◌<◌, ◌≤◌, ◌+◌, length, map, slice_get, Some, true, [], ◌∷◌};
+ghost use Rattle.std.specs.Prelude.{◌≡◌, ◌<◌, ◌≤◌, ◌+◌, length, map, slice_get, Some, true, [], ◌∷◌};
 ghost use Rattle.hid_layout.specs.Controls.{items_of, controls_of_form};
 ghost use Rattle.hid_layout.specs.declared.control.ControlKind.TheVariants as ControlKind;
 ghost use Rattle.hid_snapshots.specs.ControlStates.{HasRoom, FitsView};
@@ -17,7 +17,6 @@ ghost use Rattle.hid_layout.specs.Controls.{element_kind};
 ghost use Rattle.hid_layout.specs.Reports.{first_bit, report_bytes};
 ghost use Rattle.hid_usages.specs.Ranges.{HoldsSpan, KnowsListed};
 ghost use Rattle.hid_usages.specs.ChangedKeys.{AreKeyNumbers, KnowsKeys, state_by_array};
-ghost use Rattle.hid_usages.specs.ManyElements.{IsListedArray};
 ghost use Rattle.hid_usages.specs.Known.{Knows, KnowsPlace};
 ghost use Rattle.hid_usages.specs.Plans.{IsPlan, IsPlannedItem, place_of};
 
@@ -30,8 +29,8 @@ use crate::many_elements::take_within;
 use crate::plan::{PlannedItem, PlannedKind, ReportPlan, items_of_span, next_unpassed};
 use crate::single_key::{NumberChange, change_key, is_rollover, named_usage};
 use crate::take::{
-    ElementNumbers, LastReport, ListedItem, ReportBytes, take_array, take_elements, take_pattern,
-    take_unless_rollover,
+    ElementNumbers, LastReport, ListedItem, ReportBytes, take_array, take_elements, take_flags,
+    take_pattern, take_unless_rollover,
 };
 use crate::value_range::Bounds;
 use hid_fields::FieldCodec;
@@ -340,7 +339,7 @@ fn take_number<C: FieldCodec>(
     if let ControlState::Switches(held) = state {
         let last = named_usage(&change.array, change.last);
         if is_rollover(&change.array, change.last, last) {
-            take_unless_rollover::<C>(layout, place, &change.array, numbers, held, named, out);
+            take_flags::<C>(layout, place, &change.array, numbers, held, named, out);
         } else {
             change_key(layout, place, change, last, held, out);
         }
@@ -460,58 +459,57 @@ const FEW_PAIRS: usize = 16;
 /// Whether the keys that change are found by comparing those elements of a range that have changed bits with all elements. Else
 /// the places that fields of up to 16 bits can name are searched: 128 of them take as much as a comparison.
 #[inline(always)]
-fn compares_elements(change: &KeyNumbers<'_>) -> bool
-    ensures { result ≡ true → length change.now.next.now ≤ MOST_ELEMENTS }
+fn compares_elements(item: &MainItem, range: ElementRange) -> bool
+    ensures { result ≡ true → item.now.count ≤ MOST_ELEMENTS }
 {
-    let count = change.next.len();
+    let count = item.count as usize;
     if MOST_ELEMENTS < count {
         return false;
     }
-    let changed = change
-        .range
-        .end
-        .saturating_sub(change.range.first)
-        .min(count);
-    changed * count <= FEW_PAIRS + (1usize << change.array.item.size.min(16)) / 128
+    let changed = range.end.saturating_sub(range.first).min(count);
+    changed * count <= FEW_PAIRS + (1usize << item.size.min(16)) / 128
 }
 
-/// Sets the keys of an array, which the last numbers leave, by the next ones, and appends their events.
+/// Reads the fields of an array of few elements as [`take_keys`] does, by their numbers in the last report.
 #[inline(always)]
-fn take_key_numbers<C: FieldCodec>(
-    layout: &Layout,
-    place: usize,
-    change: &KeyNumbers<'_>,
+fn take_many_keys<C: FieldCodec>(
+    listed: &ListedItem<'_>,
+    bytes: &[u8],
+    last: &LastReport<'_>,
+    at: usize,
     state: &mut ControlState,
     named: &mut Flags,
     out: &mut Vec<Event>,
 )
-    requires array { IsArrayAt layout.now place change.now.array.item.now
-        change.now.array.entries.now }
-    requires listed { IsListedArray layout.now place change.now.array }
-    requires numbers { AreKeyNumbers change.now }
-    requires last { All (FitsFields change.now.array.item.now) change.now.last.now }
-    requires left { state_by_array layout.now place change.now.array state.old change.now.last.now
-        ≡ state.old }
-    requires held { HasPlaces state.old (length (keys_at layout.now place)) }
+    requires listed { IsFilled listed.now bytes.now }
+    requires shape { listed.now.item.now.shape ≡ Shape.Array }
+    requires at { at ≡ first_bit listed.now.layout.now + listed.now.item.now.offset }
+    requires known { KnowsKeys listed.now bytes.now last.now.bytes.now last.now.changed state.old }
+    requires held { HasRoom (controls_of_form (form_in listed.now)) state.old }
     requires named { NoFlagSetFor state.old named.old }
-    requires room { HasSpace out.old (key_events place (usages_at layout.now place) state.old
-        (state_by_array layout.now place change.now.array state.old change.now.next.now)) }
-    ensures state { state.new
-        ≡ state_by_array layout.now place change.now.array state.old change.now.next.now }
+    requires room { HasSpace out.old (events_by_bytes listed.now state.old bytes.now) }
+    requires few { listed.now.item.now.count ≤ MOST_ELEMENTS }
+    ensures state { state.new ≡ state_after_bytes listed.now state.old bytes.now }
     ensures named { named.new ≡ named.old }
-    ensures appends { Appends out.old (key_events place (usages_at layout.now place) state.old
-        state.new) out.new }
+    ensures appends { Appends out.old (events_of_numbers listed.now state.old state.new
+        (numbers_of_bytes listed.now bytes.now)) out.new }
 {
-    if compares_elements(change) {
-        take_change::<C>(layout, place, change, state, named, out);
-    } else {
-        take_within::<C>(layout, place, change, state, named, out);
-    }
+    let item = listed.item;
+    let entries = listed.layout.entries(listed.place);
+    let before = FieldRun::new(last.bytes, at, item.size, item.min < 0, item.count as usize);
+    let numbers = FieldRun::new(bytes, at, item.size, item.min < 0, item.count as usize);
+    let change = KeyNumbers {
+        array: KeyArray { item, entries },
+        range: elements_of_span(item, at, last.changed),
+        last: &before,
+        next: &numbers,
+    };
+    take_change::<C>(listed.layout, listed.place, &change, state, named, out);
 }
 
-/// Reads the fields of an array as [`take_keys`] does, by the numbers of its elements in the last report.
+/// Reads the fields of an array as [`take_keys`] does, by the places that its elements can name.
 #[inline(always)]
-fn take_many_keys<C: FieldCodec>(
+fn take_many_elements<C: FieldCodec>(
     listed: &ListedItem<'_>,
     bytes: &[u8],
     last: &LastReport<'_>,
@@ -542,7 +540,53 @@ fn take_many_keys<C: FieldCodec>(
         last: &before,
         next: &numbers,
     };
-    take_key_numbers::<C>(listed.layout, listed.place, &change, state, named, out);
+    take_within::<C>(listed.layout, listed.place, &change, state, named, out);
+}
+
+/// Reads the fields of an array as [`take_keys`] does, by the places that its elements can name. Its arguments are no structs, so
+/// that the caller keeps none in memory for it.
+#[inline(never)]
+fn take_elements_apart<C: FieldCodec>(
+    layout: &Layout,
+    place: usize,
+    item: &MainItem,
+    at: usize,
+    bytes: &[u8],
+    last: &[u8],
+    changed: BitSpan,
+    state: &mut ControlState,
+    named: &mut Flags,
+    out: &mut Vec<Event>,
+)
+    requires listed { IsFilled (record { layout = layout; place = place; item = item })
+        bytes.now }
+    requires shape { item.now.shape ≡ Shape.Array }
+    requires at { at ≡ first_bit layout.now + item.now.offset }
+    requires known { KnowsKeys (record { layout = layout; place = place; item = item }) bytes.now
+        last.now changed state.old }
+    requires held { HasRoom (controls_of_form (form_in
+        (record { layout = layout; place = place; item = item }))) state.old }
+    requires named { NoFlagSetFor state.old named.old }
+    requires room { HasSpace out.old (events_by_bytes
+        (record { layout = layout; place = place; item = item }) state.old bytes.now) }
+    ensures state { state.new ≡ state_after_bytes
+        (record { layout = layout.entry; place = place; item = item.entry }) state.old bytes.now }
+    ensures named { named.new ≡ named.old }
+    ensures appends { Appends out.old (events_of_numbers
+        (record { layout = layout.entry; place = place; item = item.entry }) state.old state.new
+        (numbers_of_bytes (record { layout = layout.entry; place = place; item = item.entry })
+        bytes.now)) out.new }
+{
+    let listed = ListedItem {
+        layout,
+        place,
+        item,
+    };
+    let last = LastReport {
+        bytes: last,
+        changed,
+    };
+    take_many_elements::<C>(&listed, bytes, &last, at, state, named, out);
 }
 
 /// Reads the fields of an array as [`take_keys`] does. Not inlined, as few arrays have so many keys; its arguments are no
@@ -579,6 +623,11 @@ fn take_keys_apart<C: FieldCodec>(
         (numbers_of_bytes (record { layout = layout.entry; place = place; item = item.entry })
         bytes.now)) out.new }
 {
+    if !compares_elements(item, elements_of_span(item, at, changed)) {
+        return take_elements_apart::<C>(
+            layout, place, item, at, bytes, last, changed, state, named, out,
+        );
+    }
     let listed = ListedItem {
         layout,
         place,

@@ -1,6 +1,5 @@
 use Rattle.std.proofs.Common.{◌≡◌, ◌∙◌, false, sym, ap, rules}
 use Rattle.std.specs.Option.{is_some}
-use Rattle.hid_report_descriptor.specs.declared.shape.Shape.{Shape}
 use Rattle.hid_report_descriptor.specs.Fields.{is_padding}
 use Rattle.hid_usages.proofs.ManyElementLemmas.{never_rolls, none_of}
 use Rattle.hid_usages.proofs.many_elements.can_roll_over.Goals as goal

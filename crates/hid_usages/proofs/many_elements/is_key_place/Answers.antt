@@ -1,7 +1,6 @@
-use Rattle.std.proofs.Common.{◌≡◌, ◌≤ℤ◌, ◌<ℤ◌, ◌≤◌, ◌^◌, ◌∙◌, ◌+ℤ◌, neg_ℤ, ℤ, pos, Some, None, to_z, of_z, w64, length, sym, ap, subst, arith, rules}
+use Rattle.std.proofs.Common.{◌≡◌, ◌∙◌, Some, None, to_z, of_z, w64, sym, subst, arith, rules}
 use Rattle.std.specs.List.{slice_get}
-use Rattle.std.proofs.lemmas.Int.{ints, to_z-of_z}
-use Rattle.hid_usages.specs.declared.key_array.KeyArray.{KeyArray}
+use Rattle.std.proofs.lemmas.Int.{to_z-of_z}
 use Rattle.hid_usages.specs.KeyArrays.{usages_of_array}
 use Rattle.hid_usages.specs.Reading.{FitsFields}
 use Rattle.hid_usages.proofs.ChangedKeyLemmas.{keys_few, key_at, usage_is_there}

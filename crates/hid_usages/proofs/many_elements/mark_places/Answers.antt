@@ -1,4 +1,4 @@
-use Rattle.std.proofs.Common.{◌≡◌, ◌∙◌, ◌++◌, ◌∷◌, [], ℤ, Bool, true, List, Some, to_z, of_z, w64, length, take, take_all, subst, refl, sym, ap, arith, rules}
+use Rattle.std.proofs.Common.{◌≡◌, ◌∙◌, ◌++◌, ◌∷◌, [], ℤ, Bool, true, List, Some, to_z, of_z, w64, length, take, subst, refl, sym, ap, arith, rules}
 use Rattle.std.specs.List.{slice_get, slice_set}
 use Rattle.std.proofs.lemmas.Int.{to_z-of_z}
 use Rattle.hid_snapshots.proofs.ListLemmas.{take_at}

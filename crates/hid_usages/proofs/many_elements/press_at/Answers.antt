@@ -1,5 +1,4 @@
-use Rattle.std.proofs.Common.{◌≡◌, ◌≢◌, ◌≤◌, ◌+◌, ◌||◌, ◌∙◌, ℕ, Bool, true, false, not, List, length, Some, vec_len, vec_capacity, unwrap_or, Option, refl, sym, ap, arith, rules}
-use Rattle.hid_snapshots.specs.declared.event.Event.{Event}
+use Rattle.std.proofs.Common.{◌≡◌, ◌||◌, ◌∙◌, Bool, true, false, List, length, unwrap_or, Option, refl, sym, ap, arith}
 use Rattle.hid_snapshots.specs.Events.{control_at, down_event}
 use Rattle.hid_snapshots.specs.Words.{is_on}
 use Rattle.hid_usages.specs.ChangedKeys.{is_key_place}

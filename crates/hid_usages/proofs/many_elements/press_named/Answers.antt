@@ -1,4 +1,4 @@
-use Rattle.std.proofs.Common.{◌≡◌, ◌≢◌, ◌≤◌, ◌<◌, ◌+◌, ◌&&◌, ◌||◌, ◌∙◌, ◌++◌, inl, inr, ℕ, ℤ, All, Bool, true, false, List, length, drop, replicate, Option, Some, None, refl, sym, ap, subst, arith}
+use Rattle.std.proofs.Common.{◌≡◌, ◌≤◌, ◌<◌, ◌+◌, ◌&&◌, ◌||◌, ◌∙◌, ◌++◌, inl, inr, ℕ, All, Bool, true, false, List, length, drop, replicate, Option, Some, None, refl, sym, ap, subst, arith}
 use Rattle.std.specs.List.{slice_get, zip}
 use Rattle.std.proofs.lemmas.Bool.{cases_lt, cases_eq}
 use Rattle.std.proofs.lemmas.List.{length-replicate}
@@ -18,7 +18,7 @@ use Rattle.hid_usages.specs.Reading.{FitsFields}
 use Rattle.hid_usages.specs.Taking.{IsArrayAt}
 use Rattle.hid_usages.proofs.EventLemmas.{all_appended, downs_by, each_done, length_zip, room_for, room_left, told, zip_parts}
 use Rattle.hid_usages.proofs.ChangedKeyLemmas.{BecomesFrom, named_long, places_long, becomes_next, off_stays, same_flags}
-use Rattle.hid_usages.proofs.ManyElementLemmas.{IsNameable, mark_nameable, mark_outside, not_marked, key_marked, found_from, begun_at, goes_on, press_told, pressed_flag}
+use Rattle.hid_usages.proofs.ManyElementLemmas.{mark_nameable, mark_outside, not_marked, key_marked, found_from, begun_at, goes_on, press_told, pressed_flag}
 use Rattle.hid_usages.proofs.RoomLemmas.{off_at, off_past}
 use Rattle.hid_usages.proofs.many_elements.press_named.Goals as goal
 

@@ -1,4 +1,4 @@
-use Rattle.std.proofs.Common.{◌≡◌, ◌≤◌, ◌<◌, ◌+◌, ◌&&◌, ◌∙◌, ◌++◌, not, inl, inr, ℕ, ℤ, All, Bool, false, List, [], ◌∷◌, length, drop, Option, Some, None, vec_len, vec_capacity, refl, sym, ap, arith}
+use Rattle.std.proofs.Common.{◌≡◌, ◌≤◌, ◌+◌, ◌&&◌, ◌∙◌, ◌++◌, not, inl, inr, ℕ, All, Bool, false, List, [], ◌∷◌, length, drop, Option, Some, None, vec_len, vec_capacity, refl, sym, ap, arith}
 use Rattle.std.specs.List.{zip}
 use Rattle.std.proofs.lemmas.Bool.{cases_lt}
 use Rattle.hid_layout.specs.Layout.{Contents}

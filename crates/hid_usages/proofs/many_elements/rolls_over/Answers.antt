@@ -1,4 +1,4 @@
-use Rattle.std.proofs.Common.{◌≡◌, ◌∙◌, sym}
+use Rattle.std.proofs.Common.{◌∙◌, sym}
 use Rattle.hid_usages.proofs.ManyElementLemmas.{none_rolls_over}
 use Rattle.hid_usages.proofs.many_elements.rolls_over.Goals as goal
 

@@ -44,8 +44,8 @@ entries-entries-requires g c = slice_get_within c.args.listed.now.layout.now.ite
 pub elements_of_span-requires : goal.elements_of_span-requires
 elements_of_span-requires g c = record { size = (c.requires.listed.layout.elements c.args.listed.now.place c.args.listed.now.item.now c.requires.listed.with_data.listed c.requires.listed.with_data.no_padding).some_bits }
 
-pub take_key_numbers-requires-clause-array : goal.take_key_numbers-requires-clause-array
-take_key_numbers-requires-clause-array g c =
+pub take_change-requires-clause-array : goal.take_change-requires-clause-array
+take_change-requires-clause-array g c =
     let layout = c.args.listed.now.layout.now in
     let place = c.args.listed.now.place in
     let item = c.args.listed.now.item.now in
@@ -57,8 +57,8 @@ take_key_numbers-requires-clause-array g c =
       usages = reads.usages;
     }
 
-pub take_key_numbers-requires-clause-numbers : goal.take_key_numbers-requires-clause-numbers
-take_key_numbers-requires-clause-numbers g c =
+pub take_change-requires-clause-numbers : goal.take_change-requires-clause-numbers
+take_change-requires-clause-numbers g c =
     let layout = c.args.listed.now.layout.now in
     let place = c.args.listed.now.place in
     let item = c.args.listed.now.item.now in
@@ -82,8 +82,8 @@ take_key_numbers-requires-clause-numbers g c =
           ∙ sym (ap (λ (l : List ℤ). slice_get l j) numbers);
     }
 
-pub take_key_numbers-requires-clause-left : goal.take_key_numbers-requires-clause-left
-take_key_numbers-requires-clause-left g c =
+pub take_change-requires-clause-left : goal.take_change-requires-clause-left
+take_change-requires-clause-left g c =
     let layout = c.args.listed.now.layout.now in
     let place = c.args.listed.now.place in
     let item = c.args.listed.now.item.now in
@@ -91,8 +91,8 @@ take_key_numbers-requires-clause-left g c =
     let reads = reads_keys layout place item c.entries-entries.result.now c.args.state.now c.new-before.result c.requires.listed.input c.requires.shape c.entries-entries.ensures c.requires.held in
     reads.read ∙ ap (state_after_numbers_at layout place item c.args.state.now) before ∙ c.requires.known.left
 
-pub take_key_numbers-requires-clause-held : goal.take_key_numbers-requires-clause-held
-take_key_numbers-requires-clause-held g c =
+pub take_change-requires-clause-held : goal.take_change-requires-clause-held
+take_change-requires-clause-held g c =
     let layout = c.args.listed.now.layout.now in
     let place = c.args.listed.now.place in
     let item = c.args.listed.now.item.now in
@@ -100,8 +100,8 @@ take_key_numbers-requires-clause-held g c =
     let reads = reads_keys layout place item c.entries-entries.result.now c.args.state.now c.new-numbers.result c.requires.listed.input c.requires.shape c.entries-entries.ensures c.requires.held in
     reads.places
 
-pub take_key_numbers-requires-clause-room : goal.take_key_numbers-requires-clause-room
-take_key_numbers-requires-clause-room g c =
+pub take_change-requires-clause-room : goal.take_change-requires-clause-room
+take_change-requires-clause-room g c =
     let layout = c.args.listed.now.layout.now in
     let place = c.args.listed.now.place in
     let item = c.args.listed.now.item.now in
@@ -119,7 +119,7 @@ returns-clause-state g c =
     let item = c.args.listed.now.item.now in
     let numbers : c.new-numbers.result ≡ item_numbers layout c.args.bytes.now item = search rules in
     let reads = reads_keys layout place item c.entries-entries.result.now c.args.state.now c.new-numbers.result c.requires.listed.input c.requires.shape c.entries-entries.ensures c.requires.held in
-    c.take_key_numbers.ensures.state ∙ reads.read ∙ ap (state_after_numbers_at layout place item c.args.state.now) numbers
+    c.take_change.ensures.state ∙ reads.read ∙ ap (state_after_numbers_at layout place item c.args.state.now) numbers
 
 pub returns-clause-appends : goal.returns-clause-appends
 returns-clause-appends g c =
@@ -128,22 +128,11 @@ returns-clause-appends g c =
     let item = c.args.listed.now.item.now in
     let numbers : c.new-numbers.result ≡ item_numbers layout c.args.bytes.now item = search rules in
     let reads = reads_keys layout place item c.entries-entries.result.now c.args.state.now c.new-numbers.result c.requires.listed.input c.requires.shape c.entries-entries.ensures c.requires.held in
-    subst (λ (ns : List ℤ). Appends c.args.out.now (events_of_numbers_at layout place item c.args.state.now c.take_key_numbers.new.state ns) c.take_key_numbers.new.out) numbers
-    (subst (λ (es : List Event). Appends c.args.out.now es c.take_key_numbers.new.out) (reads.told c.take_key_numbers.new.state) c.take_key_numbers.ensures.appends)
+    subst (λ (ns : List ℤ). Appends c.args.out.now (events_of_numbers_at layout place item c.args.state.now c.take_change.new.state ns) c.take_change.new.out) numbers
+    (subst (λ (es : List Event). Appends c.args.out.now es c.take_change.new.out) (reads.told c.take_change.new.state) c.take_change.ensures.appends)
 
-pub take_key_numbers-requires-clause-listed : goal.take_key_numbers-requires-clause-listed
-take_key_numbers-requires-clause-listed g c = record {
-  listed = c.requires.listed.with_data.listed;
-  entries = c.entries-entries.ensures;
-  shape = c.requires.shape;
-  elements = c.requires.listed.layout.elements c.args.listed.now.place c.args.listed.now.item.now c.requires.listed.with_data.listed c.requires.listed.with_data.no_padding;
-}
-
-pub take_key_numbers-requires-clause-last : goal.take_key_numbers-requires-clause-last
-take_key_numbers-requires-clause-last g c =
-    let layout = c.args.listed.now.layout.now in
-    let place = c.args.listed.now.place in
+pub take_change-requires-clause-few : goal.take_change-requires-clause-few
+take_change-requires-clause-few g c =
     let item = c.args.listed.now.item.now in
-    let before : c.new-before.result ≡ item_numbers layout c.args.last.now.bytes.now item = search rules in
-    let elements = c.requires.listed.layout.elements place item c.requires.listed.with_data.listed c.requires.listed.with_data.no_padding in
-    subst (All (FitsFields item)) (sym before) (numbers_fit c.args.last.now.bytes.now (first_bit layout + item.offset) item.size (is_negative item.min) item.count elements.some_bits)
+    let numbers : c.new-numbers.result ≡ item_numbers c.args.listed.now.layout.now c.args.bytes.now item = search rules in
+    omega (arith, c.requires.few, ap (λ (l : List ℤ). length l) numbers, numbers_in-length c.args.bytes.now (first_bit c.args.listed.now.layout.now + item.offset) item.size (is_negative item.min) item.count)
