@@ -358,7 +358,7 @@ pub(crate) fn take_flags<C: FieldCodec>(
 
 /// Sets the held keys of an array by these numbers, as [`take_flags`] does. Whether a number names ErrorRollOver is asked first,
 /// so that a report of it walks no usages.
-#[inline(never)]
+#[inline(always)]
 pub(crate) fn take_unless_rollover<C: FieldCodec>(
     layout: &Layout,
     place: usize,

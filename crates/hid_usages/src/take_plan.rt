@@ -453,8 +453,9 @@ fn take_keys<C: FieldCodec>(
     }
 }
 
-/// How many comparisons of elements are few: they take less than a search of the places that the fields can name.
-const FEW_PAIRS: usize = 16;
+/// How many elements are compared with each other in any case: that takes less than a search of the places that their fields can
+/// name.
+const FEW_COMPARED: usize = 4;
 
 /// Whether the keys that change are found by comparing those elements of a range that have changed bits with all elements. Else
 /// the places that fields of up to 16 bits can name are searched: 128 of them take as much as a comparison.
@@ -463,11 +464,14 @@ fn compares_elements(item: &MainItem, range: ElementRange) -> bool
     ensures { result ≡ true → item.now.count ≤ MOST_ELEMENTS }
 {
     let count = item.count as usize;
+    if count <= FEW_COMPARED {
+        return true;
+    }
     if MOST_ELEMENTS < count {
         return false;
     }
     let changed = range.end.saturating_sub(range.first).min(count);
-    changed * count <= FEW_PAIRS + (1usize << item.size.min(16)) / 128
+    changed * count <= FEW_COMPARED * FEW_COMPARED + (1usize << item.size.min(16)) / 128
 }
 
 /// Reads the fields of an array of few elements as [`take_keys`] does, by their numbers in the last report.
