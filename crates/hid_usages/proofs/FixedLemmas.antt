@@ -71,7 +71,7 @@ cell_again m us (Keys elements rolls keys) state vs = by_rolls (list_any (names_
 abbrev pub after_item : Contents → ℕ → List ℕ → ℕ → Option MainItem → ControlState → ControlState
 after_item layout r bytes i o state = elim o as (λ _. ControlState) [ None ↦ state | Some m ↦ cond (is_data_in r m) (state_after_numbers_at layout i m state (item_numbers layout bytes m)) state ]
 
-place_again : (layout : Contents) (r : ℕ) (bytes : List ℕ) (i : ℕ) (state : ControlState) → state_after_report_at layout r bytes i (state_after_report_at layout r bytes i state) ≡ state_after_report_at layout r bytes i state
+pub place_again : (layout : Contents) (r : ℕ) (bytes : List ℕ) (i : ℕ) (state : ControlState) → state_after_report_at layout r bytes i (state_after_report_at layout r bytes i state) ≡ state_after_report_at layout r bytes i state
 place_again layout r bytes i state = of_item (slice_get layout.items i)
   where
     of_item : (o : Option MainItem) → after_item layout r bytes i o (after_item layout r bytes i o state) ≡ after_item layout r bytes i o state

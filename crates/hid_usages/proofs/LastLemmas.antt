@@ -42,7 +42,7 @@ pub holds_off : {P : Type 0} (b : Bool) → OnFalse b P → b ≡ false → P
 holds_off false h e = h
 holds_off true h e = absurd (cc)
 
-bit_of_take : (bytes : List ℕ) (n k : ℕ) → k < 8 * n → bit_of (take n bytes) k ≡ bit_of bytes k
+pub bit_of_take : (bytes : List ℕ) (n k : ℕ) → k < 8 * n → bit_of (take n bytes) k ≡ bit_of bytes k
 bit_of_take bytes n k within = ap (λ (b : ℕ). bit_at b (k % 8)) (get_or-take n bytes (k / 8) 0 (omega arith))
 
 -- the bits of a report are the same in both

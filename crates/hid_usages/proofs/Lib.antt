@@ -34,3 +34,4 @@ pub mod LastLemmas
 pub mod Vectors
 pub mod BootDescriptors
 pub mod BootLemmas
+pub mod KeptLemmas

@@ -13,7 +13,6 @@ use Rattle.hid_report_descriptor.specs.Usages.{is_rollover}
 use Rattle.hid_layout.specs.Codes.{at_zero, rollover_number}
 use Rattle.hid_layout.specs.Controls.{Key, rollover_from, is_encodable}
 use Rattle.hid_snapshots.specs.declared.event.Event.{Event}
-use Rattle.hid_snapshots.specs.declared.event.Event.TheVariants as event
 use Rattle.hid_snapshots.specs.Events.{control_at, down_event, element_list_events}
 use Rattle.hid_snapshots.specs.Words.{is_on, is_alone, FindsFirst}
 use Rattle.hid_snapshots.proofs.WordLemmas.{on_within}

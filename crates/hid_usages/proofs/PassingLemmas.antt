@@ -143,6 +143,22 @@ array_shape m Variable h = absurd (no_keys_elsewhere (are_bits m) (element_kind 
 pub array_planned : (m : MainItem) → planned_kind m ≡ kind.Keys → m.shape ≡ Array
 array_planned m h = array_shape m m.shape h
 
+apart_shape : (m : MainItem) (shape : Shape) → kind_of_shape m shape ≡ kind.Keys → (m.count == 1) ≡ false
+apart_shape m Padding h = absurd (cc)
+apart_shape m Array h = several (m.count == 1) h
+  where
+    several : (b : Bool) → cond b kind.Key kind.Keys ≡ kind.Keys → b ≡ false
+    several true k = absurd (cc)
+    several false k = refl
+apart_shape m Variable h = absurd (no_keys_elsewhere (are_bits m) (element_kind m) h)
+
+-- an item that is planned as keys hasn't one element
+pub several_planned : (m : MainItem) → planned_kind m ≡ kind.Keys → m.count ≡ 1 → ⊥
+several_planned m h one =
+    let off = apart_shape m m.shape h in
+    let on : (m.count == 1) ≡ true = rw one refl in
+    cc
+
 key_shape : (m : MainItem) (shape : Shape) → kind_of_shape m shape ≡ kind.Key → (shape ≡ Array) × (m.count ≡ 1)
 key_shape m Padding h = absurd (cc)
 key_shape m Array h = (refl, eqb-true m.count 1 (key_only (m.count == 1) h))

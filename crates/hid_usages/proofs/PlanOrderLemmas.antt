@@ -1,7 +1,8 @@
 -- The items of a plan stand in the order of their bits, and those that are passed over aren't gone to.
-use Rattle.std.proofs.Common.{All, ◌≡◌, ℕ, zero, suc, ◌+◌, ◌-◌, ◌<◌, ◌≤◌, ◌==◌, ◌++◌, Bool, true, false, cond, List, [], ◌∷◌, length, map, drop, get_or, Some, refl, sym, ap, ◌∙◌, subst, arith}
+use Rattle.std.proofs.Common.{All, ◌≡◌, ℕ, zero, suc, ◌+◌, ◌-◌, ◌<◌, ◌≤◌, ◌==◌, ◌++◌, ◌⊎◌, inl, inr, Bool, true, false, cond, List, [], ◌∷◌, length, map, drop, get_or, Some, refl, sym, ap, ◌∙◌, subst, arith}
 use Rattle.std.specs.List.{slice_get}
 use Rattle.std.proofs.lemmas.Option.{slice_get_within, slice_get-get_or}
+use Rattle.hid_report_descriptor.specs.Fields.{is_padding}
 use Rattle.hid_layout.specs.declared.main_item.MainItem.{MainItem}
 use Rattle.hid_layout.specs.Layout.{Contents}
 use Rattle.hid_layout.specs.Reports.{IsLayout}
@@ -13,12 +14,14 @@ use Rattle.hid_snapshots.proofs.ItemLemmas.{got, set_same}
 use Rattle.hid_snapshots.proofs.PlanLemmas.{IsAlong, along_start, along_step}
 use Rattle.hid_usages.specs.declared.changed_bits.BitSpan.{BitSpan}
 use Rattle.hid_usages.specs.declared.plan.PlannedItem.{PlannedItem}
-use Rattle.hid_usages.specs.Plans.{place_of, IsPlannedItem, IsInOrder, IsPassed, ArePassed}
+use Rattle.hid_usages.specs.declared.plan.PlannedKind.TheVariants as kind
+use Rattle.hid_usages.specs.Plans.{place_of, IsPlannedItem, IsInOrder, IsPassed, ArePassed, ArePadding}
 use Rattle.hid_usages.specs.Known.{Knows}
 use Rattle.hid_usages.specs.Taking.{state_after_report_at, events_of_report_at, events_from_item, read_events}
 use Rattle.hid_usages.proofs.BitLemmas.{same_number}
 use Rattle.hid_usages.proofs.TakeLemmas.{HasTaken, taking_skips, read_start, read_next, events_from_item-next}
-use Rattle.hid_usages.proofs.PassingLemmas.{place_at, planned_there, next_planned, place_known, passed_stays, passed_silent}
+use Rattle.hid_usages.proofs.FixedLemmas.{padding_stays}
+use Rattle.hid_usages.proofs.PassingLemmas.{place_at, planned_as, padding_planned, planned_there, next_planned, place_known, passed_stays, passed_silent}
 
 -- a place is that of an item of the report
 record IsPlaceFrom (i r p : ℕ) (items : List MainItem) : Type 0 where
@@ -61,7 +64,7 @@ places_rise i r j k a b (item ∷ items) lt h g = by_report (item.report == r) j
     by_report true (suc j) zero lt h g later = absurd (omega arith)
 
 -- an item of the plan of a report is of that report
-in_plan : (layout : Contents) (r k p : ℕ) (m : MainItem) → slice_get (plan_of layout r) k ≡ Some p → slice_get layout.items p ≡ Some m → m.report ≡ r
+pub in_plan : (layout : Contents) (r k p : ℕ) (m : MainItem) → slice_get (plan_of layout r) k ≡ Some p → slice_get layout.items p ≡ Some m → m.report ≡ r
 in_plan layout r k p m h listed =
     let f = place_from 0 r k p layout.items h in
     let at : f.index ≡ p = omega (arith, f.at) in
@@ -97,9 +100,9 @@ pub record IsKnownPlan (layout : Contents) (r : ℕ) (bytes last : List ℕ) (sp
   pub all : length start ≡ length layout.items
   pub same : length now ≡ length start
 
--- an item that is passed over is read so
+-- an item that is passed over, or padding, is read so
 passed_step : (layout : Contents) (r : ℕ) (bytes last : List ℕ) (span : BitSpan) (plan : List PlannedItem) (start now : List ControlState) (before told : List Event) (len room k : ℕ) (item : PlannedItem)
-    → IsKnownPlan layout r bytes last span plan start now → slice_get plan k ≡ Some item → IsPassed item span
+    → IsKnownPlan layout r bytes last span plan start now → slice_get plan k ≡ Some item → IsPassed item span ⊎ (item.kind ≡ kind.Padding)
     → IsAlong layout r k (HasTaken layout r bytes start now before told len room) → IsAlong layout r (k + 1) (HasTaken layout r bytes start now before told len room)
 passed_step layout r bytes last span plan start now before told len room k item known there passed along =
     let skips = taking_skips layout r bytes start now before told len room known.all known.same in
@@ -111,12 +114,19 @@ passed_step layout r bytes last span plan start now before told len room k item 
     let is : state.0 ≡ get_or now i state.0 = let e : Some state.0 ≡ Some (get_or now i state.0) = sym state.1 ∙ slice_get-get_or now i state.0 (omega (arith, within, known.same)) in cc in
     let at_start = read_start layout r bytes start now i state.0 h.states within known.same in
     let p = planned_there layout plan k item known.each there in
+    let as_planned = planned_as layout item next.item p next.listed in
     let of_report = same_number next.item.report r next.in_report in
     let here = place_known layout r bytes last span start i (get_or now i state.0) known.known at_start in
     let stays : state_after_report_at layout r bytes i (get_or now i state.0) ≡ get_or now i state.0 =
-    passed_stays layout r bytes last span item next.item (get_or now i state.0) known.laid p next.listed of_report passed here in
+    elim passed [
+      | inl over ↦ passed_stays layout r bytes last span item next.item (get_or now i state.0) known.laid p next.listed of_report over here
+      | inr padding ↦ (padding_stays layout r bytes i next.item (get_or now i state.0) next.listed (ap is_padding (padding_planned next.item (sym as_planned.2 ∙ padding)))).0
+    ] in
     let silent : events_of_report_at layout r bytes i (get_or now i state.0) ≡ [] =
-    passed_silent layout r bytes last span item next.item (get_or now i state.0) known.laid known.input p next.listed of_report passed here in
+    elim passed [
+      | inl over ↦ passed_silent layout r bytes last span item next.item (get_or now i state.0) known.laid known.input p next.listed of_report over here
+      | inr padding ↦ (padding_stays layout r bytes i next.item (get_or now i state.0) next.listed (ap is_padding (padding_planned next.item (sym as_planned.2 ∙ padding)))).1
+    ] in
     let left : events_from_item layout r bytes i (drop i start) ≡ events_from_item layout r bytes (i + 1) (drop (i + 1) start) =
     events_from_item-next layout r bytes start i (get_or now i state.0) at_start
     ∙ ap (λ (es : List Event). es ++ events_from_item layout r bytes (i + 1) (drop (i + 1) start)) silent
@@ -129,7 +139,7 @@ passed_step layout r bytes last span plan start now before told len room k item 
 
 -- so are n items in a row
 pub passed_over : (layout : Contents) (r : ℕ) (bytes last : List ℕ) (span : BitSpan) (plan : List PlannedItem) (start now : List ControlState) (before told : List Event) (len room n k : ℕ)
-    → IsKnownPlan layout r bytes last span plan start now → k + n ≤ length plan → ((j : ℕ) (item : PlannedItem) → slice_get plan j ≡ Some item → k ≤ j → j < k + n → IsPassed item span)
+    → IsKnownPlan layout r bytes last span plan start now → k + n ≤ length plan → ((j : ℕ) (item : PlannedItem) → slice_get plan j ≡ Some item → k ≤ j → j < k + n → IsPassed item span ⊎ (item.kind ≡ kind.Padding))
     → IsAlong layout r k (HasTaken layout r bytes start now before told len room) → IsAlong layout r (k + n) (HasTaken layout r bytes start now before told len room)
 passed_over layout r bytes last span plan start now before told len room zero k known within passed along =
     subst (λ (m : ℕ). IsAlong layout r m (HasTaken layout r bytes start now before told len room)) (let e : k ≡ k + 0 = omega arith in e) along
@@ -145,7 +155,16 @@ pub passed_to : (layout : Contents) (r : ℕ) (bytes last : List ℕ) (span : Bi
     → IsAlong layout r from (HasTaken layout r bytes start now before told len room) → IsAlong layout r k (HasTaken layout r bytes start now before told len room)
 passed_to layout r bytes last span plan start now before told len room from k known order within passed along =
     let at : from + (k - from) ≡ k = omega (arith, order) in
-    let over = passed_over layout r bytes last span plan start now before told len room (k - from) from known (omega (arith, order, within)) (λ j item there low high. passed j item there low (omega (arith, high, order))) along in
+    let over = passed_over layout r bytes last span plan start now before told len room (k - from) from known (omega (arith, order, within)) (λ j item there low high. inl (passed j item there low (omega (arith, high, order)))) along in
+    subst (λ (m : ℕ). IsAlong layout r m (HasTaken layout r bytes start now before told len room)) at over
+
+-- to the end over items that are padding
+pub padding_over : (layout : Contents) (r : ℕ) (bytes last : List ℕ) (span : BitSpan) (plan : List PlannedItem) (start now : List ControlState) (before told : List Event) (len room from : ℕ)
+    → IsKnownPlan layout r bytes last span plan start now → from ≤ length plan → ArePadding plan from
+    → IsAlong layout r from (HasTaken layout r bytes start now before told len room) → IsAlong layout r (length plan) (HasTaken layout r bytes start now before told len room)
+padding_over layout r bytes last span plan start now before told len room from known within padding along =
+    let at : from + (length plan - from) ≡ length plan = omega (arith, within) in
+    let over = passed_over layout r bytes last span plan start now before told len room (length plan - from) from known (omega (arith, within)) (λ j item there low high. inr (padding j item there low)) along in
     subst (λ (m : ℕ). IsAlong layout r m (HasTaken layout r bytes start now before told len room)) at over
 
 -- before the first item nothing is taken

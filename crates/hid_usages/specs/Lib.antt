@@ -19,6 +19,7 @@ pub mod ManyElements
 pub mod Plans
 pub mod Known
 pub mod PlannedReports
+pub mod KeptItems
 pub mod Ranges
 pub mod Reader
 pub mod Receiving

@@ -6,7 +6,7 @@ ghost use Rattle.hid_fields.specs.Field.{pattern_of};
 ghost use Rattle.hid_usages.specs.ChangedBits.{kept_bytes, IsOneWord, SameFrom, SameOutside, HoldBits, Grows};
 ghost use Rattle.hid_usages.specs.SameWords.{FindsUnlike};
 
-/// Bits of a report, from the first one up to an end, of which there may be none.
+/// Bits of a report: from a first one up to an end, which is 0 where there are none.
 #[derive(Clone, Copy)]
 pub(crate) struct BitSpan {
     pub(crate) first: usize,
@@ -230,7 +230,7 @@ pub(crate) fn are_same_bits(last: &[u8], bytes: &[u8]) -> bool
     }
 }
 
-/// The bytes of a report as a word, if they are at most eight, as those of most reports are.
+/// The bytes of a report as a word, if they are at most eight, as those of most reports are; 0 where they are more.
 #[inline(always)]
 pub(crate) fn one_word(bytes: &[u8]) -> u64
     ensures { IsOneWord bytes.now result }

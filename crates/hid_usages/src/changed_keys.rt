@@ -14,15 +14,16 @@ ghost use Rattle.hid_usages.specs.Reading.{FitsFields};
 ghost use Rattle.hid_usages.specs.Taking.{IsArrayAt};
 
 use crate::elements::ElementRange;
-use crate::key_array::{KeyArray, is_pressable, place_of, reports_rollover};
+use crate::key_array::{KeyArray, is_pressable, place_of};
+use crate::single_key::{is_rollover as is_rollover_named, named_usage};
 use crate::view_changes::usage_at;
 use arrayvec::ArrayVec;
 use hid_fields::FieldCodec;
-use hid_layout::{ControlId, Layout, Usage, usage_at as usage_in, usage_count};
+use hid_layout::{ControlId, Layout, Usage, usage_at as usage_in};
 use hid_report_descriptor::{ERROR_ROLL_OVER, entry_count};
 use hid_snapshots::{Event, FieldRun, Flags};
 
-/// The most elements of an array whose keys are found by its elements.
+/// The most elements of an array that are compared with each other.
 pub(crate) const MOST_ELEMENTS: usize = 32;
 
 /// The numbers of an array's elements in the last report of its number, and in the next one: outside of a range they are the
@@ -50,7 +51,7 @@ fn has_number<C: FieldCodec>(numbers: &FieldRun<'_>, number: i64) -> bool
 
 /// The number by which alone an element names ErrorRollOver, where the array has one range of usages, and that one in it.
 #[inline(always)]
-fn sole_rollover(array: &KeyArray<'_>) -> Option<i64>
+pub(crate) fn sole_rollover(array: &KeyArray<'_>) -> Option<i64>
     ensures { IfSome result (λ number. (v : ℤ) → is_rollover_number array.now v ≡ int_eq v number) }
 {
     if array.entries.len() != 1 {
@@ -76,19 +77,11 @@ fn sole_rollover(array: &KeyArray<'_>) -> Option<i64>
     }
 }
 
-/// Whether an element of this number names ErrorRollOver.
-fn names_rollover(array: &KeyArray<'_>, number: i64) -> bool
-    requires { length array.now.entries.now ≤ 64 }
+/// Whether an element of this number names ErrorRollOver, by its usage.
+fn is_rollover_by_usage(array: &KeyArray<'_>, number: i64) -> bool
     ensures { result ≡ is_rollover_number array.now number }
 {
-    let count = usage_count(array.entries);
-    match place_of(array.item, &number, count) {
-        None => false,
-        Some(place) => match usage_in(array.entries, place) {
-            None => false,
-            Some(usage) => reports_rollover(array.item, &number, &usage),
-        },
-    }
+    is_rollover_named(array, number, named_usage(array, number))
 }
 
 /// Whether an element of this number names ErrorRollOver, by the number that alone does where that is known.
@@ -100,7 +93,7 @@ fn is_rollover(array: &KeyArray<'_>, sole: Option<i64>, number: i64) -> bool
 {
     match sole {
         Some(rollover) => number == rollover,
-        None => names_rollover(array, number),
+        None => is_rollover_by_usage(array, number),
     }
 }
 
@@ -310,7 +303,7 @@ fn press_keys<C: FieldCodec>(
 
 /// Whether one of the numbers names ErrorRollOver.
 #[inline(always)]
-pub(crate) fn roll_over<C: FieldCodec>(array: &KeyArray<'_>, numbers: &FieldRun<'_>) -> bool
+pub(crate) fn names_rollover<C: FieldCodec>(array: &KeyArray<'_>, numbers: &FieldRun<'_>) -> bool
     requires { length array.now.entries.now ≤ 64 }
     ensures { result ≡ list_any (is_rollover_number array.now) numbers.now }
 {

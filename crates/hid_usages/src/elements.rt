@@ -22,6 +22,17 @@ pub(crate) struct ElementRange {
     pub(crate) end: usize,
 }
 
+/// The range of all elements, as many as there are.
+#[inline(always)]
+pub(crate) fn every_element(count: usize) -> ElementRange
+    ensures { result ≡ record { first = 0; end = count } }
+{
+    ElementRange {
+        first: 0,
+        end: count,
+    }
+}
+
 /// A switch, as an element's number leaves it.
 fn read_switch(before: bool, number: &i64) -> bool
     ensures { result ≡ read_switch before number.now }

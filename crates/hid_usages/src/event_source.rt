@@ -13,7 +13,7 @@ use hid_report_descriptor::entry_count;
 use hid_snapshots::Event;
 
 /// Usages of an item's elements: those before an end have the usages of one range, and after these the last one of it.
-#[derive(Clone, Copy, Default)]
+#[derive(Clone, Copy)]
 pub(crate) struct ItemUsages {
     /// The page of the range.
     pub(crate) page: u16,

@@ -30,6 +30,7 @@ mod changed_keys;
 mod dropped_motion;
 mod elements;
 mod event_source;
+mod keep_held;
 mod key_array;
 mod key_search;
 pub mod laws;

@@ -1,7 +1,7 @@
 //! The keys of an array with many elements that change from one report to the next. The places that its fields can name are
 //! searched word by word, and its other usages never are (our choice).
 
-ghost use Rattle.std.specs.Prelude.{All, ◌≡◌, ◌<◌, ◌≤◌, ◌*◌, ◌^◌, ◌||◌, ◌+ℤ◌, ℤ, false, length, pos, replicate, slice_get, Some};
+ghost use Rattle.std.specs.Prelude.{All, ◌≡◌, ◌<◌, ◌≤◌, ◌*◌, ◌^◌, ◌||◌, ◌+ℤ◌, ℤ, false, true, length, pos, replicate, slice_get, Some};
 ghost use Rattle.std.specs.List.{list_any};
 ghost use Rattle.hid_report_descriptor.specs.declared.usage.Usage.{Usage as UsageValue};
 ghost use Rattle.hid_layout.specs.Reports.{HasElements};
@@ -15,7 +15,7 @@ ghost use Rattle.hid_usages.specs.ManyElements.{places_below, HoldsNameable, Mar
 ghost use Rattle.hid_usages.specs.Reading.{FitsFields, keys_at};
 ghost use Rattle.hid_usages.specs.Taking.{IsArrayAt, NoFlagSetFor};
 
-use crate::changed_keys::{KeyNumbers, roll_over};
+use crate::changed_keys::{KeyNumbers, MOST_ELEMENTS, names_rollover};
 use crate::elements::ElementRange;
 use crate::key_array::{KeyArray, is_pressable, place_of};
 use crate::key_search::{next_pressed_within, next_within};
@@ -25,6 +25,27 @@ use hid_fields::FieldCodec;
 use hid_layout::{ControlId, Layout, MainItem, usage_at as usage_in};
 use hid_report_descriptor::{greatest_value, least_value};
 use hid_snapshots::{ControlState, Event, FieldRun, Flags};
+
+/// How many elements are compared with each other in any case: that takes less than a search of the places that their fields can
+/// name.
+const FEW_COMPARED: usize = 4;
+
+/// Whether the keys that change are found by comparing those elements of a range that have changed bits with all elements. Else
+/// the places that the fields can name are searched, of which 128 take as much as a comparison.
+#[inline(always)]
+pub(crate) fn compares_elements(item: &MainItem, range: ElementRange) -> bool
+    ensures { result ≡ true → item.now.count ≤ MOST_ELEMENTS }
+{
+    let count = item.count as usize;
+    if count <= FEW_COMPARED {
+        return true;
+    }
+    if MOST_ELEMENTS < count {
+        return false;
+    }
+    let changed = range.end.saturating_sub(range.first).min(count);
+    changed * count <= FEW_COMPARED * FEW_COMPARED + (1usize << item.size.min(16)) / 128
+}
 
 /// How many places are named by numbers below one.
 fn places_below(item: &MainItem, number: i64) -> usize
@@ -251,7 +272,7 @@ fn rolls_over<C: FieldCodec>(can: bool, array: &KeyArray<'_>, numbers: &FieldRun
     requires fits { All (FitsFields array.now.item.now) numbers.now }
     ensures { result ≡ list_any (is_rollover_number array.now) numbers.now }
 {
-    can && roll_over::<C>(array, numbers)
+    can && names_rollover::<C>(array, numbers)
 }
 
 /// Sets the keys of an array, which the last numbers leave, by the next ones, and appends their events. If a number names

@@ -1,4 +1,4 @@
-//! An Input report with its plan, and the bytes of the last one of its number.
+//! An Input report with its plan, and what is kept of the last one of its number.
 
 ghost use Rattle.std.specs.Prelude.{◌≡◌, ◌<◌, ◌≤◌, true, length, take, IfOk};
 ghost use Rattle.std.specs.Bool.{OnTrue, OnFalse};
@@ -6,23 +6,30 @@ ghost use Rattle.hid_usages.specs.ChangedBits.{IsOneWord};
 ghost use Rattle.hid_usages.specs.PlannedReports.{IsPlannedAnew, IsStill, Keeps, KeepsBytes, without_last};
 
 use crate::changed_bits::{are_same_bits, keep_bytes};
+use crate::keep_held::{has_wide_array, sole_byte};
 use crate::plan::{ReportPlan, plan_items};
 use hid_layout::Layout;
 use hid_snapshots::full_of;
 use std::alloc::{AllocError, Global};
 
-/// A report with its plan, and the bytes of the last one of its number.
+/// A report with its plan, and what is kept of the last one of its number.
 #[derive(Drop)]
 pub(crate) struct PlannedReport {
     pub(crate) plan: ReportPlan,
     /// Its bytes, with its ID where there are IDs.
     pub(crate) room: usize,
-    /// The bytes of the last one, and some more that fill words of eight.
+    /// The bytes of the last one, and some more that fill words of eight; of an array that named ErrorRollOver the bits before.
     pub(crate) last: Vec<u8>,
     /// Whether one came, so that the view is as its bytes left it.
     pub(crate) is_known: bool,
     /// Whether the last one gave no event, and would give none again.
     pub(crate) is_silent: bool,
+    /// Whether an array of many usages lists ErrorRollOver: then it is looked for, before the bytes are kept.
+    pub(crate) is_wide: bool,
+    /// Whether it has no such array, and is read item by item.
+    pub(crate) is_plain: bool,
+    /// The byte with which an element of these arrays begins that names ErrorRollOver, if it is one for all of them.
+    pub(crate) rollover: Option<u8>,
 }
 
 impl PlannedReport {
@@ -35,8 +42,20 @@ impl PlannedReport {
         ensures { Keeps self.old bytes.now is_silent self.new }
     {
         keep_bytes(&mut self.last, &bytes[..self.room], word);
-        self.is_known = true;
         self.is_silent = is_silent;
+    }
+
+    /// Keeps the bytes of the first report of its number, as [`keep`](PlannedReport::keep) does.
+    #[inline(always)]
+    pub(crate) fn keep_first(&mut self, bytes: &[u8], word: u64, is_silent: bool)
+        requires room { self.old.room ≤ length bytes.now }
+        requires kept { KeepsBytes self.old }
+        requires word { IsOneWord (take self.old.room bytes.now) word }
+        ensures kept { Keeps self.old bytes.now is_silent self.new }
+        ensures known { self.new.is_known ≡ true }
+    {
+        self.keep(bytes, word, is_silent);
+        self.is_known = true;
     }
 
     /// Whether these are fewer bytes than the report has.
@@ -88,6 +107,9 @@ pub(crate) fn plan_report(
 
     let plan = plan_items(alloc, layout, report)?;
     let room = layout.report_bytes(report);
+    let is_wide = has_wide_array(layout, &plan);
+    let rollover = sole_byte(layout, &plan);
+    let is_plain = plan.has_more && !is_wide;
     let last = full_of(alloc, 0, 8 * (room / 8) + 8)?;
     Ok(PlannedReport {
         plan,
@@ -95,5 +117,8 @@ pub(crate) fn plan_report(
         last,
         is_known: false,
         is_silent: false,
+        is_wide,
+        is_plain,
+        rollover,
     })
 }

@@ -1,4 +1,4 @@
-//! Which Input report has an ID, found without a search (our choice).
+//! Which Input report has an ID, found by a table where the report is among the first 255 of its layout (our choice).
 
 ghost use Rattle.std.specs.Prelude.{◌≡◌, ◌<◌, length, slice_get, Some, Err, IfOk, IfErr};
 ghost use Rattle.hid_usages.specs.PlannedReports.{IsIndex, IsPlaceOf};
@@ -9,7 +9,7 @@ use hid_layout::{Layout, Report};
 use hid_snapshots::{ReportFault, full_of, is_input};
 use std::alloc::{AllocError, Global};
 
-/// Stands in an index where no report has the ID: no place of one that is found by it.
+/// Stands in an index where no Input report has the ID, or one that isn't among the first 255 reports: such an ID is searched.
 pub(crate) const NO_REPORT: u8 = 255;
 
 /// The report at a place.

@@ -22,8 +22,8 @@ ghost use Rattle.hid_usages.specs.Ranges.{LeaveOthers};
 
 use crate::bits::{are_bits, take_bits};
 use crate::changed_bits::BitSpan;
-use crate::changed_keys::roll_over;
-use crate::elements::{Carriable, ElementRange, take_switches, take_values};
+use crate::changed_keys::names_rollover;
+use crate::elements::{Carriable, ElementRange, every_element, take_switches, take_values};
 use crate::event_source::{EventSource, ItemUsages, no_usages};
 use crate::key_array::{KeyArray, read_keys};
 use crate::value_range::Bounds;
@@ -231,10 +231,7 @@ fn take_numbers<C: FieldCodec>(
 fn all_elements(numbers: &FieldRun<'_>) -> ElementRange
     ensures { result ≡ record { first = 0; end = length numbers.now } }
 {
-    ElementRange {
-        first: 0,
-        end: numbers.len(),
-    }
+    every_element(numbers.len())
 }
 
 /// Sets the elements of a variable item by these numbers, and appends their events.
@@ -381,7 +378,7 @@ pub(crate) fn take_unless_rollover<C: FieldCodec>(
     ensures appends { Appends out.old (key_events place (usages_at layout.now place)
         (ControlState.Switches held.old) (ControlState.Switches held.new)) out.new }
 {
-    if roll_over::<C>(array, numbers) {
+    if names_rollover::<C>(array, numbers) {
         return;
     }
     take_flags::<C>(layout, place, array, numbers, held, named, out);

@@ -1,6 +1,6 @@
 //! A report is read by its plan: of the items that have changed bits, the elements that have.
 
-ghost use Rattle.std.specs.Prelude.{◌≡◌, ◌<◌, ◌≤◌, ◌+◌, length, map, slice_get, Some, true, [], ◌∷◌};
+ghost use Rattle.std.specs.Prelude.{◌≡◌, ◌<◌, ◌≤◌, ◌+◌, length, map, slice_get, Some, true, false, [], ◌∷◌};
 ghost use Rattle.hid_layout.specs.Controls.{items_of, controls_of_form};
 ghost use Rattle.hid_layout.specs.declared.control.ControlKind.TheVariants as ControlKind;
 ghost use Rattle.hid_snapshots.specs.ControlStates.{HasRoom, FitsView};
@@ -18,28 +18,57 @@ ghost use Rattle.hid_layout.specs.Reports.{first_bit, report_bytes};
 ghost use Rattle.hid_usages.specs.Ranges.{HoldsSpan, KnowsListed};
 ghost use Rattle.hid_usages.specs.ChangedKeys.{AreKeyNumbers, KnowsKeys, state_by_array};
 ghost use Rattle.hid_usages.specs.Known.{Knows, KnowsPlace};
-ghost use Rattle.hid_usages.specs.Plans.{IsPlan, IsPlannedItem, place_of};
+ghost use Rattle.hid_usages.specs.Plans.{IsPlan, IsPlannedItem, IsSingleItem, place_of};
 
 use crate::changed_bits::BitSpan;
-use crate::changed_keys::{KeyNumbers, MOST_ELEMENTS, change_keys, roll_over};
-use crate::elements::ElementRange;
+use crate::changed_keys::{KeyNumbers, MOST_ELEMENTS, change_keys, names_rollover};
+use crate::elements::{ElementRange, every_element};
 use crate::event_source::ItemUsages;
 use crate::key_array::KeyArray;
-use crate::many_elements::take_within;
+use crate::many_elements::{compares_elements, take_within};
 use crate::plan::{PlannedItem, PlannedKind, ReportPlan, items_of_span, next_unpassed};
 use crate::single_key::{NumberChange, change_key, is_rollover, named_usage};
 use crate::take::{
-    ElementNumbers, LastReport, ListedItem, ReportBytes, take_array, take_elements, take_flags,
-    take_pattern, take_unless_rollover,
+    ElementNumbers, LastReport, ListedItem, ReportBytes, take_array, take_elements, take_pattern,
+    take_unless_rollover,
 };
 use crate::value_range::Bounds;
 use hid_fields::FieldCodec;
 use hid_layout::{ControlKind, Layout, MainItem, Shape};
 use hid_snapshots::{ControlState, Event, FieldRun, Flags, item_at};
 
-/// Reads the bytes of a report by its plan into what is kept of the layout's items, and appends the events. Items whose bits
-/// are those of the report before, which left the view, are passed over.
-pub(crate) fn take_planned<C: FieldCodec>(
+/// Reads the bytes of a report by its plan into what is kept of the layout's items, and appends the events. `SINGLE` says that it
+/// has one element. `WIDE` changes nothing here: it makes a copy with a caller of its own, in which it is inlined.
+pub(crate) fn take_planned<C: FieldCodec, const SINGLE: bool, const WIDE: bool>(
+    received: &ReportBytes<'_>,
+    plan: &ReportPlan,
+    last: &LastReport<'_>,
+    states: &mut [ControlState],
+    named: &mut Flags,
+    out: &mut Vec<Event>,
+)
+    requires received { IsReceived received.now }
+    requires places { ArePlacesOf received.now (map place_of plan.now.items.items) }
+    requires plan { IsPlan received.now.layout.now received.now.report plan.now }
+    requires single { SINGLE ≡ true → plan.now.has_more ≡ false }
+    requires known { Knows received.now.layout.now received.now.report received.now.bytes.now
+        last.now.bytes.now last.now.changed states.old }
+    requires fits { FitsView (items_of received.now.layout.now) states.old }
+    requires named { NoFlagSet states.old named.old }
+    requires room { HasSpace out.old (events_received received.now states.old) }
+    ensures view { states.new ≡ view_received received.now states.old }
+    ensures named { named.new ≡ named.old }
+    ensures appends { Appends out.old (events_received received.now states.old) out.new }
+{
+    if SINGLE {
+        take_single::<C>(received, plan, last, states, named, out);
+    } else {
+        take_changed::<C, WIDE>(received, plan, last, states, named, out);
+    }
+}
+
+/// Reads a report as [`take_planned`] does. Items whose bits are those of the report before, which left the view, are passed over.
+fn take_changed<C: FieldCodec, const WIDE: bool>(
     received: &ReportBytes<'_>,
     plan: &ReportPlan,
     last: &LastReport<'_>,
@@ -67,14 +96,44 @@ pub(crate) fn take_planned<C: FieldCodec>(
     while let Some(k) = next_unpassed(&plan.items, from, range.end, last.changed) {
         let planned = planned_at(plan, k);
         let i = planned.place;
-        take_planned_item::<C>(received, planned, last, &mut states[i], named, out);
+        take_planned_item::<C, false, WIDE>(received, planned, last, &mut states[i], named, out);
         from = k + 1;
     }
 }
 
+/// Reads a report of one element as [`take_planned`] does.
+fn take_single<C: FieldCodec>(
+    received: &ReportBytes<'_>,
+    plan: &ReportPlan,
+    last: &LastReport<'_>,
+    states: &mut [ControlState],
+    named: &mut Flags,
+    out: &mut Vec<Event>,
+)
+    requires received { IsReceived received.now }
+    requires places { ArePlacesOf received.now (map place_of plan.now.items.items) }
+    requires plan { IsPlan received.now.layout.now received.now.report plan.now }
+    requires single { plan.now.has_more ≡ false }
+    requires known { Knows received.now.layout.now received.now.report received.now.bytes.now
+        last.now.bytes.now last.now.changed states.old }
+    requires fits { FitsView (items_of received.now.layout.now) states.old }
+    requires named { NoFlagSet states.old named.old }
+    requires room { HasSpace out.old (events_received received.now states.old) }
+    ensures view { states.new ≡ view_received received.now states.old }
+    ensures named { named.new ≡ named.old }
+    ensures appends { Appends out.old (events_received received.now states.old) out.new }
+{
+    // For the prover: what holds of every layout.
+    let _ = received.layout.items();
+
+    let planned = planned_at(plan, 0);
+    let i = planned.place;
+    take_planned_item::<C, true, false>(received, planned, last, &mut states[i], named, out);
+}
+
 /// The planned item at an index.
 #[inline(always)]
-fn planned_at(plan: &ReportPlan, k: usize) -> &PlannedItem
+pub(crate) fn planned_at(plan: &ReportPlan, k: usize) -> &PlannedItem
     requires { k < length plan.now.items.items }
     ensures { slice_get plan.now.items.items k ≡ Some result.now }
 {
@@ -82,8 +141,7 @@ fn planned_at(plan: &ReportPlan, k: usize) -> &PlannedItem
 }
 
 /// Reads the bytes of a report into what is kept of a planned item of it, and appends the events.
-#[inline(always)]
-fn take_planned_item<C: FieldCodec>(
+fn take_planned_item<C: FieldCodec, const SINGLE: bool, const WIDE: bool>(
     received: &ReportBytes<'_>,
     planned: &PlannedItem,
     last: &LastReport<'_>,
@@ -93,6 +151,7 @@ fn take_planned_item<C: FieldCodec>(
 )
     requires received { IsReceived received.now }
     requires planned { IsPlannedItem received.now.layout.now planned.now }
+    requires single { SINGLE ≡ true → IsSingleItem received.now.layout.now planned.now }
     requires in_report { IsInReport received.now.layout.now received.now.report planned.now.place }
     requires known { KnowsPlace received.now.layout.now received.now.report received.now.bytes.now
         last.now.bytes.now last.now.changed planned.now.place state.old }
@@ -117,9 +176,11 @@ fn take_planned_item<C: FieldCodec>(
     let changed = last.changed;
     match planned.kind {
         PlannedKind::Padding => {}
-        PlannedKind::Bits => take_bit_fields::<C>(&listed, usages, bytes, at, state, out),
+        PlannedKind::Bits => {
+            take_bit_fields::<C, SINGLE>(&listed, usages, bytes, at, state, out);
+        }
         PlannedKind::Switches => {
-            take_variable::<C>(
+            take_variable::<C, SINGLE>(
                 &listed,
                 usages,
                 bytes,
@@ -131,7 +192,7 @@ fn take_planned_item<C: FieldCodec>(
             );
         }
         PlannedKind::Values => {
-            take_variable::<C>(
+            take_variable::<C, SINGLE>(
                 &listed,
                 usages,
                 bytes,
@@ -143,7 +204,7 @@ fn take_planned_item<C: FieldCodec>(
             );
         }
         PlannedKind::NullValues => {
-            take_variable::<C>(
+            take_variable::<C, SINGLE>(
                 &listed,
                 usages,
                 bytes,
@@ -155,7 +216,7 @@ fn take_planned_item<C: FieldCodec>(
             );
         }
         PlannedKind::Motions => {
-            take_variable::<C>(
+            take_variable::<C, SINGLE>(
                 &listed,
                 usages,
                 bytes,
@@ -179,13 +240,18 @@ fn take_planned_item<C: FieldCodec>(
                 out,
             );
         }
-        PlannedKind::Keys => take_keys::<C>(&listed, bytes, last, at, state, named, out),
+        PlannedKind::Keys => {
+            // (an array of one element is a `Key`)
+            if !SINGLE {
+                take_keys::<C>(&listed, bytes, last, at, state, named, out);
+            }
+        }
     }
 }
 
 /// Reads up to 32 switches of one bit each, whose first field stands at a bit of the bytes, and appends their events.
 #[inline(always)]
-fn take_bit_fields<C: FieldCodec>(
+fn take_bit_fields<C: FieldCodec, const SINGLE: bool>(
     listed: &ListedItem<'_>,
     usages: &ItemUsages,
     bytes: &[u8],
@@ -195,6 +261,7 @@ fn take_bit_fields<C: FieldCodec>(
 )
     requires usages { AreUsages listed.now.layout.now listed.now.place usages.now }
     requires listed { IsFilled listed.now bytes.now }
+    requires single { SINGLE ≡ true → listed.now.item.now.count ≡ 1 }
     requires bits { are_bits listed.now.item.now ≡ true }
     requires at { at ≡ first_bit listed.now.layout.now + listed.now.item.now.offset }
     requires held { HasRoom (controls_of_form (form_in listed.now)) state.old }
@@ -206,10 +273,19 @@ fn take_bit_fields<C: FieldCodec>(
     take_pattern(
         listed,
         usages,
-        C::get(bytes, at, listed.item.count),
+        C::get(bytes, at, count_of::<SINGLE>(listed.item)),
         state,
         out,
     );
+}
+
+/// How many elements an item has: one, where that is known, so that the compiler sees it.
+#[inline(always)]
+fn count_of<const SINGLE: bool>(item: &MainItem) -> u32
+    requires { SINGLE ≡ true → item.now.count ≡ 1 }
+    ensures { result ≡ item.now.count }
+{
+    if SINGLE { 1 } else { item.count }
 }
 
 /// The elements of fields of this size, of which the first one stands at a bit, that have the bits of a span. It takes less of a
@@ -232,18 +308,14 @@ const FEW_ELEMENTS: usize = 2;
 
 /// The elements of an item, whose first field stands at a bit, that have the bits of a span; all, where they are few.
 #[inline(always)]
-fn elements_of_span(item: &MainItem, at: usize, span: BitSpan) -> ElementRange
-    requires size { 0 < item.now.size }
-    ensures { HoldsSpan at item.now.size item.now.count span result }
+fn elements_of_span(size: u32, count: usize, at: usize, span: BitSpan) -> ElementRange
+    requires size { 0 < size }
+    ensures { HoldsSpan at size count span result }
 {
-    let count = item.count as usize;
     if count <= FEW_ELEMENTS {
-        return ElementRange {
-            first: 0,
-            end: count,
-        };
+        return every_element(count);
     }
-    match item.size {
+    match size {
         1 => elements_of_size(1, count, at, span),
         8 => elements_of_size(8, count, at, span),
         size => elements_of_size(size as usize, count, at, span),
@@ -252,17 +324,20 @@ fn elements_of_span(item: &MainItem, at: usize, span: BitSpan) -> ElementRange
 
 /// The elements of an item with controls of this kind that are read, where bits of a span changed: all of motions.
 #[inline(always)]
-fn elements_read(item: &MainItem, at: usize, span: BitSpan, kind: ControlKind) -> ElementRange
-    requires size { 0 < item.now.size }
-    ensures { HoldsSpan at item.now.size item.now.count span result }
+fn elements_read(
+    size: u32,
+    count: usize,
+    at: usize,
+    span: BitSpan,
+    kind: ControlKind,
+) -> ElementRange
+    requires size { 0 < size }
+    ensures { HoldsSpan at size count span result }
 {
     match kind {
-        ControlKind::Relative => ElementRange {
-            first: 0,
-            end: item.count as usize,
-        },
+        ControlKind::Relative => every_element(count),
         ControlKind::Switch | ControlKind::Value | ControlKind::NullValue => {
-            elements_of_span(item, at, span)
+            elements_of_span(size, count, at, span)
         }
     }
 }
@@ -270,7 +345,7 @@ fn elements_read(item: &MainItem, at: usize, span: BitSpan, kind: ControlKind) -
 /// Reads the fields of a variable item with controls of this kind, whose first one stands at a bit of the bytes, and appends
 /// their events. Outside of a span its bits are those of a report that left the view.
 #[inline(always)]
-fn take_variable<C: FieldCodec>(
+fn take_variable<C: FieldCodec, const SINGLE: bool>(
     listed: &ListedItem<'_>,
     usages: &ItemUsages,
     bytes: &[u8],
@@ -282,6 +357,7 @@ fn take_variable<C: FieldCodec>(
 )
     requires usages { AreUsages listed.now.layout.now listed.now.place usages.now }
     requires listed { IsFilled listed.now bytes.now }
+    requires single { SINGLE ≡ true → listed.now.item.now.count ≡ 1 }
     requires shape { listed.now.item.now.shape ≡ Shape.Variable }
     requires kind { kind ≡ element_kind listed.now.item.now }
     requires at { at ≡ first_bit listed.now.layout.now + listed.now.item.now.offset }
@@ -293,7 +369,8 @@ fn take_variable<C: FieldCodec>(
         (numbers_of_bytes listed.now bytes.now)) out.new }
 {
     let item = listed.item;
-    let numbers = FieldRun::new(bytes, at, item.size, item.min < 0, item.count as usize);
+    let count = count_of::<SINGLE>(item) as usize;
+    let numbers = FieldRun::new(bytes, at, item.size, item.min < 0, count);
     let carried = ElementNumbers {
         kind,
         usages,
@@ -301,7 +378,7 @@ fn take_variable<C: FieldCodec>(
             least: item.min,
             greatest: item.max,
         },
-        range: elements_read(item, at, changed, kind),
+        range: elements_read(item.size, count, at, changed, kind),
         numbers: &numbers,
     };
     take_elements::<C>(listed, &carried, state, out);
@@ -339,7 +416,7 @@ fn take_number<C: FieldCodec>(
     if let ControlState::Switches(held) = state {
         let last = named_usage(&change.array, change.last);
         if is_rollover(&change.array, change.last, last) {
-            take_flags::<C>(layout, place, &change.array, numbers, held, named, out);
+            take_unless_rollover::<C>(layout, place, &change.array, numbers, held, named, out);
         } else {
             change_key(layout, place, change, last, held, out);
         }
@@ -393,7 +470,7 @@ fn take_key<C: FieldCodec>(
 }
 
 /// How many keys of an array are few: comparing all of them takes less than finding those that change.
-const FEW_KEYS: usize = 512;
+pub(crate) const FEW_KEYS: usize = 512;
 
 /// Whether an array has so many keys that those that change are found by the numbers of its elements.
 #[inline(always)]
@@ -453,27 +530,6 @@ fn take_keys<C: FieldCodec>(
     }
 }
 
-/// How many elements are compared with each other in any case: that takes less than a search of the places that their fields can
-/// name.
-const FEW_COMPARED: usize = 4;
-
-/// Whether the keys that change are found by comparing those elements of a range that have changed bits with all elements. Else
-/// the places that fields of up to 16 bits can name are searched: 128 of them take as much as a comparison.
-#[inline(always)]
-fn compares_elements(item: &MainItem, range: ElementRange) -> bool
-    ensures { result ≡ true → item.now.count ≤ MOST_ELEMENTS }
-{
-    let count = item.count as usize;
-    if count <= FEW_COMPARED {
-        return true;
-    }
-    if MOST_ELEMENTS < count {
-        return false;
-    }
-    let changed = range.end.saturating_sub(range.first).min(count);
-    changed * count <= FEW_COMPARED * FEW_COMPARED + (1usize << item.size.min(16)) / 128
-}
-
 /// Reads the fields of an array of few elements as [`take_keys`] does, by their numbers in the last report.
 #[inline(always)]
 fn take_many_keys<C: FieldCodec>(
@@ -504,7 +560,7 @@ fn take_many_keys<C: FieldCodec>(
     let numbers = FieldRun::new(bytes, at, item.size, item.min < 0, item.count as usize);
     let change = KeyNumbers {
         array: KeyArray { item, entries },
-        range: elements_of_span(item, at, last.changed),
+        range: elements_of_span(item.size, item.count as usize, at, last.changed),
         last: &before,
         next: &numbers,
     };
@@ -540,7 +596,7 @@ fn take_many_elements<C: FieldCodec>(
     let numbers = FieldRun::new(bytes, at, item.size, item.min < 0, item.count as usize);
     let change = KeyNumbers {
         array: KeyArray { item, entries },
-        range: elements_of_span(item, at, last.changed),
+        range: elements_of_span(item.size, item.count as usize, at, last.changed),
         last: &before,
         next: &numbers,
     };
@@ -627,7 +683,10 @@ fn take_keys_apart<C: FieldCodec>(
         (numbers_of_bytes (record { layout = layout.entry; place = place; item = item.entry })
         bytes.now)) out.new }
 {
-    if !compares_elements(item, elements_of_span(item, at, changed)) {
+    if !compares_elements(
+        item,
+        elements_of_span(item.size, item.count as usize, at, changed),
+    ) {
         return take_elements_apart::<C>(
             layout, place, item, at, bytes, last, changed, state, named, out,
         );
@@ -723,7 +782,7 @@ fn take_numbered<C: FieldCodec>(
         state.new) out.new }
 {
     if let ControlState::Switches(held) = state {
-        if roll_over::<C>(&change.array, change.last) {
+        if names_rollover::<C>(&change.array, change.last) {
             take_unless_rollover::<C>(layout, place, &change.array, change.next, held, named, out);
         } else {
             change_keys::<C>(layout, place, change, held, out);

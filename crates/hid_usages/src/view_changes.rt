@@ -151,7 +151,7 @@ pub(crate) fn push_switch_event(
 }
 
 /// Appends the event of a value, if it changed.
-pub(crate) fn value_event(
+fn value_event(
     control: ControlId,
     usage: Usage,
     before: Option<i64>,

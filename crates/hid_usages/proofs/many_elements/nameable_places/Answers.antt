@@ -1,4 +1,4 @@
-use Rattle.std.proofs.Common.{◌≡◌, min, arith, rules}
+use Rattle.std.proofs.Common.{◌≡◌, arith, rules}
 use Rattle.std.proofs.lemmas.Int.{to_z-of_z}
 use Rattle.hid_report_descriptor.specs.Faults.{least_value, greatest_value}
 use Rattle.hid_usages.specs.ManyElements.{places_below}

@@ -4,6 +4,6 @@ use Rattle.hid_usages.proofs.EventLemmas.{nothing_appended}
 use Rattle.hid_usages.proofs.ViewLemmas.{same_keys}
 use Rattle.hid_usages.proofs.take.take_unless_rollover.Goals as goal
 
-pub returns-then-roll_over-clause-appends : goal.returns-then-roll_over-clause-appends
-returns-then-roll_over-clause-appends g c =
+pub returns-then-names_rollover-clause-appends : goal.returns-then-names_rollover-clause-appends
+returns-then-names_rollover-clause-appends g c =
     nothing_appended c.args.out.now _ (same_keys c.args.place (usages_at c.args.layout.now c.args.place) (Switches c.args.held.now))

@@ -10,9 +10,9 @@ pub change_keys-requires-clause-held : goal.change_keys-requires-clause-held
 change_keys-requires-clause-held g c =
     let layout = c.args.layout.now in
     let change = c.args.change.now in
-    let none : list_any (is_rollover_number change.array) change.last.now ≡ false = sym c.roll_over.ensures ∙ c.if-roll_over.false in
+    let none : list_any (is_rollover_number change.array) change.last.now ≡ false = sym c.names_rollover.ensures ∙ c.if-names_rollover.false in
     held_by_last layout c.args.place change.array c.in-Switches.held change.last.now c.requires.array none
     (subst (λ (state : ControlState). state_by_array layout c.args.place change.array state change.last.now ≡ state) c.in-Switches.is c.requires.left)
 
 pub change_keys-requires-clause-last : goal.change_keys-requires-clause-last
-change_keys-requires-clause-last g c = sym c.roll_over.ensures ∙ c.if-roll_over.false
+change_keys-requires-clause-last g c = sym c.names_rollover.ensures ∙ c.if-names_rollover.false

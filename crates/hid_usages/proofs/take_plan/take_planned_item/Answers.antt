@@ -316,20 +316,6 @@ take_keys-requires-clause-room g c =
     let read = data_read c.args.received.now.layout.now c.args.received.now.report c.args.received.now.bytes.now c.args.planned.now.place c.item_at.result.now c.args.state.now c.item_at.ensures.item (c.requires.in_report c.item_at.result.now c.item_at.ensures.item) (ap is_padding (array_planned c.item_at.result.now (sym as_planned.2 ∙ c.in-Keys.is))) in
     subst (HasSpace c.args.out.now) read.1 c.requires.room
 
-pub returns-in-Keys-clause-state : goal.returns-in-Keys-clause-state
-returns-in-Keys-clause-state g c =
-    let as_planned = planned_as c.args.received.now.layout.now c.args.planned.now c.item_at.result.now c.requires.planned c.item_at.ensures.item in
-    let read = data_read c.args.received.now.layout.now c.args.received.now.report c.args.received.now.bytes.now c.args.planned.now.place c.item_at.result.now c.args.state.now c.item_at.ensures.item (c.requires.in_report c.item_at.result.now c.item_at.ensures.item) (ap is_padding (array_planned c.item_at.result.now (sym as_planned.2 ∙ c.in-Keys.is))) in
-    c.take_keys.ensures.state ∙ sym read.0
-
-pub returns-in-Keys-clause-appends : goal.returns-in-Keys-clause-appends
-returns-in-Keys-clause-appends g c =
-    let as_planned = planned_as c.args.received.now.layout.now c.args.planned.now c.item_at.result.now c.requires.planned c.item_at.ensures.item in
-    let read = data_read c.args.received.now.layout.now c.args.received.now.report c.args.received.now.bytes.now c.args.planned.now.place c.item_at.result.now c.args.state.now c.item_at.ensures.item (c.requires.in_report c.item_at.result.now c.item_at.ensures.item) (ap is_padding (array_planned c.item_at.result.now (sym as_planned.2 ∙ c.in-Keys.is))) in
-    let numbers = item_numbers c.args.received.now.layout.now c.args.received.now.bytes.now c.item_at.result.now in
-    subst (λ (es : List Event). Appends c.args.out.now es c.take_keys.new.out)
-    (ap (λ (s : ControlState). events_of_numbers_at c.args.received.now.layout.now c.args.planned.now.place c.item_at.result.now c.args.state.now s numbers) c.take_keys.ensures.state ∙ sym read.1) c.take_keys.ensures.appends
-
 pub take_variable-requires-clause-known : goal.take_variable-requires-clause-known
 take_variable-requires-clause-known g c =
     let layout = c.args.received.now.layout.now in
@@ -433,3 +419,18 @@ take_key-requires-clause-left g c =
     let as_planned = planned_as layout c.args.planned.now item c.requires.planned c.item_at.ensures.item in
     let no_padding : is_padding item.shape ≡ false = ap is_padding (key_planned item (sym as_planned.2 ∙ c.in-Key.is)).0 in
     (listed_left layout c.args.received.now.report c.args.received.now.bytes.now c.args.last.now.bytes.now c.args.last.now.changed (record { layout = c.args.received.now.layout; place = c.args.planned.now.place; item = c.item_at.result }) c.args.state.now refl c.item_at.ensures.item (c.requires.in_report item c.item_at.ensures.item) no_padding c.requires.known).left
+
+pub take_bit_fields-requires-clause-single : goal.take_bit_fields-requires-clause-single
+take_bit_fields-requires-clause-single g c = λ e. (c.requires.single e).one c.item_at.result.now c.item_at.ensures.item
+
+pub take_variable-requires-clause-single : goal.take_variable-requires-clause-single
+take_variable-requires-clause-single g c = λ e. (c.requires.single e).one c.item_at.result.now c.item_at.ensures.item
+
+pub take_variable-requires-in-Values-clause-single : goal.take_variable-requires-in-Values-clause-single
+take_variable-requires-in-Values-clause-single g c = λ e. (c.requires.single e).one c.item_at.result.now c.item_at.ensures.item
+
+pub take_variable-requires-in-NullValues-clause-single : goal.take_variable-requires-in-NullValues-clause-single
+take_variable-requires-in-NullValues-clause-single g c = λ e. (c.requires.single e).one c.item_at.result.now c.item_at.ensures.item
+
+pub take_variable-requires-in-Motions-clause-single : goal.take_variable-requires-in-Motions-clause-single
+take_variable-requires-in-Motions-clause-single g c = λ e. (c.requires.single e).one c.item_at.result.now c.item_at.ensures.item

@@ -1,7 +1,7 @@
 use Rattle.std.proofs.Common.{◌≡◌, ◌≤◌, ◌-◌, length, vec_len, vec_capacity}
 use Rattle.hid_snapshots.proofs.PlanLemmas.{IsAlong}
 use Rattle.hid_usages.proofs.TakeLemmas.{HasTaken}
-use Rattle.hid_usages.proofs.take_plan.take_planned.Given as goal
+use Rattle.hid_usages.proofs.take_plan.take_changed.Given as goal
 
 abbrev pub invariant-loop-k : goal.invariant-loop-k
 invariant-loop-k g l = record {

@@ -15,7 +15,7 @@ use Rattle.hid_usages.proofs.PassingLemmas.{next_planned, place_known, places_le
 use Rattle.hid_usages.proofs.PlanOrderLemmas.{IsKnownPlan, passed_over, passed_to, none_taken}
 use Rattle.hid_usages.proofs.TakeLemmas.{HasTaken, read_start, read_next, events_from_item-next, view_from_item-length, taking_skips, all_told}
 use Rattle.hid_usages.proofs.ViewLemmas.{room_at}
-use Rattle.hid_usages.proofs.take_plan.take_planned.Goals as goal
+use Rattle.hid_usages.proofs.take_plan.take_changed.Goals as goal
 
 pub planned_at-planned-requires : goal.planned_at-planned-requires
 planned_at-planned-requires g c = omega (arith, c.items_of_span-range.ensures.within, c.in-Some.ensures.1)
@@ -48,7 +48,7 @@ loop-k-init g c =
     } in
     let start = none_taken layout r bytes c.args.states.now c.args.out.now.items (vec_len c.args.out.now) (vec_capacity c.args.out.now) c.requires.room in
     let along = passed_over layout r bytes c.args.last.now.bytes.now c.args.last.now.changed plan c.args.states.now c.args.states.now c.args.out.now.items c.args.out.now.items (vec_len c.args.out.now) (vec_capacity c.args.out.now) range.first 0 known (omega (arith, held.order, held.within))
-    (λ j item there low high. held.passed j item there (inl (omega (arith, high)))) start in
+    (λ j item there low high. inl (held.passed j item there (inl (omega (arith, high))))) start in
     record {
       along = subst (λ (m : ℕ). IsAlong layout r m (HasTaken layout r bytes c.args.states.now c.args.states.now c.args.out.now.items c.args.out.now.items (vec_len c.args.out.now) (vec_capacity c.args.out.now))) (let e : 0 + range.first ≡ range.first = omega arith in e) along;
       named = refl;
