@@ -18,6 +18,6 @@ mod refused;
 mod words;
 
 pub use names::{FileName, ShownBytes, is_escaped};
-pub use opened::{OPENED_FILES, opened_path, path_of, shown_name};
+pub use opened::{NamedFile, OPENED_FILES, file_of, opened_path};
 pub use refused::{matches_of, print_refused_words};
 pub use words::{Words, WordsFault, print_unread_words, word_of, words_of, words_of_files};

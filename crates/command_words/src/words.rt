@@ -4,7 +4,7 @@ ghost use Rattle.std.specs.Prelude.{◌≡◌, ◌∷◌, [], ◌++◌, ◌+◌,
 ghost use Rattle.std.specs.Str.{IsUtf8};
 
 use crate::names::{FileName, ShownBytes};
-use crate::opened::{OPENED_FILES, opened_path, shown_name};
+use crate::opened::{OPENED_FILES, file_of, opened_path};
 use std::alloc::{AllocError, Global};
 use std::env::{self, Env, FillError};
 
@@ -108,11 +108,54 @@ impl Words {
         ensures given { OnOk result (self.new.given.items ≡ self.old.given.items ++ word ∷ []) }
         ensures shown { OnOk result (length self.new.shown.items ≡ 1 + length self.old.shown.items) }
     {
-        let name = FileName(shown_name(word.as_str()));
+        let name = FileName(file_of(word.as_str()).name);
         let shown = format!(in alloc; "{name}")?;
         self.shown.push(shown).map_err(AllocError::from)?;
         self.given.push(word).map_err(AllocError::from)
     }
+}
+
+/// The word of bytes that aren't UTF-8, by the path that leads to its file, if the launcher gave one.
+///
+/// # Errors
+/// A [`WordsFault`]: memory ran out, or the bytes where there is no path.
+fn opened_word(alloc: Global, path: Option<&str>, bytes: Vec<u8>) -> Result<String, WordsFault> {
+    match path {
+        Some(path) => {
+            let name = ShownBytes(bytes.as_slice());
+            let word = format!(in alloc; "{name}\0{path}")?;
+            Ok(word)
+        }
+        None => Err(WordsFault::NotText(bytes)),
+    }
+}
+
+/// A word of the command line, by what the launcher says of files, if it may name one.
+fn word_at(
+    alloc: Global,
+    files: Option<&str>,
+    place: usize,
+    bytes: Vec<u8>,
+) -> Result<String, WordsFault> {
+    match word_of(bytes) {
+        Err(WordsFault::NotText(bytes)) => {
+            let path = files.and_then(|files| opened_path(files, place));
+            opened_word(alloc, path, bytes)
+        }
+        read => read,
+    }
+}
+
+/// The words of the command line, by what the launcher says of files, if they may name some.
+fn read_words(rt: &HostRuntime, files: Option<&str>) -> Result<Words, WordsFault> {
+    let mut words = Words::new(rt.alloc());
+    for place in 0..usize::MAX {
+        let Some(bytes) = read_word(rt, place)? else {
+            break;
+        };
+        words.push(rt.alloc(), word_at(rt.alloc(), files, place, bytes)?)?;
+    }
+    Ok(words)
 }
 
 /// The words of the command line.
@@ -120,57 +163,17 @@ impl Words {
 /// # Errors
 /// A [`WordsFault`]: memory ran out, or the first word that isn't UTF-8.
 pub fn words_of(rt: &HostRuntime) -> Result<Words, WordsFault> {
-    let mut words = Words::new(rt.alloc());
-    for place in 0..usize::MAX {
-        let Some(bytes) = read_word(rt, place)? else {
-            break;
-        };
-        words.push(rt.alloc(), word_of(bytes)?)?;
-    }
-    Ok(words)
-}
-
-/// The word of bytes that aren't UTF-8, by the path that leads to its file, if the launcher gave one.
-///
-/// # Errors
-/// A [`WordsFault`]: memory ran out, or the bytes where there is no path.
-fn opened_word(
-    rt: &HostRuntime,
-    files: Option<&str>,
-    place: usize,
-    bytes: Vec<u8>,
-) -> Result<String, WordsFault> {
-    match files.and_then(|files| opened_path(files, place)) {
-        Some(path) => {
-            let name = ShownBytes(bytes.as_slice());
-            let word = format!(in rt.alloc(); "{name}\0{path}")?;
-            Ok(word)
-        }
-        None => Err(WordsFault::NotText(bytes)),
-    }
+    read_words(rt, None)
 }
 
 /// The words of the command line, of a program that may be given files with names that aren't UTF-8. Such a word is what
-/// [`shown_name`] and [`path_of`](crate::path_of) take apart, if the launcher opened its file.
+/// [`file_of`](crate::file_of) takes apart, if the launcher says something of its file.
 ///
 /// # Errors
-/// A [`WordsFault`]: memory ran out, or the first word that isn't UTF-8 and whose file isn't open.
+/// A [`WordsFault`]: memory ran out, or the first word that isn't UTF-8 and of whose file nothing is said.
 pub fn words_of_files(rt: &HostRuntime) -> Result<Words, WordsFault> {
     let files = env::var(rt, OPENED_FILES).ok();
-    let mut words = Words::new(rt.alloc());
-    for place in 0..usize::MAX {
-        let Some(bytes) = read_word(rt, place)? else {
-            break;
-        };
-        let word = match word_of(bytes) {
-            Err(WordsFault::NotText(bytes)) => {
-                opened_word(rt, files.as_ref().map(|files| files.as_str()), place, bytes)?
-            }
-            read => read?,
-        };
-        words.push(rt.alloc(), word)?;
-    }
-    Ok(words)
+    read_words(rt, files.as_ref().map(|files| files.as_str()))
 }
 
 /// Says on standard error why the words can't be read: the program, the word, and what can be done, as `give the file by < FILE`.

@@ -1,7 +1,7 @@
 //! The words of the command line.
 
 use clap::{Arg, ArgAction, ArgMatches, Command, Error, value_parser};
-use command_words::{Words, matches_of};
+use command_words::{NamedFile, Words, file_of, matches_of};
 use hid_page::Form;
 use std::alloc::{AllocError, Global};
 
@@ -10,7 +10,7 @@ use std::alloc::{AllocError, Global};
 pub struct CliArgs<'a> {
     pub form: Form,
     /// The file; `-` is standard input.
-    pub file: &'a str,
+    pub file: NamedFile<'a>,
 }
 
 const CODES: &str =
@@ -94,6 +94,6 @@ fn read_matches<'a>(matches: &ArgMatches<'a>, columns: u16) -> CliArgs<'a> {
             None => Form::Page,
         },
     };
-    let file = matches.get_str("FILE").unwrap_or("-");
+    let file = file_of(matches.get_str("FILE").unwrap_or("-"));
     CliArgs { form, file }
 }

@@ -18,18 +18,16 @@ mod args;
 mod status;
 
 use args::{CliArgs, parse_args};
-use command_words::{
-    FileName, path_of, print_refused_words, print_unread_words, shown_name, words_of_files,
-};
+use command_words::{FileName, NamedFile, print_refused_words, print_unread_words, words_of_files};
 use hid_input::{InputCause, InputFault, KnownFile, begins_text, descriptor_in, known_file};
 use hid_layout::{Cause, Layout, LayoutFault, Limits, MAX_DESCRIPTOR, long_report};
 use hid_notation::RefusalText;
 use hid_page::{Form, MAX_DRAWN, draw, draw_refused};
 use status::{FINE, OUTSIDE, REFUSED, WRONG_USAGE};
 use std::alloc::Global;
+use std::env;
 use std::io::{self, IsTerminal, Read, Write};
 use std::process::ExitCode;
-use std::{env, fs};
 
 /// What is reported where memory runs out.
 const NO_MEMORY: &str = "out of memory";
@@ -65,13 +63,17 @@ fn main(rt: HostRuntime) -> ExitCode {
     }
 }
 
-/// The columns of pictures where none are asked for: those that COLUMNS has, where standard output is a terminal; else 80.
+/// The columns of pictures where none are asked for: those that COLUMNS has, where standard output is a terminal; else 80, also
+/// where it has 0, as a terminal says that doesn't know its size.
 fn terminal_columns(rt: &HostRuntime) -> u16 {
     if !rt.stdout().is_terminal() {
         return COLUMNS;
     }
     match env::var(rt, "COLUMNS") {
-        Ok(text) => text.as_str().parse::<u16>().unwrap_or(COLUMNS),
+        Ok(text) => match text.as_str().parse::<u16>() {
+            Ok(0) | Err(_) => COLUMNS,
+            Ok(columns) => columns,
+        },
         Err(_) => COLUMNS,
     }
 }
@@ -87,7 +89,7 @@ fn print_unread_fault(rt: &HostRuntime, name: &str, error: &io::Error) -> u8 {
     if error.kind() == io::ErrorKind::OutOfMemory {
         return print_outside_fault(rt, NO_MEMORY);
     }
-    let name = FileName(shown_name(name));
+    let name = FileName(name);
     let _ = eprintln!(rt; "hidmap: {name}: it can't be read: {error}");
     OUTSIDE
 }
@@ -100,23 +102,23 @@ fn read_some<R: Read + Drop>(rt: &HostRuntime, reader: R) -> io::Result<Vec<u8>>
 }
 
 /// The bytes of a file, or of standard input where the name is `-`.
-fn read_named(rt: &HostRuntime, name: &str) -> io::Result<Vec<u8>> {
-    if name == "-" {
+fn read_named(rt: &HostRuntime, file: NamedFile<'_>) -> io::Result<Vec<u8>> {
+    if file.name == "-" {
         read_some(rt, rt.stdin())
     } else {
-        read_some(rt, fs::open(rt, path_of(name))?)
+        read_some(rt, file.open(rt)?)
     }
 }
 
 /// Draws the descriptor of a file, or prints why it can't.
 fn draw_file(rt: &HostRuntime, asked: &CliArgs<'_>) -> u8 {
-    let name = asked.file;
-    let bytes = match read_named(rt, name) {
+    let name = asked.file.name;
+    let bytes = match read_named(rt, asked.file) {
         Ok(bytes) => bytes,
         Err(error) => return print_unread_fault(rt, name, &error),
     };
     if bytes.len() > LONGEST {
-        let name = FileName(shown_name(name));
+        let name = FileName(name);
         let _ = eprintln!(rt; "hidmap: {name}: over {LONGEST} bytes");
         return REFUSED;
     }
@@ -129,7 +131,7 @@ fn draw_file(rt: &HostRuntime, asked: &CliArgs<'_>) -> u8 {
             },
         ) => print_outside_fault(rt, NO_MEMORY),
         Err(fault) => {
-            let name = FileName(shown_name(name));
+            let name = FileName(name);
             let _ = eprintln!(rt; "hidmap: {name}: {fault}");
             REFUSED
         }
@@ -142,7 +144,7 @@ fn known_words(rt: &HostRuntime, name: &str, bytes: &[u8]) -> Option<u8> {
         return Some(print_known(rt, name, known));
     }
     if begins_text(bytes) {
-        let name = FileName(shown_name(name));
+        let name = FileName(name);
         let _ = eprintln!(rt; "hidmap: {name}: {CONTROLS}");
         return Some(REFUSED);
     }
@@ -155,10 +157,10 @@ fn draw_bytes(rt: &HostRuntime, asked: &CliArgs<'_>, descriptor: &[u8]) -> u8 {
     match Layout::parse_within(rt.alloc(), Limits::Real, descriptor) {
         Ok(layout) => {
             if layout.reports().is_empty() {
-                if let Some(status) = known_words(rt, asked.file, descriptor) {
+                if let Some(status) = known_words(rt, asked.file.name, descriptor) {
                     return status;
                 }
-                let name = FileName(shown_name(asked.file));
+                let name = FileName(asked.file.name);
                 let _ = eprintln!(rt; "hidmap: {name}: no reports");
             }
             draw_layout(rt, &layout, descriptor, asked.form)
@@ -178,7 +180,7 @@ fn draw_bytes(rt: &HostRuntime, asked: &CliArgs<'_>, descriptor: &[u8]) -> u8 {
 
 /// What a file is that has no descriptor.
 fn print_known(rt: &HostRuntime, name: &str, known: KnownFile) -> u8 {
-    let name = FileName(shown_name(name));
+    let name = FileName(name);
     let _ = eprintln!(rt; "hidmap: {name}: {known}");
     REFUSED
 }
@@ -226,10 +228,10 @@ fn draw_refusal(
 ) -> u8
     requires { length descriptor.now ≤ MOST }
 {
-    if let Some(status) = known_words(rt, asked.file, descriptor) {
+    if let Some(status) = known_words(rt, asked.file.name, descriptor) {
         return status;
     }
-    let name = FileName(shown_name(asked.file));
+    let name = FileName(asked.file.name);
     let _ = eprintln!(rt; "hidmap: {name}: {refusal}");
     match asked.form {
         Form::Svg(_) | Form::Characters(_) => REFUSED,

@@ -4,7 +4,7 @@ use super::codes::CODES;
 use super::source::Kind;
 use clap::error::ErrorKind;
 use clap::{Arg, ArgAction, ArgMatches, Command, Error};
-use command_words::{Words, matches_of};
+use command_words::{NamedFile, Words, file_of, matches_of};
 use hid_recording::{EndpointAddress, Options};
 use std::alloc::{AllocError, Global};
 
@@ -21,13 +21,13 @@ pub struct CliArgs<'a> {
     /// What the files are taken for.
     pub kind: Kind,
     /// The file with the descriptor of a capture's interfaces that have none in it, if one is given.
-    pub descriptor: Option<&'a str>,
+    pub descriptor: Option<NamedFile<'a>>,
     /// The endpoint whose interface that descriptor is of, if one is named.
     pub endpoint: Option<EndpointAddress>,
     /// Where the system has what it knows of hidraw nodes.
-    pub system: &'a str,
+    pub system: NamedFile<'a>,
     /// The files in their order; `-` is standard input.
-    pub files: Vec<&'a str>,
+    pub files: Vec<NamedFile<'a>>,
 }
 
 /// An option without a value.
@@ -239,7 +239,7 @@ fn read_matches<'a>(alloc: Global, matches: &ArgMatches<'a>) -> Result<CliArgs<'
     let mut files = Vec::new(alloc);
     if let Some(names) = matches.get_strs("FILE") {
         for name in names {
-            files.push(*name)?;
+            files.push(file_of(*name))?;
         }
     }
     Ok(CliArgs {
@@ -251,14 +251,14 @@ fn read_matches<'a>(alloc: Global, matches: &ArgMatches<'a>) -> Result<CliArgs<'
             strict: matches.get_flag("strict"),
             json: matches.get_flag("json"),
         },
-        descriptor: matches.get_str("descriptor"),
+        descriptor: matches.get_str("descriptor").map(|word| file_of(word)),
         endpoint,
         kind: kind_of(
             matches.get_flag("text"),
             matches.get_flag("binary"),
             matches.get_flag("live"),
         ),
-        system: matches.get_str("sysfs").unwrap_or(SYSTEM),
+        system: file_of(matches.get_str("sysfs").unwrap_or(SYSTEM)),
         files,
     })
 }

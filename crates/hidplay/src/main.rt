@@ -31,7 +31,7 @@ mod watched_reader;
 use advice::advice_of;
 use args::{CliArgs, parse_args};
 use command_words::{
-    FileName, path_of, print_refused_words, print_unread_words, shown_name, words_of_files,
+    FileName, NamedFile, file_of, print_refused_words, print_unread_words, words_of_files,
 };
 use end_line::end_line;
 use fault::{FileFault, Why, before_all};
@@ -40,10 +40,9 @@ use hid_capture::UndescribedEndpoint;
 use hid_recording::{Cause, GivenDescriptor, Summary, play_live};
 use hidraw::{ReportFile, descriptor_name, may_have_descriptor, node_of};
 use progress::Progress;
-use source::{Kind, Manner, play_source, read_descriptor};
+use source::{Kind, Manner, Notes, play_source, read_descriptor};
 use status::{FINE, OUTSIDE, WRONG_USAGE, ends_all, exit_of, lack_status, lacks_descriptor, worse};
 use std::alloc::{AllocError, Global};
-use std::fs;
 use std::fs::File;
 use std::io::{self, BufWriter, IsTerminal, Read, Stderr, Write};
 use std::process::ExitCode;
@@ -53,6 +52,14 @@ use watched_reader::WatchedReader;
 
 /// The name of standard input.
 const STANDARD_INPUT: &str = "-";
+
+/// What is said of a file that is no capture and no live device, where a descriptor is given.
+const OWN: &str = "it has its own descriptors: --descriptor is for captures and live devices";
+
+/// Whether a file is standard input.
+fn is_standard_input(file: NamedFile<'_>) -> bool {
+    file.name == STANDARD_INPUT
+}
 
 fn main(rt: HostRuntime) -> ExitCode {
     let alloc = rt.alloc();
@@ -105,19 +112,19 @@ fn end_of_file(fault: FileFault, failure: Option<io::Error>) -> FileEnd {
 
 /// Whether standard input is one of the files.
 fn plays_standard_input(asked: &CliArgs<'_>) -> bool {
-    asked.files.is_empty() || asked.files.iter().any(|name| *name == STANDARD_INPUT)
+    asked.files.is_empty() || asked.files.iter().any(|file| is_standard_input(*file))
 }
 
 /// Reads the descriptor that is given, if one is, and plays each file.
 fn play_with_descriptor(rt: &HostRuntime, asked: &CliArgs<'_>) -> u8 {
-    let Some(name) = asked.descriptor else {
+    let Some(file) = asked.descriptor else {
         return play_without_descriptor(rt, asked);
     };
-    if name == STANDARD_INPUT && plays_standard_input(asked) {
+    if is_standard_input(file) && plays_standard_input(asked) {
         let _ = eprintln!(rt; "hidplay: -: standard input can't be the descriptor and a file too");
         return WRONG_USAGE;
     }
-    match open_descriptor(rt, name) {
+    match open_descriptor(rt, file) {
         Ok(bytes) => {
             let given = GivenDescriptor {
                 bytes: bytes.as_slice(),
@@ -126,7 +133,7 @@ fn play_with_descriptor(rt: &HostRuntime, asked: &CliArgs<'_>) -> u8 {
             play_all(rt, asked, Some(given))
         }
         Err(end) => {
-            print_fault(rt, name, &end);
+            print_fault(rt, file.name, &end);
             exit_of(&Err(end.fault))
         }
     }
@@ -138,9 +145,10 @@ fn play_without_descriptor(rt: &HostRuntime, asked: &CliArgs<'_>) -> u8 {
         if asked.files.is_empty() {
             return print_no_node(rt, STANDARD_INPUT);
         }
-        for name in &asked.files {
-            if !may_have_descriptor(rt, path_of(*name)) {
-                return print_no_node(rt, *name);
+        for file in &asked.files {
+            // (one that may not be read is refused later)
+            if !file.path.is_none_or(|path| may_have_descriptor(rt, path)) {
+                return print_no_node(rt, file.name);
             }
         }
     }
@@ -149,7 +157,7 @@ fn play_without_descriptor(rt: &HostRuntime, asked: &CliArgs<'_>) -> u8 {
 
 /// Says on standard error that a file can't be played live without a descriptor.
 fn print_no_node(rt: &HostRuntime, name: &str) -> u8 {
-    let name = FileName(shown_name(name));
+    let name = FileName(name);
     let _ = eprintln!(rt; "hidplay: {name}: no hidraw node: --live needs --descriptor");
     WRONG_USAGE
 }
@@ -162,11 +170,11 @@ fn take_descriptor<R: Read + Drop>(alloc: Global, reader: R) -> Result<Vec<u8>, 
 }
 
 /// The report descriptor in a file, or in standard input.
-fn open_descriptor(rt: &HostRuntime, name: &str) -> Result<Vec<u8>, FileEnd> {
-    if name == STANDARD_INPUT {
+fn open_descriptor(rt: &HostRuntime, file: NamedFile<'_>) -> Result<Vec<u8>, FileEnd> {
+    if is_standard_input(file) {
         return take_descriptor(rt.alloc(), rt.stdin());
     }
-    match fs::open(rt, path_of(name)) {
+    match file.open(rt) {
         Ok(file) => take_descriptor(rt.alloc(), file),
         Err(error) => Err(unread(error)),
     }
@@ -174,7 +182,7 @@ fn open_descriptor(rt: &HostRuntime, name: &str) -> Result<Vec<u8>, FileEnd> {
 
 /// Says on standard error what ended a file: its name, its place if it has one, the code, and the system's words.
 fn print_fault(rt: &HostRuntime, name: &str, end: &FileEnd) {
-    let name = FileName(shown_name(name));
+    let name = FileName(name);
     let FileFault { place, why, .. } = end.fault;
     let _ = match (place.counted(), end.system) {
         (Some((word, number)), Some(system)) => {
@@ -199,10 +207,11 @@ fn play_all(rt: &HostRuntime, asked: &CliArgs<'_>, given: Option<GivenDescriptor
     let mut total = Total::default();
     let mut status = FINE;
     if asked.files.is_empty() {
-        status = play_next(rt, asked, manner, STANDARD_INPUT, &mut out, &mut total).status;
+        let file = file_of(STANDARD_INPUT);
+        status = play_next(rt, asked, manner, file, &mut out, &mut total).status;
     }
-    for name in &asked.files {
-        let next = play_next(rt, asked, manner, *name, &mut out, &mut total);
+    for file in &asked.files {
+        let next = play_next(rt, asked, manner, *file, &mut out, &mut total);
         status = worse(status, next.status);
         if next.is_last {
             break;
@@ -224,16 +233,22 @@ fn play_next<W: Write>(
     rt: &HostRuntime,
     asked: &CliArgs<'_>,
     manner: Manner<'_>,
-    name: &str,
+    file: NamedFile<'_>,
     out: &mut W,
     total: &mut Total,
 ) -> Next {
-    let mut undescribed = Vec::new(rt.alloc());
-    let end = play_one(rt, asked, manner, name, &mut undescribed, out);
-    print_undescribed(rt, name, undescribed.as_slice());
+    let mut notes = Notes {
+        undescribed: Vec::new(rt.alloc()),
+        has_own: false,
+    };
+    let end = play_one(rt, asked, manner, file, &mut notes, out);
+    print_undescribed(rt, file.name, notes.undescribed.as_slice());
+    if notes.has_own && manner.given.is_some() {
+        print_own(rt, file.name);
+    }
     total.add(&end);
     let strict = asked.options.strict;
-    let lacks = lacks_descriptor(strict, undescribed.as_slice());
+    let lacks = lacks_descriptor(strict, notes.undescribed.as_slice());
     Next {
         status: worse(exit_of(&end), lack_status(lacks)),
         is_last: ends_all(strict, &end) || lacks,
@@ -242,7 +257,7 @@ fn play_next<W: Write>(
 
 /// Says on standard error which endpoints sent reports that have no descriptor, and what can be done.
 fn print_undescribed(rt: &HostRuntime, name: &str, undescribed: &[UndescribedEndpoint]) {
-    let name = FileName(shown_name(name));
+    let name = FileName(name);
     for endpoint in undescribed {
         let line = UndescribedLine {
             endpoint: *endpoint,
@@ -251,24 +266,30 @@ fn print_undescribed(rt: &HostRuntime, name: &str, undescribed: &[UndescribedEnd
     }
 }
 
+/// Says on standard error that the descriptor that is given isn't used for a file.
+fn print_own(rt: &HostRuntime, name: &str) {
+    let name = FileName(name);
+    let _ = eprintln!(rt; "{name}: {OWN}");
+}
+
 /// Plays one file, and prints what ended it early.
 fn play_one<W: Write>(
     rt: &HostRuntime,
     asked: &CliArgs<'_>,
     manner: Manner<'_>,
-    name: &str,
-    undescribed: &mut Vec<UndescribedEndpoint>,
+    file: NamedFile<'_>,
+    notes: &mut Notes,
     out: &mut W,
 ) -> Result<Summary, FileFault> {
-    let end = match print_file(rt.alloc(), asked, name, out) {
-        Ok(()) => play_named(rt, asked, manner, name, undescribed, out),
+    let end = match print_file(rt.alloc(), asked, file.name, out) {
+        Ok(()) => play_named(rt, asked, manner, file, notes, out),
         Err(cause) => Err(without_words(before_all(cause))),
     };
     match end {
         Ok(summary) => Ok(summary),
         Err(end) => {
             let end = print_end(rt.alloc(), asked, end, out);
-            print_fault(rt, name, &end);
+            print_fault(rt, file.name, &end);
             Err(end.fault)
         }
     }
@@ -313,12 +334,12 @@ fn print_file<W: Write>(
         return Ok(());
     }
     let told = if asked.options.json {
-        let Ok(line) = file_line(alloc, shown_name(name)) else {
+        let Ok(line) = file_line(alloc, name) else {
             return Err(Cause::Memory);
         };
         out.write_all(line.as_slice())
     } else {
-        let name = FileName(shown_name(name));
+        let name = FileName(name);
         writeln!(out, "file {name}")
     };
     told.map_err(|_| Cause::Write)
@@ -338,20 +359,21 @@ fn play_named<W: Write>(
     rt: &HostRuntime,
     asked: &CliArgs<'_>,
     manner: Manner<'_>,
-    name: &str,
-    undescribed: &mut Vec<UndescribedEndpoint>,
+    named: NamedFile<'_>,
+    notes: &mut Notes,
     out: &mut W,
 ) -> Result<Summary, FileEnd> {
-    if name == STANDARD_INPUT {
-        return play_standard_input(rt, manner, undescribed, out);
+    if is_standard_input(named) {
+        return play_standard_input(rt, manner, notes, out);
     }
-    let path = path_of(name);
-    let file = match fs::open(rt, path) {
+    let file = match named.open(rt) {
         Ok(file) => file,
         Err(error) => return Err(unread(error)),
     };
+    // (what was opened has a path)
+    let path = named.path.unwrap_or(named.name);
     let Ok(metadata) = file.metadata() else {
-        return play_stream(rt, file, None, manner, undescribed, out);
+        return play_stream(rt, file, None, manner, notes, out);
     };
     match node_of(rt, path, metadata.file_type()) {
         Some(node) if matches!(manner.kind, Kind::Detected | Kind::Live) => {
@@ -359,7 +381,7 @@ fn play_named<W: Write>(
         }
         _ if manner.kind == Kind::Live => play_node(rt, asked, manner, path, file, out),
         // (a pipe has no size)
-        _ => play_stream(rt, file, Some(metadata.len()), manner, undescribed, out),
+        _ => play_stream(rt, file, Some(metadata.len()), manner, notes, out),
     }
 }
 
@@ -367,14 +389,14 @@ fn play_named<W: Write>(
 fn play_standard_input<W: Write>(
     rt: &HostRuntime,
     manner: Manner<'_>,
-    undescribed: &mut Vec<UndescribedEndpoint>,
+    notes: &mut Notes,
     out: &mut W,
 ) -> Result<Summary, FileEnd> {
     match manner.given {
         Some(given) if manner.kind == Kind::Live => {
             play_reports(rt, manner, given.bytes, rt.stdin(), out)
         }
-        _ => play_stream(rt, rt.stdin(), None, manner, undescribed, out),
+        _ => play_stream(rt, rt.stdin(), None, manner, notes, out),
     }
 }
 
@@ -384,21 +406,30 @@ fn play_stream<R: Read + Drop, W: Write>(
     reader: R,
     size: Option<u64>,
     manner: Manner<'_>,
-    undescribed: &mut Vec<UndescribedEndpoint>,
+    notes: &mut Notes,
     out: &mut W,
 ) -> Result<Summary, FileEnd> {
     let mut watched = WatchedReader::new(reader);
     let mut progress = Progress::new(terminal(rt), size.filter(|size| *size > 0));
-    let end = play_source(
-        rt.alloc(),
-        &mut watched,
-        manner,
-        undescribed,
-        out,
-        &mut progress,
-    );
+    let end = play_source(rt.alloc(), &mut watched, manner, notes, out, &mut progress);
     progress.clear();
     end.map_err(|fault| end_of_file(fault, watched.failure))
+}
+
+/// The descriptor that the system's folder has for a node.
+fn system_descriptor(
+    rt: &HostRuntime,
+    system: NamedFile<'_>,
+    node: &str,
+) -> Result<Vec<u8>, FileEnd> {
+    let Some(folder) = system.path else {
+        // (the folder may not be read)
+        return open_descriptor(rt, system);
+    };
+    match descriptor_name(rt.alloc(), folder, node) {
+        Ok(path) => open_descriptor(rt, file_of(path.as_str())),
+        Err(_) => Err(without_words(before_all(Cause::Memory))),
+    }
 }
 
 /// Plays a live device, by the descriptor that is given, or that the system has for its node.
@@ -413,13 +444,10 @@ fn play_node<W: Write>(
     if let Some(given) = manner.given {
         return play_reports(rt, manner, given.bytes, file, out);
     }
-    let Ok(path) = descriptor_name(rt.alloc(), path_of(asked.system), node) else {
-        return Err(without_words(before_all(Cause::Memory)));
-    };
-    match open_descriptor(rt, path.as_str()) {
+    match system_descriptor(rt, asked.system, node) {
         Ok(bytes) => play_reports(rt, manner, bytes.as_slice(), file, out),
         Err(end) => {
-            if let Ok(name) = descriptor_name(rt.alloc(), shown_name(asked.system), node) {
+            if let Ok(name) = descriptor_name(rt.alloc(), asked.system.name, node) {
                 print_fault(rt, name.as_str(), &end);
             }
             Err(end)

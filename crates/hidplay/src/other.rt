@@ -23,6 +23,8 @@ pub enum OtherFile {
     Script,
     /// Text with control characters, or in another encoding than UTF-8.
     Text,
+    /// Text without a line of a recording and without a descriptor.
+    NoRecording,
 }
 
 impl fmt::Display for OtherFile {
@@ -40,6 +42,9 @@ impl fmt::Display for OtherFile {
             OtherFile::Script => f.write_str("a script: hidrun and hidlab run it"),
             OtherFile::Text => f.write_str(
                 "text, not a descriptor: write it without control characters, as UTF-8",
+            ),
+            OtherFile::NoRecording => f.write_str(
+                "neither a recording nor a descriptor: lines of hid-recorder or usbhid-dump, hex, an array or a list, or what xxd, hexdump -C, od, Wireshark or lsusb -v print are expected",
             ),
         }
     }

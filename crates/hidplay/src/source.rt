@@ -106,6 +106,14 @@ fn after_passed(text: &[u8]) -> &[u8] {
     rest
 }
 
+/// Whether several lines of a text say something. One alone is refused as a line.
+fn says_more(text: &[u8]) -> bool {
+    match split_line(after_passed(text)) {
+        Some((_, behind)) => !says_nothing(after_passed(behind)),
+        None => false,
+    }
+}
+
 /// The first bytes of a file, up to the read that brings the end of a line that says something, so that however a file is
 /// read it is taken for the same; or up to as many as a descriptor can take.
 ///
@@ -203,7 +211,16 @@ pub struct Manner<'a> {
     pub given: Option<GivenDescriptor<'a>>,
 }
 
-/// Plays a file, as what it is. Of a capture `undescribed` has the endpoints whose reports have no descriptor.
+/// What is said of a file after it was played.
+#[derive(Drop)]
+pub struct Notes {
+    /// Of a capture the endpoints whose reports have no descriptor.
+    pub undescribed: Vec<UndescribedEndpoint>,
+    /// Whether it has its own descriptors: it is no capture.
+    pub has_own: bool,
+}
+
+/// Plays a file, as what it is.
 ///
 /// # Errors
 /// Before anything is played: [`Cause::Memory`] where there is none to read with, [`Cause::Read`] and [`Cause::TooManyReads`]
@@ -213,20 +230,20 @@ pub fn play_source<R: Read + Drop, W: Write, H: Watch>(
     alloc: Global,
     reader: R,
     manner: Manner<'_>,
-    undescribed: &mut Vec<UndescribedEndpoint>,
+    notes: &mut Notes,
     out: &mut W,
     watch: &mut H,
 ) -> Result<Summary, FileFault> {
     let mut reader = reader;
     let start = read_front(alloc, &mut reader, START)?;
     match BufReader::new(alloc, start.as_slice().chain(reader)) {
-        Ok(mut reader) => play_buffered(alloc, &mut reader, manner, undescribed, out, watch),
+        Ok(mut reader) => play_buffered(alloc, &mut reader, manner, notes, out, watch),
         Err(_) => Err(before_all(Cause::Memory)),
     }
 }
 
-/// Plays a file that doesn't begin as a recording: its descriptor, if it has one and no line of a recording; else as a
-/// recording.
+/// Plays a file that doesn't begin as a recording: as one if it has a line of a recording, or is longer than what is read of it; else
+/// its descriptor.
 fn play_other<R: Read, W: Write, H: Watch>(
     alloc: Global,
     beginning: Vec<u8>,
@@ -252,6 +269,10 @@ fn play_other<R: Read, W: Write, H: Watch>(
         if is_script(front.as_slice()) {
             return Err(other_file(OtherFile::Script));
         }
+        // (lines of a recording may come after what was read of a longer file)
+        if front.len() < LONGEST && says_more(front.as_slice()) {
+            return Err(other_file(OtherFile::NoRecording));
+        }
     }
     let mut recording = front.as_slice().chain(reader);
     Ok(play(alloc, &mut recording, out, options, watch)?)
@@ -262,15 +283,16 @@ fn play_detected<R: Read, W: Write, H: Watch>(
     alloc: Global,
     reader: &mut BufReader<R>,
     manner: Manner<'_>,
-    undescribed: &mut Vec<UndescribedEndpoint>,
+    notes: &mut Notes,
     out: &mut W,
     watch: &mut H,
 ) -> Result<Summary, FileFault> {
     if begins_capture(reader)? {
         let played = play_capture(alloc, reader, out, manner.options, manner.given, watch);
-        *undescribed = played.undescribed;
+        notes.undescribed = played.undescribed;
         return Ok(played.end?);
     }
+    notes.has_own = true;
     skip_mark(reader)?;
     let beginning = read_beginning(alloc, reader)?;
     if begins_recording(beginning.as_slice()) {
@@ -298,15 +320,19 @@ fn play_buffered<R: Read, W: Write, H: Watch>(
     alloc: Global,
     reader: &mut BufReader<R>,
     manner: Manner<'_>,
-    undescribed: &mut Vec<UndescribedEndpoint>,
+    notes: &mut Notes,
     out: &mut W,
     watch: &mut H,
 ) -> Result<Summary, FileFault> {
     match manner.kind {
-        Kind::Binary => play_binary(alloc, reader, out, manner.options, watch),
-        Kind::Text => play_text(alloc, reader, out, manner.options, watch),
-        Kind::Detected | Kind::Live => {
-            play_detected(alloc, reader, manner, undescribed, out, watch)
+        Kind::Binary => {
+            notes.has_own = true;
+            play_binary(alloc, reader, out, manner.options, watch)
         }
+        Kind::Text => {
+            notes.has_own = true;
+            play_text(alloc, reader, out, manner.options, watch)
+        }
+        Kind::Detected | Kind::Live => { play_detected(alloc, reader, manner, notes, out, watch) }
     }
 }
