@@ -1,6 +1,9 @@
 -- Words of files that are opened by another path than their name (our choice: docs/RECORDINGS.md).
-use Rattle.std.specs.Prelude.{ℕ, List, [], ◌∷◌, ◌==◌, length, if◌then◌else◌, Option, None, Some}
-use Rattle.std.specs.List.{position_or_len, before_first, after_first}
+use Rattle.std.specs.Prelude.{ℕ, Bool, not, ◌&&◌, List, [], ◌∷◌, ◌==◌, length, if◌then◌else◌, Option, None, Some}
+use Rattle.std.specs.List.{find, slice_split, position_or_len, before_first, after_first}
+use Rattle.std.specs.Option.{option_and_then}
+use Rattle.std.specs.Str.{bytes_eq}
+use Rattle.std.specs.Fmt.{decimal}
 
 -- the name in a word: what stands before a NUL, which no word of a command line has; without one the word is the name
 abbrev pub shown_name : List ℕ → List ℕ
@@ -14,3 +17,28 @@ some_path (first ∷ path) = Some (first ∷ path)
 -- the path by which the file is opened: what stands after the NUL, and none where nothing does; without a NUL the name
 abbrev pub path_of : List ℕ → Option (List ℕ)
 path_of word = if position_or_len (λ b. b == 0) word == length word then Some word else some_path (after_first (λ b. b == 0) word)
+
+-- a blank, which parts what the launcher says of files
+abbrev pub is_blank : ℕ → Bool
+is_blank byte = byte == 32
+
+-- a text has the sign =
+abbrev pub has_sign : List ℕ → Bool
+has_sign text = not (position_or_len (λ b. b == 61) text == length text)
+
+-- what is said of a file is of the name at this place: the place stands in front of the sign
+abbrev pub is_at : List ℕ → List ℕ → Bool
+is_at place file = has_sign file && bytes_eq (before_first (λ b. b == 61) file) place
+
+-- what stands after the sign
+abbrev pub behind_sign : List ℕ → Option (List ℕ)
+behind_sign file = if has_sign file then Some (after_first (λ b. b == 61) file) else None
+
+-- the path of the first file that is said to be of a place
+abbrev pub opened_path : List ℕ → List ℕ → Option (List ℕ)
+opened_path files place = option_and_then behind_sign (find (is_at place) (slice_split is_blank files))
+
+-- the path of the word at a place, where the launcher says something
+abbrev pub path_at : Option (List ℕ) → ℕ → Option (List ℕ)
+path_at None place = None
+path_at (Some files) place = opened_path files (decimal place)

@@ -1,8 +1,9 @@
 //! Files whose names aren't UTF-8: the launcher opens them, and the program reads them by paths that lead to what is open.
 
 ghost use Rattle.std.specs.Prelude.{◌≡◌};
+ghost use Rattle.std.specs.List.{find, slice_split};
 ghost use Rattle.std.specs.Option.{option_copied};
-ghost use Rattle.command_words.specs.Opened.{shown_name, path_of};
+ghost use Rattle.command_words.specs.Opened.{shown_name, path_of, is_blank, is_at, opened_path};
 
 use std::fs::{self, File};
 use std::io;
@@ -17,24 +18,31 @@ const END: char = '\0';
 /// The error of a file that may not be read (EACCES of Linux).
 const DENIED: i32 = 13;
 
-/// What the launcher says of a file, if that is the one whose name has this place.
-fn path_at(file: &str, place: usize) -> Option<&str> {
-    let (number, path) = file.split_once('=')?;
-    if number.parse::<usize>() == Ok(place) {
-        Some(path)
-    } else {
-        None
+/// Whether what the launcher says of a file is of the name at a place, which is given in decimal.
+fn is_at(file: &str, place: &str) -> bool
+    ensures { result ≡ is_at place.now file.now }
+{
+    match file.split_once('=') {
+        Some((number, _)) => number == place,
+        None => false,
     }
 }
 
-/// The path that leads to the file whose name has this place, if there is one; an empty one where the file may not be read.
-pub fn opened_path(files: &str, place: usize) -> Option<&str> {
-    for file in files.split(' ') {
-        if let Some(path) = path_at(file, place) {
-            return Some(path);
-        }
-    }
-    None
+/// What the launcher says of the file whose name has this place.
+fn file_at<'a>(files: &'a str, place: &str) -> Option<&'a str>
+    ensures { option_copied result ≡ find (is_at place.now) (slice_split is_blank files.now) }
+{
+    files.split(' ').find(|file| is_at(file, place))
+}
+
+/// The path that leads to the file whose name has this place, which is given in decimal, if the launcher says something of it; an
+/// empty one where the file may not be read.
+pub fn opened_path<'a>(files: &'a str, place: &str) -> Option<&'a str>
+    ensures { option_copied result ≡ opened_path files.now place.now }
+{
+    let file = file_at(files, place)?;
+    let (_, path) = file.split_once('=')?;
+    Some(path)
 }
 
 /// A file that a word of the command line names.

@@ -1,7 +1,9 @@
 //! The words of the command line.
 
-ghost use Rattle.std.specs.Prelude.{◌≡◌, ◌∷◌, [], ◌++◌, ◌+◌, length, IsOk, IfOk, OnOk, IfErr, string_bytes};
+ghost use Rattle.std.specs.Prelude.{◌≡◌, ◌⊎◌, ◌∷◌, [], ◌++◌, ◌+◌, None, length, IsOk, IfOk, OnOk, IfErr, string_bytes};
 ghost use Rattle.std.specs.Str.{IsUtf8};
+ghost use Rattle.std.specs.Option.{option_copied};
+ghost use Rattle.command_words.specs.Opened.{path_at};
 
 use crate::names::{FileName, ShownBytes};
 use crate::opened::{OPENED_FILES, file_of, opened_path};
@@ -27,6 +29,10 @@ pub enum WordsFault {
 }
 
 impl From<AllocError> for WordsFault {
+    ghost use Rattle.command_words.specs.declared.words.WordsFault.TheVariants.{Memory};
+
+    ghost from_gives = { λ _ fault. fault ≡ Memory };
+
     fn from(_error: AllocError) -> WordsFault {
         WordsFault::Memory
     }
@@ -119,7 +125,9 @@ impl Words {
 ///
 /// # Errors
 /// A [`WordsFault`]: memory ran out, or the bytes where there is no path.
-fn opened_word(alloc: Global, path: Option<&str>, bytes: Vec<u8>) -> Result<String, WordsFault> {
+fn opened_word(alloc: Global, path: Option<&str>, bytes: Vec<u8>) -> Result<String, WordsFault>
+    ensures fault { IfErr result (λ fault. (fault ≡ WordsFault.Memory) ⊎ ((fault ≡ WordsFault.NotText bytes) × (option_copied path.entry ≡ None))) }
+{
     match path {
         Some(path) => {
             let name = ShownBytes(bytes.as_slice());
@@ -130,16 +138,33 @@ fn opened_word(alloc: Global, path: Option<&str>, bytes: Vec<u8>) -> Result<Stri
     }
 }
 
+/// The path that the launcher gave for the word at a place, if it gave one.
+///
+/// # Errors
+/// Out of memory.
+fn path_at(alloc: Global, files: Option<&str>, place: usize) -> Result<Option<&str>, AllocError>
+    ensures { IfOk result (λ path. option_copied path ≡ path_at (option_copied files.entry) place) }
+{
+    let Some(files) = files else {
+        return Ok(None);
+    };
+    let place = format!(in alloc; "{place}")?;
+    Ok(opened_path(files, place.as_str()))
+}
+
 /// A word of the command line, by what the launcher says of files, if it may name one.
 fn word_at(
     alloc: Global,
     files: Option<&str>,
     place: usize,
     bytes: Vec<u8>,
-) -> Result<String, WordsFault> {
+) -> Result<String, WordsFault>
+    ensures text { IsUtf8 bytes.items → IfOk result (λ word. string_bytes word ≡ bytes.items) }
+    ensures fault { IfErr result (λ fault. (fault ≡ WordsFault.Memory) ⊎ ((fault ≡ WordsFault.NotText bytes) × (path_at (option_copied files.entry) place ≡ None))) }
+{
     match word_of(bytes) {
         Err(WordsFault::NotText(bytes)) => {
-            let path = files.and_then(|files| opened_path(files, place));
+            let path = path_at(alloc, files, place)?;
             opened_word(alloc, path, bytes)
         }
         read => read,
