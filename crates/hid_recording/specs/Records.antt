@@ -11,7 +11,7 @@ use Rattle.hid_recording.specs.declared.fault.Refusal.{Refusal}
 use Rattle.hid_recording.specs.declared.fault.Refusal.TheVariants.{Syntax, NoCount, BadCount, BadDevice, BadTime}
 use Rattle.hid_recording.specs.declared.record.Record.{Record}
 use Rattle.hid_recording.specs.declared.record.Record.TheVariants as records
-use Rattle.hid_recording.specs.Words.{IsNone, bytes_of, spelled_bytes, decimal_of, device_of_word, time_of, is_colon, address_of, content_of}
+use Rattle.hid_recording.specs.Words.{IsNone, spelled_bytes, decimal_of, device_of_word, time_of, is_colon, address_of, content_of}
 
 -- what a line says: nothing, or nothing but the end of a dump; which device the next lines are of; its report
 -- descriptor, or why the bytes of one can't be read, with the interface that it is of, if it is a dump; a report and
@@ -122,9 +122,9 @@ abbrev pub letter_record : ℕ → List ℕ → Result LineMeaning Refusal
 letter_record letter [] = Err Syntax
 letter_record letter (colon ∷ rest) = if colon == 58 then text_record letter rest else Err Syntax
 
--- what the words after a space say: HEX, of a dump
-abbrev pub dump_record : List Word → Result LineMeaning Refusal
-dump_record hex = Ok (Bytes (bytes_of hex))
+-- what the text after a space says: HEX, of a dump
+abbrev pub dump_record : List ℕ → Result LineMeaning Refusal
+dump_record text = Ok (Bytes (spelled_bytes text))
 
 -- the time that a word says, if there is one: Syntax where there is no word, BadTime where it is no time
 abbrev pub time_or_refusal : Option Word → Result (List ℕ) Refusal
@@ -170,7 +170,7 @@ unfoldable pub record_of : List ℕ → Result LineMeaning Refusal
 record_of [] = Ok Blank
 record_of (first ∷ rest) =
     if first == 35 then Ok Nothing
-    else if first == 32 then dump_record (words_of rest)
+    else if first == 32 then dump_record rest
     else if is_digit first then header_record (words_of (first ∷ rest))
     else letter_record first rest
 

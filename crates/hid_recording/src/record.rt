@@ -10,8 +10,8 @@ ghost use Rattle.hid_recording.specs.MemoryUse.{RunsOutIf, has_words};
 use super::dump::{Address, Content};
 use super::fault::{Cause, Refusal};
 use super::line_fields::{
-    DeviceNumber, next_count, next_time, parts_of_word, read_address, read_bytes, read_content,
-    read_count, read_device, read_time,
+    DeviceNumber, next_count, next_time, parts_of_word, read_address, read_content, read_count,
+    read_device, read_time,
 };
 use super::spelled::{put_pairs, put_spelled};
 use hid_text::first_word;
@@ -232,12 +232,13 @@ fn read_reported(alloc: Global, text: &[u8]) -> Result<Record<'_>, Cause>
     }
 }
 
-/// Reads the words after a space, which are bytes of a dump.
+/// Reads the text after a space, which is bytes of a dump.
 fn read_dumped(alloc: Global, text: &[u8]) -> Result<Record<'_>, Cause>
-    ensures { ReadsRecord result (dump_record (words_of text.now)) }
+    ensures { ReadsRecord result (dump_record text.now) }
 {
-    match read_bytes(alloc, text) {
-        Ok(bytes) => Ok(Record::Bytes(Ok(bytes))),
+    let mut bytes = Vec::new(alloc);
+    match put_spelled(alloc, &mut bytes, text) {
+        Ok(()) => Ok(Record::Bytes(Ok(bytes))),
         Err(Cause::Refused(refusal)) => Ok(Record::Bytes(Err(refusal))),
         Err(cause) => Err(cause),
     }

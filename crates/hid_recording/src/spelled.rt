@@ -1,4 +1,4 @@
-//! Bytes as a counted line spells them: words of hex with blanks, commas and the like between them, marked as hex or not.
+//! Bytes as a line spells them: words of hex with blanks, commas and the like between them, marked as hex or not.
 
 ghost use Rattle.std.specs.Prelude.{◌≡◌, ◌<◌, Ok, IfOk, IfSome, MatchResult, length, map, not};
 ghost use Rattle.std.specs.Bool.{OnTrue};
