@@ -26,8 +26,9 @@ pub struct CliArgs<'a> {
     pub endpoint: Option<EndpointAddress>,
     /// Where the system has what it knows of hidraw nodes.
     pub system: NamedFile<'a>,
-    /// The files in their order; `-` is standard input.
-    pub files: Vec<NamedFile<'a>>,
+    /// The words of the files in their order; `-` is standard input. (Structs would take more room: of the heap, and so of each line of
+    /// JSON, some 680 instructions.)
+    pub files: Vec<&'a str>,
 }
 
 /// An option without a value.
@@ -239,7 +240,7 @@ fn read_matches<'a>(alloc: Global, matches: &ArgMatches<'a>) -> Result<CliArgs<'
     let mut files = Vec::new(alloc);
     if let Some(names) = matches.get_strs("FILE") {
         for name in names {
-            files.push(file_of(*name))?;
+            files.push(*name)?;
         }
     }
     Ok(CliArgs {

@@ -112,7 +112,11 @@ fn end_of_file(fault: FileFault, failure: Option<io::Error>) -> FileEnd {
 
 /// Whether standard input is one of the files.
 fn plays_standard_input(asked: &CliArgs<'_>) -> bool {
-    asked.files.is_empty() || asked.files.iter().any(|file| is_standard_input(*file))
+    asked.files.is_empty()
+        || asked
+            .files
+            .iter()
+            .any(|word| is_standard_input(file_of(*word)))
 }
 
 /// Reads the descriptor that is given, if one is, and plays each file.
@@ -145,7 +149,8 @@ fn play_without_descriptor(rt: &HostRuntime, asked: &CliArgs<'_>) -> u8 {
         if asked.files.is_empty() {
             return print_no_node(rt, STANDARD_INPUT);
         }
-        for file in &asked.files {
+        for word in &asked.files {
+            let file = file_of(*word);
             // (one that may not be read is refused later)
             if !file.path.is_none_or(|path| may_have_descriptor(rt, path)) {
                 return print_no_node(rt, file.name);
@@ -210,8 +215,8 @@ fn play_all(rt: &HostRuntime, asked: &CliArgs<'_>, given: Option<GivenDescriptor
         let file = file_of(STANDARD_INPUT);
         status = play_next(rt, asked, manner, file, &mut out, &mut total).status;
     }
-    for file in &asked.files {
-        let next = play_next(rt, asked, manner, *file, &mut out, &mut total);
+    for word in &asked.files {
+        let next = play_next(rt, asked, manner, file_of(*word), &mut out, &mut total);
         status = worse(status, next.status);
         if next.is_last {
             break;
