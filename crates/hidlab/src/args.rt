@@ -18,12 +18,13 @@ pub struct CliArgs<'a> {
 const MORE: &str =
     "The lines, and the codes of faults: docs/LAB.md, installed in\nshare/doc/rulohevian. Exit status: 1 a line is refused, 2 a wrong command line,\n3 a file or memory failed, 4 what is expected wasn't printed.";
 
-/// An option without a value.
-fn flag<'a>(alloc: Global, name: &'a str, help: &'a str) -> Arg<'a> {
+/// An option without a value, which may be given any number of times.
+fn flag<'a>(alloc: Global, name: &'a str, help: &'a str) -> Result<Arg<'a>, AllocError> {
     Arg::new(alloc, name)
         .long(name)
         .action(ArgAction::SetTrue)
         .help(help)
+        .overrides_with(name)
 }
 
 /// Adds an argument, if memory was there for the command and for it.
@@ -63,7 +64,7 @@ fn usbip<'a>(alloc: Global) -> Result<Arg<'a>, AllocError> {
         alloc,
         "usbip",
         "Serve the devices over USB/IP on standard input and output",
-    )
+    )?
     .conflicts_with("layout")?
     .conflicts_with("names")?
     .conflicts_with("places")?
@@ -82,19 +83,22 @@ fn printing<'a>(alloc: Global) -> Result<Command<'a>, AllocError> {
     let command = Command::new(alloc, "hidlab")
         .version("0.2.0")
         .about("Tests what hosts report of USB HID devices, on a bus that may lose packets")
-        .after_help(MORE)
-        .arg(flag(
+        .after_help(MORE);
+    let command = add(
+        Ok(command),
+        flag(
             alloc,
             "layout",
             "Print the layout of each device that is attached",
-        ));
+        ),
+    );
     add(
         command,
-        Ok(flag(
+        flag(
             alloc,
             "trace",
             "Print polls, tries of transfers, and Output reports",
-        )),
+        ),
     )
 }
 
@@ -102,20 +106,20 @@ fn printing<'a>(alloc: Global) -> Result<Command<'a>, AllocError> {
 fn command<'a>(alloc: Global) -> Result<Command<'a>, AllocError> {
     let command = add(
         printing(alloc),
-        Ok(flag(alloc, "names", "Print the name of each event's usage")),
+        flag(alloc, "names", "Print the name of each event's usage"),
     );
     let command = add(
         command,
-        Ok(flag(
+        flag(
             alloc,
             "places",
             "Print which control each event is of, as @ITEM.INDEX",
-        )),
+        ),
     );
-    let command = add(command, Ok(flag(alloc, "json", "Print lines of JSON")));
+    let command = add(command, flag(alloc, "json", "Print lines of JSON"));
     let command = add(
         command,
-        Ok(flag(alloc, "summary", "Print how often what was polled and lost")),
+        flag(alloc, "summary", "Print how often what was polled and lost"),
     );
     let command = add(command, seed(alloc));
     let command = add(command, usbip(alloc));
