@@ -27,6 +27,9 @@ const MAX_TURNS: u64 = 1_000_000_000_000;
 /// The most bytes of a word of a line, or of the name of a file, that a fault prints.
 const LONGEST_WORD: usize = 256;
 
+/// The byte order mark of UTF-8 (Unicode, 23.8).
+const MARK: [u8; 3] = [0xEF, 0xBB, 0xBF];
+
 /// The most bytes of a file with a descriptor.
 const LONGEST: usize = 1 << 24;
 
@@ -104,6 +107,10 @@ fn word_shown(alloc: Global, word: &[u8]) -> Result<String, AllocError> {
 
 /// Which word of a line is wrong, and what was expected there, in words.
 fn syntax_words(alloc: Global, line: &[u8]) -> Result<Option<String>, AllocError> {
+    if line.starts_with(MARK.as_slice()) {
+        let words = "a byte order mark: save the file without one";
+        return Ok(Some(String::from_str(alloc, words)?));
+    }
     let unread = match read_lab_line(line) {
         Err(unread) => unread,
         Ok(_) => diagnose(line),
@@ -197,10 +204,19 @@ pub fn name_words(alloc: Global, line: &[u8]) -> Result<Option<String>, AllocErr
     }
 }
 
-/// What came in place of what is expected, in words.
-fn unmet_words(alloc: Global, bench: &Bench) -> Result<Option<String>, AllocError> {
+/// What a line expects: a line, or none.
+fn expected_of(line: &[u8]) -> &[u8] {
+    match read_lab_line(line) {
+        Ok(LabLine::Expect(expected)) => expected.trim_ascii(),
+        _ => b"none",
+    }
+}
+
+/// What came in place of what a line expects, and what that is, in words.
+fn unmet_words(alloc: Global, bench: &Bench, line: &[u8]) -> Result<Option<String>, AllocError> {
     let came = String::from_utf8_lossy(alloc, bench.came())?;
-    Ok(Some(format!(in alloc; "{came} was printed")?))
+    let expected = word_shown(alloc, expected_of(line))?;
+    Ok(Some(format!(in alloc; "{came} was printed: expected is {expected}")?))
 }
 
 /// The words of a cause, with the control that the line meant if one is known.
@@ -229,7 +245,7 @@ fn bench_trouble(alloc: Global, bench: &Bench, source: &LabSource, fault: &LabFa
     let line = source.refused_line(fault);
     let words = match cause {
         LabCause::Script(Cause::Syntax) => syntax_words(alloc, line),
-        LabCause::Unmet => unmet_words(alloc, bench),
+        LabCause::Unmet => unmet_words(alloc, bench, line),
         _ if is_no_control(cause) => match name_words(alloc, line) {
             Ok(None) => bench_words(alloc, bench, cause),
             words => words,
