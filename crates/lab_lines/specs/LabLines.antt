@@ -251,8 +251,8 @@ other_meaning line (first ∷ more) =
     if slice_index first 0 == 35 then Ok Nothing
     else by_keyword line first (after_word line) (lab_keyword_of first)
 
--- a first word of no new line, no change, no device and no comment
-pub record IsKept (word : Word) : Type 0 where
+-- a first word that is left to hidrun: of no new line, no change, no device and no comment
+pub record IsWordOfHidrun (word : Word) : Type 0 where
   pub new : lab_keyword_of word ≡ None
   pub change : change_word_of word ≡ None
   pub device : bytes_eq word (codes "device") ≡ false

@@ -217,7 +217,7 @@ impl Body {
         self.at == 0 && self.left > 2 && !self.text.is_empty() && self.text.len() <= PIECE / 2
     }
 
-    /// Puts whole rounds together, of which several are to come. Those that were given last are kept where fewer than are left.
+    /// Makes a text of whole rounds, fewer than are to come. That of the last time is used again where it has fewer, too.
     fn keep_rounds(&mut self) -> Result<(), AllocError>
         requires { (1 < self.old.left) × (0 < vec_len self.old.text) × (vec_len self.old.text ≤ 2048) }
         ensures text { self.new.text ≡ self.old.text }

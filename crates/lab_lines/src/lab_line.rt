@@ -6,7 +6,7 @@ ghost use Rattle.hid_text.specs.Numbers.{count_of, short_number_of, signed_of_wo
 ghost use Rattle.hid_text.specs.Line.{meaning_of, short_of};
 ghost use Rattle.hid_text.specs.Words.{words_of, after_word};
 ghost use Rattle.lab_lines.specs.ControlNames.{named_of, control_name_of};
-ghost use Rattle.lab_lines.specs.LabLines.{Repeat, Wait, said_of, refusal_of, reading, first_of, at_place, said_at_end, device_at, click_meaning, typing, type_meaning, percent_of, lose_meaning, count_meaning, expect_meaning, include_meaning, lab_keyword_of, new_meaning, change_word_of, wanted_at, change_meaning, descriptor, attachment_meaning, script_meaning, old_meaning, by_keyword, other_meaning, lab_meaning, IsKept, Script};
+ghost use Rattle.lab_lines.specs.LabLines.{Repeat, Wait, said_of, refusal_of, reading, first_of, at_place, said_at_end, device_at, click_meaning, typing, type_meaning, percent_of, lose_meaning, count_meaning, expect_meaning, include_meaning, lab_keyword_of, new_meaning, change_word_of, wanted_at, change_meaning, descriptor, attachment_meaning, script_meaning, old_meaning, by_keyword, other_meaning, lab_meaning, IsWordOfHidrun, Script};
 ghost use Rattle.lab_lines.specs.Typing.{trim, text_in_quotes};
 
 use super::control_name::{ControlName, read_control_name};
@@ -605,8 +605,8 @@ pub fn read_longer(line: &[u8]) -> Result<LabLine<'_>, Unread<'_>>
 }
 
 /// Whether a line begins with this word only if `hidrun` alone reads it, as it stands.
-fn is_kept(word: &[u8]) -> bool
-    ensures { IsTrue result → IsKept word.now }
+fn is_word_of_hidrun(word: &[u8]) -> bool
+    ensures { IsTrue result → IsWordOfHidrun word.now }
 {
     word == b"begin".as_slice() || word == b"layout".as_slice() || word == b"values".as_slice()
 }
@@ -614,14 +614,14 @@ fn is_kept(word: &[u8]) -> bool
 /// Whether a line, without its end, begins as a line that `hidrun` alone reads, and isn't longer than those are: if it isn't short,
 /// [`read_lab_line`] gives it as it stands.
 #[tactic(auto, unfolding(crate::specs::LabLines::lab_meaning, crate::specs::LabLines::other_meaning))]
-pub fn is_script(line: &[u8]) -> bool
+pub fn begins_line_of_hidrun(line: &[u8]) -> bool
     ensures { IsTrue result → short_of (meaning_of line.now) ≡ None → lab_meaning line.now ≡ Ok (Script line.now) }
 {
     if line.len() > MAX_LINE {
         return false;
     }
     match first_word(line) {
-        Some((first, _)) => is_kept(first),
+        Some((first, _)) => is_word_of_hidrun(first),
         None => false,
     }
 }

@@ -36,7 +36,8 @@ pub use expected::Expected;
 pub use hex_words::read_hex;
 pub use keys::{Key, LEFT_SHIFT, key_of};
 pub use lab_line::{
-    LabLine, MAX_INCLUDES, MAX_LAB_LINE, MAX_REPEATS, Unread, is_script, read_lab_line, read_longer,
+    LabLine, MAX_INCLUDES, MAX_LAB_LINE, MAX_REPEATS, Unread, begins_line_of_hidrun, read_lab_line,
+    read_longer,
 };
 pub use losses::{Losses, fate_of_word};
 pub use names::{is_any_name, is_name_of};

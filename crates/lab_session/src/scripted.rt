@@ -13,7 +13,7 @@ use super::asked::Asked;
 use super::bench::Bench;
 use super::fault::LabCause;
 use hid_script::Sink;
-use lab_lines::is_script;
+use lab_lines::begins_line_of_hidrun;
 
 impl Bench {
     ghost use Rattle.lab_session.specs.Bench.{DoesLine, moment_of};
@@ -38,7 +38,7 @@ impl Bench {
         ensures unsettled { end_of result ≡ Err LabCause.Unsettled
             → (dev : ℕ) × StaysUnsettled dev (moment_of self.new) }
     {
-        if !is_script(line) {
+        if !begins_line_of_hidrun(line) {
             return self.long_line(line, writer);
         }
         match self.script_line(line, writer) {

@@ -10,7 +10,7 @@ use Rattle.lab_session.proofs.bench.Bench.longer_line.Goals as goal
 pub returns-in-Ok-clause-does : goal.returns-in-Ok-clause-does
 unfolding LineDoes
 returns-in-Ok-clause-does g c =
-    let read : lab_meaning c.args.line.now ≡ Ok (Script c.args.line.now) = c.is_script.ensures (search rules) c.requires in
+    let read : lab_meaning c.args.line.now ≡ Ok (Script c.args.line.now) = c.begins_line_of_hidrun.ensures (search rules) c.requires in
     let h = c.in-Ok.ensures.does in
     record {
       said = Script c.args.line.now;
@@ -29,10 +29,10 @@ returns-in-Err-clause-prints g c = λ plain undrawn old. (Err c.in-Err.cause, re
 
 pub returns-in-Ok-clause-expects : goal.returns-in-Ok-clause-expects
 returns-in-Ok-clause-expects g c =
-    let read : lab_meaning c.args.line.now ≡ Ok (Script c.args.line.now) = c.is_script.ensures (search rules) c.requires in
+    let read : lab_meaning c.args.line.now ≡ Ok (Script c.args.line.now) = c.begins_line_of_hidrun.ensures (search rules) c.requires in
     subst (λ m. ReadExpects m c.args.self.now.printer.transcript c.script_line.new.self.printer.transcript c.script_line.new.self.came.items (Ok tt)) (sym read) tt
 
 pub returns-in-Err-clause-expects : goal.returns-in-Err-clause-expects
 returns-in-Err-clause-expects g c =
-    let read : lab_meaning c.args.line.now ≡ Ok (Script c.args.line.now) = c.is_script.ensures (search rules) c.requires in
+    let read : lab_meaning c.args.line.now ≡ Ok (Script c.args.line.now) = c.begins_line_of_hidrun.ensures (search rules) c.requires in
     subst (λ m. ReadExpects m c.args.self.now.printer.transcript c.script_line.new.self.printer.transcript c.script_line.new.self.came.items (Err (cause.Script c.in-Err.cause))) (sym read) tt
