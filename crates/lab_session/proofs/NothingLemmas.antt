@@ -1,8 +1,16 @@
 -- Lines that say nothing to hidrun, which the bench passes over.
-use Rattle.std.proofs.Common.{◌≡◌, ℕ, List, [], ◌∷◌, Option, None, Some, Result, Ok, Err, refl}
+use Rattle.std.proofs.Common.{◌≡◌, ◌<◌, ◌≤◌, ◌-◌, ◌∙◌, ℕ, List, [], ◌∷◌, Option, None, Some, Result, Ok, Err, arith, ap, cond, get_or, get_or-take, length, nat_eq, nat_lt, refl, subst, sym, take}
+use Rattle.std.specs.List.{position_or_len}
+use Rattle.std.specs.Prelude.{position, slice_index}
+use Rattle.std.specs.Str.Lines.{strip_carriage_return}
+use Rattle.std.proofs.lemmas.Bool.{cond_both, cond-true, lt-ltb}
+use Rattle.std.proofs.lemmas.List.{length-take-le}
+use Rattle.std.proofs.lemmas.List.Sums.{position_or_len_is}
 use Rattle.std.proofs.KnownBytes.{Appends-nil}
 use Rattle.hid_text.specs.declared.line.Line.TheVariants as line
 use Rattle.hid_text.specs.Line.{meaning_of}
+use Rattle.hid_text.specs.Words.{is_no_blank}
+use Rattle.hid_text.proofs.PartLemmas.{comment_line}
 use Rattle.hid_script.specs.LineOutput.{LineBegins, LinePrints}
 use Rattle.hid_script.specs.Session.{Session}
 use Rattle.hid_script.specs.Interpreter.{session_of}
@@ -69,3 +77,28 @@ nothing_expects bytes old new came r is = nothing_expects_by bytes (lab_meaning 
 pub nothing_prints : (u : Option (List ℕ)) (session : Session) (bytes : List ℕ) → meaning_of bytes ≡ Ok line.Nothing → PrintsAs u u (meaning_of bytes) session (Ok tt) session
 unfolding LinePrints LineBegins
 nothing_prints u session bytes is = (Ok tt, refl, nothing_written u session bytes is)
+
+-- the line has bytes, of which the first is the mark of a comment, and no more than so many
+abbrev IsMarked : ℕ → List ℕ → Type 0
+IsMarked most bytes = (0 < length bytes) × (length bytes ≤ most) × (get_or bytes 0 0 ≡ 35)
+
+-- such a line still is so without the carriage return at its end
+mark_stays : (bytes : List ℕ) → IsMarked 1024 bytes → IsMarked 1024 (strip_carriage_return bytes)
+mark_stays [] marked = elim marked.0 [ ]
+mark_stays (byte ∷ []) marked = subst (λ b. IsMarked 1024 (strip_carriage_return (b ∷ []))) (sym marked.2) (omega arith, omega arith, refl)
+mark_stays (byte ∷ next ∷ more) marked =
+    let all = byte ∷ next ∷ more in
+    let end = length all - 1 in
+    let short : length (take end all) ≡ end = length-take-le end all (omega arith) in
+    cond_both (nat_eq (slice_index all end) 13) (take end all) all (IsMarked 1024)
+    (λ _. (omega (arith, short), omega (arith, short, marked.1), get_or-take end all 0 0 (omega arith) ∙ marked.2)) (λ _. marked)
+
+-- a comment from its first byte on
+pub first_comment : (bytes : List ℕ) → length bytes ≤ 1024 → 0 < length bytes → get_or bytes 0 0 ≡ 35 → meaning_of (strip_carriage_return bytes) ≡ Ok line.Nothing
+first_comment bytes room some mark =
+    let marked = mark_stays bytes (some, room, mark) in
+    let stripped = strip_carriage_return bytes in
+    let first : position_or_len is_no_blank stripped ≡ 0 = position_or_len_is is_no_blank stripped 0 0 (omega arith) (λ k below. absurd (omega (arith, below))) (λ below. ap is_no_blank marked.2) in
+    let found : position is_no_blank stripped ≡ Some 0 =
+    ap (λ n. cond (nat_lt n (length stripped)) (Some n) None) first ∙ cond-true (nat_lt 0 (length stripped)) (Some 0) None (lt-ltb 0 (length stripped) marked.0) in
+    comment_line stripped 0 marked.1 found marked.2

@@ -1,9 +1,11 @@
 //! Texts and readers, line by line.
 
-ghost use Rattle.std.specs.Prelude.{◌≡◌, ℕ, ◌+◌, ◌-◌, ◌^◌, ◌<◌, ◌≤◌, ◌++◌, List, [], All, IfOk, IfErr, IfSome, IfNone, Some};
+ghost use Rattle.std.specs.Prelude.{◌≡◌, ℕ, ◌+◌, ◌-◌, ◌^◌, ◌<◌, ◌≤◌, ◌++◌, List, [], All, IfOk, IfErr, IfSome, IfNone, IsTrue, Some, Ok};
 ghost use Rattle.std.specs.Option.{option_map};
 ghost use Rattle.std.specs.Str.Lines.{lines, strip_carriage_return};
 ghost use Rattle.hid_script.specs.Interpreter.{session_of};
+ghost use Rattle.hid_text.specs.declared.line.Line.TheVariants as Line;
+ghost use Rattle.hid_text.specs.Line.{meaning_of};
 ghost use Rattle.hid_text.specs.Lines.{IsUnbroken};
 ghost use Rattle.lab_session.specs.Bench.{moment_of};
 ghost use Rattle.lab_session.specs.Printed.{IsPlain};
@@ -25,6 +27,9 @@ use hid_text::{says_nothing, split_line};
 
 /// How many lines a source has at most.
 const MAX_LINES: usize = 1_000_000_000_000;
+
+/// The most bytes of a comment that is known by its first byte.
+const MAX_COMMENT: usize = 1024;
 
 /// How many reads a run makes at most.
 const MAX_READS: u64 = 1 << 40;
@@ -94,6 +99,16 @@ pub(crate) fn without_return(line: &[u8]) -> &[u8]
     }
 }
 
+/// Whether a line that a line feed ended is a comment from its first byte on. Other lines that say nothing are found as they are
+/// read.
+#[inline(always)] // a few comparisons
+#[tactic(auto, using(crate::proofs::NothingLemmas::first_comment))]
+fn is_comment(line: &[u8]) -> bool
+    ensures { IsTrue result → meaning_of (strip_carriage_return line.now) ≡ Ok Line.Nothing }
+{
+    line.len() <= MAX_COMMENT && !line.is_empty() && line[0] == b'#'
+}
+
 /// Carries out a line, with so many lines before it.
 #[inline(always)] // most lines do little
 fn run_line<'a, W: Sink>(
@@ -121,6 +136,31 @@ fn run_line<'a, W: Sink>(
             cause,
         }),
     }
+}
+
+/// Carries out a line that a line feed ended, with so many lines before it.
+#[inline(always)] // a comment makes no room for what another line does
+fn run_ended<'a, W: Sink>(
+    bench: &mut Bench,
+    before: usize,
+    line: &'a [u8],
+    writer: &mut W,
+) -> Result<Option<Asked<'a>>, LabFault>
+    requires { before < 2 ^ 64 - 1 }
+    ensures script { IsPlain bench.old.options → IsUndrawn (moment_of bench.old)
+        → IsScripts (strip_carriage_return line.now)
+        → LineRan bench.old bench.new (W.contents writer.old) (W.contents writer.new)
+        (strip_carriage_return line.now) before result }
+    ensures carries { IfOk result (λ asked. CarriesLine (strip_carriage_return line.now)
+        (option_map asked_said asked) bench.old bench.new (W.contents writer.old)
+        (W.contents writer.new)) }
+    ensures refused { IfErr result (λ fault. (fault.line ≡ before + 1)
+        × RefusesLine (strip_carriage_return line.now) fault.cause bench.old bench.new) }
+{
+    if is_comment(line) {
+        return Ok(None);
+    }
+    run_line(bench, before, without_return(line), writer)
 }
 
 /// All lines were carried out, so many.
@@ -182,7 +222,7 @@ fn run_lines<'a, W: Sink>(
     let mut rest = text;
     let mut count = before;
     while let Some((last, behind)) = split_line(rest) {
-        match run_line(bench, count, without_return(last), writer) {
+        match run_ended(bench, count, last, writer) {
             Ok(None) => {}
             Ok(Some(asked)) => {
                 return Ok(Done::Asks {
