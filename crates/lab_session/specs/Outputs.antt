@@ -7,6 +7,8 @@ use Rattle.hid_requests.specs.declared.request.Request.TheVariants.{SetReport}
 use Rattle.hid_notation.specs.Text.{bytes_text}
 use Rattle.hid_text.specs.declared.line.Line.{Line}
 use Rattle.hid_text.specs.declared.line.Line.TheVariants.{Begin}
+use Rattle.hid_text.specs.declared.short.ShortLine.{ShortLine}
+use Rattle.hid_text.specs.declared.short.ShortLine.TheVariants as short
 use Rattle.lab_session.specs.declared.outputs.Outputs.{Outputs}
 use Rattle.lab_session.specs.declared.outputs.PendingOutput.{PendingOutput}
 
@@ -33,6 +35,11 @@ output_at_place None = None
 -- the Output report that the request of this device is to set that began last, if it is one that sets one
 abbrev pub awaited_at : Outputs → ℕ → Option SetOutput
 awaited_at outputs dev = output_at_place (slice_get outputs.pending dev)
+
+-- a short line tries nothing of a device of which an Output report is awaited
+abbrev pub SetsNoOutput : Outputs → ShortLine → Type 0
+SetsNoOutput outputs (short.Control dev fate count) = awaited_at outputs dev ≡ None
+SetsNoOutput outputs said = Unit {0}
 
 -- a line begins a request of this device
 abbrev pub BeginsRequestOf : Line → ℕ → Type 0

@@ -65,7 +65,7 @@ impl Bench {
     ghost use Rattle.lab_session.specs.Bench.{Does, DoesLine, DoesSaid, EndsPart, moment_of};
     ghost use Rattle.lab_session.specs.Scripts.{IsScripts, IsUndrawn, PrintsAs, PrintsSaid, end_of};
     ghost use Rattle.lab_session.specs.Chances.{chance_at};
-    ghost use Rattle.lab_session.specs.Outputs.{awaited_at};
+    ghost use Rattle.lab_session.specs.Outputs.{SetsNoOutput, awaited_at};
     ghost use Rattle.hid_stack.specs.Attaching.{Finds};
     ghost use Rattle.hid_stack.specs.Rig.{member_at};
     ghost use Rattle.hid_script.specs.LineOutput.{stack_cause};
@@ -171,7 +171,8 @@ impl Bench {
     /// Whether a short line is one part: none of its polls and tries is made by itself.
     #[inline(always)] // a few comparisons
     fn is_one_part(&self, short: &ShortLine) -> bool
-        ensures { result ≡ true → IsOnePart (moment_of self.now) short.now }
+        ensures undrawn { result ≡ true → IsOnePart (moment_of self.now) short.now }
+        ensures unawaited { result ≡ true → SetsNoOutput self.now.outputs short.now }
     {
         match *short {
             ShortLine::Poll { dev, .. } => !self.polls_singly(dev),
