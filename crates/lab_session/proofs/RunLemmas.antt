@@ -1,5 +1,5 @@
 -- Runs of lines, and that two of them which end by themselves are one.
-use Rattle.std.proofs.Common.{◌≡◌, true, false, nat_eq, ℕ, ◌+◌, ◌-◌, ◌<◌, ◌≤◌, drop, drop_at, length-append, IfSome, List, [], ◌∷◌, ◌++◌, length, refl, sym, ap, ◌∙◌, subst, inl, inr, ◌⊎◌, arith, append_assoc, append-nil, Option, None, Some, Result, Ok, Err}
+use Rattle.std.proofs.Common.{◌≡◌, Bool, not, true, false, nat_eq, ℕ, ◌+◌, ◌-◌, ◌<◌, ◌≤◌, drop, drop_at, length-append, IfSome, List, [], ◌∷◌, ◌++◌, length, refl, sym, ap, ◌∙◌, subst, inl, inr, ◌⊎◌, arith, append_assoc, append-nil, Option, None, Some, Result, Ok, Err}
 use Rattle.std.proofs.lemmas.Bool.{eqb-true, eqb-false}
 use Rattle.std.specs.Io.KnownBytes.{Appends, Consumes, IsAtEnd, Keeps}
 use Rattle.std.proofs.KnownBytes.{Appends-nil, Appends-trans, Consumes-whole}
@@ -34,7 +34,7 @@ use Rattle.lab_session.specs.declared.need.Need.{Need}
 use Rattle.lab_session.specs.declared.runs.RunEnd.{RunEnd}
 use Rattle.lab_session.specs.declared.runs.RunEnd.TheVariants as ended
 use Rattle.lab_session.specs.Ahead.{unread}
-use Rattle.lab_session.specs.Feeds.{IsOutside}
+use Rattle.lab_session.specs.Feeds.{IsOutside, TakesLine}
 use Rattle.lab_session.specs.Scripts.{AheadRan, Fails, GoesOn, IsScripts, IsUndrawn, LineRan, PrintsAs, RunsAs, RunsAsScript, RunsFed, StopsHere}
 use Rattle.hid_script.specs.declared.fault.Cause.TheVariants as causes
 use Rattle.hid_script.proofs.PlaceLemmas.{first_begins}
@@ -233,6 +233,14 @@ pub rest_left : (text front rest : List ℕ) → text ≡ front ++ rest → drop
 rest_left text front rest is =
     let len : length text - length rest ≡ length front = omega (arith, ap length is, length-append front rest) in
     ap (λ n. drop n text) len ∙ ap (drop (length front)) is ∙ drop_at front rest (length front) refl
+
+-- all bytes that are left are the last line, if there are any
+pub rest_taken : (bytes line left : List ℕ) (none : Bool) → IsUnbroken bytes → line ≡ bytes → left ≡ drop (length bytes - 0) bytes → none ≡ nat_eq (length bytes) 0
+    → TakesLine bytes line left (not none)
+rest_taken bytes line left true whole is after none = empty_lines bytes (sym none)
+rest_taken bytes line left false whole is after none =
+    let empty : left ≡ [] = after ∙ rest_left bytes bytes [] (sym (append-nil bytes)) in
+    one_line bytes whole (some_bytes bytes (sym none)) ∙ ap (λ l. l ∷ []) (sym is) ∙ ap (λ l. line ∷ lines l) (sym empty)
 
 pub no_longer : (text front rest : List ℕ) → text ≡ front ++ rest → length rest ≤ length text
 no_longer text front rest is = omega (arith, ap length is, length-append front rest)

@@ -1,6 +1,8 @@
 -- Bytes that come, and the lines that are carried out of them (our choice: docs/LAB.md).
-use Rattle.std.specs.Prelude.{◌≡◌, ◌⊎◌, ◌+◌, ◌<◌, ℕ, Bool, false, List, [], ◌++◌, length, Option}
+use Rattle.std.specs.Prelude.{◌≡◌, ◌⊎◌, ◌+◌, ◌<◌, ℕ, Bool, true, false, List, [], ◌∷◌, ◌++◌, length, Option}
 use Rattle.std.specs.Io.KnownBytes.{Consumes, IsAtEnd}
+use Rattle.std.specs.Str.Lines.{lines}
+use Rattle.hid_text.specs.Lines.{IsUnbroken}
 use Rattle.hid_script.specs.declared.fault.Cause.{Cause}
 use Rattle.hid_script.specs.declared.fault.Cause.TheVariants as causes
 use Rattle.lab_lines.specs.LabLines.{Said}
@@ -15,6 +17,17 @@ abbrev pub Feeds : Option (List ℕ) → Option (List ℕ) → List ℕ → List
 Feeds before after old new more =
     (given : List ℕ) × Consumes before after given × (new ≡ old ++ given)
     × (more ≡ false → (given ≡ []) × IsAtEnd after)
+
+-- The first line of some bytes was taken, whatever comes after them, and other bytes are left; or no line ends in them, and none was
+-- taken.
+abbrev pub TakesWhole : List ℕ → List ℕ → List ℕ → Bool → Type 0
+TakesWhole bytes line left true = (more : List ℕ) → lines (bytes ++ more) ≡ line ∷ lines (left ++ more)
+TakesWhole bytes line left false = IsUnbroken bytes × (line ≡ []) × (left ≡ bytes)
+
+-- The first line of some bytes was taken, after which no others come, and other bytes are left; or they have no line.
+abbrev pub TakesLine : List ℕ → List ℕ → List ℕ → Bool → Type 0
+TakesLine bytes line left true = lines bytes ≡ line ∷ lines left
+TakesLine bytes line left false = lines bytes ≡ []
 
 -- a cause that no line has: memory, the reader or the writer
 abbrev pub IsOutside : Cause → Type 0

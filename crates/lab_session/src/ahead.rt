@@ -1,8 +1,9 @@
 //! Bytes that were read, of which lines were not carried out yet.
 
-ghost use Rattle.std.specs.Prelude.{◌≡◌, ◌⊎◌, ◌+◌, ◌-◌, ◌^◌, ◌<◌, ◌≤◌, [], true, length, drop, vec_len, IfOk, OnOk, IfErr};
+ghost use Rattle.std.specs.Prelude.{◌≡◌, ◌⊎◌, ◌+◌, ◌-◌, ◌^◌, ◌<◌, ◌≤◌, ◌++◌, [], true, Ok, length, drop, vec_len, IfOk, OnOk, IfErr, IfSome};
 ghost use Rattle.std.specs.Io.KnownBytes.{Keeps};
-ghost use Rattle.lab_session.specs.Feeds.{EndsReading, Feeds, IsOutside};
+ghost use Rattle.hid_text.specs.Lines.{IsUnbroken};
+ghost use Rattle.lab_session.specs.Feeds.{EndsReading, Feeds, IsOutside, TakesLine, TakesWhole};
 
 use super::fault::LabCause;
 use super::feed::Feed;
@@ -163,25 +164,37 @@ impl Ahead {
     }
 
     /// Takes the next line that has come whole, without its end. Whether there is one.
-    fn take_whole(&mut self, line: &mut Vec<u8>) -> Result<bool, AllocError> {
+    fn take_whole(&mut self, line: &mut Vec<u8>) -> Result<bool, AllocError>
+        requires { line.old.items ≡ [] }
+        ensures taken { IfOk result (TakesWhole (unread self.old) line.new.items (unread self.new)) }
+    {
         let Some((last, behind)) = split_line(self.unread()) else {
             return Ok(false);
         };
         let left = behind.len();
         line.extend_from_slice(without_return(last))?;
-        self.from = self.bytes.len().saturating_sub(left);
+        self.advance(self.lines, left);
         Ok(true)
     }
 
     /// Takes what stands after the last line feed. Whether anything does.
-    fn take_rest(&mut self, line: &mut Vec<u8>) -> Result<bool, AllocError> {
-        line.extend_from_slice(self.unread())?;
-        self.from = self.bytes.len();
-        Ok(!line.is_empty())
+    fn take_rest(&mut self, line: &mut Vec<u8>) -> Result<bool, AllocError>
+        requires empty { line.old.items ≡ [] }
+        requires unbroken { IsUnbroken (unread self.old) }
+        ensures taken { IfOk result (TakesLine (unread self.old) line.new.items (unread self.new)) }
+    {
+        let rest = self.unread();
+        let some = !rest.is_empty();
+        line.extend_from_slice(rest)?;
+        self.advance(self.lines, 0);
+        Ok(some)
     }
 
     /// A line was taken, or none was there.
-    fn count_taken(&mut self, taken: Result<bool, AllocError>) -> Result<bool, LabFault> {
+    fn count_taken(&mut self, taken: Result<bool, AllocError>) -> Result<bool, LabFault>
+        ensures same { IfOk result (λ some. taken ≡ Ok some) }
+        ensures unread { unread self.new ≡ unread self.old }
+    {
         match taken {
             Ok(some) => {
                 if some {
@@ -202,7 +215,10 @@ impl Ahead {
         feed: &mut F,
         line: &mut Vec<u8>,
         writer: &mut W,
-    ) -> Result<bool, LabFault> {
+    ) -> Result<bool, LabFault>
+        ensures { IfSome (F.remaining feed.old) (λ more. IfOk result (λ some. IfSome (F.remaining feed.new)
+            (λ left. TakesLine (unread self.old ++ more) line.new.items (unread self.new ++ left) some))) }
+    {
         line.clear();
         for _ in 0..MAX_READS {
             let taken = self.take_whole(line);

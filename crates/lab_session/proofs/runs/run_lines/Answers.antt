@@ -1,11 +1,10 @@
 use Rattle.hid_text.proofs.PieceLemmas.{behind_line, shorter_behind}
-use Rattle.std.proofs.Common.{◌≡◌, [], ◌∷◌, ◌++◌, ◌+◌, refl, sym, subst, arith, None, Some, Ok, Err}
+use Rattle.std.proofs.Common.{◌≡◌, [], ◌∷◌, ◌++◌, ◌+◌, refl, subst, arith, None, Some}
 use Rattle.std.specs.Option.{option_map}
 use Rattle.std.specs.Str.Lines.{lines, strip_carriage_return}
 use Rattle.lab_session.specs.Asking.{asked_said}
-use Rattle.lab_session.specs.Carrying.{CameLines, CarriesLine, RefusesLine}
+use Rattle.lab_session.specs.Carrying.{CarriesLine}
 use Rattle.lab_session.proofs.CarryLemmas.{asks_next, carried_as, carried_first, carried_next, refused_next}
-use Rattle.lab_session.specs.Scripts.{IsScripts, LineRan, LinesRan}
 use Rattle.lab_session.proofs.RunLemmas.{behind_more, goes_on, goes_out, goes_start, lines_split, next_old}
 use Rattle.lab_session.proofs.runs.run_lines.Goals as goal
 

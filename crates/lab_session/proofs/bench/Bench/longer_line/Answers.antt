@@ -1,5 +1,4 @@
 use Rattle.std.proofs.Common.{◌≡◌, refl, rules, sym, subst, Ok, Err}
-use Rattle.hid_script.specs.Interpreter.{session_of}
 use Rattle.hid_script.specs.LineOutput.{LineBegins, LinePrints}
 use Rattle.lab_lines.specs.LabLines.{Script, lab_meaning}
 use Rattle.lab_session.specs.declared.fault.LabCause.TheVariants as cause
