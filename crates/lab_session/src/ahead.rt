@@ -166,7 +166,7 @@ impl Ahead {
     /// Takes the next line that has come whole, without its end. Whether there is one.
     fn take_whole(&mut self, line: &mut Vec<u8>) -> Result<bool, AllocError>
         requires { line.old.items ≡ [] }
-        ensures taken { IfOk result (TakesWhole (unread self.old) line.new.items (unread self.new)) }
+        ensures { IfOk result (TakesWhole (unread self.old) line.new.items (unread self.new)) }
     {
         let Some((last, behind)) = split_line(self.unread()) else {
             return Ok(false);
@@ -181,7 +181,7 @@ impl Ahead {
     fn take_rest(&mut self, line: &mut Vec<u8>) -> Result<bool, AllocError>
         requires empty { line.old.items ≡ [] }
         requires unbroken { IsUnbroken (unread self.old) }
-        ensures taken { IfOk result (TakesLine (unread self.old) line.new.items (unread self.new)) }
+        ensures { IfOk result (TakesLine (unread self.old) line.new.items (unread self.new)) }
     {
         let rest = self.unread();
         let some = !rest.is_empty();
