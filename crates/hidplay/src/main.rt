@@ -233,6 +233,14 @@ struct Next {
     is_last: bool,
 }
 
+/// Whether a file that was played to its end had a descriptor.
+fn has_descriptor(end: &Result<Summary, FileFault>) -> bool {
+    match end {
+        Ok(summary) => summary.descriptors > 0,
+        Err(_) => false,
+    }
+}
+
 /// Plays the next file, adds what was played to the total, and names the endpoints whose reports have no descriptor.
 fn play_next<W: Write>(
     rt: &HostRuntime,
@@ -248,7 +256,7 @@ fn play_next<W: Write>(
     };
     let end = play_one(rt, asked, manner, file, &mut notes, out);
     print_undescribed(rt, file.name, notes.undescribed.as_slice());
-    if notes.has_own && manner.given.is_some() {
+    if notes.has_own && manner.given.is_some() && has_descriptor(&end) {
         print_own(rt, file.name);
     }
     total.add(&end);
