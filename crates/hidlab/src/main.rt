@@ -19,6 +19,7 @@ mod run;
 mod served;
 mod source;
 mod status;
+mod words;
 
 use args::{CliArgs, parse_args};
 use command_words::{FileName, print_refused_words, print_unread_words, words_of};

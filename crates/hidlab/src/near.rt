@@ -3,6 +3,7 @@
 ghost use Rattle.std.specs.Prelude.{◌≤◌, length};
 
 use hid_names::{UsageName, page_name, usage_name};
+use hid_text::read_number;
 use std::alloc::{AllocError, Global};
 
 /// The last page of the tables that has names.
@@ -112,11 +113,35 @@ fn near_name(word: &[u8]) -> Option<&'static str> {
     None
 }
 
+/// The word before the number of a usage that has one, if a word is near to it (HID Usage Tables, 12 and 13).
+fn near_numbered(front: &[u8]) -> Option<&'static str> {
+    if is_near(b"Button ", front) {
+        Some("Button")
+    } else if is_near(b"Instance ", front) {
+        Some("Instance")
+    } else {
+        None
+    }
+}
+
+/// The name of a numbered usage that a word is near to, as `Buton_1` is: what stands before the number, and the number.
+fn numbered_name(word: &[u8]) -> Option<(&'static str, u64)> {
+    let digits = word.iter().position(|byte| byte.is_ascii_digit())?;
+    let name = near_numbered(&word[..digits])?;
+    match read_number(10, &word[digits..]) {
+        Some(number @ 1..=0xFFFF) => Some((name, number)),
+        _ => None,
+    }
+}
+
 /// A question for the name that was meant, as a script writes it, if there is one that is near; else nothing.
 ///
 /// # Errors
 /// Out of memory.
 pub fn question(alloc: Global, word: &[u8]) -> Result<String, AllocError> {
+    if let Some((name, number)) = numbered_name(word) {
+        return format!(in alloc; ": is it {name}_{number}?");
+    }
     let mut text = String::new(alloc);
     if let Some(name) = near_name(word) {
         text.push_str(": is it ")?;

@@ -3,7 +3,7 @@
 use lab_session::Watch;
 use std::io::Write;
 
-/// The line is written once for so many lines that were carried out.
+/// The line is written once for so many polls and lines that were carried out.
 const STEP: u64 = 100_000;
 
 /// A line on a terminal, or none where there is no terminal.
@@ -14,7 +14,7 @@ pub struct Progress<W> {
     lines: u64,
     /// Those of the source that runs.
     of_source: usize,
-    /// Where the line is written next.
+    /// At how many polls and lines the line is written next.
     next: u64,
     is_shown: bool,
 }
@@ -40,7 +40,7 @@ impl<W: Write> Progress<W> {
     fn show(&mut self, polls: u64) {
         let lines = self.lines;
         if let Some(terminal) = &mut self.terminal {
-            let _ = write!(terminal, "\r{lines} lines, {polls} polls");
+            let _ = write!(terminal, "\r{polls} polls, {lines} lines");
             self.is_shown = true;
         }
     }
@@ -62,8 +62,9 @@ impl<W: Write> Watch for Progress<W> {
         let more = lines.saturating_sub(self.of_source) as u64;
         self.of_source = lines;
         self.lines = self.lines.saturating_add(more);
-        if self.lines >= self.next {
-            self.next = self.lines.saturating_add(STEP);
+        let done = self.lines.saturating_add(polls);
+        if done >= self.next {
+            self.next = done.saturating_add(STEP);
             self.show(polls);
         }
     }

@@ -1,34 +1,25 @@
 //! A run: the sources of lines, and the bench that carries them out.
 
-ghost use Rattle.std.specs.Prelude.{◌<◌, ◌≤◌, length, vec_len};
+ghost use Rattle.std.specs.Prelude.{◌<◌, vec_len};
 
-use super::near::question;
 use super::progress::Progress;
 use super::source::{LabSource, name_beside};
-use command_words::ShownBytes;
+use super::words::{
+    expected_of, mark_words, name_words, syntax_words, unmet_words, verb_of, word_shown,
+};
 use hid_input::{InputCause, InputFault, KnownFile, descriptor_in, known_file};
 use hid_layout::{Layout, Limits};
 use hid_script::{Cause, StepFault};
 use hid_snapshots::ChangeFault;
 use hid_stack::StackFault;
-use lab_expectations::unknown_usage;
-use lab_lines::{
-    Added, Body, ControlName, LabLine, MAX_INCLUDES, MAX_REPEATS, Unread, diagnose, is_any_name,
-    read_control_name, read_lab_line,
-};
+use lab_lines::{Added, Body, MAX_INCLUDES, MAX_REPEATS, Unread, read_lab_line};
 use lab_session::{Bench, LabCause, LabFault, Need, RunEnd, cause_words};
 use std::alloc::{AllocError, Global};
-use std::fs;
 use std::io::{self, Read, Write};
+use std::{fmt, fs};
 
 /// How many lines a body has at most, and how often a run goes from one source to another.
 const MAX_TURNS: u64 = 1_000_000_000_000;
-
-/// The most bytes of a word of a line, or of the name of a file, that a fault prints.
-const LONGEST_WORD: usize = 256;
-
-/// The byte order mark of UTF-8 (Unicode, 23.8).
-const MARK: [u8; 3] = [0xEF, 0xBB, 0xBF];
 
 /// The most bytes of a file with a descriptor.
 const LONGEST: usize = 1 << 24;
@@ -78,58 +69,19 @@ fn no_memory(line: usize) -> Trouble {
     bare(line, LabCause::Script(Cause::Memory))
 }
 
-/// Where a long word is cut: before a character that goes on there.
-fn cut_of(word: &[u8]) -> usize
-    requires { LONGEST_WORD < length word.now }
-    ensures { result ≤ length word.now }
-{
-    for back in 0..4 {
-        let end = LONGEST_WORD - back;
-        if word[end] & 0xC0 != 0x80 {
-            return end;
-        }
-    }
-    LONGEST_WORD
-}
-
-/// A word as it is printed: of a long one its first bytes, and two dots.
-///
-/// # Errors
-/// Out of memory.
-fn word_shown(alloc: Global, word: &[u8]) -> Result<String, AllocError> {
-    if word.len() <= LONGEST_WORD {
-        let word = ShownBytes(word);
-        return format!(in alloc; "{word}");
-    }
-    let first = ShownBytes(&word[..cut_of(word)]);
-    format!(in alloc; "{first}..")
-}
-
-/// Which word of a line is wrong, and what was expected there, in words.
-fn syntax_words(alloc: Global, line: &[u8]) -> Result<Option<String>, AllocError> {
-    if line.starts_with(MARK.as_slice()) {
-        let words = "a byte order mark: save the file without one";
-        return Ok(Some(String::from_str(alloc, words)?));
-    }
-    let unread = match read_lab_line(line) {
-        Err(unread) => unread,
-        Ok(_) => diagnose(line),
-    };
-    let Unread::Word(word, expected) = unread else {
-        return Ok(None);
-    };
-    if word.is_empty() {
-        Ok(Some(format!(in alloc; "the line ends: expected is {expected}")?))
-    } else {
-        let word = word_shown(alloc, word)?;
-        Ok(Some(format!(in alloc; "{word}: expected is {expected}")?))
+/// X2, of a line that begins so: a byte order mark is named, since it hides the line's first word.
+fn long_trouble(alloc: Global, number: usize, line: &[u8]) -> Trouble {
+    let cause = LabCause::Script(Cause::LineTooLong);
+    match mark_words(line) {
+        Some(words) => in_words(alloc, number, cause, words),
+        None => bare(number, cause),
     }
 }
 
 /// Why a line can't be read: it is too long (X2), or which word of it is wrong (X1), and what was expected there.
 pub fn unread_trouble(alloc: Global, number: usize, line: &[u8]) -> Trouble {
     if matches!(read_lab_line(line), Err(Unread::TooLong)) {
-        return bare(number, LabCause::Script(Cause::LineTooLong));
+        return long_trouble(alloc, number, line);
     }
     match syntax_words(alloc, line) {
         Ok(words) => Trouble {
@@ -139,84 +91,6 @@ pub fn unread_trouble(alloc: Global, number: usize, line: &[u8]) -> Trouble {
         },
         Err(_) => no_memory(number),
     }
-}
-
-/// Why a word is no control, or no usage of an event.
-#[derive(Clone, Copy)]
-enum NameFault {
-    /// No usage has this name.
-    Unknown,
-    /// It is one of several controls, or a place, and no usage alone.
-    NotAlone,
-}
-
-/// Why a word names no control: no usage has its name.
-fn control_fault(control: ControlName<'_>) -> Option<NameFault> {
-    match control {
-        ControlName::Named { name, .. } if !is_any_name(name) => Some(NameFault::Unknown),
-        _ => None,
-    }
-}
-
-/// Why a word is no usage of an event.
-fn event_fault(word: &[u8]) -> NameFault {
-    match read_control_name(word) {
-        None => NameFault::Unknown,
-        Some(control) => control_fault(control).unwrap_or(NameFault::NotAlone),
-    }
-}
-
-/// The word of a line that stands for a control, or for the usage of an event, and why it is none.
-fn wrong_name(line: &[u8]) -> Option<(&[u8], NameFault)> {
-    let control = match read_lab_line(line) {
-        Ok(LabLine::Change { control, .. }) => control,
-        Ok(LabLine::Click { control, .. }) => control,
-        Ok(LabLine::Expect(expected)) => {
-            let word = unknown_usage(expected)?;
-            return Some((word, event_fault(word)));
-        }
-        _ => return None,
-    };
-    match control {
-        ControlName::Named { name, .. } => Some((name, control_fault(control)?)),
-        _ => None,
-    }
-}
-
-/// Why a name that stands in a line is none, in words.
-///
-/// # Errors
-/// Out of memory.
-pub fn name_words(alloc: Global, line: &[u8]) -> Result<Option<String>, AllocError> {
-    let Some((name, fault)) = wrong_name(line) else {
-        return Ok(None);
-    };
-    let shown = word_shown(alloc, name)?;
-    match fault {
-        NameFault::Unknown => {
-            let question = question(alloc, name)?;
-            Ok(Some(format!(in alloc; "{shown}: no usage has this name{question}")?))
-        }
-        NameFault::NotAlone => {
-            let words = "a line of an event has the usage alone, as 07:04 or Keyboard_A";
-            Ok(Some(format!(in alloc; "{shown}: {words}")?))
-        }
-    }
-}
-
-/// What a line expects: a line, or none.
-fn expected_of(line: &[u8]) -> &[u8] {
-    match read_lab_line(line) {
-        Ok(LabLine::Expect(expected)) => expected.trim_ascii(),
-        _ => b"none",
-    }
-}
-
-/// What came in place of what a line expects, and what that is, in words.
-fn unmet_words(alloc: Global, bench: &Bench, line: &[u8]) -> Result<Option<String>, AllocError> {
-    let came = String::from_utf8_lossy(alloc, bench.came())?;
-    let expected = word_shown(alloc, expected_of(line))?;
-    Ok(Some(format!(in alloc; "{came} was printed: expected is {expected}")?))
 }
 
 /// The words of a cause, with the control that the line meant if one is known.
@@ -239,21 +113,38 @@ fn is_no_control(cause: LabCause) -> bool {
     cause == LabCause::Script(no_control())
 }
 
+/// Why the bench refuses a line, in words.
+fn refusal_words(
+    alloc: Global,
+    bench: &Bench,
+    cause: LabCause,
+    line: &[u8],
+) -> Result<Option<String>, AllocError> {
+    match cause {
+        LabCause::Script(Cause::Syntax) => syntax_words(alloc, line),
+        LabCause::Unmet => {
+            let came = bench.came();
+            let expected = expected_of(line);
+            let words = unmet_words(alloc, came, verb_of(came, expected), expected)?;
+            Ok(Some(words))
+        }
+        _ if is_no_control(cause) => match name_words(alloc, line)? {
+            Some(words) => Ok(Some(words)),
+            None => bench_words(alloc, bench, cause),
+        },
+        _ => bench_words(alloc, bench, cause),
+    }
+}
+
 /// Why the bench refuses a line.
 fn bench_trouble(alloc: Global, bench: &Bench, source: &LabSource, fault: &LabFault) -> Trouble {
     let cause = fault.cause;
     let line = source.refused_line(fault);
-    let words = match cause {
-        LabCause::Script(Cause::Syntax) => syntax_words(alloc, line),
-        LabCause::Unmet => unmet_words(alloc, bench, line),
-        _ if is_no_control(cause) => match name_words(alloc, line) {
-            Ok(None) => bench_words(alloc, bench, cause),
-            words => words,
-        },
-        _ => bench_words(alloc, bench, cause),
-    };
     let number = source.number(fault.line);
-    match words {
+    if cause == LabCause::Script(Cause::LineTooLong) {
+        return long_trouble(alloc, number, line);
+    }
+    match refusal_words(alloc, bench, cause, line) {
         Ok(words) => Trouble {
             line: number,
             cause,
@@ -264,18 +155,18 @@ fn bench_trouble(alloc: Global, bench: &Bench, source: &LabSource, fault: &LabFa
 }
 
 /// Why a file can't be used.
-fn file_trouble(
+fn file_trouble<T: fmt::Display>(
     alloc: Global,
     line: usize,
     cause: LabCause,
-    path: &str,
-    error: &io::Error,
+    name: &[u8],
+    why: &T,
 ) -> Trouble {
-    match word_shown(alloc, path.as_bytes()) {
-        Ok(path) => Trouble {
+    match word_shown(alloc, name) {
+        Ok(name) => Trouble {
             line,
             cause,
-            words: format!(in alloc; "{path}: {error}").ok(),
+            words: format!(in alloc; "{name}: {why}").ok(),
         },
         Err(_) => no_memory(line),
     }
@@ -289,9 +180,12 @@ fn read_trouble(alloc: Global, source: &LabSource, fault: &LabFault) -> Trouble 
             alloc,
             number,
             LabCause::Unreadable,
-            source.name.as_str(),
+            source.name.as_bytes(),
             &error,
         ),
+        None if fault.cause == LabCause::Script(Cause::LineTooLong) => {
+            long_trouble(alloc, number, source.refused_line(fault))
+        }
         None => bare(number, fault.cause),
     }
 }
@@ -321,7 +215,7 @@ fn drop_unread(alloc: Global, sources: &mut Vec<LabSource>) -> Option<Trouble> {
         alloc,
         line,
         LabCause::Unreadable,
-        source.name.as_str(),
+        source.name.as_bytes(),
         &error,
     ))
 }
@@ -425,23 +319,14 @@ pub fn repeat<W: Write>(
     )
 }
 
-/// A file whose name isn't UTF-8: it can't be opened.
-fn no_text(alloc: Global, line: usize, name: &[u8]) -> Trouble {
-    let name = ShownBytes(name);
-    Trouble {
-        line,
-        cause: LabCause::Unreadable,
-        words: format!(in alloc; "{name}: not UTF-8").ok(),
-    }
-}
-
 /// The name of a file that the last line of a source names.
 ///
 /// # Errors
 /// X14 of a name that isn't UTF-8; X7.
 pub fn path_of(alloc: Global, source: &LabSource, name: &[u8]) -> Result<String, Trouble> {
     let Ok(name) = std::str::from_utf8(name) else {
-        return Err(no_text(alloc, source.last_number(), name));
+        let line = source.last_number();
+        return Err(file_trouble(alloc, line, LabCause::Unreadable, name, &"not UTF-8"));
     };
     match name_beside(alloc, source.name.as_str(), name) {
         Ok(path) => Ok(path),
@@ -470,7 +355,7 @@ pub fn include(
     let path = path_of(alloc, &sources[last], name)?;
     match fs::open(rt, path.as_str()) {
         Ok(file) => push(sources, LabSource::file(alloc, file, path), line),
-        Err(error) => Err(file_trouble(alloc, line, LabCause::Unreadable, path.as_str(), &error)),
+        Err(error) => Err(file_trouble(alloc, line, LabCause::Unreadable, path.as_bytes(), &error)),
     }
 }
 
@@ -498,31 +383,33 @@ fn known_as(alloc: Global, descriptor: &[u8]) -> Option<KnownFile> {
 /// X14 of a file that can't be read; X15 of one without a descriptor; X7.
 pub fn read_descriptor(rt: &HostRuntime, line: usize, path: &str) -> Result<Vec<u8>, Trouble> {
     let alloc = rt.alloc();
+    let name = path.as_bytes();
     let bytes = match read_file(rt, path) {
         Ok(bytes) => bytes,
         Err(error) => {
-            return Err(file_trouble(alloc, line, LabCause::Unreadable, path, &error));
+            return Err(file_trouble(alloc, line, LabCause::Unreadable, name, &error));
         }
     };
-    let words = match descriptor_in(alloc, bytes.as_slice()) {
-        Ok(descriptor) if descriptor.is_empty() => format!(in alloc; "{path}: no descriptor"),
+    match descriptor_in(alloc, bytes.as_slice()) {
+        Ok(descriptor) if descriptor.is_empty() => Err(file_trouble(
+            alloc,
+            line,
+            LabCause::NoDescriptor,
+            name,
+            &"no descriptor",
+        )),
         Ok(descriptor) => match known_as(alloc, descriptor.as_slice()) {
-            Some(known) => format!(in alloc; "{path}: {known}"),
-            None => return Ok(descriptor),
+            Some(known) => Err(file_trouble(alloc, line, LabCause::NoDescriptor, name, &known)),
+            None => Ok(descriptor),
         },
         Err(
             InputFault {
                 cause: InputCause::Memory,
                 ..
             },
-        ) => return Err(no_memory(line)),
-        Err(fault) => format!(in alloc; "{path}: {fault}"),
-    };
-    Err(Trouble {
-        line,
-        cause: LabCause::NoDescriptor,
-        words: words.ok(),
-    })
+        ) => Err(no_memory(line)),
+        Err(fault) => Err(file_trouble(alloc, line, LabCause::NoDescriptor, name, &fault)),
+    }
 }
 
 /// Why the device of a file is not attached.

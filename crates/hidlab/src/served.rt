@@ -4,10 +4,11 @@ ghost use Rattle.std.specs.Prelude.{◌<◌, vec_len};
 
 use super::printing::{is_included, print_last_place, print_place, print_trouble};
 use super::run::{
-    Trouble, bare, include, last_trouble, name_words, no_control, path_of, read_descriptor, repeat,
+    Trouble, bare, include, last_trouble, no_control, path_of, read_descriptor, repeat,
     unread_trouble,
 };
 use super::source::LabSource;
+use super::words::{ended_words, name_words, unmet_words};
 use command_words::FileName;
 use hid_requests::Boot;
 use hid_script::Cause;
@@ -269,15 +270,20 @@ fn print_place_of(rt: &HostRuntime, names: &[String], places: &[Place], number: 
     }
 }
 
-/// Prints that an expectation isn't met: what came in its place.
-fn print_unmet(rt: &HostRuntime, came: &[u8]) {
-    match String::from_utf8_lossy(rt.alloc(), came) {
-        Ok(came) if !came.is_empty() => {
-            let came = FileName(came.as_str());
-            let _ = eprintln!(rt; "X13: {came} was set");
+/// Prints that an expectation isn't met: what came in its place, if anything did before the connection ended, and what it is.
+fn print_unmet(rt: &HostRuntime, came: &[u8], expected: &[u8]) {
+    let words = if came.is_empty() {
+        ended_words(rt.alloc(), expected)
+    } else {
+        unmet_words(rt.alloc(), came, "set", expected)
+    };
+    match words {
+        Ok(words) => {
+            let words = FileName(words.as_str());
+            let _ = eprintln!(rt; "X13: {words}");
         }
-        _ => {
-            let _ = eprintln!(rt; "X13: the connection ended before");
+        Err(_) => {
+            let _ = eprintln!(rt; "X13");
         }
     }
 }
@@ -287,14 +293,14 @@ fn print_fault(
     rt: &HostRuntime,
     names: &[String],
     places: &[Place],
-    came: &[u8],
+    watching: &Watching<Stderr>,
     fault: &ServeFault,
 ) -> u8 {
     match fault {
         ServeFault::Line(number, cause) => {
             print_place_of(rt, names, places, *number);
             if matches!(cause, LineCause::Unmet) {
-                print_unmet(rt, came);
+                print_unmet(rt, watching.came(), watching.expected());
             } else {
                 let _ = eprintln!(rt; "{cause}");
             }
@@ -328,13 +334,7 @@ fn serve_reading(rt: &HostRuntime, reading: Reading, told: Option<Stderr>) -> u8
     drop(script);
     match end {
         Ok(()) => FINE,
-        Err(fault) => print_fault(
-            rt,
-            names.as_slice(),
-            places.as_slice(),
-            watching.came(),
-            &fault,
-        ),
+        Err(fault) => print_fault(rt, names.as_slice(), places.as_slice(), &watching, &fault),
     }
 }
 

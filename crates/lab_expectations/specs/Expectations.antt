@@ -6,7 +6,8 @@ use Rattle.lab_expectations.specs.declared.looking.Found.TheVariants as found
 use Rattle.lab_expectations.specs.declared.transcript.Transcript.{Transcript}
 use Rattle.lab_expectations.specs.declared.transcript.Expectation.{Expectation}
 use Rattle.lab_expectations.specs.declared.transcript.Expectation.TheVariants as answer
-use Rattle.lab_expectations.specs.Matching.{matches}
+use Rattle.hid_text.specs.Words.{words_of}
+use Rattle.lab_expectations.specs.Matching.{is_output, matches}
 
 -- what ends a line
 abbrev pub is_line_feed : ℕ → Bool
@@ -44,6 +45,12 @@ unfoldable pub first_required : List (List ℕ) → Option (List ℕ)
 first_required [] = None
 first_required (last ∷ []) = None
 first_required (line ∷ next ∷ more) = if is_optional line then first_required (next ∷ more) else Some line
+
+-- the first line, if there is one, without its +. What stands after the last line feed is no line.
+unfoldable pub first_line : List (List ℕ) → Option (List ℕ)
+first_line [] = None
+first_line (last ∷ []) = None
+first_line (line ∷ next ∷ more) = Some (plain line)
 
 -- The last line, if there is one, without its +; before them came another, or none. What stands after the last line feed is no line.
 unfoldable pub last_line : Option (List ℕ) → List (List ℕ) → Option (List ℕ)
@@ -97,6 +104,19 @@ answer_to Nothing = NoLine
 abbrev pub answer_at : Transcript → List ℕ → Answer
 answer_at transcript expected =
     if transcript.is_cut then TooMuch else answer_to (outcome expected (parts_of (waits transcript)))
+
+-- the answer by the line that came, if one did
+abbrev pub answer_by_line : Option (List ℕ) → Answer
+answer_by_line None = NoLine
+answer_by_line (Some line) = Instead line
+
+-- The answer to an expectation that isn't met. In place of an Output report the first line came, also one that needn't be expected.
+-- Example: 1 output 0 04, where 1 output 0 02 is expected
+abbrev pub answer_unmet : Transcript → List ℕ → Answer
+answer_unmet transcript expected =
+    if is_output (words_of expected)
+    then (if transcript.is_cut then TooMuch else answer_by_line (first_line (parts_of (waits transcript))))
+    else answer_at transcript expected
 
 -- the answer where no line is expected
 abbrev pub answer_none : Option (List ℕ) → Answer

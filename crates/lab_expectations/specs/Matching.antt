@@ -34,6 +34,12 @@ are_words (expected ∷ others) (word ∷ more) = is_word expected word && are_w
 unfoldable pub matches : List ℕ → List ℕ → Bool
 matches expected line = are_words (words_of expected) (words_of line)
 
+-- a line is one of an Output report, by its words. Example: 1 output 0 02
+unfoldable pub is_output : List Word → Bool
+is_output (device ∷ word ∷ more) = bytes_eq word (codes "output")
+is_output (device ∷ []) = false
+is_output [] = false
+
 -- the word of an event, before its usage
 abbrev pub is_event : Word → Bool
 is_event word =

@@ -17,5 +17,5 @@ mod looking;
 mod matching;
 mod transcript;
 
-pub use matching::{is_expected_line, unknown_usage};
+pub use matching::{is_expected_line, is_output_line, unknown_usage};
 pub use transcript::{Expectation, MAX_TRANSCRIPT, Transcript};

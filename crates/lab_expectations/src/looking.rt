@@ -2,7 +2,7 @@
 
 ghost use Rattle.std.specs.Prelude.{◌≡◌, None};
 ghost use Rattle.std.specs.Option.{option_map};
-ghost use Rattle.lab_expectations.specs.Expectations.{parts_of, is_optional, plain, outcome, first_required, last_line, found_of, EndsThere};
+ghost use Rattle.lab_expectations.specs.Expectations.{parts_of, is_optional, plain, outcome, first_line, first_required, last_line, found_of, EndsThere};
 
 use super::matching::is_expected_line;
 use hid_text::split_line;
@@ -72,6 +72,16 @@ pub(crate) fn first_required(waiting: &[u8]) -> Option<&[u8]>
                 rest = more;
             }
         }
+    }
+}
+
+/// The first line of those that wait.
+pub(crate) fn first_line(waiting: &[u8]) -> Option<&[u8]>
+    ensures { option_map (λ line. line.now) result ≡ first_line (parts_of waiting.now) }
+{
+    match split_line(waiting) {
+        Some((line, _)) => Some(plain_line(line)),
+        None => None,
     }
 }
 

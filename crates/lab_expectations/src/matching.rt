@@ -4,7 +4,7 @@ ghost use Rattle.std.specs.Prelude.{◌≡◌, IfSome, None, Some};
 ghost use Rattle.std.specs.Option.{option_map};
 ghost use Rattle.hid_text.specs.Words.{words_of};
 ghost use Rattle.hid_text.specs.Numbers.{usage_of_word};
-ghost use Rattle.lab_expectations.specs.Matching.{is_event, is_usage_of, is_word, matches, usage_place};
+ghost use Rattle.lab_expectations.specs.Matching.{is_event, is_output, is_usage_of, is_word, matches, usage_place};
 
 use hid_text::{first_word, read_usage};
 use lab_lines::{is_any_name, is_name_of};
@@ -51,6 +51,19 @@ pub fn is_expected_line(expected: &[u8], line: &[u8]) -> bool
                 }
             },
         }
+    }
+}
+
+/// Whether a line is one of an Output report: its second word is `output`.
+pub fn is_output_line(line: &[u8]) -> bool
+    ensures { result ≡ is_output (words_of line.now) }
+{
+    let Some((_, rest)) = first_word(line) else {
+        return false;
+    };
+    match first_word(rest) {
+        Some((word, _)) => word == b"output".as_slice(),
+        None => false,
     }
 }
 

@@ -3,7 +3,8 @@
 ghost use Rattle.std.specs.Prelude.{◌≤◌};
 ghost use Rattle.std.specs.Vec.{vec_len};
 
-use super::looking::{Found, first_required, last_line, look};
+use super::looking::{Found, first_line, first_required, last_line, look};
+use super::matching::is_output_line;
 use std::alloc::{AllocError, Global};
 
 /// The most bytes of lines that wait for an `expect`.
@@ -37,7 +38,7 @@ pub struct Transcript {
 impl Transcript {
     ghost use Rattle.std.specs.Prelude.{◌≡◌, ◌+◌, ◌<◌, true, false, [], ◌∷◌, ◌++◌, None, length, OnOk, if◌then◌else◌};
     ghost use Rattle.std.specs.Option.{option_map};
-    ghost use Rattle.lab_expectations.specs.Expectations.{Met, TooMuch, parts_of, outcome, first_required, last_line, waits, is_expected_at, is_none_at, answer_of, answer_at, answer_none};
+    ghost use Rattle.lab_expectations.specs.Expectations.{Met, TooMuch, parts_of, outcome, first_required, last_line, waits, is_expected_at, is_none_at, answer_of, answer_at, answer_none, answer_unmet};
 
     /// Nothing was printed.
     pub fn new(alloc: Global) -> Self
@@ -168,6 +169,20 @@ impl Transcript {
             Found::Met(_) => Expectation::Met,
             Found::Other(line) => Expectation::Other(line),
             Found::Nothing => Expectation::Nothing,
+        }
+    }
+
+    /// What came in place of this line, which isn't the next one: of an Output report the first line that waits, also one that needn't
+    /// be expected.
+    pub fn answer_unmet(&self, expected: &[u8]) -> Expectation<'_>
+        ensures { answer_of result ≡ answer_unmet self.now expected.now }
+    {
+        if self.is_cut || !is_output_line(expected) {
+            return self.answer(expected);
+        }
+        match first_line(self.waiting()) {
+            Some(line) => Expectation::Other(line),
+            None => Expectation::Nothing,
         }
     }
 

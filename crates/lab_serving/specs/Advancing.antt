@@ -138,6 +138,17 @@ abbrev pub answer_next : Transcript → Option Expecting → Answer
 answer_next transcript None = NoLine
 answer_next transcript (Some x) = answer_by x.kind transcript x.line.items
 
+-- what is expected, as its line says it
+abbrev pub words_by : ExpectedKind → List ℕ → List ℕ
+words_by Report line = line
+words_by Nothing line = codes "none"
+words_by Anything line = codes "any"
+
+-- what the next expectation expects, as its line says it
+abbrev pub expected_words : Option Expecting → List ℕ
+expected_words None = []
+expected_words (Some x) = words_by x.kind x.line.items
+
 -- the last report that the host set since those that were expected
 abbrev pub last_set : Transcript → Option (List ℕ)
 last_set transcript = last_line None (parts_of (waits transcript))

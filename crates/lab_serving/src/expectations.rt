@@ -3,7 +3,7 @@
 ghost use Rattle.std.specs.Prelude.{◌≡◌, ◌+◌, [], drop, OnOk, None, false};
 ghost use Rattle.std.specs.Option.{option_map};
 ghost use Rattle.lab_expectations.specs.Expectations.{answer_of, waits};
-ghost use Rattle.lab_serving.specs.Advancing.{AdvancesAt, Meets, Takes, advance_of, allowed_by, answer_next, came_of, is_next_met, last_set, next_of, others};
+ghost use Rattle.lab_serving.specs.Advancing.{AdvancesAt, Meets, Takes, advance_of, allowed_by, answer_next, came_of, expected_words, is_next_met, last_set, next_of, others};
 
 use crate::expecting::{ExpectedKind, Expecting};
 use lab_expectations::{Expectation, Transcript};
@@ -129,6 +129,20 @@ impl Expectations {
             Expectation::Other(line) => line,
             Expectation::Nothing => self.transcript.last().unwrap_or(b"nothing"),
             Expectation::TooMuch => b"over 1 MiB since the last expect",
+        }
+    }
+
+    /// What is expected next, as its line says it; empty where there is none more.
+    pub fn expected(&self) -> &[u8]
+        ensures { result.now ≡ expected_words (next_of self.now) }
+    {
+        match self.all.get(self.next) {
+            Some(expecting) => match expecting.kind {
+                ExpectedKind::Report => expecting.line.as_slice(),
+                ExpectedKind::Nothing => b"none",
+                ExpectedKind::Anything => b"any",
+            },
+            None => b"",
         }
     }
 

@@ -1,5 +1,8 @@
 //! What stands by while a script of the bench is served.
 
+ghost use Rattle.std.specs.Prelude.{◌≡◌};
+ghost use Rattle.lab_serving.specs.Advancing.{answer_next, came_of, expected_words, last_set, next_of};
+
 use crate::expectations::{Advance, Expectations};
 use crate::expecting::Expecting;
 use std::alloc::Global;
@@ -32,8 +35,18 @@ impl<T: Write> Watching<T> {
     }
 
     /// What the host set in place of what is expected next; empty where that is there.
-    pub fn came(&self) -> &[u8] {
+    pub fn came(&self) -> &[u8]
+        ensures { result.now ≡ came_of (answer_next self.now.expectations.transcript (next_of self.now.expectations))
+            (last_set self.now.expectations.transcript) }
+    {
         self.expectations.came()
+    }
+
+    /// What is expected next, as its line says it; empty where there is none more.
+    pub fn expected(&self) -> &[u8]
+        ensures { result.now ≡ expected_words (next_of self.now.expectations) }
+    {
+        self.expectations.expected()
     }
 }
 

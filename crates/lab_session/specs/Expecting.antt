@@ -1,7 +1,7 @@
 -- What an expectation of the bench takes, and what it keeps of the line that came in its place (our choice: docs/LAB.md).
 use Rattle.std.specs.Prelude.{◌≡◌, ℕ, true, false, List, [], ◌++◌, if◌then◌else◌, Result, Ok, Err, codes}
 use Rattle.lab_expectations.specs.declared.transcript.Transcript.{Transcript}
-use Rattle.lab_expectations.specs.Expectations.{Answer, Came, Instead, NoLine, TooMuch, Met, answer_at, answer_none, first_required, is_expected_at, is_none_at, outcome, parts_of, waits}
+use Rattle.lab_expectations.specs.Expectations.{Answer, Came, Instead, NoLine, TooMuch, Met, answer_none, answer_unmet, first_required, is_expected_at, is_none_at, outcome, parts_of, waits}
 use Rattle.hid_text.specs.Words.{words_of}
 use Rattle.lab_lines.specs.LabLines.{Said, Refusal}
 use Rattle.lab_lines.specs.LabLines as lab
@@ -27,7 +27,7 @@ abbrev pub Expects : List ℕ → Transcript → Transcript → List ℕ → Res
 Expects expected old new came (Ok _) =
     (is_expected_at old expected ≡ true) × (outcome expected (parts_of (waits old)) ≡ Met (parts_of (waits new)))
 Expects expected old new came (Err cause) =
-    (is_expected_at old expected ≡ false) × (new ≡ old) × (cause ≡ Unmet → came ≡ came_words (answer_at old expected))
+    (is_expected_at old expected ≡ false) × (new ≡ old) × (cause ≡ Unmet → came ≡ came_words (answer_unmet old expected))
 
 -- All that was printed has been expected, and nothing waits; or a line waits that has to be expected.
 abbrev pub ExpectsNone : Transcript → Transcript → List ℕ → Result (Unit {0}) LabCause → Type 0

@@ -29,7 +29,7 @@ impl Bench {
         if unknown_usage(expected).is_some() {
             return Err(LabCause::Script(no_control()));
         }
-        match keep_answer(self.printer.answer(expected), &mut self.came) {
+        match keep_answer(self.printer.answer_unmet(expected), &mut self.came) {
             Ok(()) => Err(LabCause::Unmet),
             Err(_) => Err(LabCause::Script(Cause::Memory)),
         }

@@ -30,7 +30,7 @@ pub struct Printer {
 }
 
 impl Printer {
-    ghost use Rattle.lab_expectations.specs.Expectations.{Met, answer_at, answer_of, is_expected_at, is_none_at, outcome, parts_of, waits};
+    ghost use Rattle.lab_expectations.specs.Expectations.{Met, answer_of, answer_unmet, is_expected_at, is_none_at, outcome, parts_of, waits};
     ghost use Rattle.lab_session.specs.Expecting.{IsForgotten, Keeps, answer_to_none};
 
     /// Nothing was printed.
@@ -158,11 +158,11 @@ impl Printer {
         self.transcript.expect(line)
     }
 
-    /// What came of an expectation of this line.
-    pub fn answer(&self, line: &[u8]) -> Expectation<'_>
-        ensures { answer_of result ≡ answer_at self.now.transcript line.now }
+    /// What came in place of this line, which isn't the next one: of an Output report also one that needn't be expected.
+    pub fn answer_unmet(&self, line: &[u8]) -> Expectation<'_>
+        ensures { answer_of result ≡ answer_unmet self.now.transcript line.now }
     {
-        self.transcript.answer(line)
+        self.transcript.answer_unmet(line)
     }
 
     /// Whether all that was printed has been expected; what needn't be expected is taken then. Otherwise nothing changes.
