@@ -33,7 +33,7 @@ use Rattle.lab_lines.specs.Typing.{trim, text_in_quotes, untyped_rest}
 use Rattle.lab_session.specs.declared.fault.LabCause.{LabCause}
 use Rattle.lab_session.specs.declared.fault.LabCause.TheVariants.{Script}
 use Rattle.lab_session.specs.Asking.{asked_by, cause_by}
-use Rattle.lab_session.specs.Scripts.{script_said, is_file, is_old, IsScripts, PrintsAs, PrintsSaid}
+use Rattle.lab_session.specs.Scripts.{script_said, is_file, is_line_of_hidrun, IsScripts, PrintsAs, PrintsSaid}
 use Rattle.lab_session.proofs.WordLemmas.{each_found, same_word, first_or_none, at_word, at_no_hex}
 
 -- ---- what agrees
@@ -361,9 +361,9 @@ some_said bytes (Some meaning) some h = ap (λ m. Some m) (sym h)
 -- what the bench reads of such a line is what hidrun reads
 pub script_read : (bytes : List ℕ) (said : Said) → IsScripts bytes → lab_meaning bytes ≡ Ok said → script_said said ≡ Some (meaning_of bytes)
 script_read bytes said old is =
-    some_said bytes (script_said said) (sym (ap is_old is) ∙ old.old) (subst (Agrees bytes) is (line_agrees bytes old.room))
+    some_said bytes (script_said said) (sym (ap is_line_of_hidrun is) ∙ old.read) (subst (Agrees bytes) is (line_agrees bytes old.room))
 
-wrong_only : (bytes : List ℕ) (refusal : Refusal) → is_old (Err refusal) ≡ true → Agrees bytes (Err refusal) → (meaning_of bytes ≡ Err fault.Syntax) × (cause_by refusal ≡ causes.Syntax)
+wrong_only : (bytes : List ℕ) (refusal : Refusal) → is_line_of_hidrun (Err refusal) ≡ true → Agrees bytes (Err refusal) → (meaning_of bytes ≡ Err fault.Syntax) × (cause_by refusal ≡ causes.Syntax)
 wrong_only bytes TooLong some h = absurd h
 wrong_only bytes (Wrong word expected) some h = (not_file (is_file expected) some h, refl)
   where
@@ -374,7 +374,7 @@ wrong_only bytes (Wrong word expected) some h = (not_file (is_file expected) som
 -- one that the bench can't read is none of hidrun's
 pub script_unread : (bytes : List ℕ) (refusal : Refusal) → IsScripts bytes → lab_meaning bytes ≡ Err refusal → (meaning_of bytes ≡ Err fault.Syntax) × (cause_by refusal ≡ causes.Syntax)
 script_unread bytes refusal old is =
-    wrong_only bytes refusal (sym (ap is_old is) ∙ old.old) (subst (Agrees bytes) is (line_agrees bytes old.room))
+    wrong_only bytes refusal (sym (ap is_line_of_hidrun is) ∙ old.read) (subst (Agrees bytes) is (line_agrees bytes old.room))
 
 said_old : (bytes : List ℕ) (said : Line) (o : Option (Result Line LineFault)) → meaning_of bytes ≡ Ok said → ReadsAs bytes o → is_some o ≡ true
 said_old bytes said None is h = let both : false ≡ true = sym h ∙ ap is_ok is in absurd (cc)
@@ -384,14 +384,14 @@ refused_old : (bytes : List ℕ) (said : Line) (file : Bool) → meaning_of byte
 refused_old bytes said true is h = let both : false ≡ true = sym h ∙ ap is_ok is in absurd (cc)
 refused_old bytes said false is h = refl
 
-old_read : (bytes : List ℕ) (said : Line) (r : Result Said Refusal) → meaning_of bytes ≡ Ok said → Agrees bytes r → is_old r ≡ true
+old_read : (bytes : List ℕ) (said : Line) (r : Result Said Refusal) → meaning_of bytes ≡ Ok said → Agrees bytes r → is_line_of_hidrun r ≡ true
 old_read bytes said (Ok new) is h = said_old bytes said (script_said new) is h
 old_read bytes said (Err TooLong) is h = absurd h
 old_read bytes said (Err (Wrong word expected)) is h = refused_old bytes said (is_file expected) is h
 
 -- a line that the bench refuses is refused by hidrun
 pub refused_there : (bytes : List ℕ) (refusal : Refusal) → IsScripts bytes → lab_meaning bytes ≡ Err refusal → meaning_of bytes ≡ Err fault.Syntax
-refused_there bytes refusal old is = (wrong_only bytes refusal (sym (ap is_old is) ∙ old.old) (subst (Agrees bytes) is (line_agrees bytes old.room))).0
+refused_there bytes refusal old is = (wrong_only bytes refusal (sym (ap is_line_of_hidrun is) ∙ old.read) (subst (Agrees bytes) is (line_agrees bytes old.room))).0
 
 -- a line that hidrun reads is read so by the bench
 pub script_old : (bytes : List ℕ) (said : Line) → meaning_of bytes ≡ Ok said → IsScripts bytes

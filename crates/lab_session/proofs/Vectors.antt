@@ -9,23 +9,23 @@ use Rattle.hid_text.specs.Short.{short_meaning}
 use Rattle.lab_lines.specs.ControlNames.{control_name_of, last_mark, place_of_word}
 use Rattle.lab_lines.specs.LabLines.{change_meaning, click_meaning, lab_meaning, new_meaning, other_meaning}
 use Rattle.lab_session.specs.Outputs.{output_text}
-use Rattle.lab_session.specs.Scripts.{is_old}
+use Rattle.lab_session.specs.Scripts.{is_line_of_hidrun}
 
 -- press 1 07:04 is a line of hidrun, and press 8 is none of hidrun's and none of the bench's
-old_line : is_old (lab_meaning (codes "press 1 07:04")) ≡ true
+old_line : is_line_of_hidrun (lab_meaning (codes "press 1 07:04")) ≡ true
 unfolding lab_meaning meaning_of line_meaning words_meaning short_meaning control_meaning usage_of_word number_of
 old_line = refl
 
-no_line : is_old (lab_meaning (codes "press 8")) ≡ true
+no_line : is_line_of_hidrun (lab_meaning (codes "press 8")) ≡ true
 unfolding lab_meaning meaning_of line_meaning words_meaning short_meaning control_meaning other_meaning change_meaning
 no_line = refl
 
 -- press 1 Keyboard_A and click 1 7.0 are new
-named_control : is_old (lab_meaning (codes "press 1 Keyboard_A")) ≡ false
+named_control : is_line_of_hidrun (lab_meaning (codes "press 1 Keyboard_A")) ≡ false
 unfolding lab_meaning meaning_of line_meaning words_meaning short_meaning control_meaning usage_of_word number_of other_meaning change_meaning control_name_of last_mark count_of place_of_word
 named_control = refl
 
-new_line : is_old (lab_meaning (codes "click 1 7.0")) ≡ false
+new_line : is_line_of_hidrun (lab_meaning (codes "click 1 7.0")) ≡ false
 unfolding lab_meaning meaning_of line_meaning other_meaning new_meaning click_meaning usage_of_word number_of control_name_of last_mark count_of place_of_word
 new_line = refl
 

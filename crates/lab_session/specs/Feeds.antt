@@ -1,5 +1,5 @@
 -- Bytes that come, and the lines that are carried out of them (our choice: docs/LAB.md).
-use Rattle.std.specs.Prelude.{◌≡◌, ◌⊎◌, ◌+◌, ◌<◌, ℕ, Bool, true, false, List, [], ◌∷◌, ◌++◌, length, Option}
+use Rattle.std.specs.Prelude.{◌≡◌, ◌⊎◌, ◌+◌, ◌-◌, ◌^◌, ◌<◌, ℕ, Bool, true, false, List, [], ◌∷◌, ◌++◌, length, min, Option, Result, Ok, Err}
 use Rattle.std.specs.Io.KnownBytes.{Consumes, IsAtEnd}
 use Rattle.std.specs.Str.Lines.{lines}
 use Rattle.hid_text.specs.Lines.{IsUnbroken}
@@ -20,9 +20,9 @@ Feeds before after old new more =
 
 -- The first line of some bytes was taken, whatever comes after them, and other bytes are left; or no line ends in them, and none was
 -- taken.
-abbrev pub TakesWhole : List ℕ → List ℕ → List ℕ → Bool → Type 0
-TakesWhole bytes line left true = (more : List ℕ) → lines (bytes ++ more) ≡ line ∷ lines (left ++ more)
-TakesWhole bytes line left false = IsUnbroken bytes × (line ≡ []) × (left ≡ bytes)
+abbrev pub TakesWholeLine : List ℕ → List ℕ → List ℕ → Bool → Type 0
+TakesWholeLine bytes line left true = (more : List ℕ) → lines (bytes ++ more) ≡ line ∷ lines (left ++ more)
+TakesWholeLine bytes line left false = IsUnbroken bytes × (line ≡ []) × (left ≡ bytes)
 
 -- The first line of some bytes was taken, after which no others come, and other bytes are left; or they have no line.
 abbrev pub TakesLine : List ℕ → List ℕ → List ℕ → Bool → Type 0
@@ -43,6 +43,25 @@ abbrev pub EndsReading : List ℕ → ℕ → LabFault → Type 0
 EndsReading rest count fault =
     (fault.line ≡ count + 1) × (cause : Cause) × (fault.cause ≡ Script cause)
     × (IsOutside cause ⊎ ((cause ≡ causes.LineTooLong) × (16385 < length rest)))
+
+-- So much of the next line came, over 16,385 bytes of it, and not its end: what stood before, and bytes that were to come.
+abbrev pub BeginsTooLong : List ℕ → Option (List ℕ) → Type 0
+BeginsTooLong rest before =
+    (read : List ℕ) × (after : Option (List ℕ)) × Consumes before after read × IsUnbroken (rest ++ read)
+    × (16385 < length (rest ++ read))
+
+-- No line was taken of these bytes and of those that were to come, with so many lines before them: the next one is too long, or
+-- memory, the reader or the writer ended it.
+abbrev pub EndsTaking : List ℕ → Option (List ℕ) → ℕ → LabFault → Type 0
+EndsTaking rest before count fault =
+    (fault.line ≡ count + 1) × (cause : Cause) × (fault.cause ≡ Script cause)
+    × (IsOutside cause ⊎ ((cause ≡ causes.LineTooLong) × BeginsTooLong rest before))
+
+-- how many lines were taken, with one more where there was one; the count stops before the greatest number
+abbrev pub lines_after : ℕ → Result Bool LabFault → ℕ
+lines_after count (Ok true) = min (count + 1) (2 ^ 64 - 2)
+lines_after count (Ok false) = count
+lines_after count (Err fault) = count
 
 -- the line that needs this
 abbrev pub need_said : Need → Said

@@ -50,16 +50,16 @@ is_file place.File = true
 is_file _ = false
 
 -- what the bench reads is a line of hidrun; or it is none of the bench's lines, and not because the name of a file is missing
-abbrev pub is_old : Result Said Refusal → Bool
-is_old (Ok said) = is_some (script_said said)
-is_old (Err TooLong) = false
-is_old (Err (Wrong word expected)) = not (is_file expected)
+abbrev pub is_line_of_hidrun : Result Said Refusal → Bool
+is_line_of_hidrun (Ok said) = is_some (script_said said)
+is_line_of_hidrun (Err TooLong) = false
+is_line_of_hidrun (Err (Wrong word expected)) = not (is_file expected)
 
 -- A line that isn't new: it has up to 1,024 bytes, and the bench reads one of hidrun's lines in it, or none at all. Example:
 -- press 1 07:04 and press 8 are such lines, press 1 Keyboard_A and click 1 7.0 aren't
 pub record IsScripts (line : List ℕ) : Type 0 where
   pub room : length line ≤ 1024
-  pub old : is_old (lab_meaning line) ≡ true
+  pub read : is_line_of_hidrun (lab_meaning line) ≡ true
 
 -- no fates are drawn
 abbrev pub IsUndrawn : Moment → Type 0

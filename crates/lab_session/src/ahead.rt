@@ -3,7 +3,7 @@
 ghost use Rattle.std.specs.Prelude.{◌≡◌, ◌⊎◌, ◌+◌, ◌-◌, ◌^◌, ◌<◌, ◌≤◌, ◌++◌, [], true, Ok, length, drop, vec_len, IfOk, OnOk, IfErr, IfSome};
 ghost use Rattle.std.specs.Io.KnownBytes.{Keeps};
 ghost use Rattle.hid_text.specs.Lines.{IsUnbroken};
-ghost use Rattle.lab_session.specs.Feeds.{EndsReading, Feeds, IsOutside, TakesLine, TakesWhole};
+ghost use Rattle.lab_session.specs.Feeds.{EndsReading, EndsTaking, Feeds, IsOutside, TakesLine, TakesWholeLine, lines_after};
 
 use super::fault::LabCause;
 use super::feed::Feed;
@@ -164,9 +164,10 @@ impl Ahead {
     }
 
     /// Takes the next line that has come whole, without its end. Whether there is one.
-    fn take_whole(&mut self, line: &mut Vec<u8>) -> Result<bool, AllocError>
+    fn take_whole_line(&mut self, line: &mut Vec<u8>) -> Result<bool, AllocError>
         requires { line.old.items ≡ [] }
-        ensures { IfOk result (TakesWhole (unread self.old) line.new.items (unread self.new)) }
+        ensures taken { IfOk result (TakesWholeLine (unread self.old) line.new.items (unread self.new)) }
+        ensures lines { self.new.lines ≡ self.old.lines }
     {
         let Some((last, behind)) = split_line(self.unread()) else {
             return Ok(false);
@@ -181,7 +182,8 @@ impl Ahead {
     fn take_rest(&mut self, line: &mut Vec<u8>) -> Result<bool, AllocError>
         requires empty { line.old.items ≡ [] }
         requires unbroken { IsUnbroken (unread self.old) }
-        ensures { IfOk result (TakesLine (unread self.old) line.new.items (unread self.new)) }
+        ensures taken { IfOk result (TakesLine (unread self.old) line.new.items (unread self.new)) }
+        ensures lines { self.new.lines ≡ self.old.lines }
     {
         let rest = self.unread();
         let some = !rest.is_empty();
@@ -194,6 +196,9 @@ impl Ahead {
     fn count_taken(&mut self, taken: Result<bool, AllocError>) -> Result<bool, LabFault>
         ensures same { IfOk result (λ some. taken ≡ Ok some) }
         ensures unread { unread self.new ≡ unread self.old }
+        ensures lines { self.new.lines ≡ lines_after self.old.lines result }
+        ensures err { IfErr result (λ fault. (fault.line ≡ self.old.lines + 1)
+            × (fault.cause ≡ LabCause.Script Cause.Memory)) }
     {
         match taken {
             Ok(some) => {
@@ -216,12 +221,15 @@ impl Ahead {
         line: &mut Vec<u8>,
         writer: &mut W,
     ) -> Result<bool, LabFault>
-        ensures { IfSome (F.remaining feed.old) (λ more. IfOk result (λ some. IfSome (F.remaining feed.new)
+        ensures taken { IfSome (F.remaining feed.old) (λ more. IfOk result (λ some. IfSome (F.remaining feed.new)
             (λ left. TakesLine (unread self.old ++ more) line.new.items (unread self.new ++ left) some))) }
+        ensures lines { self.new.lines ≡ lines_after self.old.lines result }
+        ensures kept { Keeps (W.contents writer.old) (W.contents writer.new) }
+        ensures err { IfErr result (EndsTaking (unread self.old) (F.remaining feed.old) self.old.lines) }
     {
         line.clear();
         for _ in 0..MAX_READS {
-            let taken = self.take_whole(line);
+            let taken = self.take_whole_line(line);
             if self.count_taken(taken)? {
                 return Ok(true);
             }

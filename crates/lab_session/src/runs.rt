@@ -140,7 +140,7 @@ fn run_line<'a, W: Sink>(
 
 /// Carries out a line that a line feed ended, with so many lines before it.
 #[inline(always)] // a comment makes no room for what another line does
-fn run_ended<'a, W: Sink>(
+fn run_whole_line<'a, W: Sink>(
     bench: &mut Bench,
     before: usize,
     line: &'a [u8],
@@ -222,7 +222,7 @@ fn run_lines<'a, W: Sink>(
     let mut rest = text;
     let mut count = before;
     while let Some((last, behind)) = split_line(rest) {
-        match run_ended(bench, count, last, writer) {
+        match run_whole_line(bench, count, last, writer) {
             Ok(None) => {}
             Ok(Some(asked)) => {
                 return Ok(Done::Asks {

@@ -13,11 +13,11 @@ returns-in-Err-clause-script g c = λ plain undrawn more old.
     let h = c.loop-last.invariant.2 plain undrawn more old in
     let U = g.W.Sink.contents c.args.writer.now in
     let V = g.W.Sink.contents c.loop-last.writer in
-    let W = g.W.Sink.contents c.run_ended.new.writer in
+    let W = g.W.Sink.contents c.run_whole_line.new.writer in
     let is = behind_more c.loop-last.rest.now c.in-Some.last.now c.in-Some.behind.now more c.in-Some.ensures.1 in
     let line = next_old c.args.bench.now c.loop-last.bench U V (c.args.text.now ++ more) (c.loop-last.rest.now ++ more) c.in-Some.last.now (c.in-Some.behind.now ++ more) c.args.before c.loop-last.count c.in-Some.ensures.0 is h in
     let ran = c.in-Err.ensures.script h.0 h.1 line in
-    (goes_out c.args.bench.now c.loop-last.bench c.run_ended.new.bench U V W (c.args.text.now ++ more) (c.loop-last.rest.now ++ more) c.in-Some.last.now (c.in-Some.behind.now ++ more) c.args.before c.loop-last.count c.in-Err.fault c.in-Some.ensures.0 is h ran)
+    (goes_out c.args.bench.now c.loop-last.bench c.run_whole_line.new.bench U V W (c.args.text.now ++ more) (c.loop-last.rest.now ++ more) c.in-Some.last.now (c.in-Some.behind.now ++ more) c.args.before c.loop-last.count c.in-Err.fault c.in-Some.ensures.0 is h ran)
 
 pub returns-in-Ok-Some-clause-script : goal.returns-in-Ok-Some-clause-script
 returns-in-Ok-Some-clause-script g c = λ plain undrawn more old.
@@ -46,20 +46,20 @@ loop-last-preserved g c =
           let h = c.loop-last.invariant.2 plain undrawn more old in
           let U = g.W.Sink.contents c.args.writer.now in
           let V = g.W.Sink.contents c.loop-last.writer in
-          let W = g.W.Sink.contents c.run_ended.new.writer in
+          let W = g.W.Sink.contents c.run_whole_line.new.writer in
           let is = behind_more c.loop-last.rest.now c.in-Some.last.now c.in-Some.behind.now more c.in-Some.ensures.1 in
           let line = next_old c.args.bench.now c.loop-last.bench U V (c.args.text.now ++ more) (c.loop-last.rest.now ++ more) c.in-Some.last.now (c.in-Some.behind.now ++ more) c.args.before c.loop-last.count c.in-Some.ensures.0 is h in
           let ran = c.in-Ok-None.ensures.script h.0 h.1 line in
-          goes_on c.args.bench.now c.loop-last.bench c.run_ended.new.bench U V W (c.args.text.now ++ more) (c.loop-last.rest.now ++ more) c.in-Some.last.now (c.in-Some.behind.now ++ more) c.args.before c.loop-last.count c.in-Ok-None.field-0 c.in-Some.ensures.0 is h ran,
+          goes_on c.args.bench.now c.loop-last.bench c.run_whole_line.new.bench U V W (c.args.text.now ++ more) (c.loop-last.rest.now ++ more) c.in-Some.last.now (c.in-Some.behind.now ++ more) c.args.before c.loop-last.count c.in-Ok-None.field-0 c.in-Some.ensures.0 is h ran,
       λ more.
           let V = g.W.Sink.contents c.loop-last.writer in
-          let W = g.W.Sink.contents c.run_ended.new.writer in
+          let W = g.W.Sink.contents c.run_whole_line.new.writer in
           let is = lines_split (c.loop-last.rest.now ++ more) c.in-Some.last.now (c.in-Some.behind.now ++ more) c.in-Some.ensures.0 (behind_more c.loop-last.rest.now c.in-Some.last.now c.in-Some.behind.now more c.in-Some.ensures.1) in
           let is_ok = c.in-Ok-None.is in
           let none : c.in-Ok-None.field-0 ≡ None = cc in
-          let carried = subst (λ o. CarriesLine (strip_carriage_return c.in-Some.last.now) (option_map asked_said o) c.loop-last.bench c.run_ended.new.bench V W) none c.in-Ok-None.ensures.carries in
+          let carried = subst (λ o. CarriesLine (strip_carriage_return c.in-Some.last.now) (option_map asked_said o) c.loop-last.bench c.run_whole_line.new.bench V W) none c.in-Ok-None.ensures.carries in
           carried_next (lines (c.args.text.now ++ more)) (lines (c.loop-last.rest.now ++ more)) (lines (c.in-Some.behind.now ++ more)) (strip_carriage_return c.in-Some.last.now) c.args.before c.loop-last.count
-          c.args.bench.now c.loop-last.bench c.run_ended.new.bench (g.W.Sink.contents c.args.writer.now) V W (c.loop-last.invariant.3 more) is carried,
+          c.args.bench.now c.loop-last.bench c.run_whole_line.new.bench (g.W.Sink.contents c.args.writer.now) V W (c.loop-last.invariant.3 more) is carried,
     )
 
 pub loop-last-init : goal.loop-last-init
@@ -74,23 +74,23 @@ pub returns-in-Err-clause-carries : goal.returns-in-Err-clause-carries
 returns-in-Err-clause-carries g c = λ more.
     let U = g.W.Sink.contents c.args.writer.now in
     let V = g.W.Sink.contents c.loop-last.writer in
-    let W = g.W.Sink.contents c.run_ended.new.writer in
+    let W = g.W.Sink.contents c.run_whole_line.new.writer in
     let is = lines_split (c.loop-last.rest.now ++ more) c.in-Some.last.now (c.in-Some.behind.now ++ more) c.in-Some.ensures.0 (behind_more c.loop-last.rest.now c.in-Some.last.now c.in-Some.behind.now more c.in-Some.ensures.1) in
     let here = carried_as (lines (c.args.text.now ++ more)) (lines (c.args.text.now ++ more)) (lines (c.loop-last.rest.now ++ more)) (strip_carriage_return c.in-Some.last.now ∷ lines (c.in-Some.behind.now ++ more))
     c.args.before c.loop-last.count c.loop-last.count c.args.bench.now c.loop-last.bench U V refl is refl (c.loop-last.invariant.3 more) in
     (refused_next (lines (c.args.text.now ++ more)) (lines (c.in-Some.behind.now ++ more)) (strip_carriage_return c.in-Some.last.now) c.args.before c.loop-last.count c.in-Err.fault
-    c.args.bench.now c.loop-last.bench c.run_ended.new.bench U V here c.in-Err.ensures.refused.0 c.in-Err.ensures.refused.1)
+    c.args.bench.now c.loop-last.bench c.run_whole_line.new.bench U V here c.in-Err.ensures.refused.0 c.in-Err.ensures.refused.1)
 
 pub returns-in-Ok-Some-clause-carries : goal.returns-in-Ok-Some-clause-carries
 returns-in-Ok-Some-clause-carries g c = λ more.
     let U = g.W.Sink.contents c.args.writer.now in
     let V = g.W.Sink.contents c.loop-last.writer in
-    let W = g.W.Sink.contents c.run_ended.new.writer in
+    let W = g.W.Sink.contents c.run_whole_line.new.writer in
     let is = lines_split (c.loop-last.rest.now ++ more) c.in-Some.last.now (c.in-Some.behind.now ++ more) c.in-Some.ensures.0 (behind_more c.loop-last.rest.now c.in-Some.last.now c.in-Some.behind.now more c.in-Some.ensures.1) in
     let here = carried_as (lines (c.args.text.now ++ more)) (lines (c.args.text.now ++ more)) (lines (c.loop-last.rest.now ++ more)) (strip_carriage_return c.in-Some.last.now ∷ lines (c.in-Some.behind.now ++ more))
     c.args.before c.loop-last.count c.loop-last.count c.args.bench.now c.loop-last.bench U V refl is refl (c.loop-last.invariant.3 more) in
     let is_ok = c.in-Ok-Some.is in
     let some : c.in-Ok-Some.field-0 ≡ Some c.in-Ok-Some.asked = cc in
-    let asked = subst (λ o. CarriesLine (strip_carriage_return c.in-Some.last.now) (option_map asked_said o) c.loop-last.bench c.run_ended.new.bench V W) some c.in-Ok-Some.ensures.carries in
+    let asked = subst (λ o. CarriesLine (strip_carriage_return c.in-Some.last.now) (option_map asked_said o) c.loop-last.bench c.run_whole_line.new.bench V W) some c.in-Ok-Some.ensures.carries in
     asks_next (lines (c.args.text.now ++ more)) (lines (c.in-Some.behind.now ++ more)) (strip_carriage_return c.in-Some.last.now) c.args.before c.loop-last.count (c.loop-last.count + 1)
-    (asked_said c.in-Ok-Some.asked) c.args.bench.now c.loop-last.bench c.run_ended.new.bench U V W here asked refl
+    (asked_said c.in-Ok-Some.asked) c.args.bench.now c.loop-last.bench c.run_whole_line.new.bench U V W here asked refl

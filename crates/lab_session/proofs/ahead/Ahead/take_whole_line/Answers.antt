@@ -3,10 +3,10 @@ use Rattle.std.specs.Str.Lines.{lines, strip_carriage_return}
 use Rattle.lab_session.specs.Ahead.{unread}
 use Rattle.hid_text.proofs.PieceLemmas.{behind_line}
 use Rattle.lab_session.proofs.RunLemmas.{behind_more, left_is, lines_split}
-use Rattle.lab_session.proofs.ahead.Ahead.take_whole.Goals as goal
+use Rattle.lab_session.proofs.ahead.Ahead.take_whole_line.Goals as goal
 
-pub returns : goal.returns
-returns c = λ more.
+pub returns-clause-taken : goal.returns-clause-taken
+returns-clause-taken c = λ more.
     let u = c.unread.result.now in
     let last = c.in-Some.last.now in
     let behind = c.in-Some.behind.now in

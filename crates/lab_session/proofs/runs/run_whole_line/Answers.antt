@@ -3,7 +3,7 @@ use Rattle.std.specs.Str.Lines.{strip_carriage_return}
 use Rattle.hid_script.specs.Interpreter.{session_of}
 use Rattle.lab_session.proofs.NothingLemmas.{nothing_done, nothing_expects, nothing_prints}
 use Rattle.lab_session.proofs.RunLemmas.{ran_on}
-use Rattle.lab_session.proofs.runs.run_ended.Goals as goal
+use Rattle.lab_session.proofs.runs.run_whole_line.Goals as goal
 
 pub returns-then-is_comment-clause-script : goal.returns-then-is_comment-clause-script
 returns-then-is_comment-clause-script g c = λ plain undrawn old.
