@@ -44,7 +44,7 @@ EndsReading rest count fault =
     (fault.line ≡ count + 1) × (cause : Cause) × (fault.cause ≡ Script cause)
     × (IsOutside cause ⊎ ((cause ≡ causes.LineTooLong) × (16385 < length rest)))
 
--- So much of the next line came, over 16,385 bytes of it, and not its end: what stood before, and bytes that were to come.
+-- Over 16,385 bytes of the next line came, and not its end: of these bytes, and of those that were to come.
 abbrev pub BeginsTooLong : List ℕ → Option (List ℕ) → Type 0
 BeginsTooLong rest before =
     (read : List ℕ) × (after : Option (List ℕ)) × Consumes before after read × IsUnbroken (rest ++ read)
