@@ -5,7 +5,7 @@ ghost use Rattle.std.specs.Prelude.{◌<◌, vec_len};
 use super::progress::Progress;
 use super::source::{LabSource, name_beside};
 use super::words::{
-    expected_of, mark_words, name_words, syntax_words, unmet_words, verb_of, word_shown,
+    expected_of, hex_words, mark_words, name_words, syntax_words, unmet_words, verb_of, word_shown,
 };
 use hid_input::{InputCause, InputFault, KnownFile, descriptor_in, known_file};
 use hid_layout::{Layout, Limits};
@@ -69,13 +69,23 @@ fn no_memory(line: usize) -> Trouble {
     bare(line, LabCause::Script(Cause::Memory))
 }
 
-/// X2, of a line that begins so: a byte order mark is named, since it hides the line's first word.
-fn long_trouble(alloc: Global, number: usize, line: &[u8]) -> Trouble {
-    let cause = LabCause::Script(Cause::LineTooLong);
-    match mark_words(line) {
+/// A cause in these words, or in those of its own.
+fn with_words(alloc: Global, number: usize, cause: Cause, words: Option<&'static str>) -> Trouble {
+    let cause = LabCause::Script(cause);
+    match words {
         Some(words) => in_words(alloc, number, cause, words),
         None => bare(number, cause),
     }
+}
+
+/// X2, of a line that begins so: a byte order mark is named, since it hides the line's first word.
+pub fn long_trouble(alloc: Global, number: usize, line: &[u8]) -> Trouble {
+    with_words(alloc, number, Cause::LineTooLong, mark_words(line))
+}
+
+/// X3, of a line.
+pub fn hex_trouble(alloc: Global, number: usize, line: &[u8]) -> Trouble {
+    with_words(alloc, number, Cause::BadHex, hex_words(line))
 }
 
 /// Why a line can't be read: it is too long (X2), or which word of it is wrong (X1), and what was expected there.
@@ -141,10 +151,12 @@ fn bench_trouble(alloc: Global, bench: &Bench, source: &LabSource, fault: &LabFa
     let cause = fault.cause;
     let line = source.refused_line(fault);
     let number = source.number(fault.line);
-    if cause == LabCause::Script(Cause::LineTooLong) {
-        return long_trouble(alloc, number, line);
-    }
-    match refusal_words(alloc, bench, cause, line) {
+    let words = match cause {
+        LabCause::Script(Cause::LineTooLong) => return long_trouble(alloc, number, line),
+        LabCause::Script(Cause::BadHex) => return hex_trouble(alloc, number, line),
+        _ => refusal_words(alloc, bench, cause, line),
+    };
+    match words {
         Ok(words) => Trouble {
             line: number,
             cause,

@@ -4,8 +4,8 @@ ghost use Rattle.std.specs.Prelude.{◌<◌, vec_len};
 
 use super::printing::{is_included, print_last_place, print_place, print_trouble};
 use super::run::{
-    Trouble, bare, include, last_trouble, no_control, path_of, read_descriptor, repeat,
-    unread_trouble,
+    Trouble, bare, hex_trouble, include, last_trouble, long_trouble, no_control, path_of,
+    read_descriptor, repeat, unread_trouble,
 };
 use super::source::LabSource;
 use super::words::{ended_words, name_words, unmet_words};
@@ -115,18 +115,21 @@ fn control_refusal(alloc: Global, number: usize, line: &[u8], fault: ServeFault)
 
 /// The cause of a line that the bench refuses too, by its number in its file; else that of one that isn't served.
 fn refusal_of(alloc: Global, number: usize, line: &[u8], fault: ServeFault) -> Refusal {
-    let cause = match fault {
+    match fault {
         ServeFault::Line(_, LineCause::Text(LineFault::Syntax)) => {
-            return Refusal::Line(unread_trouble(alloc, number, line));
+            Refusal::Line(unread_trouble(alloc, number, line))
         }
         ServeFault::Line(_, LineCause::Change(ChangeFault::NoSuchControl)) => {
-            return control_refusal(alloc, number, line, fault);
+            control_refusal(alloc, number, line, fault)
         }
-        ServeFault::Line(_, LineCause::Text(LineFault::LineTooLong)) => Cause::LineTooLong,
-        ServeFault::Line(_, LineCause::Text(LineFault::BadHex)) => Cause::BadHex,
-        _ => return Refusal::Served(fault),
-    };
-    Refusal::Line(bare(number, LabCause::Script(cause)))
+        ServeFault::Line(_, LineCause::Text(LineFault::LineTooLong)) => {
+            Refusal::Line(long_trouble(alloc, number, line))
+        }
+        ServeFault::Line(_, LineCause::Text(LineFault::BadHex)) => {
+            Refusal::Line(hex_trouble(alloc, number, line))
+        }
+        _ => Refusal::Served(fault),
+    }
 }
 
 /// Takes the next line of the last source that has one, without its end; those that are at their end go. Whether there is one.

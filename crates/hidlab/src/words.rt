@@ -4,6 +4,7 @@ ghost use Rattle.std.specs.Prelude.{◌<◌, ◌≤◌, length};
 
 use super::near::question;
 use command_words::{ShownBytes, is_escaped};
+use hid_text::first_word;
 use lab_expectations::{is_output_line, unknown_usage};
 use lab_lines::{
     ControlName, Expected, LabLine, Unread, diagnose, is_any_name, read_control_name, read_lab_line,
@@ -119,6 +120,14 @@ pub fn syntax_words(alloc: Global, line: &[u8]) -> Result<Option<String>, AllocE
     match unread {
         Unread::Word(word, expected) => Ok(Some(wrong_word(alloc, word, expected)?)),
         Unread::TooLong => Ok(None),
+    }
+}
+
+/// That the bytes of a device aren't hex (X3), in words that say how a file is named; none of other lines.
+pub fn hex_words(line: &[u8]) -> Option<&'static str> {
+    match first_word(line) {
+        Some((b"device", _)) => Some("bytes in hex are pairs of digits; a file is named as @FILE"),
+        _ => None,
     }
 }
 
