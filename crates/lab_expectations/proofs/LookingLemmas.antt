@@ -6,7 +6,7 @@ use Rattle.std.proofs.Math.ListN.{drop_of_length-le}
 use Rattle.hid_text.specs.Lines.{IsUnbroken}
 use Rattle.hid_text.proofs.LineLemmas.{some_part}
 use Rattle.lab_expectations.specs.Matching.{matches}
-use Rattle.lab_expectations.specs.Expectations.{Outcome, Met, Other, Nothing, is_line_feed, parts_of, is_optional, plain, outcome, first_required, last_line}
+use Rattle.lab_expectations.specs.Expectations.{Outcome, Met, Other, Nothing, is_line_feed, parts_of, is_optional, plain, outcome, first_line, first_required, last_line}
 
 -- a line, and the lines after it
 line_first : (text line more : List ℕ) → IsUnbroken line → text ≡ line ++ 10 ∷ more → parts_of text ≡ line ∷ parts_of more
@@ -104,6 +104,21 @@ end_behind text rest from next within is at =
 pub nothing_behind : (text : List ℕ) (from : ℕ) → length text ≤ from → [] ≡ drop (min from (length text)) text
 nothing_behind text from past =
     let all : length text ≤ min from (length text) = omega (arith, past) in sym (drop_of_length-le text all)
+
+-- ---- the first line
+
+first_step : (line : List ℕ) (parts : List (List ℕ)) (next : List ℕ) (rest : List (List ℕ)) → parts ≡ next ∷ rest → first_line (line ∷ parts) ≡ Some (plain line)
+first_step line parts next rest is = rw is refl
+
+-- a line that others may follow is the first one
+pub first_found : (text line more : List ℕ) → IsUnbroken line → text ≡ line ++ 10 ∷ more → Some (plain line) ≡ first_line (parts_of text)
+first_found text line more whole is =
+    let parts = some_part is_line_feed more in
+    sym (ap first_line (line_first text line more whole is) ∙ first_step line (parts_of more) parts.0 parts.1 parts.2)
+
+-- there is no line
+pub first_none : (text : List ℕ) → IsUnbroken text → None ≡ first_line (parts_of text)
+first_none text whole = sym (ap first_line (slice_split_none is_line_feed text whole))
 
 -- ---- the last line
 

@@ -47,7 +47,7 @@ first_required (last ∷ []) = None
 first_required (line ∷ next ∷ more) = if is_optional line then first_required (next ∷ more) else Some line
 
 -- the first line, if there is one, without its +. What stands after the last line feed is no line.
-unfoldable pub first_line : List (List ℕ) → Option (List ℕ)
+abbrev pub first_line : List (List ℕ) → Option (List ℕ)
 first_line [] = None
 first_line (last ∷ []) = None
 first_line (line ∷ next ∷ more) = Some (plain line)

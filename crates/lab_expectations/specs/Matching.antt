@@ -35,7 +35,7 @@ unfoldable pub matches : List ℕ → List ℕ → Bool
 matches expected line = are_words (words_of expected) (words_of line)
 
 -- a line is one of an Output report, by its words. Example: 1 output 0 02
-unfoldable pub is_output : List Word → Bool
+abbrev pub is_output : List Word → Bool
 is_output (device ∷ word ∷ more) = bytes_eq word (codes "output")
 is_output (device ∷ []) = false
 is_output [] = false
