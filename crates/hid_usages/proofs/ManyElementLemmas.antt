@@ -319,3 +319,8 @@ none_rolls_over array [] never fits = refl
 none_rolls_over array (v ∷ vs) never fits =
     ap (λ (b : Bool). b || list_any (is_rollover_number array) vs) (never v (All-head (FitsFields array.item.now) v vs fits))
     ∙ none_rolls_over array vs never (All-tail (FitsFields array.item.now) v vs fits)
+
+-- tests that answer alike find alike
+pub same_any : {X : Type 0} (p q : X → Bool) (xs : List X) → ((x : X) → p x ≡ q x) → list_any p xs ≡ list_any q xs
+same_any p q [] same = refl
+same_any p q (x ∷ xs) same = ap (λ (b : Bool). b || list_any p xs) (same x) ∙ ap (λ (b : Bool). q x || b) (same_any p q xs same)

@@ -171,3 +171,17 @@ padding_over layout r bytes last span plan start now before told len room from k
 pub none_taken : (layout : Contents) (r : ℕ) (bytes : List ℕ) (start : List ControlState) (before : List Event) (len room : ℕ) → len + length (read_events layout r bytes start) ≤ room
     → IsAlong layout r 0 (HasTaken layout r bytes start start before before len room)
 none_taken layout r bytes start before len room fits = along_start layout r (HasTaken layout r bytes start start before before len room) (record { states = refl; events = refl; fits = fits })
+
+-- to the end where the first item is passed over, and the others are padding
+pub single_passed : (layout : Contents) (r : ℕ) (bytes last : List ℕ) (span : BitSpan) (plan : List PlannedItem) (start : List ControlState) (before : List Event) (len room : ℕ) (planned : PlannedItem)
+    → IsKnownPlan layout r bytes last span plan start start → 0 < length plan → ArePadding plan 1
+    → slice_get plan 0 ≡ Some planned → IsPassed planned span → len + length (read_events layout r bytes start) ≤ room
+    → IsAlong layout r (length plan) (HasTaken layout r bytes start start before before len room)
+single_passed layout r bytes last span plan start before len room planned known some others first passed fits =
+    let here : ArePassed plan span 0 1 = λ j item there low high.
+    let at : j ≡ 0 = omega (arith, high) in
+    let same : Some item ≡ Some planned = sym there ∙ ap (slice_get plan) at ∙ first in
+    let is : planned ≡ item = cc in
+    subst (λ (i : PlannedItem). IsPassed i span) is passed in
+    let one = passed_to layout r bytes last span plan start start before before len room 0 1 known (omega arith) some here (none_taken layout r bytes start before len room fits) in
+    padding_over layout r bytes last span plan start start before before len room 1 known some others one

@@ -38,7 +38,7 @@ pub(crate) struct KeyNumbers<'a> {
 
 /// Whether one of the numbers is this.
 #[inline(always)]
-fn has_number<C: FieldCodec>(numbers: &FieldRun<'_>, number: i64) -> bool
+pub(crate) fn has_number<C: FieldCodec>(numbers: &FieldRun<'_>, number: i64) -> bool
     ensures { result ≡ list_any (λ v. int_eq v number) numbers.now }
 {
     for k in 0..numbers.len() {

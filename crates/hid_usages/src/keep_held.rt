@@ -12,15 +12,15 @@ ghost use Rattle.hid_usages.specs.PlannedReports.{HasPlan, Keeps};
 ghost use Rattle.hid_usages.specs.Plans.{IsPlan, IsPlannedItem};
 ghost use Rattle.hid_usages.specs.Taking.{IsInReport, IsReceived};
 
-use crate::changed_keys::{names_rollover, sole_rollover};
+use crate::changed_keys::sole_rollover;
 use crate::key_array::KeyArray;
 use crate::plan::{PlannedItem, PlannedKind, ReportPlan};
 use crate::planned_report::PlannedReport;
+use crate::rollover::numbers_roll_over;
 use crate::take::ReportBytes;
 use crate::take_plan::{FEW_KEYS, planned_at};
 use hid_fields::{FieldCodec, MAX_WIDTH};
-use hid_layout::{Layout, Usage, usage_count};
-use hid_report_descriptor::ERROR_ROLL_OVER;
+use hid_layout::{Layout, usage_count};
 use hid_snapshots::{FieldRun, first_bit, item_at};
 
 /// Whether fields that are read so are an array's.
@@ -39,29 +39,16 @@ fn is_array(kind: PlannedKind) -> bool
     }
 }
 
-/// Whether one of the ranges of usages has ErrorRollOver.
-fn lists_rollover(entries: &[(Usage, Usage)]) -> bool {
-    for (first, last) in entries {
-        let usage = Usage {
-            page: first.page,
-            id: ERROR_ROLL_OVER,
-        };
-        if usage.is_rollover() && first.id <= ERROR_ROLL_OVER && ERROR_ROLL_OVER <= last.id {
-            return true;
-        }
-    }
-    false
-}
-
-/// Whether a planned item is an array of many usages, ErrorRollOver among them.
+/// Whether a planned item is an array of many usages, of which an element can name ErrorRollOver.
 fn is_wide(layout: &Layout, planned: &PlannedItem) -> bool
     requires { IsPlannedItem layout.now planned.now }
 {
     // For the prover: what holds of every layout.
     let _ = layout.items();
 
-    let entries = layout.entries(planned.place);
-    is_array(planned.kind) && FEW_KEYS < usage_count(entries) && lists_rollover(entries)
+    is_array(planned.kind)
+        && FEW_KEYS < usage_count(layout.entries(planned.place))
+        && layout.codes(planned.place).rollover.is_some()
 }
 
 /// Whether some planned item is such an array. What is read is the same in either case: this only says which way takes less.
@@ -163,7 +150,7 @@ fn array_rolls_over<C: FieldCodec>(received: &ReportBytes<'_>, planned: &Planned
         item,
         entries: received.layout.entries(planned.place),
     };
-    names_rollover::<C>(&array, &numbers)
+    numbers_roll_over::<C>(received.layout, planned.place, &array, &numbers)
 }
 
 /// Whether a planned item is an array of which an element names ErrorRollOver: then the bytes leave what is held of it.

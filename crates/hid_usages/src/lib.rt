@@ -43,6 +43,7 @@ mod report_index;
 mod report_lookup;
 mod report_plans;
 mod reset_events;
+mod rollover;
 mod single_key;
 mod take;
 mod take_plan;

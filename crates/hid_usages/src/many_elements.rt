@@ -15,11 +15,12 @@ ghost use Rattle.hid_usages.specs.ManyElements.{places_below, HoldsNameable, Mar
 ghost use Rattle.hid_usages.specs.Reading.{FitsFields, keys_at};
 ghost use Rattle.hid_usages.specs.Taking.{IsArrayAt, NoFlagSetFor};
 
-use crate::changed_keys::{KeyNumbers, MOST_ELEMENTS, names_rollover};
+use crate::changed_keys::{KeyNumbers, MOST_ELEMENTS};
 use crate::elements::ElementRange;
 use crate::key_array::{KeyArray, is_pressable, place_of};
 use crate::key_search::{next_pressed_within, next_within};
-use crate::take::take_unless_rollover;
+use crate::rollover::numbers_roll_over;
+use crate::take::take_flags;
 use crate::view_changes::usage_at;
 use hid_fields::FieldCodec;
 use hid_layout::{ControlId, Layout, MainItem, usage_at as usage_in};
@@ -254,27 +255,6 @@ fn change_within<C: FieldCodec>(
     press_named(layout, item, change, window, held, named, out);
 }
 
-/// Whether an element of the array at a place can name ErrorRollOver.
-fn can_roll_over(layout: &Layout, place: usize, array: &KeyArray<'_>) -> bool
-    requires { IsListedArray layout.now place array.now }
-    ensures { result ≡ false → (v : ℤ) → FitsFields array.now.item.now v
-        → is_rollover_number array.now v ≡ false }
-{
-    layout.codes(place).rollover.is_some()
-}
-
-/// Whether one of the numbers names ErrorRollOver, where it is known whether one can.
-#[inline(always)]
-fn rolls_over<C: FieldCodec>(can: bool, array: &KeyArray<'_>, numbers: &FieldRun<'_>) -> bool
-    requires can { can ≡ false → (v : ℤ) → FitsFields array.now.item.now v
-        → is_rollover_number array.now v ≡ false }
-    requires entries { length array.now.entries.now ≤ 64 }
-    requires fits { All (FitsFields array.now.item.now) numbers.now }
-    ensures { result ≡ list_any (is_rollover_number array.now) numbers.now }
-{
-    can && names_rollover::<C>(array, numbers)
-}
-
 /// Sets the keys of an array, which the last numbers leave, by the next ones, and appends their events. If a number names
 /// ErrorRollOver, the keys stay (HID 1.11, appendix C); a last one that does doesn't say which keys are held.
 #[inline(never)]
@@ -304,10 +284,12 @@ pub(crate) fn take_within<C: FieldCodec>(
         state.new) out.new }
 {
     if let ControlState::Switches(held) = state {
-        let can = can_roll_over(layout, place, &change.array);
-        if rolls_over::<C>(can, &change.array, change.last) {
-            take_unless_rollover::<C>(layout, place, &change.array, change.next, held, named, out);
-        } else if !rolls_over::<C>(can, &change.array, change.next) {
+        if numbers_roll_over::<C>(layout, place, &change.array, change.next) {
+            return;
+        }
+        if numbers_roll_over::<C>(layout, place, &change.array, change.last) {
+            take_flags::<C>(layout, place, &change.array, change.next, held, named, out);
+        } else {
             change_within::<C>(layout, place, change, held, named, out);
         }
     }

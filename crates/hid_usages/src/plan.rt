@@ -328,7 +328,7 @@ pub(crate) fn items_of_span(plan: &ReportPlan, span: BitSpan) -> ItemRange
 
 /// Whether the bits of a planned item lie outside of a span, and it has no motions.
 #[inline(always)]
-fn is_passed(item: &PlannedItem, span: BitSpan) -> bool
+pub(crate) fn is_passed(item: &PlannedItem, span: BitSpan) -> bool
     ensures { OnTrue result (IsPassed item.now span) }
 {
     (item.end <= span.first || span.end <= item.first) && item.kind != PlannedKind::Motions

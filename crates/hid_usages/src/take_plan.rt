@@ -26,7 +26,7 @@ use crate::elements::{ElementRange, every_element};
 use crate::event_source::ItemUsages;
 use crate::key_array::KeyArray;
 use crate::many_elements::{compares_elements, take_within};
-use crate::plan::{PlannedItem, PlannedKind, ReportPlan, items_of_span, next_unpassed};
+use crate::plan::{PlannedItem, PlannedKind, ReportPlan, is_passed, items_of_span, next_unpassed};
 use crate::single_key::{NumberChange, change_key, is_rollover, named_usage};
 use crate::take::{
     ElementNumbers, LastReport, ListedItem, ReportBytes, take_array, take_elements, take_pattern,
@@ -101,7 +101,7 @@ fn take_changed<C: FieldCodec, const WIDE: bool>(
     }
 }
 
-/// Reads a report of one element as [`take_planned`] does.
+/// Reads a report of one element as [`take_planned`] does. Where its bits are those of the report before, it is passed over.
 fn take_single<C: FieldCodec>(
     received: &ReportBytes<'_>,
     plan: &ReportPlan,
@@ -127,6 +127,9 @@ fn take_single<C: FieldCodec>(
     let _ = received.layout.items();
 
     let planned = planned_at(plan, 0);
+    if is_passed(planned, last.changed) {
+        return;
+    }
     let i = planned.place;
     take_planned_item::<C, true, false>(received, planned, last, &mut states[i], named, out);
 }

@@ -11,7 +11,7 @@ use Rattle.hid_usages.specs.Taking.{read_view}
 use Rattle.hid_usages.proofs.BitLemmas.{same_number}
 use Rattle.hid_usages.proofs.EventLemmas.{appends, room_for, room_left, told}
 use Rattle.hid_usages.proofs.PassingLemmas.{next_planned, place_known, places_length, planned_there}
-use Rattle.hid_usages.proofs.PlanOrderLemmas.{IsKnownPlan, padding_over, none_taken}
+use Rattle.hid_usages.proofs.PlanOrderLemmas.{IsKnownPlan, padding_over, single_passed, none_taken}
 use Rattle.hid_usages.proofs.TakeLemmas.{HasTaken, read_start, read_next, events_from_item-next, view_from_item-length, taking_skips, all_told}
 use Rattle.hid_usages.proofs.ViewLemmas.{room_at}
 use Rattle.hid_usages.proofs.take_plan.take_single.Goals as goal
@@ -246,3 +246,51 @@ returns-clause-appends g c =
     let skipped = taking_skips layout r bytes start now c.args.out.now.items out.items (vec_len out) (vec_capacity out) after.all after.same in
     let all = along_end layout r (length plan) (map place_of plan) _ skipped c.requires.places.plan (omega (arith, places_length plan)) over in
     appends _ _ _ (all_told layout r bytes start (length layout.items) out.items _ (omega (arith, known.all)) all.events) c.take_planned_item.ensures.appends.room
+
+pub returns-then-is_passed-clause-view : goal.returns-then-is_passed-clause-view
+returns-then-is_passed-clause-view g c =
+    let layout = c.args.received.now.layout.now in
+    let r = c.args.received.now.report in
+    let bytes = c.args.received.now.bytes.now in
+    let start = c.args.states.now in
+    let plan = c.args.plan.now.items.items in
+    let told = c.args.out.now.items in
+    let known : IsKnownPlan layout r bytes c.args.last.now.bytes.now c.args.last.now.changed plan start start = record {
+      laid = c.items.ensures.layout;
+      input = c.requires.received.input;
+      places = c.requires.plan.places;
+      each = c.requires.plan.each;
+      known = c.requires.known;
+      all = c.requires.fits.one_each ∙ c.requires.places.all;
+      same = refl;
+    } in
+    let single = c.requires.plan.single c.requires.single in
+    let over = single_passed layout r bytes c.args.last.now.bytes.now c.args.last.now.changed plan start told (vec_len c.args.out.now) (vec_capacity c.args.out.now) c.planned_at-planned.result.now known single.some single.others c.planned_at-planned.ensures c.if-is_passed.ensures c.requires.room in
+    let skips = taking_skips layout r bytes start start told told (vec_len c.args.out.now) (vec_capacity c.args.out.now) known.all refl in
+    let all = along_end layout r (length plan) (map place_of plan) _ skips c.requires.places.plan (omega (arith, places_length plan)) over in
+    let target = read_view layout r bytes start in
+    let len : length target ≡ length start = view_from_item-length layout r bytes 0 start in
+    all.states ∙ filled target start (length layout.items) (omega (arith, known.all)) (omega (arith, len))
+
+pub returns-then-is_passed-clause-appends : goal.returns-then-is_passed-clause-appends
+returns-then-is_passed-clause-appends g c =
+    let layout = c.args.received.now.layout.now in
+    let r = c.args.received.now.report in
+    let bytes = c.args.received.now.bytes.now in
+    let start = c.args.states.now in
+    let plan = c.args.plan.now.items.items in
+    let told = c.args.out.now.items in
+    let known : IsKnownPlan layout r bytes c.args.last.now.bytes.now c.args.last.now.changed plan start start = record {
+      laid = c.items.ensures.layout;
+      input = c.requires.received.input;
+      places = c.requires.plan.places;
+      each = c.requires.plan.each;
+      known = c.requires.known;
+      all = c.requires.fits.one_each ∙ c.requires.places.all;
+      same = refl;
+    } in
+    let single = c.requires.plan.single c.requires.single in
+    let over = single_passed layout r bytes c.args.last.now.bytes.now c.args.last.now.changed plan start told (vec_len c.args.out.now) (vec_capacity c.args.out.now) c.planned_at-planned.result.now known single.some single.others c.planned_at-planned.ensures c.if-is_passed.ensures c.requires.room in
+    let skips = taking_skips layout r bytes start start told told (vec_len c.args.out.now) (vec_capacity c.args.out.now) known.all refl in
+    let all = along_end layout r (length plan) (map place_of plan) _ skips c.requires.places.plan (omega (arith, places_length plan)) over in
+    appends _ _ _ (all_told layout r bytes start (length layout.items) told _ (omega (arith, known.all)) all.events) refl

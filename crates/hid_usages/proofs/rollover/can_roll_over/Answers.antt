@@ -2,7 +2,7 @@ use Rattle.std.proofs.Common.{◌≡◌, ◌∙◌, false, sym, ap, rules}
 use Rattle.std.specs.Option.{is_some}
 use Rattle.hid_report_descriptor.specs.Fields.{is_padding}
 use Rattle.hid_usages.proofs.ManyElementLemmas.{never_rolls, none_of}
-use Rattle.hid_usages.proofs.many_elements.can_roll_over.Goals as goal
+use Rattle.hid_usages.proofs.rollover.can_roll_over.Goals as goal
 
 pub returns : goal.returns
 returns c off v fits =
