@@ -231,7 +231,7 @@ fn take_planned_item<C: FieldCodec, const SINGLE: bool, const WIDE: bool>(
             );
         }
         PlannedKind::Key => {
-            take_key::<C>(
+            take_key::<C, SINGLE>(
                 layout,
                 planned.place,
                 listed.item,
@@ -427,9 +427,9 @@ fn take_number<C: FieldCodec>(
 }
 
 /// Reads the field of an array of one element, which stands at a bit of the bytes, and appends the events of its key. The bytes
-/// of the last report leave the key. Its arguments are no structs, so that the caller keeps none in memory for it.
-#[inline(never)]
-fn take_key<C: FieldCodec>(
+/// of the last report leave the key. `SINGLE` changes nothing here: it makes a copy with a caller of its own, in which it is
+/// inlined. Its arguments are no structs, so that the other callers keep none in memory for it.
+fn take_key<C: FieldCodec, const SINGLE: bool>(
     layout: &Layout,
     place: usize,
     item: &MainItem,
