@@ -266,11 +266,27 @@ impl Draft {
         };
         let (_, greatest) = ends(size, first < 0);
         self.range(size, first, greatest.min(1000))?;
-        if dice.one_in(4) {
-            self.keyboard_usages(least, least.saturating_add(dice.below(9)))?;
-        }
+        self.few_usages(dice, least)?;
         self.keyboard_usages(least, least.saturating_add(more))?;
         self.input(count, dice.one_of(&ARRAYS))
+    }
+
+    /// Adds, in front of a long range of keys, none, one or many short ones, some of which have ErrorRollOver.
+    fn few_usages(&mut self, dice: &mut Dice, least: u32) -> Result<(), Stop> {
+        let ranges = match dice.below(8) {
+            0 | 1 => 1,
+            2 | 3 => dice.within(2, 40),
+            _ => 0,
+        };
+        for _ in 0..ranges {
+            let first = if dice.one_in(2) {
+                least
+            } else {
+                dice.within(4, 90)
+            };
+            self.keyboard_usages(first, first.saturating_add(dice.below(9)))?;
+        }
+        Ok(())
     }
 
     /// Adds a range of usages of the keyboard page (HID Usage Tables, Keyboard/Keypad Page).
