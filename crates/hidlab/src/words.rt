@@ -52,12 +52,25 @@ pub fn mark_words(line: &[u8]) -> Option<&'static str> {
     }
 }
 
-/// Whether a character isn't seen, or not by itself: control characters, marks on other characters, blanks, and what has no width.
+/// Whether a character isn't seen, or not by itself: control characters, marks on other characters, blanks, what has no width, and
+/// those of private use.
 fn is_unseen(character: char) -> bool {
     is_escaped(character)
         || matches!(
             u32::from(character),
-            0xA0 | 0xAD | 0x0300..=0x036F | 0x2000..=0x200F | 0x2028..=0x202F | 0x205F..=0x206F | 0x3000
+            0xA0 | 0xAD
+                | 0x0300..=0x036F
+                | 0x061C
+                | 0x115F..=0x1160
+                | 0x180B..=0x180E
+                | 0x2000..=0x200F
+                | 0x2028..=0x202F
+                | 0x205F..=0x206F
+                | 0x3000
+                | 0xE000..=0xF8FF
+                | 0xFE00..=0xFE0F
+                | 0xFEFF
+                | 0xE0000..=0x10FFFF
         )
 }
 

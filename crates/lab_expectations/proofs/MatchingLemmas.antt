@@ -1,5 +1,5 @@
 -- Words that are expected, one after the other.
-use Rattle.std.proofs.Common.{◌≡◌, Bool, true, false, ◌&&◌, List, [], ◌∷◌, Option, None, Some, refl, sym, ap, ◌∙◌}
+use Rattle.std.proofs.Common.{◌≡◌, Bool, true, false, ◌&&◌, List, [], ◌∷◌, sym, ap, ◌∙◌}
 use Rattle.hid_text.specs.Words.{Word}
 use Rattle.lab_expectations.specs.Matching.{is_word, are_words}
 

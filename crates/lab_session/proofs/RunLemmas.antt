@@ -1,10 +1,11 @@
 -- Runs of lines, and that two of them which end by themselves are one.
-use Rattle.std.proofs.Common.{◌≡◌, Bool, not, true, false, nat_eq, ℕ, ◌+◌, ◌-◌, ◌<◌, ◌≤◌, drop, drop_at, length-append, IfSome, List, [], ◌∷◌, ◌++◌, length, refl, sym, ap, ◌∙◌, subst, inl, inr, ◌⊎◌, arith, append_assoc, append-nil, Option, None, Some, Result, Ok, Err}
+use Rattle.std.proofs.Common.{◌≡◌, Bool, not, true, false, nat_eq, ℕ, ◌+◌, ◌-◌, ◌<◌, ◌≤◌, drop, drop_at, length-append, IfErr, IfSome, List, [], ◌∷◌, ◌++◌, length, refl, sym, ap, ◌∙◌, subst, inl, inr, ◌⊎◌, arith, append_assoc, append-nil, Option, None, Some, Result, Ok, Err}
 use Rattle.std.proofs.lemmas.Bool.{eqb-true, eqb-false}
 use Rattle.std.specs.Io.KnownBytes.{Appends, Consumes, IsAtEnd, Keeps}
 use Rattle.std.proofs.KnownBytes.{Appends-nil, Appends-trans, Consumes-whole}
 use Rattle.std.specs.List.{All}
 use Rattle.std.specs.Option.{option_map}
+use Rattle.std.specs.Result.{IsErrAnd}
 use Rattle.std.specs.Str.Lines.{lines, strip_carriage_return}
 use Rattle.std.proofs.lemmas.List.Elements.{All-nil, All-cons, All-head, All-tail}
 use Rattle.hid_text.specs.Lines.{IsUnbroken}
@@ -34,7 +35,7 @@ use Rattle.lab_session.specs.declared.need.Need.{Need}
 use Rattle.lab_session.specs.declared.runs.RunEnd.{RunEnd}
 use Rattle.lab_session.specs.declared.runs.RunEnd.TheVariants as ended
 use Rattle.lab_session.specs.Ahead.{unread}
-use Rattle.lab_session.specs.Feeds.{IsOutside, TakesLine}
+use Rattle.lab_session.specs.Feeds.{BeginsTooLong, EndsReading, EndsTaking, IsOutside, TakesLine}
 use Rattle.lab_session.specs.Scripts.{AheadRan, Fails, GoesOn, IsScripts, IsUndrawn, LineRan, PrintsAs, RunsAs, RunsAsScript, RunsFed, StopsHere}
 use Rattle.hid_script.specs.declared.fault.Cause.TheVariants as causes
 use Rattle.hid_script.proofs.PlaceLemmas.{first_begins}
@@ -494,3 +495,29 @@ all_old (line ∷ more) session last written h =
 
 pub ends_well : ScriptsThatEndWell
 ends_well session script before written summary h = all_old script session h.last written h.all
+
+-- ---- how taking a line ends
+
+-- what holds of the fault that a result has
+pub err_told : (P : LabFault → Type 0) (fault : LabFault) (r : Result Bool LabFault) → IsErrAnd r (λ y. y ≡ fault) → P fault → IfErr r P
+err_told P fault (Ok some) is h = tt
+err_told P fault (Err y) is h = subst P (sym is) h
+
+-- what holds of the fault of a result, if another thing does
+pub err_mapped : (P Q : LabFault → Type 0) (r : Result Bool LabFault) → ((fault : LabFault) → P fault → Q fault) → IfErr r P → IfErr r Q
+err_mapped P Q (Ok some) f h = tt
+err_mapped P Q (Err fault) f h = f fault h
+
+-- memory ran out
+pub ends_by_memory : (rest : List ℕ) (before : Option (List ℕ)) (count at : ℕ) (fault : LabFault) → at ≡ count
+    → (fault.line ≡ at + 1) × (fault.cause ≡ Script causes.Memory) → EndsTaking rest before count fault
+ends_by_memory rest before count at fault same h = (h.0 ∙ ap (λ (n : ℕ). n + 1) same, causes.Memory, h.1, inl tt)
+
+-- a read ended it, after which bytes of the same line had come
+pub ends_by_reading : (rest read now : List ℕ) (before after : Option (List ℕ)) (count at : ℕ) (fault : LabFault) → at ≡ count
+    → Consumes before after read → now ≡ rest ++ read → IsUnbroken now → EndsReading now at fault → EndsTaking rest before count fault
+ends_by_reading rest read now before after count at fault same took is whole h = (h.0 ∙ ap (λ (n : ℕ). n + 1) same, h.1, h.2, long h.3)
+  where
+    long : IsOutside h.1 ⊎ ((h.1 ≡ causes.LineTooLong) × (16385 < length now)) → IsOutside h.1 ⊎ ((h.1 ≡ causes.LineTooLong) × BeginsTooLong rest before)
+    long (inl out) = inl out
+    long (inr many) = inr (many.0, (read, after, took, subst IsUnbroken is whole, subst (λ (bytes : List ℕ). 16385 < length bytes) is many.1))

@@ -399,7 +399,7 @@ unfolding meaning_of
 script_old bytes said is = ⊎_elim
     (λ (long : 1024 < length bytes).
     let both : (let r : Result Line LineFault = Err fault.LineTooLong in r) ≡ Ok said = sym (cond-true (nat_lt 1024 (length bytes)) (Err fault.LineTooLong) (line_meaning (words_of bytes)) (lt-ltb 1024 (length bytes) long)) ∙ is in absurd (cc))
-    (λ (room : length bytes ≤ 1024). record { room = room; old = old_read bytes said (lab_meaning bytes) is (line_agrees bytes room) })
+    (λ (room : length bytes ≤ 1024). record { room = room; read = old_read bytes said (lab_meaning bytes) is (line_agrees bytes room) })
     (cases_lt 1024 (length bytes))
 
 -- ---- what is printed of such lines

@@ -1,6 +1,5 @@
-use Rattle.std.proofs.Common.{sym}
 use Rattle.hid_text.specs.Words.{words_of}
-use Rattle.lab_expectations.proofs.MatchingLemmas.{word_met, word_unmet, word_missing, none_expected, more_printed}
+use Rattle.lab_expectations.proofs.MatchingLemmas.{word_met}
 use Rattle.lab_expectations.proofs.matching.is_expected_line.Goals as goal
 
 pub loop-word-preserved : goal.loop-word-preserved
