@@ -1,9 +1,10 @@
 -- Words of files that are opened by another path than their name (our choice: docs/RECORDINGS.md).
-use Rattle.std.specs.Prelude.{ℕ, Bool, not, ◌&&◌, List, [], ◌∷◌, ◌==◌, length, if◌then◌else◌, Option, None, Some}
+use Rattle.std.specs.Prelude.{ℕ, Bool, not, ◌&&◌, List, [], ◌∷◌, ◌==◌, ◌++◌, length, if◌then◌else◌, Option, None, Some}
 use Rattle.std.specs.List.{find, slice_split, position_or_len, before_first, after_first}
-use Rattle.std.specs.Option.{option_and_then}
-use Rattle.std.specs.Str.{bytes_eq}
+use Rattle.std.specs.Option.{option_and_then, option_map}
+use Rattle.std.specs.Str.{bytes_eq, is_utf8}
 use Rattle.std.specs.Fmt.{decimal}
+use Rattle.command_words.specs.Names.{name_text, shown_bytes}
 
 -- the name in a word: what stands before a NUL, which no word of a command line has; without one the word is the name
 abbrev pub shown_name : List ℕ → List ℕ
@@ -42,3 +43,15 @@ opened_path files place = option_and_then behind_sign (find (is_at place) (slice
 abbrev pub path_at : Option (List ℕ) → ℕ → Option (List ℕ)
 path_at None place = None
 path_at (Some files) place = opened_path files (decimal place)
+
+-- the word by which a file is opened whose name isn't UTF-8: the name as it is printed, a NUL, and the path
+abbrev pub opened_word : List ℕ → List ℕ → List ℕ
+opened_word bytes path = shown_bytes bytes ++ 0 ∷ path
+
+-- A word as text: its bytes if they are UTF-8, else the word by which its file is opened. None where the launcher says nothing.
+abbrev pub word_text : Option (List ℕ) → ℕ → List ℕ → Option (List ℕ)
+word_text files place bytes = if is_utf8 bytes then Some bytes else option_map (opened_word bytes) (path_at files place)
+
+-- a word as it is printed: the name in it
+abbrev pub shown_word : List ℕ → List ℕ
+shown_word word = name_text (shown_name word)

@@ -9,7 +9,8 @@
 //! path that leads to it (`words_of_files`); else standard input can have it.
 //!
 //! The promise: bytes that are UTF-8 are a word, the word has them, and others are refused with them (`text`, `bytes` and `fault` on
-//! [`word_of`]); the characters that are printed as numbers are the control characters (`escaped`). What a terminal gets is tested.
+//! [`word_of`]). A name is printed with its control characters as numbers, and so are bytes that aren't UTF-8 (`output` of [`FileName`]
+//! and [`ShownBytes`], `shown` on [`words_of`]).
 #![tactic(auto)]
 
 mod names;

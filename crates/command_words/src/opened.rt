@@ -1,8 +1,9 @@
 //! Files whose names aren't UTF-8: the launcher opens them, and the program reads them by paths that lead to what is open.
 
-ghost use Rattle.std.specs.Prelude.{◌≡◌};
+ghost use Rattle.std.specs.Prelude.{◌≡◌, IsErr, IfErr, None, Some, pos};
 ghost use Rattle.std.specs.List.{find, slice_split};
 ghost use Rattle.std.specs.Option.{option_copied};
+ghost use Rattle.std.specs.IoError.{raw_os_error};
 ghost use Rattle.command_words.specs.Opened.{shown_name, path_of, is_blank, is_at, opened_path};
 
 use std::fs::{self, File};
@@ -77,7 +78,9 @@ impl NamedFile<'_> {
     ///
     /// # Errors
     /// That of the system.
-    pub fn open(&self, rt: &HostRuntime) -> io::Result<File> {
+    pub fn open(&self, rt: &HostRuntime) -> io::Result<File>
+        ensures denied { option_copied self.now.path ≡ None → IsErr result × IfErr result (λ error. raw_os_error error ≡ Some (pos 13)) }
+    {
         match self.path {
             Some(path) => fs::open(rt, path),
             None => Err(io::Error::from_raw_os_error(DENIED)),

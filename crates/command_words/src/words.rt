@@ -1,9 +1,9 @@
 //! The words of the command line.
 
-ghost use Rattle.std.specs.Prelude.{◌≡◌, ◌⊎◌, ◌∷◌, [], ◌++◌, ◌+◌, None, length, IsOk, IfOk, OnOk, IfErr, string_bytes};
-ghost use Rattle.std.specs.Str.{IsUtf8};
-ghost use Rattle.std.specs.Option.{option_copied};
-ghost use Rattle.command_words.specs.Opened.{path_at};
+ghost use Rattle.std.specs.Prelude.{◌≡◌, ◌⊎◌, ◌∷◌, [], ◌++◌, None, Some, true, false, IsOk, IfOk, OnOk, IfErr, map, string_bytes};
+ghost use Rattle.std.specs.Str.{IsUtf8, is_utf8};
+ghost use Rattle.std.specs.Option.{option_copied, option_map};
+ghost use Rattle.command_words.specs.Opened.{path_at, opened_word, word_text, shown_word};
 
 use crate::names::{FileName, ShownBytes};
 use crate::opened::{OPENED_FILES, file_of, opened_path};
@@ -82,8 +82,8 @@ fn read_word(rt: &HostRuntime, place: usize) -> Result<Option<Vec<u8>>, AllocErr
 /// [`WordsFault::NotText`], with the bytes.
 pub fn word_of(bytes: Vec<u8>) -> Result<String, WordsFault>
     ensures text { IsUtf8 bytes.items → IsOk result }
-    ensures bytes { IfOk result (λ word. string_bytes word ≡ bytes.items) }
-    ensures fault { IfErr result (λ fault. fault ≡ WordsFault.NotText bytes) }
+    ensures bytes { IfOk result (λ word. (is_utf8 bytes.items ≡ true) × (string_bytes word ≡ bytes.items)) }
+    ensures fault { IfErr result (λ fault. (is_utf8 bytes.items ≡ false) × (fault ≡ WordsFault.NotText bytes)) }
 {
     match String::from_utf8(bytes) {
         Ok(word) => Ok(word),
@@ -102,7 +102,10 @@ pub struct Words {
 
 impl Words {
     /// No word.
-    fn new(alloc: Global) -> Words {
+    fn new(alloc: Global) -> Words
+        ensures given { result.given.items ≡ [] }
+        ensures shown { result.shown.items ≡ [] }
+    {
         Words {
             given: Vec::new(alloc),
             shown: Vec::new(alloc),
@@ -112,7 +115,7 @@ impl Words {
     /// Adds a word.
     fn push(&mut self, alloc: Global, word: String) -> Result<(), AllocError>
         ensures given { OnOk result (self.new.given.items ≡ self.old.given.items ++ word ∷ []) }
-        ensures shown { OnOk result (length self.new.shown.items ≡ 1 + length self.old.shown.items) }
+        ensures shown { OnOk result (map string_bytes self.new.shown.items ≡ map string_bytes self.old.shown.items ++ shown_word (string_bytes word) ∷ []) }
     {
         let name = FileName(file_of(word.as_str()).name);
         let shown = format!(in alloc; "{name}")?;
@@ -126,6 +129,7 @@ impl Words {
 /// # Errors
 /// A [`WordsFault`]: memory ran out, or the bytes where there is no path.
 fn opened_word(alloc: Global, path: Option<&str>, bytes: Vec<u8>) -> Result<String, WordsFault>
+    ensures word { IfOk result (λ word. option_map (opened_word bytes.items) (option_copied path.entry) ≡ Some (string_bytes word)) }
     ensures fault { IfErr result (λ fault. (fault ≡ WordsFault.Memory) ⊎ ((fault ≡ WordsFault.NotText bytes) × (option_copied path.entry ≡ None))) }
 {
     match path {
@@ -159,8 +163,9 @@ fn word_at(
     place: usize,
     bytes: Vec<u8>,
 ) -> Result<String, WordsFault>
-    ensures text { IsUtf8 bytes.items → IfOk result (λ word. string_bytes word ≡ bytes.items) }
-    ensures fault { IfErr result (λ fault. (fault ≡ WordsFault.Memory) ⊎ ((fault ≡ WordsFault.NotText bytes) × (path_at (option_copied files.entry) place ≡ None))) }
+    ensures text { IsUtf8 bytes.items → IsOk result }
+    ensures word { IfOk result (λ word. word_text (option_copied files.entry) place bytes.items ≡ Some (string_bytes word)) }
+    ensures fault { IfErr result (λ fault. (fault ≡ WordsFault.Memory) ⊎ ((fault ≡ WordsFault.NotText bytes) × (word_text (option_copied files.entry) place bytes.items ≡ None))) }
 {
     match word_of(bytes) {
         Err(WordsFault::NotText(bytes)) => {
@@ -172,7 +177,9 @@ fn word_at(
 }
 
 /// The words of the command line, by what the launcher says of files, if they may name some.
-fn read_words(rt: &HostRuntime, files: Option<&str>) -> Result<Words, WordsFault> {
+fn read_words(rt: &HostRuntime, files: Option<&str>) -> Result<Words, WordsFault>
+    ensures shown { IfOk result (λ words. map string_bytes words.shown.items ≡ map (λ word. shown_word (string_bytes word)) words.given.items) }
+{
     let mut words = Words::new(rt.alloc());
     for place in 0..usize::MAX {
         let Some(bytes) = read_word(rt, place)? else {
@@ -187,7 +194,9 @@ fn read_words(rt: &HostRuntime, files: Option<&str>) -> Result<Words, WordsFault
 ///
 /// # Errors
 /// A [`WordsFault`]: memory ran out, or the first word that isn't UTF-8.
-pub fn words_of(rt: &HostRuntime) -> Result<Words, WordsFault> {
+pub fn words_of(rt: &HostRuntime) -> Result<Words, WordsFault>
+    ensures shown { IfOk result (λ words. map string_bytes words.shown.items ≡ map (λ word. shown_word (string_bytes word)) words.given.items) }
+{
     read_words(rt, None)
 }
 
@@ -196,7 +205,9 @@ pub fn words_of(rt: &HostRuntime) -> Result<Words, WordsFault> {
 ///
 /// # Errors
 /// A [`WordsFault`]: memory ran out, or the first word that isn't UTF-8 and of whose file nothing is said.
-pub fn words_of_files(rt: &HostRuntime) -> Result<Words, WordsFault> {
+pub fn words_of_files(rt: &HostRuntime) -> Result<Words, WordsFault>
+    ensures shown { IfOk result (λ words. map string_bytes words.shown.items ≡ map (λ word. shown_word (string_bytes word)) words.given.items) }
+{
     let files = env::var(rt, OPENED_FILES).ok();
     read_words(rt, files.as_ref().map(|files| files.as_str()))
 }
