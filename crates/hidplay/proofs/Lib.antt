@@ -1,1 +1,2 @@
 mod OtherLemmas
+mod SourceLemmas

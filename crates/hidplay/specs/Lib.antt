@@ -1,5 +1,6 @@
 pub mod Status
 pub mod Other
+pub mod Source
 pub mod FileFault
 pub mod FileLine
 pub mod EndLine

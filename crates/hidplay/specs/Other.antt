@@ -21,7 +21,7 @@ abbrev pub other_text : OtherFile → List ℕ
 other_text (Known file) = other_known_text file
 other_text Script = codes "a script: hidrun and hidlab run it"
 other_text Text = codes "text, not a descriptor: write it without control characters, as UTF-8"
-other_text NoRecording = codes "neither a recording nor a descriptor: lines of hid-recorder or usbhid-dump, hex, an array, or what xxd, hexdump -C, od, Wireshark or lsusb -v print are expected"
+other_text NoRecording = codes "neither a recording nor a descriptor: hidplay --help says what is read"
 
 -- the words that lines of scripts begin with (docs/SCRIPT.md and docs/LAB.md)
 abbrev pub keywords : List Word

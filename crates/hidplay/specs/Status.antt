@@ -61,3 +61,8 @@ lacks_descriptor strict undescribed = strict && list_any (λ one. one.is_hid) un
 -- the exit status of such reports
 abbrev pub lack_status : Bool → ℕ
 lack_status lacks = if lacks then 1 else 0
+
+-- a file that was played to its end had a report descriptor
+abbrev pub has_descriptor : Result Summary FileFault → Bool
+has_descriptor (Ok summary) = nat_lt 0 summary.descriptors
+has_descriptor (Err fault) = false

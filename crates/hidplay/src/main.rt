@@ -41,7 +41,10 @@ use hid_recording::{Cause, GivenDescriptor, Summary, play_live};
 use hidraw::{ReportFile, descriptor_name, may_have_descriptor, node_of};
 use progress::Progress;
 use source::{Kind, Manner, Notes, play_source, read_descriptor};
-use status::{FINE, OUTSIDE, WRONG_USAGE, ends_all, exit_of, lack_status, lacks_descriptor, worse};
+use status::{
+    FINE, OUTSIDE, WRONG_USAGE, ends_all, exit_of, has_descriptor, lack_status, lacks_descriptor,
+    worse,
+};
 use std::alloc::{AllocError, Global};
 use std::fs::File;
 use std::io::{self, BufWriter, IsTerminal, Read, Stderr, Write};
@@ -54,7 +57,7 @@ use watched_reader::WatchedReader;
 const STANDARD_INPUT: &str = "-";
 
 /// What is said of a file that is no capture and no live device, where a descriptor is given.
-const OWN: &str = "it has its own descriptors: --descriptor is for captures and live devices";
+const OWN: &str = "it has its own descriptors: --descriptor isn't used";
 
 /// Whether a file is standard input.
 fn is_standard_input(file: NamedFile<'_>) -> bool {
@@ -231,14 +234,6 @@ fn play_all(rt: &HostRuntime, asked: &CliArgs<'_>, given: Option<GivenDescriptor
 struct Next {
     status: u8,
     is_last: bool,
-}
-
-/// Whether a file that was played to its end had a descriptor.
-fn has_descriptor(end: &Result<Summary, FileFault>) -> bool {
-    match end {
-        Ok(summary) => summary.descriptors > 0,
-        Err(_) => false,
-    }
 }
 
 /// Plays the next file, adds what was played to the total, and names the endpoints whose reports have no descriptor.

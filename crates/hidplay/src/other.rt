@@ -44,7 +44,7 @@ impl fmt::Display for OtherFile {
                 "text, not a descriptor: write it without control characters, as UTF-8",
             ),
             OtherFile::NoRecording => f.write_str(
-                "neither a recording nor a descriptor: lines of hid-recorder or usbhid-dump, hex, an array, or what xxd, hexdump -C, od, Wireshark or lsusb -v print are expected",
+                "neither a recording nor a descriptor: hidplay --help says what is read",
             ),
         }
     }

@@ -1,5 +1,8 @@
 //! What a file is: the text of a recording, a capture, or a report descriptor in any of its forms.
 
+ghost use Rattle.std.specs.Prelude.{◌≡◌, [], IfOk, OnOk, drop};
+ghost use Rattle.hidplay.specs.Source.{ReadsPiece, ReadsUpTo, IsAfterPassed, ReadsBeginning};
+
 use super::fault::{FileFault, before_all, other_file, unread_descriptor};
 use super::other::{OtherFile, is_script, other_of, says_nothing};
 use hid_capture::UndescribedEndpoint;
@@ -54,7 +57,9 @@ fn first_byte<R: Read>(reader: &mut BufReader<R>) -> Result<Option<u8>, FileFaul
 ///
 /// # Errors
 /// [`Cause::Memory`], [`Cause::Read`] and [`Cause::TooManyReads`], before anything is played.
-fn read_piece<R: Read>(bytes: &mut Vec<u8>, reader: &mut R) -> Result<bool, FileFault> {
+fn read_piece<R: Read>(bytes: &mut Vec<u8>, reader: &mut R) -> Result<bool, FileFault>
+    ensures read { IfOk result (ReadsPiece (R.remaining reader.old) (R.remaining reader.new) bytes.old.items bytes.new.items) }
+{
     let mut piece = [0u8; 8192];
     for _ in 0..MAX_READS {
         match reader.read(&mut piece) {
@@ -75,7 +80,9 @@ fn read_piece<R: Read>(bytes: &mut Vec<u8>, reader: &mut R) -> Result<bool, File
 ///
 /// # Errors
 /// Those of [`read_piece`].
-fn read_on<R: Read>(bytes: &mut Vec<u8>, reader: &mut R, most: usize) -> Result<(), FileFault> {
+fn read_on<R: Read>(bytes: &mut Vec<u8>, reader: &mut R, most: usize) -> Result<(), FileFault>
+    ensures read { OnOk result (ReadsUpTo most (R.remaining reader.old) (R.remaining reader.new) bytes.old.items bytes.new.items) }
+{
     for _ in 0..MAX_READS {
         if most <= bytes.len() || !read_piece(bytes, reader)? {
             return Ok(());
@@ -88,14 +95,18 @@ fn read_on<R: Read>(bytes: &mut Vec<u8>, reader: &mut R, most: usize) -> Result<
 ///
 /// # Errors
 /// Those of [`read_piece`].
-fn read_front<R: Read>(alloc: Global, reader: &mut R, most: usize) -> Result<Vec<u8>, FileFault> {
+fn read_front<R: Read>(alloc: Global, reader: &mut R, most: usize) -> Result<Vec<u8>, FileFault>
+    ensures read { IfOk result (λ bytes. ReadsUpTo most (R.remaining reader.old) (R.remaining reader.new) [] bytes.items) }
+{
     let mut bytes = Vec::new(alloc);
     read_on(&mut bytes, reader, most)?;
     Ok(bytes)
 }
 
 /// What stands in a text after its first lines, each with its end, that say nothing.
-fn after_passed(text: &[u8]) -> &[u8] {
+fn after_passed(text: &[u8]) -> &[u8]
+    ensures { IsAfterPassed text.now result.now }
+{
     let mut rest = text;
     while let Some((line, behind)) = split_line(rest) {
         if !says_nothing(line) {
@@ -114,16 +125,29 @@ fn says_more(text: &[u8]) -> bool {
     }
 }
 
+/// What stands in a text from a place on; nothing after its end.
+fn text_from(text: &[u8], place: usize) -> &[u8]
+    ensures { result.now ≡ drop place text.now }
+{
+    if place < text.len() {
+        &text[place..]
+    } else {
+        &[]
+    }
+}
+
 /// The first bytes of a file, up to the read that brings the end of a line that says something, so that however a file is
 /// read it is taken for the same; or up to as many as a descriptor can take.
 ///
 /// # Errors
 /// Those of [`read_piece`].
-fn read_beginning<R: Read>(alloc: Global, reader: &mut R) -> Result<Vec<u8>, FileFault> {
+fn read_beginning<R: Read>(alloc: Global, reader: &mut R) -> Result<Vec<u8>, FileFault>
+    ensures read { IfOk result (λ bytes. ReadsBeginning (R.remaining reader.old) (R.remaining reader.new) bytes.items) }
+{
     let mut bytes = Vec::new(alloc);
     let mut passed = 0;
     for _ in 0..MAX_READS {
-        let rest = after_passed(&bytes[passed.min(bytes.len())..]);
+        let rest = after_passed(text_from(bytes.as_slice(), passed));
         if LONGEST <= bytes.len() || split_line(rest).is_some() {
             return Ok(bytes);
         }

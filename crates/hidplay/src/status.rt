@@ -2,7 +2,7 @@
 
 ghost use Rattle.std.specs.Prelude.{◌≡◌, max};
 ghost use Rattle.std.specs.List.{list_any};
-ghost use Rattle.hidplay.specs.Status.{cause_status, status_of, ends_all_by, ends_all, lacks_descriptor, lack_status};
+ghost use Rattle.hidplay.specs.Status.{cause_status, status_of, ends_all_by, ends_all, lacks_descriptor, lack_status, has_descriptor};
 
 use super::fault::{FileFault, Why};
 use hid_capture::UndescribedEndpoint;
@@ -94,6 +94,16 @@ pub fn lack_status(lacks: bool) -> u8
     ensures { result ≡ lack_status lacks }
 {
     if lacks { REFUSED } else { FINE }
+}
+
+/// Whether a file that was played to its end had a descriptor.
+pub fn has_descriptor(end: &Result<Summary, FileFault>) -> bool
+    ensures { result ≡ has_descriptor end.now }
+{
+    match end {
+        Ok(summary) => summary.descriptors > 0,
+        Err(_) => false,
+    }
 }
 
 /// Of two runs the status of the one that went worse.
