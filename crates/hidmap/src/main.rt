@@ -15,9 +15,11 @@ ghost use Rattle.std.specs.Prelude.{◌≤◌, length};
 ghost use Rattle.hidmap.specs.declared.TheConstants.{MOST};
 
 mod args;
+mod columns;
 mod status;
 
 use args::{CliArgs, parse_args};
+use columns::{COLUMNS, columns_of};
 use command_words::{FileName, NamedFile, print_refused_words, print_unread_words, words_of_files};
 use hid_input::{InputCause, InputFault, KnownFile, begins_text, descriptor_in, known_file};
 use hid_layout::{Cause, Layout, LayoutFault, Limits, MAX_DESCRIPTOR, long_report};
@@ -37,9 +39,6 @@ const UNWRITTEN: &str = "standard output can't be written";
 
 /// The longest input: a descriptor of 4,096 bytes takes 12,300 in an R: line, and what lies after it is of no use.
 const LONGEST: usize = 1 << 24;
-
-/// The columns of a terminal that doesn't say how many it has.
-const COLUMNS: u16 = 80;
 
 /// The most bytes of a descriptor that are read. One that is longer is refused at byte 4,096, and the item that begins there
 /// has 258 at most.
@@ -63,17 +62,13 @@ fn main(rt: HostRuntime) -> ExitCode {
     }
 }
 
-/// The columns of pictures where none are asked for: those that COLUMNS has, where standard output is a terminal; else 80, also
-/// where it has 0, as a terminal says that doesn't know its size.
+/// The columns of pictures where none are asked for: those that COLUMNS gives, where standard output is a terminal; else 80.
 fn terminal_columns(rt: &HostRuntime) -> u16 {
     if !rt.stdout().is_terminal() {
         return COLUMNS;
     }
     match env::var(rt, "COLUMNS") {
-        Ok(text) => match text.as_str().parse::<u16>() {
-            Ok(0) | Err(_) => COLUMNS,
-            Ok(columns) => columns,
-        },
+        Ok(text) => columns_of(text.as_str()),
         Err(_) => COLUMNS,
     }
 }
