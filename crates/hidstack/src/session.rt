@@ -133,24 +133,18 @@ pub extern "C" fn hidstack_feed(
     ensures { FeedsHandle handle.old.kept report.now events.old result handle.new.kept events.new
         count.new }
 {
-    *count = 0;
     let Some(mut session) = handle.take(alloc) else {
+        *count = 0;
         return CLOSED;
     };
-    let answer = session.feed(report, events);
-    let room = session.room();
+    let (status, told) = match session.feed(report, events) {
+        Ok(told) => (OK, told),
+        Err(FeedFault::NoRoom) => (NO_ROOM, session.room()),
+        Err(FeedFault::Refused(fault)) => (fault_status(fault), 0),
+    };
     *handle = Handle::of(session);
-    match answer {
-        Ok(told) => {
-            *count = told as u64;
-            OK
-        }
-        Err(FeedFault::NoRoom) => {
-            *count = room as u64;
-            NO_ROOM
-        }
-        Err(FeedFault::Refused(fault)) => fault_status(fault),
-    }
+    *count = told as u64;
+    status
 }
 
 /// Lets go of all that is held, as of a device that was unplugged, and writes the events over the first places of the table.
@@ -164,23 +158,17 @@ pub extern "C" fn hidstack_release(
 ) -> u32
     ensures { ReleasesHandle handle.old.kept events.old result handle.new.kept events.new count.new }
 {
-    *count = 0;
     let Some(mut session) = handle.take(alloc) else {
+        *count = 0;
         return CLOSED;
     };
-    let answer = session.release(events);
-    let needed = session.room();
+    let (status, released) = match session.release(events) {
+        Some(released) => (OK, released),
+        None => (NO_ROOM, session.room()),
+    };
     *handle = Handle::of(session);
-    match answer {
-        Some(released) => {
-            *count = released as u64;
-            OK
-        }
-        None => {
-            *count = needed as u64;
-            NO_ROOM
-        }
-    }
+    *count = released as u64;
+    status
 }
 
 /// Gives back what an open handle keeps. A closed one stays as it is.
