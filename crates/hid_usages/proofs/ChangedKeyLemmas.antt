@@ -12,14 +12,14 @@ use Rattle.hid_layout.specs.Controls.{Key}
 use Rattle.hid_snapshots.specs.Words.{is_on, is_alone, IsFirst, FindsFirst}
 use Rattle.hid_snapshots.proofs.ItemLemmas.{got, set_here, set_there}
 use Rattle.hid_usages.specs.declared.key_array.KeyArray.{KeyArray}
-use Rattle.hid_usages.specs.ChangedKeys.{keys_named, is_key_place, is_listed, FindsKey, ListsAlone, HoldsBoth}
+use Rattle.hid_usages.specs.ChangedKeys.{keys_named, is_key_place, is_listed, FindsKey, ListsAlone, PassesWithin, HoldsBoth}
 use Rattle.hid_usages.specs.KeyArrays.{keys_of_array}
 use Rattle.hid_usages.specs.Reading.{names_key, named_keys_from}
 use Rattle.hid_usages.proofs.RoomLemmas.{off_past}
 use Rattle.hid_usages.proofs.NamedLemmas.{named_length}
 use Rattle.hid_usages.proofs.KeyLemmas.{rollover_named, no_rollover_named}
 use Rattle.hid_usages.proofs.PressLemmas.{key_here}
-use Rattle.hid_usages.specs.ChangedKeys.{RollsWithin, state_by_array}
+use Rattle.hid_usages.specs.ChangedKeys.{state_by_array}
 use Rattle.hid_usages.specs.ChangedBits.{IsOutsideSpan}
 use Rattle.hid_usages.specs.Ranges.{HoldsSpan}
 use Rattle.hid_usages.specs.declared.changed_bits.BitSpan.{BitSpan}
@@ -501,10 +501,10 @@ gather_less array numbers test first k end places le all = record {
 
 -- ---- ErrorRollOver
 
--- no number of either names it where none of the first do, and none of the second in a range outside of which both are the same
-pub none_rolls : (test : ℤ → Bool) (vs ws : List ℤ) (first end : ℕ) → list_any test vs ≡ false → ((j : ℕ) (v : ℤ) → first ≤ j → j < end → slice_get ws j ≡ Some v → test v ≡ false)
+-- no number of the second passes where none of the first does, and none of the second in a range outside of which both are the same
+pub none_passes : (test : ℤ → Bool) (vs ws : List ℤ) (first end : ℕ) → list_any test vs ≡ false → ((j : ℕ) (v : ℤ) → first ≤ j → j < end → slice_get ws j ≡ Some v → test v ≡ false)
     → ((j : ℕ) → (j < first) ⊎ (end ≤ j) → slice_get vs j ≡ slice_get ws j) → list_any test ws ≡ false
-none_rolls test vs ws first end none within same = elim (cases_Bool (list_any test ws)) [
+none_passes test vs ws first end none within same = elim (cases_Bool (list_any test ws)) [
   | inr off ↦ off
   | inl on ↦
       let found = any_there test ws on in
@@ -519,10 +519,10 @@ none_rolls test vs ws first end none within same = elim (cases_Bool (list_any te
       ]
 ]
 
-pub all_roll : (array : KeyArray) (vs : List ℤ) (range : ElementRange) (r : Bool) → range.first ≡ 0 → range.end ≡ length vs → RollsWithin array vs range r → r ≡ list_any (is_rollover_number array) vs
-all_roll array vs range true first end rolls = sym rolls
-all_roll array vs range false first end none =
-    sym (none_rolls (is_rollover_number array) [] vs range.first range.end refl none
+pub all_passes : (test : ℤ → Bool) (vs : List ℤ) (range : ElementRange) (r : Bool) → range.first ≡ 0 → range.end ≡ length vs → PassesWithin test vs range r → r ≡ list_any test vs
+all_passes test vs range true first end rolls = sym rolls
+all_passes test vs range false first end none =
+    sym (none_passes test [] vs range.first range.end refl none
     (λ j outside. elim outside [
       | inl low ↦ absurd (omega arith)
       | inr past ↦ sym (past_end vs j (omega arith))

@@ -13,7 +13,7 @@ use Rattle.hid_usages.specs.declared.elements.ElementRange.{ElementRange}
 use Rattle.hid_usages.specs.declared.key_array.KeyArray.{KeyArray}
 use Rattle.hid_usages.specs.declared.single_key.NamedUsage.{NamedUsage}
 use Rattle.hid_usages.specs.ChangedBits.{SameOutside}
-use Rattle.hid_usages.specs.KeyArrays.{keys_of_array, usages_of_array, is_rollover_number}
+use Rattle.hid_usages.specs.KeyArrays.{keys_of_array, usages_of_array}
 use Rattle.hid_usages.specs.Reading.{FitsFields, keys_at, named_keys_from, read_keys}
 use Rattle.hid_usages.specs.Taking.{state_after_bytes}
 
@@ -46,11 +46,11 @@ FindsKey array test number (Some place) = (number ≡ array.item.now.min +ℤ po
 abbrev pub ListsAlone : List Bool → List Bool → List ℕ → Type 0
 ListsAlone before after places = (p : ℕ) → is_listed places p ≡ is_alone before after p
 
--- some number names ErrorRollOver, or none in a range does
-abbrev pub RollsWithin : KeyArray → List ℤ → ElementRange → Bool → Type 0
-RollsWithin array numbers range true = list_any (is_rollover_number array) numbers ≡ true
-RollsWithin array numbers range false =
-    (j : ℕ) (v : ℤ) → range.first ≤ j → j < range.end → slice_get numbers j ≡ Some v → is_rollover_number array v ≡ false
+-- some number passes, or none in a range does
+abbrev pub PassesWithin : (ℤ → Bool) → List ℤ → ElementRange → Bool → Type 0
+PassesWithin test numbers range true = list_any test numbers ≡ true
+PassesWithin test numbers range false =
+    (j : ℕ) (v : ℤ) → range.first ≤ j → j < range.end → slice_get numbers j ≡ Some v → test v ≡ false
 
 -- The numbers of an array's elements in two reports: they fit their fields, and those outside of a range are the same.
 pub record AreKeyNumbers (change : KeyNumbers) : Type 0 where

@@ -5,11 +5,21 @@ use Rattle.hid_layout.specs.declared.main_item.MainItem.{MainItem}
 use Rattle.hid_layout.specs.Codes.{at_zero}
 use Rattle.hid_layout.specs.Layout.{Contents}
 use Rattle.hid_layout.specs.Reports.{HasElements}
+use Rattle.hid_snapshots.specs.declared.control_state.ControlState.{ControlState}
+use Rattle.hid_snapshots.specs.declared.control_state.ControlState.TheVariants.{Absent, Switches, Values, Motions, RollOver}
 use Rattle.hid_snapshots.specs.Words.{is_on}
 use Rattle.hid_usages.specs.declared.elements.ElementRange.{ElementRange}
 use Rattle.hid_usages.specs.declared.key_array.KeyArray.{KeyArray}
 use Rattle.hid_usages.specs.KeyArrays.{keys_of_array}
 use Rattle.hid_usages.specs.Reading.{FitsFields, names_key}
+
+-- how many keys are kept of an array
+abbrev pub key_count : ControlState → ℕ
+key_count (Switches held) = length held
+key_count Absent = 0
+key_count (Values vs) = 0
+key_count (Motions ms) = 0
+key_count (RollOver held) = 0
 
 -- how many places of an item's usage list are named by numbers below one. Example: from a Logical Minimum of 5, four by those
 -- below 9

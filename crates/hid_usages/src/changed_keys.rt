@@ -1,26 +1,25 @@
 //! The keys of an array that change from one report to the next, found by the numbers of its elements: what that takes
 //! grows with the elements, and not with the usages (our choice).
 
-ghost use Rattle.std.specs.Prelude.{◌≡◌, ◌<◌, ◌≤◌, ◌^◌, ◌==◌, ◌&&◌, ◌||◌, not, ℕ, ℤ, Bool, length, false, IfSome};
+ghost use Rattle.std.specs.Prelude.{◌≡◌, ◌<◌, ◌≤◌, ◌^◌, ◌==◌, ◌&&◌, ◌||◌, not, ℕ, Bool, length, false};
 ghost use Rattle.std.specs.List.{list_any};
 ghost use Rattle.std.specs.Ordering.{int_eq};
 ghost use Rattle.hid_snapshots.specs.declared.control_state.ControlState.TheVariants.{Switches};
 ghost use Rattle.hid_snapshots.specs.Events.{ups, downs, key_events, usages_at};
 ghost use Rattle.hid_snapshots.specs.Words.{FindsFirst, is_on, is_alone};
 ghost use Rattle.hid_usages.specs.Appending.{HasSpace, Appends};
-ghost use Rattle.hid_usages.specs.ChangedKeys.{keys_before, keys_after, is_key_place, is_listed, FindsKey, ListsAlone, RollsWithin, AreKeyNumbers, HoldsBoth};
+ghost use Rattle.hid_usages.specs.ChangedKeys.{keys_before, keys_after, is_key_place, is_listed, FindsKey, ListsAlone, AreKeyNumbers, HoldsBoth};
 ghost use Rattle.hid_usages.specs.KeyArrays.{is_rollover_number, keys_by_array, keys_of_array};
+ghost use Rattle.hid_usages.specs.ManyElements.{IsListedArray};
 ghost use Rattle.hid_usages.specs.Reading.{FitsFields};
 ghost use Rattle.hid_usages.specs.Taking.{IsArrayAt};
 
 use crate::elements::ElementRange;
 use crate::key_array::{KeyArray, is_pressable, place_of};
-use crate::single_key::{is_rollover as is_rollover_named, named_usage};
-use crate::view_changes::usage_at;
+use crate::view_changes::{listed_usage, usage_at};
 use arrayvec::ArrayVec;
 use hid_fields::FieldCodec;
-use hid_layout::{ControlId, Layout, Usage, usage_at as usage_in};
-use hid_report_descriptor::{ERROR_ROLL_OVER, entry_count};
+use hid_layout::{ControlId, Layout};
 use hid_snapshots::{Event, FieldRun, Flags};
 
 /// The most elements of an array that are compared with each other.
@@ -38,80 +37,11 @@ pub(crate) struct KeyNumbers<'a> {
 
 /// Whether one of the numbers is this.
 #[inline(always)]
-pub(crate) fn has_number<C: FieldCodec>(numbers: &FieldRun<'_>, number: i64) -> bool
+fn has_number<C: FieldCodec>(numbers: &FieldRun<'_>, number: i64) -> bool
     ensures { result ≡ list_any (λ v. int_eq v number) numbers.now }
 {
     for k in 0..numbers.len() {
         if numbers.number::<C>(k) == number {
-            return true;
-        }
-    }
-    false
-}
-
-/// The number by which alone an element names ErrorRollOver, where the array has one range of usages, and that one in it.
-#[inline(always)]
-pub(crate) fn sole_rollover(array: &KeyArray<'_>) -> Option<i64>
-    ensures { IfSome result (λ number. (v : ℤ) → is_rollover_number array.now v ≡ int_eq v number) }
-{
-    if array.entries.len() != 1 {
-        return None;
-    }
-    let (first, _) = array.entries[0];
-    let usage = Usage {
-        page: first.page,
-        id: ERROR_ROLL_OVER,
-    };
-    if !usage.is_rollover() || ERROR_ROLL_OVER < first.id {
-        return None;
-    }
-    let place = (ERROR_ROLL_OVER - first.id) as usize;
-    if entry_count(&array.entries[0]) <= place {
-        return None;
-    }
-    let number = array.item.min.checked_add(place as i64)?;
-    if number <= array.item.max {
-        Some(number)
-    } else {
-        None
-    }
-}
-
-/// Whether an element of this number names ErrorRollOver, by its usage.
-fn is_rollover_by_usage(array: &KeyArray<'_>, number: i64) -> bool
-    ensures { result ≡ is_rollover_number array.now number }
-{
-    is_rollover_named(array, number, named_usage(array, number))
-}
-
-/// Whether an element of this number names ErrorRollOver, by the number that alone does where that is known.
-#[inline(always)]
-fn is_rollover(array: &KeyArray<'_>, sole: Option<i64>, number: i64) -> bool
-    requires entries { length array.now.entries.now ≤ 64 }
-    requires sole { IfSome sole (λ r. (v : ℤ) → is_rollover_number array.now v ≡ int_eq v r) }
-    ensures { result ≡ is_rollover_number array.now number }
-{
-    match sole {
-        Some(rollover) => number == rollover,
-        None => is_rollover_by_usage(array, number),
-    }
-}
-
-/// Whether an element in a range names ErrorRollOver by its number.
-#[inline(always)]
-fn rolls_within<C: FieldCodec>(
-    array: &KeyArray<'_>,
-    sole: Option<i64>,
-    numbers: &FieldRun<'_>,
-    range: ElementRange,
-) -> bool
-    requires entries { length array.now.entries.now ≤ 64 }
-    requires sole { IfSome sole (λ r. (v : ℤ) → is_rollover_number array.now v ≡ int_eq v r) }
-    requires within { range.end ≤ length numbers.now }
-    ensures { RollsWithin array.now numbers.now range result }
-{
-    for k in range.first..range.end {
-        if is_rollover(array, sole, numbers.number::<C>(k)) {
             return true;
         }
     }
@@ -143,7 +73,14 @@ fn released_place<C: FieldCodec>(
 
 /// The place of the key that an element names by this number, if that isn't held.
 #[inline(always)]
-fn pressed_place(array: &KeyArray<'_>, held: &Flags, number: i64) -> Option<usize>
+fn pressed_place(
+    layout: &Layout,
+    item: usize,
+    array: &KeyArray<'_>,
+    held: &Flags,
+    number: i64,
+) -> Option<usize>
+    requires listed { IsListedArray layout.now item array.now }
     requires fits { FitsFields array.now.item.now number }
     requires held { length held.now ≡ length (keys_of_array array.now) }
     ensures { FindsKey array.now (λ p. is_key_place array.now p && not (is_on held.now p))
@@ -155,7 +92,7 @@ fn pressed_place(array: &KeyArray<'_>, held: &Flags, number: i64) -> Option<usiz
             if held.get(place) {
                 return None;
             }
-            match usage_in(array.entries, place) {
+            match listed_usage(layout, item, array.entries, place) {
                 None => None,
                 Some(usage) => {
                     if is_pressable(array.item, &number, place, &usage) {
@@ -193,9 +130,12 @@ fn released_places<C: FieldCodec>(
 /// The places of the keys that are pressed, in the order of their elements. The released ones are held no more.
 #[inline(always)]
 fn pressed_places<C: FieldCodec>(
+    layout: &Layout,
+    item: usize,
     change: &KeyNumbers<'_>,
     held: &Flags,
 ) -> ArrayVec<u32, MOST_ELEMENTS>
+    requires listed { IsListedArray layout.now item change.now.array }
     requires numbers { AreKeyNumbers change.now }
     requires few { length change.now.next.now ≤ MOST_ELEMENTS }
     requires held { HoldsBoth (keys_before change.now) (keys_after change.now) held.now }
@@ -204,7 +144,7 @@ fn pressed_places<C: FieldCodec>(
     let mut places = ArrayVec::new();
     for k in change.range.first..change.range.end {
         let number = change.next.number::<C>(k);
-        if let Some(place) = pressed_place(&change.array, held, number) {
+        if let Some(place) = pressed_place(layout, item, &change.array, held, number) {
             places.push(place as u32);
         }
     }
@@ -281,6 +221,7 @@ fn press_keys<C: FieldCodec>(
 )
     requires array { IsArrayAt layout.now item change.now.array.item.now
         change.now.array.entries.now }
+    requires listed { IsListedArray layout.now item change.now.array }
     requires numbers { AreKeyNumbers change.now }
     requires few { length change.now.next.now ≤ MOST_ELEMENTS }
     requires held { HoldsBoth (keys_before change.now) (keys_after change.now) held.old }
@@ -290,7 +231,7 @@ fn press_keys<C: FieldCodec>(
     ensures appends { Appends out.old (downs item (usages_at layout.now item)
         (keys_before change.now) (keys_after change.now)) out.new }
 {
-    let places = pressed_places::<C>(change, held);
+    let places = pressed_places::<C>(layout, item, change, held);
     let mut from = 0;
     while let Some(index) = next_listed(&places, from) {
         let control = ControlId { item, index };
@@ -301,21 +242,7 @@ fn press_keys<C: FieldCodec>(
     }
 }
 
-/// Whether one of the numbers names ErrorRollOver.
-#[inline(always)]
-pub(crate) fn names_rollover<C: FieldCodec>(array: &KeyArray<'_>, numbers: &FieldRun<'_>) -> bool
-    requires { length array.now.entries.now ≤ 64 }
-    ensures { result ≡ list_any (is_rollover_number array.now) numbers.now }
-{
-    let all = ElementRange {
-        first: 0,
-        end: numbers.len(),
-    };
-    rolls_within::<C>(array, sole_rollover(array), numbers, all)
-}
-
-/// Sets the held keys of an array by the next numbers, and appends their events. If a number names ErrorRollOver, the keys
-/// stay (HID 1.11, appendix C).
+/// Sets the held keys of an array by the next numbers, of which none names ErrorRollOver, and appends their events.
 #[inline(always)]
 pub(crate) fn change_keys<C: FieldCodec>(
     layout: &Layout,
@@ -326,10 +253,11 @@ pub(crate) fn change_keys<C: FieldCodec>(
 )
     requires array { IsArrayAt layout.now item change.now.array.item.now
         change.now.array.entries.now }
+    requires listed { IsListedArray layout.now item change.now.array }
     requires numbers { AreKeyNumbers change.now }
     requires few { length change.now.next.now ≤ MOST_ELEMENTS }
     requires held { held.old ≡ keys_before change.now }
-    requires last { list_any (is_rollover_number change.now.array) change.now.last.now ≡ false }
+    requires rolls { list_any (is_rollover_number change.now.array) change.now.next.now ≡ false }
     requires room { HasSpace out.old (key_events item (usages_at layout.now item)
         (Switches held.old)
         (keys_by_array layout.now item change.now.array held.old change.now.next.now)) }
@@ -338,10 +266,6 @@ pub(crate) fn change_keys<C: FieldCodec>(
     ensures appends { Appends out.old (key_events item (usages_at layout.now item)
         (Switches held.old) (Switches held.new)) out.new }
 {
-    let sole = sole_rollover(&change.array);
-    if rolls_within::<C>(&change.array, sole, change.next, change.range) {
-        return;
-    }
     release_keys::<C>(layout, item, change, held, out);
     press_keys::<C>(layout, item, change, held, out);
 }

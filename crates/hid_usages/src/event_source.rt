@@ -7,7 +7,7 @@ ghost use Rattle.hid_snapshots.specs.Events.{control_at, switch_event, motion_ev
 ghost use Rattle.hid_usages.specs.Appending.{HasSpace, Appends};
 ghost use Rattle.hid_usages.specs.EventSources.{AreUsages, IsSource, number_event, null_event, usage_in_range, usages_of_source};
 
-use crate::view_changes::{motion_event, switch_event, usage_at};
+use crate::view_changes::{motion_event, switch_event, usage_by_ranges};
 use hid_layout::{ControlId, Layout, Usage};
 use hid_report_descriptor::entry_count;
 use hid_snapshots::Event;
@@ -101,7 +101,7 @@ fn usage_of(source: &EventSource<'_>, index: usize) -> Usage
     if index < usages.end as usize {
         usage_in_range(usages, index)
     } else {
-        usage_at(source.layout, source.item, index)
+        usage_by_ranges(source.layout, source.item, index)
     }
 }
 

@@ -12,13 +12,13 @@ ghost use Rattle.hid_usages.specs.PlannedReports.{HasPlan, Keeps};
 ghost use Rattle.hid_usages.specs.Plans.{IsPlan, IsPlannedItem};
 ghost use Rattle.hid_usages.specs.Taking.{IsInReport, IsReceived};
 
-use crate::changed_keys::sole_rollover;
 use crate::key_array::KeyArray;
 use crate::plan::{PlannedItem, PlannedKind, ReportPlan};
 use crate::planned_report::PlannedReport;
-use crate::rollover::numbers_roll_over;
+use crate::rollover::{numbers_roll_over, sole_rollover};
 use crate::take::ReportBytes;
-use crate::take_plan::{FEW_KEYS, planned_at};
+use crate::take_keys::FEW_KEYS;
+use crate::take_plan::planned_at;
 use hid_fields::{FieldCodec, MAX_WIDTH};
 use hid_layout::{Layout, usage_count};
 use hid_snapshots::{FieldRun, first_bit, item_at};

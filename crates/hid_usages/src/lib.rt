@@ -46,6 +46,7 @@ mod reset_events;
 mod rollover;
 mod single_key;
 mod take;
+mod take_keys;
 mod take_plan;
 mod value_range;
 mod view;

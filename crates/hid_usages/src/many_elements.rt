@@ -6,21 +6,19 @@ ghost use Rattle.std.specs.List.{list_any};
 ghost use Rattle.hid_report_descriptor.specs.declared.usage.Usage.{Usage as UsageValue};
 ghost use Rattle.hid_layout.specs.Reports.{HasElements};
 ghost use Rattle.hid_snapshots.specs.declared.control_state.ControlState.TheVariants.{Switches};
-ghost use Rattle.hid_snapshots.specs.Events.{ups, downs, control_at, down_event, key_events, usages_at, HasPlaces};
+ghost use Rattle.hid_snapshots.specs.Events.{ups, downs, control_at, down_event, key_events, usages_at};
 ghost use Rattle.hid_snapshots.specs.Words.{is_on};
 ghost use Rattle.hid_usages.specs.Appending.{HasSpace, Appends};
-ghost use Rattle.hid_usages.specs.ChangedKeys.{keys_before, keys_after, is_key_place, state_by_array, AreKeyNumbers, HoldsBoth};
+ghost use Rattle.hid_usages.specs.ChangedKeys.{keys_before, keys_after, is_key_place, AreKeyNumbers, HoldsBoth};
 ghost use Rattle.hid_usages.specs.KeyArrays.{is_rollover_number, keys_by_array, keys_of_array};
 ghost use Rattle.hid_usages.specs.ManyElements.{places_below, HoldsNameable, MarksPlaces, MarksNamed, BecomesFlag, IsListedArray};
-ghost use Rattle.hid_usages.specs.Reading.{FitsFields, keys_at};
+ghost use Rattle.hid_usages.specs.Reading.{FitsFields};
 ghost use Rattle.hid_usages.specs.Taking.{IsArrayAt, NoFlagSetFor};
 
 use crate::changed_keys::{KeyNumbers, MOST_ELEMENTS};
 use crate::elements::ElementRange;
 use crate::key_array::{KeyArray, is_pressable, place_of};
 use crate::key_search::{next_pressed_within, next_within};
-use crate::rollover::numbers_roll_over;
-use crate::take::take_flags;
 use crate::view_changes::usage_at;
 use hid_fields::FieldCodec;
 use hid_layout::{ControlId, Layout, MainItem, usage_at as usage_in};
@@ -31,10 +29,16 @@ use hid_snapshots::{ControlState, Event, FieldRun, Flags};
 /// name.
 const FEW_COMPARED: usize = 4;
 
+/// How many elements are compared with all of an array for what it takes to mark the places that all of them name.
+const COMPARED_FOR_MARKS: usize = 3;
+
+/// How many places are searched for what a comparison takes.
+const SEARCHED_FOR_ONE: usize = 192;
+
 /// Whether the keys that change are found by comparing those elements of a range that have changed bits with all elements. Else
-/// the places that the fields can name are searched, of which 128 take as much as a comparison.
+/// those of an array's keys are searched that its fields can name.
 #[inline(always)]
-pub(crate) fn compares_elements(item: &MainItem, range: ElementRange) -> bool
+pub(crate) fn compares_elements(item: &MainItem, range: ElementRange, keys: usize) -> bool
     ensures { result ≡ true → item.now.count ≤ MOST_ELEMENTS }
 {
     let count = item.count as usize;
@@ -45,7 +49,8 @@ pub(crate) fn compares_elements(item: &MainItem, range: ElementRange) -> bool
         return false;
     }
     let changed = range.end.saturating_sub(range.first).min(count);
-    changed * count <= FEW_COMPARED * FEW_COMPARED + (1usize << item.size.min(16)) / 128
+    let searched = keys.min(1usize << item.size.min(16));
+    changed.saturating_sub(COMPARED_FOR_MARKS) * count <= searched / SEARCHED_FOR_ONE
 }
 
 /// How many places are named by numbers below one.
@@ -222,7 +227,7 @@ fn press_named(
 
 /// Sets the held keys of an array by the next numbers, of which none names ErrorRollOver, and appends their events.
 #[inline(always)]
-fn change_within<C: FieldCodec>(
+pub(crate) fn change_within<C: FieldCodec>(
     layout: &Layout,
     item: usize,
     change: &KeyNumbers<'_>,
@@ -253,44 +258,4 @@ fn change_within<C: FieldCodec>(
     mark_places::<C>(array.item, change.next, count, named);
     release_unnamed(layout, item, change, window, held, named, out);
     press_named(layout, item, change, window, held, named, out);
-}
-
-/// Sets the keys of an array, which the last numbers leave, by the next ones, and appends their events. If a number names
-/// ErrorRollOver, the keys stay (HID 1.11, appendix C); a last one that does doesn't say which keys are held.
-#[inline(never)]
-pub(crate) fn take_within<C: FieldCodec>(
-    layout: &Layout,
-    place: usize,
-    change: &KeyNumbers<'_>,
-    state: &mut ControlState,
-    named: &mut Flags,
-    out: &mut Vec<Event>,
-)
-    requires array { IsArrayAt layout.now place change.now.array.item.now
-        change.now.array.entries.now }
-    requires listed { IsListedArray layout.now place change.now.array }
-    requires numbers { AreKeyNumbers change.now }
-    requires last { All (FitsFields change.now.array.item.now) change.now.last.now }
-    requires left { state_by_array layout.now place change.now.array state.old change.now.last.now
-        ≡ state.old }
-    requires held { HasPlaces state.old (length (keys_at layout.now place)) }
-    requires named { NoFlagSetFor state.old named.old }
-    requires room { HasSpace out.old (key_events place (usages_at layout.now place) state.old
-        (state_by_array layout.now place change.now.array state.old change.now.next.now)) }
-    ensures state { state.new
-        ≡ state_by_array layout.now place change.now.array state.old change.now.next.now }
-    ensures named { named.new ≡ named.old }
-    ensures appends { Appends out.old (key_events place (usages_at layout.now place) state.old
-        state.new) out.new }
-{
-    if let ControlState::Switches(held) = state {
-        if numbers_roll_over::<C>(layout, place, &change.array, change.next) {
-            return;
-        }
-        if numbers_roll_over::<C>(layout, place, &change.array, change.last) {
-            take_flags::<C>(layout, place, &change.array, change.next, held, named, out);
-        } else {
-            change_within::<C>(layout, place, change, held, named, out);
-        }
-    }
 }

@@ -25,7 +25,7 @@ use std::marker::Model;
 /// The layout of a device's reports, and a host's view of its controls. A contract sees both.
 ///
 /// Each Input report has a plan, and the bytes of the last one of its number are kept: of the next one the items are read whose
-/// bits change, and those with motions. One with the bytes of the last one, which gave no event, isn't read, unless an array of many
+/// bits change, and those with motions. One with the bytes of the last one, which gave no event, is read only where an array of many
 /// usages names ErrorRollOver in it.
 #[derive(Drop)]
 pub struct Reader {
@@ -192,8 +192,8 @@ fn read_single<C: FieldCodec>(
     take_next::<C, true, true>(&received, planned, view, out);
 }
 
-/// Reads the first report of its number, one of a single element, or one with an array of many usages, and keeps its bytes. It isn't
-/// inlined, so that others need none of its room.
+/// Reads the first report of its number, or one with an array of many usages, and keeps its bytes. It isn't inlined, so that others
+/// need none of its room.
 #[inline(never)]
 fn read_otherwise<C: FieldCodec>(
     layout: &Layout,
@@ -214,12 +214,10 @@ fn read_otherwise<C: FieldCodec>(
     ensures fits { FitsView (items_of layout.now) view.new }
     ensures few { vec_len out.new ≤ vec_len out.old + max_events (items_of layout.now) }
 {
-    if !planned.is_known {
-        read_first::<C>(layout, report, bytes, planned, view, out);
-    } else if planned.plan.has_more {
+    if planned.is_known {
         read_wide::<C>(layout, report, bytes, planned, view, out);
     } else {
-        read_single::<C>(layout, report, bytes, planned, view, out);
+        read_first::<C>(layout, report, bytes, planned, view, out);
     }
 }
 
@@ -246,6 +244,13 @@ fn take_one<C: FieldCodec>(
     // Both are asked for at once, which takes less than one after the other.
     if planned.is_known & planned.is_plain {
         take_next::<C, false, false>(received, planned, view, out);
+    } else if planned.is_known & !planned.plan.has_more {
+        let ReportBytes {
+            layout,
+            report,
+            bytes,
+        } = *received;
+        read_single::<C>(layout, report, bytes, planned, view, out);
     } else {
         let ReportBytes {
             layout,

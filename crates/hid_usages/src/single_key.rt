@@ -1,17 +1,19 @@
 //! The key of an array of one element, found by the element's number in the last report and in the next one (our choice).
 
-ghost use Rattle.std.specs.Prelude.{◌≡◌, ◌≤◌, ◌&&◌, not, length, slice_get, false, Some, [], ◌∷◌};
+ghost use Rattle.std.specs.Prelude.{◌≡◌, ◌&&◌, not, length, slice_get, false, Some, [], ◌∷◌};
 ghost use Rattle.hid_snapshots.specs.declared.control_state.ControlState.TheVariants.{Switches};
 ghost use Rattle.hid_snapshots.specs.Events.{ups, downs, key_events, usages_at};
 ghost use Rattle.hid_snapshots.specs.Words.{is_on, is_alone};
 ghost use Rattle.hid_usages.specs.Appending.{HasSpace, Appends};
 ghost use Rattle.hid_usages.specs.ChangedKeys.{is_key_place, key_of_number, HoldsBoth, NamesUsage, FindsUsage};
 ghost use Rattle.hid_usages.specs.KeyArrays.{is_rollover_number, keys_by_array, keys_of_array};
+ghost use Rattle.hid_usages.specs.ManyElements.{IsListedArray};
 ghost use Rattle.hid_usages.specs.Reading.{FitsFields};
 ghost use Rattle.hid_usages.specs.Taking.{IsArrayAt};
 
 use crate::key_array::{KeyArray, is_pressable, reports_rollover};
-use hid_layout::{ControlId, Layout, Usage, usage_at as usage_in};
+use crate::view_changes::listed_usage;
+use hid_layout::{ControlId, Layout, Usage};
 use hid_snapshots::{Event, Flags};
 
 /// The number of an array's one element in the last report, and in the next one.
@@ -29,16 +31,22 @@ pub(crate) struct NamedUsage {
     pub(crate) usage: Usage,
 }
 
-/// The usage that an element names by this number.
+/// The usage that an element of a listed array names by this number.
 #[inline(always)]
-pub(crate) fn named_usage(array: &KeyArray<'_>, number: i64) -> Option<NamedUsage>
+pub(crate) fn usage_named(
+    layout: &Layout,
+    item: usize,
+    array: &KeyArray<'_>,
+    number: i64,
+) -> Option<NamedUsage>
+    requires { IsListedArray layout.now item array.now }
     ensures { NamesUsage array.now number result }
 {
     if number < array.item.min {
         return None;
     }
     let place = number.abs_diff(array.item.min) as usize;
-    match usage_in(array.entries, place) {
+    match listed_usage(layout, item, array.entries, place) {
         None => None,
         Some(usage) => Some(NamedUsage { place, usage }),
     }
@@ -194,7 +202,7 @@ pub(crate) fn change_key(
 )
     requires array { IsArrayAt layout.now item change.now.array.item.now
         change.now.array.entries.now }
-    requires entries { slice_get layout.now.entries item ≡ Some change.now.array.entries.now }
+    requires listed { IsListedArray layout.now item change.now.array }
     requires fits { FitsFields change.now.array.item.now change.now.next }
     requires last { NamesUsage change.now.array change.now.last last }
     requires rolls { is_rollover_number change.now.array change.now.last ≡ false }
@@ -207,7 +215,7 @@ pub(crate) fn change_key(
     ensures appends { Appends out.old (key_events item (usages_at layout.now item)
         (Switches held.old) (Switches held.new)) out.new }
 {
-    let next = named_usage(&change.array, change.next);
+    let next = usage_named(layout, item, &change.array, change.next);
     if is_rollover(&change.array, change.next, next) {
         return;
     }

@@ -1,6 +1,6 @@
 //! What a report of any bytes makes of a view, and the events of it.
 
-ghost use Rattle.std.specs.Prelude.{All, pos, ◌≡◌, ◌<◌, ◌≤◌, ◌^◌, ◌+◌, ◌++◌, false, length, take, replicate};
+ghost use Rattle.std.specs.Prelude.{All, pos, ◌≡◌, ◌<◌, ◌≤◌, ◌^◌, ◌+◌, ◌++◌, false, true, length, take, replicate};
 ghost use Rattle.hid_layout.specs.Controls.{items_of, controls_of_form};
 ghost use Rattle.hid_layout.specs.declared.control.Controls.TheVariants as head;
 ghost use Rattle.hid_layout.specs.declared.control.ControlKind.TheVariants as ControlKind;
@@ -20,9 +20,8 @@ ghost use Rattle.hid_layout.specs.Controls.{element_kind};
 ghost use Rattle.hid_layout.specs.Reports.{first_bit};
 ghost use Rattle.hid_usages.specs.Ranges.{LeaveOthers};
 
-use crate::bits::{are_bits, take_bits};
+use crate::bits::{are_bits, take_bit, take_bits};
 use crate::changed_bits::BitSpan;
-use crate::changed_keys::names_rollover;
 use crate::elements::{Carriable, ElementRange, every_element, take_switches, take_values};
 use crate::event_source::{EventSource, ItemUsages, no_usages};
 use crate::key_array::{KeyArray, read_keys};
@@ -146,16 +145,16 @@ fn take_fields<C: FieldCodec>(
     let at = first_bit(listed.layout) + item.offset;
     if are_bits(item) {
         let usages = no_usages();
-        take_pattern(listed, &usages, C::get(bytes, at, item.count), state, out);
+        take_pattern::<false>(listed, &usages, C::get(bytes, at, item.count), state, out);
     } else {
         let numbers = FieldRun::new(bytes, at, item.size, item.min < 0, item.count as usize);
         take_numbers::<C>(listed, &numbers, state, named, out);
     }
 }
 
-/// Sets switches of one bit each by their pattern, and appends their events.
+/// Sets switches of one bit each by their pattern, and appends their events. `SINGLE` says that there is one.
 #[inline(always)]
-pub(crate) fn take_pattern(
+pub(crate) fn take_pattern<const SINGLE: bool>(
     listed: &ListedItem<'_>,
     usages: &ItemUsages,
     pattern: u32,
@@ -166,6 +165,7 @@ pub(crate) fn take_pattern(
     requires held { HasRoom (head.Elements ControlKind.Switch (pos 0) (pos 1)
         (length (usages_in listed.now))) state.old }
     requires few { length (usages_in listed.now) ≤ 32 }
+    requires single { SINGLE ≡ true → length (usages_in listed.now) ≡ 1 }
     requires fits { pattern < 2 ^ length (usages_in listed.now) }
     requires room { HasSpace out.old (element_events listed.now.place
         (usages_in listed.now) state.old (read_bits pattern state.old)) }
@@ -179,7 +179,11 @@ pub(crate) fn take_pattern(
             item: listed.place,
             usages,
         };
-        take_bits(&source, pattern, held, out);
+        if SINGLE {
+            take_bit(&source, pattern, held, out);
+        } else {
+            take_bits(&source, pattern, held, out);
+        }
     }
 }
 
@@ -351,37 +355,6 @@ pub(crate) fn take_flags<C: FieldCodec>(
     } else {
         named.release_first(held.len());
     }
-}
-
-/// Sets the held keys of an array by these numbers, as [`take_flags`] does. Whether a number names ErrorRollOver is asked first,
-/// so that a report of it walks no usages.
-#[inline(always)]
-pub(crate) fn take_unless_rollover<C: FieldCodec>(
-    layout: &Layout,
-    place: usize,
-    array: &KeyArray<'_>,
-    numbers: &FieldRun<'_>,
-    held: &mut Flags,
-    named: &mut Flags,
-    out: &mut Vec<Event>,
-)
-    requires array { IsArrayAt layout.now place array.now.item.now array.now.entries.now }
-    requires fits { All (FitsFields array.now.item.now) numbers.now }
-    requires held { length held.old ≡ length (keys_at layout.now place) }
-    requires named { NoFlagSetFor (ControlState.Switches held.old) named.old }
-    requires room { HasSpace out.old (key_events place (usages_at layout.now place)
-        (ControlState.Switches held.old)
-        (keys_by_array layout.now place array.now held.old numbers.now)) }
-    ensures held { ControlState.Switches held.new
-        ≡ keys_by_array layout.now place array.now held.old numbers.now }
-    ensures named { named.new ≡ named.old }
-    ensures appends { Appends out.old (key_events place (usages_at layout.now place)
-        (ControlState.Switches held.old) (ControlState.Switches held.new)) out.new }
-{
-    if names_rollover::<C>(array, numbers) {
-        return;
-    }
-    take_flags::<C>(layout, place, array, numbers, held, named, out);
 }
 
 /// Sets keys by the first of these flags, appends the changes, and releases all of the flags.

@@ -1,6 +1,6 @@
 //! A report is read by its plan: of the items that have changed bits, the elements that have.
 
-ghost use Rattle.std.specs.Prelude.{◌≡◌, ◌<◌, ◌≤◌, ◌+◌, length, map, slice_get, Some, true, false, [], ◌∷◌};
+ghost use Rattle.std.specs.Prelude.{◌≡◌, ◌<◌, ◌+◌, length, map, slice_get, Some, true, false, [], ◌∷◌};
 ghost use Rattle.hid_layout.specs.Controls.{items_of, controls_of_form};
 ghost use Rattle.hid_layout.specs.declared.control.ControlKind.TheVariants as ControlKind;
 ghost use Rattle.hid_snapshots.specs.ControlStates.{HasRoom, FitsView};
@@ -16,22 +16,22 @@ ghost use Rattle.hid_usages.specs.Taking.{IsArrayAt};
 ghost use Rattle.hid_layout.specs.Controls.{element_kind};
 ghost use Rattle.hid_layout.specs.Reports.{first_bit, report_bytes};
 ghost use Rattle.hid_usages.specs.Ranges.{HoldsSpan, KnowsListed};
-ghost use Rattle.hid_usages.specs.ChangedKeys.{AreKeyNumbers, KnowsKeys, state_by_array};
+ghost use Rattle.hid_usages.specs.ChangedKeys.{state_by_array};
+ghost use Rattle.hid_usages.specs.ManyElements.{IsListedArray};
 ghost use Rattle.hid_usages.specs.Known.{Knows, KnowsPlace};
-ghost use Rattle.hid_usages.specs.Plans.{IsPlan, IsPlannedItem, IsSingleItem, place_of};
+ghost use Rattle.std.specs.Bool.{OnTrue};
+ghost use Rattle.hid_usages.specs.Plans.{IsPassed, IsPlan, IsPlannedItem, IsSingleItem, place_of};
 
 use crate::changed_bits::BitSpan;
-use crate::changed_keys::{KeyNumbers, MOST_ELEMENTS, change_keys, names_rollover};
 use crate::elements::{ElementRange, every_element};
 use crate::event_source::ItemUsages;
 use crate::key_array::KeyArray;
-use crate::many_elements::{compares_elements, take_within};
 use crate::plan::{PlannedItem, PlannedKind, ReportPlan, is_passed, items_of_span, next_unpassed};
-use crate::single_key::{NumberChange, change_key, is_rollover, named_usage};
+use crate::single_key::{NumberChange, change_key, is_rollover, usage_named};
 use crate::take::{
-    ElementNumbers, LastReport, ListedItem, ReportBytes, take_array, take_elements, take_pattern,
-    take_unless_rollover,
+    ElementNumbers, LastReport, ListedItem, ReportBytes, take_elements, take_pattern,
 };
+use crate::take_keys::{take_keys, take_unless_rollover};
 use crate::value_range::Bounds;
 use hid_fields::FieldCodec;
 use hid_layout::{ControlKind, Layout, MainItem, Shape};
@@ -101,7 +101,25 @@ fn take_changed<C: FieldCodec, const WIDE: bool>(
     }
 }
 
-/// Reads a report of one element as [`take_planned`] does. Where its bits are those of the report before, it is passed over.
+/// Whether the element of a report is passed over: an array's, where its bits are those of the report before. Any other one is read
+/// with less than that takes.
+#[inline(always)]
+fn is_single_passed(planned: &PlannedItem, span: BitSpan) -> bool
+    ensures { OnTrue result (IsPassed planned.now span) }
+{
+    match planned.kind {
+        PlannedKind::Key => is_passed(planned, span),
+        PlannedKind::Padding
+        | PlannedKind::Bits
+        | PlannedKind::Switches
+        | PlannedKind::Values
+        | PlannedKind::NullValues
+        | PlannedKind::Motions
+        | PlannedKind::Keys => false,
+    }
+}
+
+/// Reads a report of one element as [`take_planned`] does.
 fn take_single<C: FieldCodec>(
     received: &ReportBytes<'_>,
     plan: &ReportPlan,
@@ -127,7 +145,7 @@ fn take_single<C: FieldCodec>(
     let _ = received.layout.items();
 
     let planned = planned_at(plan, 0);
-    if is_passed(planned, last.changed) {
+    if is_single_passed(planned, last.changed) {
         return;
     }
     let i = planned.place;
@@ -273,13 +291,8 @@ fn take_bit_fields<C: FieldCodec, const SINGLE: bool>(
     ensures appends { Appends out.old (events_of_numbers listed.now state.old state.new
         (numbers_of_bytes listed.now bytes.now)) out.new }
 {
-    take_pattern(
-        listed,
-        usages,
-        C::get(bytes, at, count_of::<SINGLE>(listed.item)),
-        state,
-        out,
-    );
+    let pattern = C::get(bytes, at, count_of::<SINGLE>(listed.item));
+    take_pattern::<SINGLE>(listed, usages, pattern, state, out);
 }
 
 /// How many elements an item has: one, where that is known, so that the compiler sees it.
@@ -311,7 +324,7 @@ const FEW_ELEMENTS: usize = 2;
 
 /// The elements of an item, whose first field stands at a bit, that have the bits of a span; all, where they are few.
 #[inline(always)]
-fn elements_of_span(size: u32, count: usize, at: usize, span: BitSpan) -> ElementRange
+pub(crate) fn elements_of_span(size: u32, count: usize, at: usize, span: BitSpan) -> ElementRange
     requires size { 0 < size }
     ensures { HoldsSpan at size count span result }
 {
@@ -401,7 +414,7 @@ fn take_number<C: FieldCodec>(
 )
     requires array { IsArrayAt layout.now place change.now.array.item.now
         change.now.array.entries.now }
-    requires entries { slice_get layout.now.entries place ≡ Some change.now.array.entries.now }
+    requires listed { IsListedArray layout.now place change.now.array }
     requires fits { FitsFields change.now.array.item.now change.now.next }
     requires numbers { numbers.now ≡ change.now.next ∷ [] }
     requires left { state_by_array layout.now place change.now.array state.old
@@ -417,7 +430,7 @@ fn take_number<C: FieldCodec>(
         state.new) out.new }
 {
     if let ControlState::Switches(held) = state {
-        let last = named_usage(&change.array, change.last);
+        let last = usage_named(layout, place, &change.array, change.last);
         if is_rollover(&change.array, change.last, last) {
             take_unless_rollover::<C>(layout, place, &change.array, numbers, held, named, out);
         } else {
@@ -470,325 +483,4 @@ fn take_key<C: FieldCodec, const SINGLE: bool>(
         next: numbers.number::<C>(0),
     };
     take_number::<C>(layout, place, &change, &numbers, state, named, out);
-}
-
-/// How many keys of an array are few: comparing all of them takes less than finding those that change.
-pub(crate) const FEW_KEYS: usize = 512;
-
-/// Whether an array has so many keys that those that change are found by the numbers of its elements.
-#[inline(always)]
-fn has_many_keys(state: &ControlState) -> bool {
-    match state {
-        ControlState::Switches(held) => { FEW_KEYS < held.len() }
-        ControlState::Absent
-        | ControlState::Values(_)
-        | ControlState::Motions(_)
-        | ControlState::RollOver(_) => false,
-    }
-}
-
-/// Reads the fields of an array, whose first one stands at a bit of the bytes, and appends the events of its keys. The bytes
-/// of the last report leave the keys.
-#[inline(always)]
-fn take_keys<C: FieldCodec>(
-    listed: &ListedItem<'_>,
-    bytes: &[u8],
-    last: &LastReport<'_>,
-    at: usize,
-    state: &mut ControlState,
-    named: &mut Flags,
-    out: &mut Vec<Event>,
-)
-    requires listed { IsFilled listed.now bytes.now }
-    requires shape { listed.now.item.now.shape ≡ Shape.Array }
-    requires at { at ≡ first_bit listed.now.layout.now + listed.now.item.now.offset }
-    requires known { KnowsKeys listed.now bytes.now last.now.bytes.now last.now.changed state.old }
-    requires held { HasRoom (controls_of_form (form_in listed.now)) state.old }
-    requires named { NoFlagSetFor state.old named.old }
-    requires room { HasSpace out.old (events_by_bytes listed.now state.old bytes.now) }
-    ensures state { state.new ≡ state_after_bytes listed.now state.old bytes.now }
-    ensures named { named.new ≡ named.old }
-    ensures appends { Appends out.old (events_of_numbers listed.now state.old state.new
-        (numbers_of_bytes listed.now bytes.now)) out.new }
-{
-    let item = listed.item;
-    if has_many_keys(state) {
-        let ListedItem { layout, place, .. } = *listed;
-        take_keys_apart::<C>(
-            layout,
-            place,
-            item,
-            at,
-            bytes,
-            last.bytes,
-            last.changed,
-            state,
-            named,
-            out,
-        );
-    } else {
-        let entries = listed.layout.entries(listed.place);
-        let numbers = FieldRun::new(bytes, at, item.size, item.min < 0, item.count as usize);
-        take_array::<C>(listed, entries, &numbers, state, named, out);
-    }
-}
-
-/// Reads the fields of an array of few elements as [`take_keys`] does, by their numbers in the last report.
-#[inline(always)]
-fn take_many_keys<C: FieldCodec>(
-    listed: &ListedItem<'_>,
-    bytes: &[u8],
-    last: &LastReport<'_>,
-    at: usize,
-    state: &mut ControlState,
-    named: &mut Flags,
-    out: &mut Vec<Event>,
-)
-    requires listed { IsFilled listed.now bytes.now }
-    requires shape { listed.now.item.now.shape ≡ Shape.Array }
-    requires at { at ≡ first_bit listed.now.layout.now + listed.now.item.now.offset }
-    requires known { KnowsKeys listed.now bytes.now last.now.bytes.now last.now.changed state.old }
-    requires held { HasRoom (controls_of_form (form_in listed.now)) state.old }
-    requires named { NoFlagSetFor state.old named.old }
-    requires room { HasSpace out.old (events_by_bytes listed.now state.old bytes.now) }
-    requires few { listed.now.item.now.count ≤ MOST_ELEMENTS }
-    ensures state { state.new ≡ state_after_bytes listed.now state.old bytes.now }
-    ensures named { named.new ≡ named.old }
-    ensures appends { Appends out.old (events_of_numbers listed.now state.old state.new
-        (numbers_of_bytes listed.now bytes.now)) out.new }
-{
-    let item = listed.item;
-    let entries = listed.layout.entries(listed.place);
-    let before = FieldRun::new(last.bytes, at, item.size, item.min < 0, item.count as usize);
-    let numbers = FieldRun::new(bytes, at, item.size, item.min < 0, item.count as usize);
-    let change = KeyNumbers {
-        array: KeyArray { item, entries },
-        range: elements_of_span(item.size, item.count as usize, at, last.changed),
-        last: &before,
-        next: &numbers,
-    };
-    take_change::<C>(listed.layout, listed.place, &change, state, named, out);
-}
-
-/// Reads the fields of an array as [`take_keys`] does, by the places that its elements can name.
-#[inline(always)]
-fn take_many_elements<C: FieldCodec>(
-    listed: &ListedItem<'_>,
-    bytes: &[u8],
-    last: &LastReport<'_>,
-    at: usize,
-    state: &mut ControlState,
-    named: &mut Flags,
-    out: &mut Vec<Event>,
-)
-    requires listed { IsFilled listed.now bytes.now }
-    requires shape { listed.now.item.now.shape ≡ Shape.Array }
-    requires at { at ≡ first_bit listed.now.layout.now + listed.now.item.now.offset }
-    requires known { KnowsKeys listed.now bytes.now last.now.bytes.now last.now.changed state.old }
-    requires held { HasRoom (controls_of_form (form_in listed.now)) state.old }
-    requires named { NoFlagSetFor state.old named.old }
-    requires room { HasSpace out.old (events_by_bytes listed.now state.old bytes.now) }
-    ensures state { state.new ≡ state_after_bytes listed.now state.old bytes.now }
-    ensures named { named.new ≡ named.old }
-    ensures appends { Appends out.old (events_of_numbers listed.now state.old state.new
-        (numbers_of_bytes listed.now bytes.now)) out.new }
-{
-    let item = listed.item;
-    let entries = listed.layout.entries(listed.place);
-    let before = FieldRun::new(last.bytes, at, item.size, item.min < 0, item.count as usize);
-    let numbers = FieldRun::new(bytes, at, item.size, item.min < 0, item.count as usize);
-    let change = KeyNumbers {
-        array: KeyArray { item, entries },
-        range: elements_of_span(item.size, item.count as usize, at, last.changed),
-        last: &before,
-        next: &numbers,
-    };
-    take_within::<C>(listed.layout, listed.place, &change, state, named, out);
-}
-
-/// Reads the fields of an array as [`take_keys`] does, by the places that its elements can name. Its arguments are no structs, so
-/// that the caller keeps none in memory for it.
-#[inline(never)]
-fn take_elements_apart<C: FieldCodec>(
-    layout: &Layout,
-    place: usize,
-    item: &MainItem,
-    at: usize,
-    bytes: &[u8],
-    last: &[u8],
-    changed: BitSpan,
-    state: &mut ControlState,
-    named: &mut Flags,
-    out: &mut Vec<Event>,
-)
-    requires listed { IsFilled (record { layout = layout; place = place; item = item })
-        bytes.now }
-    requires shape { item.now.shape ≡ Shape.Array }
-    requires at { at ≡ first_bit layout.now + item.now.offset }
-    requires known { KnowsKeys (record { layout = layout; place = place; item = item }) bytes.now
-        last.now changed state.old }
-    requires held { HasRoom (controls_of_form (form_in
-        (record { layout = layout; place = place; item = item }))) state.old }
-    requires named { NoFlagSetFor state.old named.old }
-    requires room { HasSpace out.old (events_by_bytes
-        (record { layout = layout; place = place; item = item }) state.old bytes.now) }
-    ensures state { state.new ≡ state_after_bytes
-        (record { layout = layout.entry; place = place; item = item.entry }) state.old bytes.now }
-    ensures named { named.new ≡ named.old }
-    ensures appends { Appends out.old (events_of_numbers
-        (record { layout = layout.entry; place = place; item = item.entry }) state.old state.new
-        (numbers_of_bytes (record { layout = layout.entry; place = place; item = item.entry })
-        bytes.now)) out.new }
-{
-    let listed = ListedItem {
-        layout,
-        place,
-        item,
-    };
-    let last = LastReport {
-        bytes: last,
-        changed,
-    };
-    take_many_elements::<C>(&listed, bytes, &last, at, state, named, out);
-}
-
-/// Reads the fields of an array as [`take_keys`] does. Not inlined, as few arrays have so many keys; its arguments are no
-/// structs, so that the caller keeps none in memory for it.
-#[inline(never)]
-fn take_keys_apart<C: FieldCodec>(
-    layout: &Layout,
-    place: usize,
-    item: &MainItem,
-    at: usize,
-    bytes: &[u8],
-    last: &[u8],
-    changed: BitSpan,
-    state: &mut ControlState,
-    named: &mut Flags,
-    out: &mut Vec<Event>,
-)
-    requires listed { IsFilled (record { layout = layout; place = place; item = item })
-        bytes.now }
-    requires shape { item.now.shape ≡ Shape.Array }
-    requires at { at ≡ first_bit layout.now + item.now.offset }
-    requires known { KnowsKeys (record { layout = layout; place = place; item = item }) bytes.now
-        last.now changed state.old }
-    requires held { HasRoom (controls_of_form (form_in
-        (record { layout = layout; place = place; item = item }))) state.old }
-    requires named { NoFlagSetFor state.old named.old }
-    requires room { HasSpace out.old (events_by_bytes
-        (record { layout = layout; place = place; item = item }) state.old bytes.now) }
-    ensures state { state.new ≡ state_after_bytes
-        (record { layout = layout.entry; place = place; item = item.entry }) state.old bytes.now }
-    ensures named { named.new ≡ named.old }
-    ensures appends { Appends out.old (events_of_numbers
-        (record { layout = layout.entry; place = place; item = item.entry }) state.old state.new
-        (numbers_of_bytes (record { layout = layout.entry; place = place; item = item.entry })
-        bytes.now)) out.new }
-{
-    if !compares_elements(
-        item,
-        elements_of_span(item.size, item.count as usize, at, changed),
-    ) {
-        return take_elements_apart::<C>(
-            layout, place, item, at, bytes, last, changed, state, named, out,
-        );
-    }
-    let listed = ListedItem {
-        layout,
-        place,
-        item,
-    };
-    let last = LastReport {
-        bytes: last,
-        changed,
-    };
-    take_many_keys::<C>(&listed, bytes, &last, at, state, named, out);
-}
-
-/// Sets the keys of an array, which the last numbers leave, by the next ones, and appends their events. Numbers of a byte each
-/// are read by a loop of their own.
-#[inline(always)]
-fn take_change<C: FieldCodec>(
-    layout: &Layout,
-    place: usize,
-    change: &KeyNumbers<'_>,
-    state: &mut ControlState,
-    named: &mut Flags,
-    out: &mut Vec<Event>,
-)
-    requires array { IsArrayAt layout.now place change.now.array.item.now
-        change.now.array.entries.now }
-    requires numbers { AreKeyNumbers change.now }
-    requires few { length change.now.next.now ≤ MOST_ELEMENTS }
-    requires left { state_by_array layout.now place change.now.array state.old change.now.last.now
-        ≡ state.old }
-    requires held { HasPlaces state.old (length (keys_at layout.now place)) }
-    requires named { NoFlagSetFor state.old named.old }
-    requires room { HasSpace out.old (key_events place (usages_at layout.now place) state.old
-        (state_by_array layout.now place change.now.array state.old change.now.next.now)) }
-    ensures state { state.new
-        ≡ state_by_array layout.now place change.now.array state.old change.now.next.now }
-    ensures named { named.new ≡ named.old }
-    ensures appends { Appends out.old (key_events place (usages_at layout.now place) state.old
-        state.new) out.new }
-{
-    let KeyNumbers {
-        array,
-        range,
-        last,
-        next,
-        ..
-    } = *change;
-    match last.bytes(false) {
-        None => take_numbered::<C>(layout, place, change, state, named, out),
-        Some(last) => match next.bytes(false) {
-            None => take_numbered::<C>(layout, place, change, state, named, out),
-            Some(next) => {
-                let bytewise = KeyNumbers {
-                    array,
-                    range,
-                    last: &FieldRun::of_bytes(last, false),
-                    next: &FieldRun::of_bytes(next, false),
-                };
-                take_numbered::<C>(layout, place, &bytewise, state, named, out);
-            }
-        },
-    }
-}
-
-/// Sets the keys of an array, which the last numbers leave, by the next ones, and appends their events. If a last number names
-/// ErrorRollOver, that doesn't say which keys are held.
-#[inline(always)]
-fn take_numbered<C: FieldCodec>(
-    layout: &Layout,
-    place: usize,
-    change: &KeyNumbers<'_>,
-    state: &mut ControlState,
-    named: &mut Flags,
-    out: &mut Vec<Event>,
-)
-    requires array { IsArrayAt layout.now place change.now.array.item.now
-        change.now.array.entries.now }
-    requires numbers { AreKeyNumbers change.now }
-    requires few { length change.now.next.now ≤ MOST_ELEMENTS }
-    requires left { state_by_array layout.now place change.now.array state.old change.now.last.now
-        ≡ state.old }
-    requires held { HasPlaces state.old (length (keys_at layout.now place)) }
-    requires named { NoFlagSetFor state.old named.old }
-    requires room { HasSpace out.old (key_events place (usages_at layout.now place) state.old
-        (state_by_array layout.now place change.now.array state.old change.now.next.now)) }
-    ensures state { state.new
-        ≡ state_by_array layout.now place change.now.array state.old change.now.next.now }
-    ensures named { named.new ≡ named.old }
-    ensures appends { Appends out.old (key_events place (usages_at layout.now place) state.old
-        state.new) out.new }
-{
-    if let ControlState::Switches(held) = state {
-        if names_rollover::<C>(&change.array, change.last) {
-            take_unless_rollover::<C>(layout, place, &change.array, change.next, held, named, out);
-        } else {
-            change_keys::<C>(layout, place, change, held, out);
-        }
-    }
 }

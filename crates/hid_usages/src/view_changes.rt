@@ -3,7 +3,6 @@
 ghost use Rattle.std.specs.Prelude.{◌≡◌, ◌<◌, ◌≤◌, length, slice_get, map, Some, IfSome};
 ghost use Rattle.hid_report_descriptor.specs.declared.usage.Usage.{Usage as UsageValue};
 ghost use Rattle.hid_report_descriptor.specs.Usages.{usage_list};
-ghost use Rattle.hid_layout.specs.Reports.{usage_of};
 ghost use Rattle.hid_layout.specs.Controls.{items_of};
 ghost use Rattle.hid_snapshots.specs.ControlStates.{FitsView};
 ghost use Rattle.hid_usages.specs.Appending.{HasSpace, Appends};
@@ -37,13 +36,22 @@ fn usage_place(item: &MainItem, entries: &[(Usage, Usage)], index: usize) -> usi
     }
 }
 
-/// The usage at a place of an item's usage list: a few ranges are walked, more are halved.
-fn listed_usage(layout: &Layout, item: usize, place: usize) -> Option<Usage>
-    requires { item < length layout.now.items }
-    ensures { result ≡ usage_of layout.now item place }
+/// How many ranges of usages are few: going over them takes less than a search.
+const FEW_RANGES: usize = 4;
+
+/// The usage at a place of an item's usage list: a few ranges are gone over, and more are searched by bisection.
+#[inline(always)]
+pub(crate) fn listed_usage(
+    layout: &Layout,
+    item: usize,
+    entries: &[(Usage, Usage)],
+    place: usize,
+) -> Option<Usage>
+    requires listed { item < length layout.now.items }
+    requires entries { slice_get layout.now.entries item ≡ Some entries.now }
+    ensures { result ≡ slice_get (usage_list entries.now) place }
 {
-    let entries = layout.entries(item);
-    if entries.len() <= 4 {
+    if entries.len() <= FEW_RANGES {
         usage_in(entries, place)
     } else {
         layout.usage(item, place)
@@ -81,6 +89,18 @@ fn first_usage(entries: &[(Usage, Usage)], place: usize) -> Option<Usage>
     }
 }
 
+/// The usage of an element, or of a place of an array's usage list, by all ranges.
+#[inline(never)]
+pub(crate) fn usage_by_ranges(layout: &Layout, item: usize, index: usize) -> Usage
+    requires { index < length (usages_at layout.now item) }
+    ensures { slice_get (usages_at layout.now item) index ≡ Some result }
+{
+    match listed_usage(layout, item, layout.entries(item), index) {
+        Some(usage) => usage,
+        None => usage_past(layout, item, index),
+    }
+}
+
 /// The usage of an element, or of a place of an array's usage list, after the first range.
 #[inline(never)]
 fn usage_at_place(layout: &Layout, item: usize, index: usize) -> Usage
@@ -93,10 +113,7 @@ fn usage_at_place(layout: &Layout, item: usize, index: usize) -> Usage
             return usage_in_range(&usages, index);
         }
     }
-    match listed_usage(layout, item, index) {
-        Some(usage) => usage,
-        None => usage_past(layout, item, index),
-    }
+    usage_by_ranges(layout, item, index)
 }
 
 /// The usage of an element, or of a place of an array's usage list.

@@ -7,25 +7,22 @@ use Rattle.hid_snapshots.specs.declared.control_state.ControlState.TheVariants.{
 use Rattle.hid_snapshots.specs.declared.event.Event.{Event}
 use Rattle.hid_snapshots.specs.Events.{ups, downs, key_events, usages_at}
 use Rattle.hid_usages.specs.Appending.{HasSpace, Appends}
-use Rattle.hid_usages.specs.ChangedKeys.{keys_before, keys_after, AreKeyNumbers, RollsWithin}
+use Rattle.hid_usages.specs.ChangedKeys.{keys_before, keys_after, AreKeyNumbers}
 use Rattle.hid_usages.specs.KeyArrays.{is_rollover_number, keys_by_array, usages_of_array}
 use Rattle.hid_usages.specs.Reading.{keys_at, named_keys_from}
 use Rattle.hid_usages.specs.Taking.{IsArrayAt}
 use Rattle.hid_usages.specs.declared.changed_keys.KeyNumbers.{KeyNumbers}
-use Rattle.hid_usages.proofs.ChangedKeyLemmas.{none_rolls}
-use Rattle.hid_usages.proofs.EventLemmas.{nothing_appended, space_first, space_second, both_appended}
+use Rattle.hid_usages.proofs.EventLemmas.{space_first, space_second, both_appended}
 use Rattle.hid_usages.proofs.PressLemmas.{keys_named}
-use Rattle.hid_usages.proofs.ViewLemmas.{same_keys}
 use Rattle.hid_usages.proofs.changed_keys.change_keys.Goals as goal
 use Rattle.std.proofs.Common.{ℕ}
 
 -- the keys after the next report, where no number names ErrorRollOver
 reads : (layout : Contents) (item : ℕ) (change : KeyNumbers) (held : List Bool) → IsArrayAt layout item change.array.item.now change.array.entries.now → AreKeyNumbers change
-    → list_any (is_rollover_number change.array) change.last.now ≡ false → RollsWithin change.array change.next.now change.range false
+    → list_any (is_rollover_number change.array) change.next.now ≡ false
     → keys_by_array layout item change.array held change.next.now ≡ Switches (keys_after change)
-reads layout item change held is numbers last none =
-    keys_named change.array.item.now (usages_of_array change.array) (keys_at layout item) held change.next.now
-    (none_rolls (is_rollover_number change.array) change.last.now change.next.now change.range.first change.range.end last none numbers.same)
+reads layout item change held is numbers none =
+    keys_named change.array.item.now (usages_of_array change.array) (keys_at layout item) held change.next.now none
     ∙ ap (λ (keys : List Key). Switches (named_keys_from change.array.item.now change.next.now 0 keys)) is.keys
 
 tells : (layout : Contents) (item : ℕ) (change : KeyNumbers) (held : List Bool) (state : ControlState) → held ≡ keys_before change → state ≡ Switches (keys_after change)
@@ -34,16 +31,11 @@ tells layout item change held state before after =
     ap (key_events item (usages_at layout item) (Switches held)) after
     ∙ ap (λ (l : List Bool). ups item (usages_at layout item) l (keys_after change) ++ downs item (usages_at layout item) l (keys_after change)) before
 
-pub returns-then-rolls_within-clause-appends : goal.returns-then-rolls_within-clause-appends
-returns-then-rolls_within-clause-appends g c =
-    nothing_appended c.args.out.now _ (same_keys c.args.item (usages_at c.args.layout.now c.args.item) (Switches c.args.held.now))
-
 pub release_keys-requires-clause-room : goal.release_keys-requires-clause-room
 release_keys-requires-clause-room g c =
     let change = c.args.change.now in
     let us = usages_at c.args.layout.now c.args.item in
-    let none : RollsWithin change.array change.next.now change.range false = subst (RollsWithin change.array change.next.now change.range) c.if-rolls_within.false c.rolls_within.ensures in
-    let read = reads c.args.layout.now c.args.item change c.args.held.now c.requires.array c.requires.numbers c.requires.last none in
+    let read = reads c.args.layout.now c.args.item change c.args.held.now c.requires.array c.requires.numbers c.requires.rolls in
     space_first c.args.out.now (ups c.args.item us (keys_before change) (keys_after change)) (downs c.args.item us (keys_before change) (keys_after change))
     (subst (HasSpace c.args.out.now) (tells c.args.layout.now c.args.item change c.args.held.now _ c.requires.held read) c.requires.room)
 
@@ -51,16 +43,14 @@ pub press_keys-requires-clause-room : goal.press_keys-requires-clause-room
 press_keys-requires-clause-room g c =
     let change = c.args.change.now in
     let us = usages_at c.args.layout.now c.args.item in
-    let none : RollsWithin change.array change.next.now change.range false = subst (RollsWithin change.array change.next.now change.range) c.if-rolls_within.false c.rolls_within.ensures in
-    let read = reads c.args.layout.now c.args.item change c.args.held.now c.requires.array c.requires.numbers c.requires.last none in
+    let read = reads c.args.layout.now c.args.item change c.args.held.now c.requires.array c.requires.numbers c.requires.rolls in
     space_second c.args.out.now c.release_keys.new.out (ups c.args.item us (keys_before change) (keys_after change)) (downs c.args.item us (keys_before change) (keys_after change))
     (subst (HasSpace c.args.out.now) (tells c.args.layout.now c.args.item change c.args.held.now _ c.requires.held read) c.requires.room) c.release_keys.ensures.appends
 
 pub returns-clause-held : goal.returns-clause-held
 returns-clause-held g c =
     let change = c.args.change.now in
-    let none : RollsWithin change.array change.next.now change.range false = subst (RollsWithin change.array change.next.now change.range) c.if-rolls_within.false c.rolls_within.ensures in
-    ap Switches c.press_keys.ensures.held ∙ sym (reads c.args.layout.now c.args.item change c.args.held.now c.requires.array c.requires.numbers c.requires.last none)
+    ap Switches c.press_keys.ensures.held ∙ sym (reads c.args.layout.now c.args.item change c.args.held.now c.requires.array c.requires.numbers c.requires.rolls)
 
 pub returns-clause-appends : goal.returns-clause-appends
 returns-clause-appends g c =

@@ -14,19 +14,19 @@ returns-in-None c = λ p here.
     let is : v ≡ c.args.number = search (rules, to_z-of_z) in
     past_places c.args.array.now c.args.held.now v c.len.result (c.len.ensures ∙ c.requires.held) c.in-None.ensures p (is ∙ here)
 
-pub returns-in-None-usage_in : goal.returns-in-None-usage_in
-returns-in-None-usage_in c =
+pub returns-in-None-listed_usage : goal.returns-in-None-listed_usage
+returns-in-None-listed_usage c =
     let there = usage_is_there c.args.array.now c.in-Some.place (omega (arith, c.in-Some.ensures.0, c.len.ensures, c.requires.held)) in
-    let none : None ≡ Some there.0 = sym (sym c.usage_at.ensures ∙ c.in-None-usage_in.is) ∙ there.1 in
+    let none : None ≡ Some there.0 = sym (sym c.listed_usage.ensures ∙ c.in-None-listed_usage.is) ∙ there.1 in
     absurd (cc)
 
 pub returns-then-is_pressable : goal.returns-then-is_pressable
 returns-then-is_pressable c =
     let v = to_z w64 (of_z w64 c.args.number) in
     let is : v ≡ c.args.number = search (rules, to_z-of_z) in
-    let here : slice_get (usages_of_array c.args.array.now) c.in-Some.place ≡ Some c.in-Some-usage_in.usage = sym c.usage_at.ensures ∙ c.in-Some-usage_in.is in (
+    let here : slice_get (usages_of_array c.args.array.now) c.in-Some.place ≡ Some c.in-Some-listed_usage.usage = sym c.listed_usage.ensures ∙ c.in-Some-listed_usage.is in (
       sym is ∙ c.in-Some.ensures.1,
-      pressable c.args.array.now c.args.held.now c.in-Some.place c.in-Some-usage_in.usage here (omega (arith, c.in-Some.ensures.0, c.len.ensures, c.requires.held))
+      pressable c.args.array.now c.args.held.now c.in-Some.place c.in-Some-listed_usage.usage here (omega (arith, c.in-Some.ensures.0, c.len.ensures, c.requires.held))
           (sym c.is_pressable.ensures ∙ c.if-is_pressable.true) (c.get.ensures ∙ ap (λ (b : Bool). Some b) c.if-get.false),
     )
 
@@ -34,6 +34,6 @@ pub returns-else-is_pressable : goal.returns-else-is_pressable
 returns-else-is_pressable c = λ p other.
     let v = to_z w64 (of_z w64 c.args.number) in
     let is : v ≡ c.args.number = search (rules, to_z-of_z) in
-    let here : slice_get (usages_of_array c.args.array.now) c.in-Some.place ≡ Some c.in-Some-usage_in.usage = sym c.usage_at.ensures ∙ c.in-Some-usage_in.is in
-    not_pressable c.args.array.now c.args.held.now v c.in-Some.place c.in-Some-usage_in.usage c.in-Some.ensures.1 here (omega (arith, c.in-Some.ensures.0, c.len.ensures, c.requires.held))
+    let here : slice_get (usages_of_array c.args.array.now) c.in-Some.place ≡ Some c.in-Some-listed_usage.usage = sym c.listed_usage.ensures ∙ c.in-Some-listed_usage.is in
+    not_pressable c.args.array.now c.args.held.now v c.in-Some.place c.in-Some-listed_usage.usage c.in-Some.ensures.1 here (omega (arith, c.in-Some.ensures.0, c.len.ensures, c.requires.held))
     (sym c.is_pressable.ensures ∙ c.if-is_pressable.false) p (is ∙ other)

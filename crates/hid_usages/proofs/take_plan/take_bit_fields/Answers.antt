@@ -10,17 +10,17 @@ use Rattle.hid_usages.proofs.BitLemmas.{pattern_in, has_bits, reads_as_bits}
 use Rattle.hid_snapshots.proofs.EncodingLemmas.{place_inside}
 use Rattle.hid_usages.proofs.take_plan.take_bit_fields.Goals as goal
 
-pub get-requires-clause-some : goal.get-requires-clause-some
-get-requires-clause-some g c = omega (arith, c.count_of.ensures, (c.requires.listed.layout.elements c.args.listed.now.place c.args.listed.now.item.now c.requires.listed.with_data.listed c.requires.listed.with_data.no_padding).some)
+pub get-pattern-requires-clause-some : goal.get-pattern-requires-clause-some
+get-pattern-requires-clause-some g c = omega (arith, c.count_of.ensures, (c.requires.listed.layout.elements c.args.listed.now.place c.args.listed.now.item.now c.requires.listed.with_data.listed c.requires.listed.with_data.no_padding).some)
 
-pub get-requires-clause-width : goal.get-requires-clause-width
-get-requires-clause-width g c =
+pub get-pattern-requires-clause-width : goal.get-pattern-requires-clause-width
+get-pattern-requires-clause-width g c =
     let on : are_bits c.args.listed.now.item.now ≡ true = c.requires.bits in
     let few = (has_bits c.args.listed.now.item.now on).few in
     omega arith
 
-pub get-requires-clause-inside : goal.get-requires-clause-inside
-get-requires-clause-inside g c =
+pub get-pattern-requires-clause-inside : goal.get-pattern-requires-clause-inside
+get-pattern-requires-clause-inside g c =
     let on : are_bits c.args.listed.now.item.now ≡ true = c.requires.bits in
     let size = (has_bits c.args.listed.now.item.now on).size in
     let inside = place_inside c.args.listed.now.layout.now c.args.listed.now.item.now.report c.args.listed.now.place c.args.listed.now.item.now c.requires.listed.layout c.requires.listed.with_data in
@@ -43,13 +43,13 @@ pub take_pattern-requires-clause-fits : goal.take_pattern-requires-clause-fits
 take_pattern-requires-clause-fits g c =
     let on : are_bits c.args.listed.now.item.now ≡ true = c.requires.bits in
     let reads = reads_as_bits c.args.listed.now.layout.now c.args.bytes.now c.args.listed.now.place c.args.listed.now.item.now c.args.state.now c.requires.listed.layout c.requires.listed.with_data.listed c.requires.listed.input (has_bits c.args.listed.now.item.now on) c.requires.held in
-    subst (λ (n : ℕ). c.get.result < 2 ^ n) (c.count_of.ensures ∙ sym reads.places) c.get.ensures.fits
+    subst (λ (n : ℕ). c.get-pattern.result < 2 ^ n) (c.count_of.ensures ∙ sym reads.places) c.get-pattern.ensures.fits
 
 pub take_pattern-requires-clause-room : goal.take_pattern-requires-clause-room
 take_pattern-requires-clause-room g c =
     let on : are_bits c.args.listed.now.item.now ≡ true = c.requires.bits in
     let reads = reads_as_bits c.args.listed.now.layout.now c.args.bytes.now c.args.listed.now.place c.args.listed.now.item.now c.args.state.now c.requires.listed.layout c.requires.listed.with_data.listed c.requires.listed.input (has_bits c.args.listed.now.item.now on) c.requires.held in
-    let pattern : c.get.result ≡ pattern_in c.args.listed.now.layout.now c.args.bytes.now c.args.listed.now.item.now = search rules in
+    let pattern : c.get-pattern.result ≡ pattern_in c.args.listed.now.layout.now c.args.bytes.now c.args.listed.now.item.now = search rules in
     let read = ap (λ (p : ℕ). read_bits p c.args.state.now) pattern ∙ reads.read in
     let told =
     ap (λ (a : ControlState). element_events c.args.listed.now.place
@@ -62,7 +62,7 @@ pub returns-clause-state : goal.returns-clause-state
 returns-clause-state g c =
     let on : are_bits c.args.listed.now.item.now ≡ true = c.requires.bits in
     let reads = reads_as_bits c.args.listed.now.layout.now c.args.bytes.now c.args.listed.now.place c.args.listed.now.item.now c.args.state.now c.requires.listed.layout c.requires.listed.with_data.listed c.requires.listed.input (has_bits c.args.listed.now.item.now on) c.requires.held in
-    let pattern : c.get.result ≡ pattern_in c.args.listed.now.layout.now c.args.bytes.now c.args.listed.now.item.now = search rules in
+    let pattern : c.get-pattern.result ≡ pattern_in c.args.listed.now.layout.now c.args.bytes.now c.args.listed.now.item.now = search rules in
     c.take_pattern.ensures.state ∙ ap (λ (p : ℕ). read_bits p c.args.state.now) pattern ∙ reads.read
 
 pub returns-clause-appends : goal.returns-clause-appends
@@ -73,3 +73,9 @@ returns-clause-appends g c =
 
 pub take_pattern-requires-clause-usages : goal.take_pattern-requires-clause-usages
 take_pattern-requires-clause-usages g c = c.requires.usages
+
+pub take_pattern-requires-clause-single : goal.take_pattern-requires-clause-single
+take_pattern-requires-clause-single g c = λ single.
+    let on : are_bits c.args.listed.now.item.now ≡ true = c.requires.bits in
+    let reads = reads_as_bits c.args.listed.now.layout.now c.args.bytes.now c.args.listed.now.place c.args.listed.now.item.now c.args.state.now c.requires.listed.layout c.requires.listed.with_data.listed c.requires.listed.input (has_bits c.args.listed.now.item.now on) c.requires.held in
+    reads.places ∙ c.requires.single single

@@ -74,3 +74,11 @@ returns-clause-state g c =
     ∙ ap (read_keys item (usage_list c.entries-entries.result.now) (keys_at layout place) c.args.state.now) (sym only)
     ∙ reads.read
     ∙ ap (state_after_numbers_at layout place item c.args.state.now) numbers
+
+pub take_number-requires-clause-listed : goal.take_number-requires-clause-listed
+take_number-requires-clause-listed g c = record {
+  listed = c.requires.listed.with_data.listed;
+  entries = c.entries-entries.ensures;
+  shape = c.requires.shape;
+  elements = c.requires.listed.layout.elements c.args.place c.args.item.now c.requires.listed.with_data.listed c.requires.listed.with_data.no_padding;
+}

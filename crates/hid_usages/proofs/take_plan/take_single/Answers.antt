@@ -247,8 +247,8 @@ returns-clause-appends g c =
     let all = along_end layout r (length plan) (map place_of plan) _ skipped c.requires.places.plan (omega (arith, places_length plan)) over in
     appends _ _ _ (all_told layout r bytes start (length layout.items) out.items _ (omega (arith, known.all)) all.events) c.take_planned_item.ensures.appends.room
 
-pub returns-then-is_passed-clause-view : goal.returns-then-is_passed-clause-view
-returns-then-is_passed-clause-view g c =
+pub returns-then-is_single_passed-clause-view : goal.returns-then-is_single_passed-clause-view
+returns-then-is_single_passed-clause-view g c =
     let layout = c.args.received.now.layout.now in
     let r = c.args.received.now.report in
     let bytes = c.args.received.now.bytes.now in
@@ -265,15 +265,15 @@ returns-then-is_passed-clause-view g c =
       same = refl;
     } in
     let single = c.requires.plan.single c.requires.single in
-    let over = single_passed layout r bytes c.args.last.now.bytes.now c.args.last.now.changed plan start told (vec_len c.args.out.now) (vec_capacity c.args.out.now) c.planned_at-planned.result.now known single.some single.others c.planned_at-planned.ensures c.if-is_passed.ensures c.requires.room in
+    let over = single_passed layout r bytes c.args.last.now.bytes.now c.args.last.now.changed plan start told (vec_len c.args.out.now) (vec_capacity c.args.out.now) c.planned_at-planned.result.now known single.some single.others c.planned_at-planned.ensures c.if-is_single_passed.ensures c.requires.room in
     let skips = taking_skips layout r bytes start start told told (vec_len c.args.out.now) (vec_capacity c.args.out.now) known.all refl in
     let all = along_end layout r (length plan) (map place_of plan) _ skips c.requires.places.plan (omega (arith, places_length plan)) over in
     let target = read_view layout r bytes start in
     let len : length target ≡ length start = view_from_item-length layout r bytes 0 start in
     all.states ∙ filled target start (length layout.items) (omega (arith, known.all)) (omega (arith, len))
 
-pub returns-then-is_passed-clause-appends : goal.returns-then-is_passed-clause-appends
-returns-then-is_passed-clause-appends g c =
+pub returns-then-is_single_passed-clause-appends : goal.returns-then-is_single_passed-clause-appends
+returns-then-is_single_passed-clause-appends g c =
     let layout = c.args.received.now.layout.now in
     let r = c.args.received.now.report in
     let bytes = c.args.received.now.bytes.now in
@@ -290,7 +290,7 @@ returns-then-is_passed-clause-appends g c =
       same = refl;
     } in
     let single = c.requires.plan.single c.requires.single in
-    let over = single_passed layout r bytes c.args.last.now.bytes.now c.args.last.now.changed plan start told (vec_len c.args.out.now) (vec_capacity c.args.out.now) c.planned_at-planned.result.now known single.some single.others c.planned_at-planned.ensures c.if-is_passed.ensures c.requires.room in
+    let over = single_passed layout r bytes c.args.last.now.bytes.now c.args.last.now.changed plan start told (vec_len c.args.out.now) (vec_capacity c.args.out.now) c.planned_at-planned.result.now known single.some single.others c.planned_at-planned.ensures c.if-is_single_passed.ensures c.requires.room in
     let skips = taking_skips layout r bytes start start told told (vec_len c.args.out.now) (vec_capacity c.args.out.now) known.all refl in
     let all = along_end layout r (length plan) (map place_of plan) _ skips c.requires.places.plan (omega (arith, places_length plan)) over in
     appends _ _ _ (all_told layout r bytes start (length layout.items) told _ (omega (arith, known.all)) all.events) refl

@@ -8,7 +8,7 @@ use Rattle.hid_usages.specs.Reading.{FitsFields, item_numbers}
 use Rattle.hid_usages.specs.Taking.{state_after_numbers_at, events_of_numbers_at}
 use Rattle.hid_usages.proofs.BoundLemmas.{numbers_fit}
 use Rattle.hid_usages.proofs.PressLemmas.{reads_keys}
-use Rattle.hid_usages.proofs.take_plan.take_keys.Goals as goal
+use Rattle.hid_usages.proofs.take_keys.take_keys.Goals as goal
 
 pub new-numbers-requires : goal.new-numbers-requires
 new-numbers-requires g c =
@@ -68,8 +68,8 @@ take_array-requires-clause-room g c =
     ∙ reads.told (state_after_numbers_at layout place item c.args.state.now c.new-numbers.result) in
     subst (HasSpace c.args.out.now) (sym told) (subst (λ (ns : List ℤ). HasSpace c.args.out.now (events_of_numbers_at layout place item c.args.state.now (state_after_numbers_at layout place item c.args.state.now ns) ns)) (sym numbers) c.requires.room)
 
-pub returns-else-has_many_keys-clause-state : goal.returns-else-has_many_keys-clause-state
-returns-else-has_many_keys-clause-state g c =
+pub returns-else-key_count-gt-FEW_KEYS-clause-state : goal.returns-else-key_count-gt-FEW_KEYS-clause-state
+returns-else-key_count-gt-FEW_KEYS-clause-state g c =
     let layout = c.args.listed.now.layout.now in
     let place = c.args.listed.now.place in
     let item = c.args.listed.now.item.now in
@@ -77,8 +77,8 @@ returns-else-has_many_keys-clause-state g c =
     let reads = reads_keys layout place item c.entries-entries.result.now c.args.state.now c.new-numbers.result c.requires.listed.input c.requires.shape c.entries-entries.ensures c.requires.held in
     c.take_array.ensures.state ∙ reads.read ∙ ap (state_after_numbers_at layout place item c.args.state.now) numbers
 
-pub returns-else-has_many_keys-clause-appends : goal.returns-else-has_many_keys-clause-appends
-returns-else-has_many_keys-clause-appends g c =
+pub returns-else-key_count-gt-FEW_KEYS-clause-appends : goal.returns-else-key_count-gt-FEW_KEYS-clause-appends
+returns-else-key_count-gt-FEW_KEYS-clause-appends g c =
     let layout = c.args.listed.now.layout.now in
     let place = c.args.listed.now.place in
     let item = c.args.listed.now.item.now in

@@ -3,7 +3,7 @@ use Rattle.std.specs.Ordering.{int_eq}
 use Rattle.std.proofs.lemmas.Int.{to_z-of_z, ints}
 use Rattle.hid_report_descriptor.specs.Usages.{Entry}
 use Rattle.hid_usages.proofs.ChangedKeyLemmas.{sole_rolls, keyboard_page}
-use Rattle.hid_usages.proofs.changed_keys.sole_rollover.Goals as goal
+use Rattle.hid_usages.proofs.rollover.sole_rollover.Goals as goal
 
 pub returns-then-number-array : goal.returns-then-number-array
 returns-then-number-array c = λ v.

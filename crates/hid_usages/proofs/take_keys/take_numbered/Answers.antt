@@ -14,7 +14,7 @@ use Rattle.hid_usages.specs.Reading.{FitsFields, item_numbers}
 use Rattle.hid_usages.specs.Taking.{state_after_numbers_at, events_of_numbers_at}
 use Rattle.hid_usages.proofs.BoundLemmas.{numbers_fit}
 use Rattle.hid_usages.proofs.PressLemmas.{reads_keys}
-use Rattle.hid_usages.proofs.take_plan.take_many_keys.Goals as goal
+use Rattle.hid_usages.proofs.take_keys.take_numbered.Goals as goal
 
 pub new-before-requires : goal.new-before-requires
 new-before-requires g c =
@@ -41,9 +41,6 @@ new-numbers-requires g c =
 pub entries-entries-requires : goal.entries-entries-requires
 entries-entries-requires g c = slice_get_within c.args.listed.now.layout.now.items c.args.listed.now.place c.args.listed.now.item.now c.requires.listed.with_data.listed
 
-pub elements_of_span-requires : goal.elements_of_span-requires
-elements_of_span-requires g c = record { size = (c.requires.listed.layout.elements c.args.listed.now.place c.args.listed.now.item.now c.requires.listed.with_data.listed c.requires.listed.with_data.no_padding).some_bits }
-
 pub take_change-requires-clause-array : goal.take_change-requires-clause-array
 take_change-requires-clause-array g c =
     let layout = c.args.listed.now.layout.now in
@@ -67,7 +64,7 @@ take_change-requires-clause-numbers g c =
     let elements = c.requires.listed.layout.elements place item c.requires.listed.with_data.listed c.requires.listed.with_data.no_padding in
     let at = first_bit layout + item.offset in
     let signed = is_negative item.min in
-    let holds = subst (λ (n : ℕ). HoldsSpan n item.size item.count c.args.last.now.changed c.elements_of_span.result) c.requires.at c.elements_of_span.ensures in
+    let holds = subst (λ (n : ℕ). HoldsSpan n item.size item.count c.args.last.now.changed c.args.range) c.requires.at c.requires.range in
     let long : length c.new-numbers.result ≡ item.count = ap (λ (l : List ℤ). length l) numbers ∙ numbers_in-length c.args.bytes.now at item.size signed item.count in
     let long_before : length c.new-before.result ≡ item.count = ap (λ (l : List ℤ). length l) before ∙ numbers_in-length c.args.last.now.bytes.now at item.size signed item.count in
     record {
@@ -77,7 +74,7 @@ take_change-requires-clause-numbers g c =
       within = omega (arith, long, holds.end);
       same = λ j outside.
           ap (λ (l : List ℤ). slice_get l j) before
-          ∙ numbers_same c.args.bytes.now c.args.last.now.bytes.now at item.size signed item.count c.args.last.now.changed c.elements_of_span.result holds
+          ∙ numbers_same c.args.bytes.now c.args.last.now.bytes.now at item.size signed item.count c.args.last.now.changed c.args.range holds
           (λ n low apart. c.requires.known.same n (omega (arith, low, c.requires.known.whole, c.requires.listed.layout.inside place item c.requires.listed.with_data.listed)) apart) j outside
           ∙ sym (ap (λ (l : List ℤ). slice_get l j) numbers);
     }
@@ -132,7 +129,24 @@ returns-clause-appends g c =
     (subst (λ (es : List Event). Appends c.args.out.now es c.take_change.new.out) (reads.told c.take_change.new.state) c.take_change.ensures.appends)
 
 pub take_change-requires-clause-few : goal.take_change-requires-clause-few
-take_change-requires-clause-few g c =
+take_change-requires-clause-few g c = λ compared.
     let item = c.args.listed.now.item.now in
     let numbers : c.new-numbers.result ≡ item_numbers c.args.listed.now.layout.now c.args.bytes.now item = search rules in
-    omega (arith, c.requires.few, ap (λ (l : List ℤ). length l) numbers, numbers_in-length c.args.bytes.now (first_bit c.args.listed.now.layout.now + item.offset) item.size (is_negative item.min) item.count)
+    omega (arith, c.requires.few compared, ap (λ (l : List ℤ). length l) numbers, numbers_in-length c.args.bytes.now (first_bit c.args.listed.now.layout.now + item.offset) item.size (is_negative item.min) item.count)
+
+pub take_change-requires-clause-listed : goal.take_change-requires-clause-listed
+take_change-requires-clause-listed g c = record {
+  listed = c.requires.listed.with_data.listed;
+  entries = c.entries-entries.ensures;
+  shape = c.requires.shape;
+  elements = c.requires.listed.layout.elements c.args.listed.now.place c.args.listed.now.item.now c.requires.listed.with_data.listed c.requires.listed.with_data.no_padding;
+}
+
+pub take_change-requires-clause-last : goal.take_change-requires-clause-last
+take_change-requires-clause-last g c =
+    let layout = c.args.listed.now.layout.now in
+    let place = c.args.listed.now.place in
+    let item = c.args.listed.now.item.now in
+    let before : c.new-before.result ≡ item_numbers layout c.args.last.now.bytes.now item = search rules in
+    let elements = c.requires.listed.layout.elements place item c.requires.listed.with_data.listed c.requires.listed.with_data.no_padding in
+    subst (All (FitsFields item)) (sym before) (numbers_fit c.args.last.now.bytes.now (first_bit layout + item.offset) item.size (is_negative item.min) item.count elements.some_bits)
