@@ -1,9 +1,12 @@
 mod CodeLemmas
+mod CommentLemmas
 mod DecimalLemmas
 mod DumpLemmas
+mod FormLemmas
 mod ListedLemmas
 mod NumberLemmas
 mod RecordLemmas
+mod SeveralLemmas
 mod StringLemmas
 mod Vectors
 mod WayLemmas

@@ -1,5 +1,5 @@
 -- Texts of C without their comments, and the arrays in them (C11, 5.1.1.2, 6.4.5, 6.4.9 and 6.7.9; our choice: docs/PICTURES.md).
-use Rattle.std.specs.Prelude.{ℕ, ◌==◌, ◌-◌, ◌+◌, Bool, not, ◌&&◌, ◌||◌, nat_le, List, [], ◌∷◌, length, slice_index, slice_index_or, take, drop, is_some, if◌then◌else◌, Option, None, Some}
+use Rattle.std.specs.Prelude.{ℕ, ◌==◌, ◌-◌, ◌+◌, Bool, false, not, ◌&&◌, ◌||◌, nat_le, List, [], ◌∷◌, length, slice_index, slice_index_or, take, drop, is_some, if◌then◌else◌, Option, None, Some}
 use Rattle.std.specs.List.{list_any, list_all, zip, slice_split}
 use Rattle.std.specs.Option.{option_and_then}
 use Rattle.std.specs.Char.{is_ascii_whitespace, is_ascii_digit}
@@ -181,3 +181,8 @@ elements_bytes elements = all_bytes (word_bytes Element) (without_empty (slice_s
 -- the bytes of the first array in code whose braces begin with a number, or of elements alone
 unfoldable pub array_bytes : List ℕ → Option (List ℕ)
 array_bytes code = option_and_then elements_bytes (array_text (behind_brace code) code)
+
+-- a text has an array, or elements of one, that can be read, by its code
+abbrev pub is_array : Option (List ℕ) → Bool
+is_array None = false
+is_array (Some code) = has_array code && is_some (array_bytes code)

@@ -1,17 +1,18 @@
 -- The forms of text that have a descriptor (our choice: docs/PICTURES.md).
-use Rattle.std.specs.Prelude.{◌≡◌, ℕ, true, false, List, Option, None, Some, if◌then◌else◌}
+use Rattle.std.specs.Prelude.{◌≡◌, ℕ, not, ◌&&◌, true, false, List, Option, None, Some, if◌then◌else◌}
 use Rattle.std.specs.Option.{option_and_then}
 use Rattle.hid_input.specs.declared.fault.InputCause.TheVariants.{Memory}
 use Rattle.hid_input.specs.declared.fault.InputFault.{InputFault}
 use Rattle.hid_input.specs.declared.form.TextForm.{TextForm}
-use Rattle.hid_input.specs.declared.form.TextForm.TheVariants.{Dump, Hex, Recorded, Dumped, Listed, Unavailable, Array, Quoted, Unclear, Other}
+use Rattle.hid_input.specs.declared.form.TextForm.TheVariants.{Dump, Hex, Recorded, Dumped, Listed, Unavailable, Array, Beside, Quoted, Unclear, Other}
 use Rattle.hid_input.specs.Faults.{of_text, IsOfHex}
 use Rattle.hid_input.specs.Hex.{lines_of, first_word, is_offset, is_spelled, spelled_bytes}
 use Rattle.hid_input.specs.Dump.{IsDump, HasNoOthers}
 use Rattle.hid_input.specs.Decimal.{IsOnlyHex}
 use Rattle.hid_input.specs.Recorded.{has_recorded, recorded_bytes, has_dumped, block_below, block_bytes}
 use Rattle.hid_input.specs.Listed.{has_listed, listed_bytes, has_unavailable}
-use Rattle.hid_input.specs.Code.{code_of, has_array, array_bytes}
+use Rattle.hid_input.specs.Code.{code_of, has_array, array_bytes, is_array}
+use Rattle.hid_input.specs.Comments.{hex_beside, has_hex}
 use Rattle.hid_input.specs.Strings.{has_string, strings_bytes}
 
 -- the form of a text without comments, by its code with empty strings and with whole ones: an array of C, a string, or none
@@ -24,8 +25,13 @@ form_in_code None strings = Unclear
 form_in_code (Some code) None = Unclear
 form_in_code (Some code) (Some strings) = form_of_code code strings
 
+-- the form of a text of none of the tools: hex beside other text, if it is no array that can be read, or one of C
+abbrev pub form_in_source : List ℕ → TextForm
+form_in_source text =
+    if not (is_array (code_of false text)) && has_hex text then Beside else form_in_code (code_of false text) (code_of true text)
+
 -- the first form that a text has: a dump if its first word is an offset by its looks, hex, a line R: of hid-recorder, lines of
--- usbhid-dump, items of lsusb, or an array or a string of C
+-- usbhid-dump, items of lsusb, or one of these
 unfoldable pub form_of : List ℕ → TextForm
 form_of text =
     if is_offset (first_word text) then Dump
@@ -33,7 +39,7 @@ form_of text =
     else (if has_recorded text then Recorded
     else (if has_dumped text then Dumped
     else (if has_listed text then Listed
-    else (if has_unavailable text then Unavailable else form_in_code (code_of false text) (code_of true text))))))
+    else (if has_unavailable text then Unavailable else form_in_source text)))))
 
 -- a text of a form encodes these bytes; other text encodes none
 abbrev pub Encodes : List ℕ → List ℕ → TextForm → Type 0
@@ -44,6 +50,7 @@ Encodes text bytes Dumped = block_bytes (block_below (lines_of text)) ≡ Some b
 Encodes text bytes Listed = listed_bytes (lines_of text) ≡ Some bytes
 Encodes text bytes Unavailable = ⊥
 Encodes text bytes Array = option_and_then array_bytes (code_of false text) ≡ Some bytes
+Encodes text bytes Beside = spelled_bytes (hex_beside text) ≡ Some bytes
 Encodes text bytes Quoted = option_and_then strings_bytes (code_of true text) ≡ Some bytes
 Encodes text bytes Unclear = ⊥
 Encodes text bytes Other = ⊥
@@ -52,6 +59,7 @@ Encodes text bytes Other = ⊥
 abbrev pub IsAlone : List ℕ → List ℕ → TextForm → Type 0
 IsAlone text bytes Dump = HasNoOthers text bytes
 IsAlone text bytes Hex = IsOnlyHex text bytes
+IsAlone text bytes Beside = IsOnlyHex (hex_beside text) bytes
 IsAlone text bytes Dumped = HasNoOthers (block_below (lines_of text)) bytes
 IsAlone text bytes form = Unit {0}
 
@@ -64,6 +72,7 @@ IsFaultOf fault Dumped = IsOfHex fault
 IsFaultOf fault Listed = fault.cause ≡ Memory
 IsFaultOf fault Unavailable = ⊥
 IsFaultOf fault Array = fault ≡ of_text Memory
+IsFaultOf fault Beside = IsOfHex fault
 IsFaultOf fault Quoted = fault ≡ of_text Memory
 IsFaultOf fault Unclear = ⊥
 IsFaultOf fault Other = ⊥

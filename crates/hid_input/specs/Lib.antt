@@ -1,9 +1,12 @@
 pub mod Characters
 pub mod Code
+pub mod Comments
 pub mod Decimal
+pub mod Doubts
 pub mod Dump
 pub mod Faults
 pub mod Forms
+pub mod Frames
 pub mod Hex
 pub mod Known
 pub mod Listed
@@ -12,6 +15,7 @@ pub mod Parts
 pub mod Readings
 pub mod Recorded
 pub mod Records
+pub mod Several
 pub mod Strings
 pub mod Text
 pub mod Words

@@ -6,7 +6,7 @@ ghost use Rattle.std.specs.Option.{option_map, option_and_then, option_copied};
 ghost use Rattle.hid_input.specs.Faults.{of_text};
 ghost use Rattle.hid_input.specs.Words.{IsAdded};
 ghost use Rattle.hid_input.specs.Dump.{place_of};
-ghost use Rattle.hid_input.specs.Code.{place_in_code, is_line_end, is_splice, place_in_quotes, place_in_line, place_after_code, place_after_slash, place_after_splice, place_after_return, place_in_block, place_after_inner, place_after_star, place_after_turn, place_after, bytes_if, code_part, code_end, code_from, code_of, begins_number, behind_brace, is_hex_mark, has_array, is_array_end, begins_row, may_follow_array, ends_array, closed_text, elements_text, array_text, without_empty, is_comma, elements_bytes, array_bytes};
+ghost use Rattle.hid_input.specs.Code.{place_in_code, is_line_end, is_splice, place_in_quotes, place_in_line, place_after_code, place_after_slash, place_after_splice, place_after_return, place_in_block, place_after_inner, place_after_star, place_after_turn, place_after, bytes_if, code_part, code_end, code_from, code_of, begins_number, behind_brace, is_hex_mark, has_array, is_array_end, begins_row, may_follow_array, ends_array, closed_text, elements_text, array_text, without_empty, is_comma, elements_bytes, array_bytes, is_array};
 
 use crate::fault::{InputCause, InputFault};
 use crate::parts::{is_empty_line, place_of, without_space};
@@ -323,7 +323,7 @@ fn begins_number(text: &[u8]) -> bool
 }
 
 /// What stands after the first brace that a number follows.
-fn behind_brace(code: &[u8]) -> Option<&[u8]>
+pub fn behind_brace(code: &[u8]) -> Option<&[u8]>
     ensures { option_copied result ≡ behind_brace code.now }
 {
     for place in 0..code.len() {
@@ -351,6 +351,40 @@ pub fn has_array(code: &[u8]) -> bool
     ensures { result ≡ has_array code.now }
 {
     behind_brace(code).is_some() || has_hex_mark(code)
+}
+
+/// Whether a text has an array, or elements of one, that can be read.
+///
+/// # Errors
+/// Out of memory.
+pub fn is_array(alloc: Global, text: &[u8]) -> Result<bool, AllocError>
+    ensures { IfOk result (λ is_one. is_one ≡ is_array (code_of false text.now)) }
+{
+    match without_comments(alloc, text, false)? {
+        Some(code) => is_array_code(alloc, code.as_slice()),
+        None => Ok(false),
+    }
+}
+
+/// Whether code has an array that can be read.
+fn is_array_code(alloc: Global, code: &[u8]) -> Result<bool, AllocError>
+    ensures { IfOk result (λ is_one. is_one ≡ is_array (Some code.now)) }
+{
+    Ok(has_array(code) && try_array(alloc, code)?.is_some())
+}
+
+/// The bytes of an array in a text without comments, or of its elements alone, if they can be read.
+///
+/// # Errors
+/// Out of memory.
+#[tactic(auto, unfolding(crate::specs::Code::array_bytes))]
+pub fn try_array(alloc: Global, code: &[u8]) -> Result<Option<Vec<u8>>, AllocError>
+    ensures { IfOk result (λ read. option_map (λ bytes. bytes.items) read ≡ array_bytes code.now) }
+{
+    match array_text(code) {
+        Some(elements) => read_elements(alloc, elements),
+        None => Ok(None),
+    }
 }
 
 /// Whether a comma and a brace are first, as in front of another row of a table of arrays.

@@ -18,8 +18,10 @@ pub enum InputCause {
     BadArray,
     /// No brace closes an array of C, or something else follows it than may.
     ArrayEnd,
-    /// An array of C is a row of a table, of which nothing says which row is meant.
+    /// Another array of C follows, or other rows of a table: nothing says which one is meant.
     SeveralArrays,
+    /// Hex may be of several descriptors, one below the other.
+    SeveralLists,
     /// A comment or a string of C has no end, or one that not all programs take for it.
     Unclear,
     /// An escape of a string of C is no byte, or a digit follows it.
@@ -36,6 +38,10 @@ pub enum InputCause {
     BadItem,
     /// lsusb says that it couldn't read the report descriptor.
     Unavailable,
+    /// The first byte of a dump begins no item (HID 1.11, 6.2.2), as that of a frame with its header.
+    NoItem,
+    /// The bytes of a frame of a capture, with its header.
+    Frame,
     /// Two ways to read it, which give different bytes.
     TwoWays,
     /// Text of UTF-16.
@@ -105,7 +111,12 @@ impl fmt::Display for InputCause {
             InputCause::NoCount => "the count is missing, or no number",
             InputCause::BadArray => "an element of the array is no byte",
             InputCause::ArrayEnd => "the array has no end: } and nothing, or ; , ) or } after it",
-            InputCause::SeveralArrays => "a table of arrays: which of them is meant isn't known",
+            InputCause::SeveralArrays => {
+                "several arrays, or a table of them: which one is meant isn't known"
+            }
+            InputCause::SeveralLists => {
+                "one descriptor, or several? Write one in a line, or as an array: { 0x05, .. }"
+            }
             InputCause::Unclear => "it isn't clear where a comment or a string ends",
             InputCause::BadEscape => "an escape of the string is no byte, or a digit follows it",
             InputCause::SeveralStrings => {
@@ -119,6 +130,12 @@ impl fmt::Display for InputCause {
             InputCause::BadItem => "no item as lsusb prints them",
             InputCause::Unavailable => {
                 "lsusb couldn't read the report descriptor (/sys/class/hidraw has those)"
+            }
+            InputCause::NoItem => {
+                "its first byte begins no descriptor: are there bytes in front, as the header of a frame? (hidplay reads captures)"
+            }
+            InputCause::Frame => {
+                "a frame of a capture with its header: give the descriptor's bytes alone (hidplay reads the capture itself)"
             }
             InputCause::TwoWays => "it can be read in two ways, which give different bytes",
             InputCause::Utf16 => "text of UTF-16: write it as UTF-8",

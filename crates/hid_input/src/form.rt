@@ -5,9 +5,10 @@ ghost use Rattle.std.specs.List.{list_all};
 ghost use Rattle.std.specs.Char.{is_ascii_hexdigit};
 ghost use Rattle.hid_input.specs.Hex.{is_offset};
 ghost use Rattle.hid_input.specs.Code.{code_of};
-ghost use Rattle.hid_input.specs.Forms.{form_of_code, form_in_code, form_of};
+ghost use Rattle.hid_input.specs.Forms.{form_of_code, form_in_code, form_in_source, form_of};
 
-use crate::code::{has_array, without_comments};
+use crate::code::{has_array, is_array, without_comments};
+use crate::comments::has_hex;
 use crate::items::{has_listed, has_unavailable};
 use crate::parts::first_word;
 use crate::recorded::{has_dumped, has_recorded};
@@ -32,6 +33,8 @@ pub enum TextForm {
     Unavailable,
     /// An array of C, or elements of one.
     Array,
+    /// Hex beside comments, or in what Linux prints of a descriptor.
+    Beside,
     /// A string of C with escapes.
     Quoted,
     /// Text in which it isn't clear how far a comment or a string of C goes.
@@ -104,6 +107,17 @@ fn form_in_code(alloc: Global, text: &[u8]) -> Result<TextForm, AllocError>
     }
 }
 
+/// The form of a text that no tool prints.
+fn form_in_source(alloc: Global, text: &[u8]) -> Result<TextForm, AllocError>
+    ensures { IfOk result (λ form. form ≡ form_in_source text.now) }
+{
+    if !is_array(alloc, text)? && has_hex(alloc, text)? {
+        Ok(TextForm::Beside)
+    } else {
+        form_in_code(alloc, text)
+    }
+}
+
 /// The form of a text: the first one that it has.
 ///
 /// # Errors
@@ -130,5 +144,5 @@ pub fn form_of(alloc: Global, text: &[u8]) -> Result<TextForm, AllocError>
     if has_unavailable(text) {
         return Ok(TextForm::Unavailable);
     }
-    form_in_code(alloc, text)
+    form_in_source(alloc, text)
 }

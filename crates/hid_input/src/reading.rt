@@ -1,19 +1,25 @@
 //! The descriptor of a file, whatever form it has.
 
-ghost use Rattle.std.specs.Prelude.{◌≡◌, ℕ, false, true, List, Some, IfOk, IfErr, Err};
+ghost use Rattle.std.specs.Prelude.{◌≡◌, ◌⊎◌, ℕ, false, true, List, None, Some, IfOk, IfErr, Err};
 ghost use Rattle.std.specs.List.{list_all};
 ghost use Rattle.hid_input.specs.Hex.{spelled_bytes};
 ghost use Rattle.hid_input.specs.Dump.{IsDump, HasNoOthers};
 ghost use Rattle.hid_input.specs.Decimal.{is_prefix, begins_no_item, HasNoOtherHex, IsOnlyHex};
 ghost use Rattle.hid_input.specs.Forms.{form_of, Encodes, IsAlone, IsFaultOf, IsMemory};
+ghost use Rattle.hid_input.specs.Doubts.{doubt, IsDoubted};
+ghost use Rattle.hid_input.specs.Frames.{is_frame};
+ghost use Rattle.hid_input.specs.Comments.{hex_beside};
 ghost use Rattle.hid_input.specs.Faults.{of_text, IsOfHex};
 ghost use Rattle.hid_input.specs.Text.{is_space, is_text_byte, has_printed, is_text, is_utf16, without_mark};
 ghost use Rattle.hid_input.specs.Records.{is_recording};
 
 use crate::code::{has_array, read_array, unclear_code};
+use crate::comments::hex_beside;
 use crate::decimal::add_decimal;
+use crate::doubts::doubt;
 use crate::fault::{InputCause, InputFault};
 use crate::form::{TextForm, are_digits, form_of};
+use crate::frames::is_frame;
 use crate::items::{PREFIXES, read_listed};
 use crate::known::begins_text;
 use crate::parts::line_number;
@@ -129,7 +135,7 @@ fn is_prefix(byte: u8) -> bool
 
 /// Whether the first byte begins no item of a descriptor, but may be an offset, the number of a line or of a column, or a word such
 /// as `db` of assemblers.
-fn begins_no_item(bytes: &[u8]) -> bool
+pub fn begins_no_item(bytes: &[u8]) -> bool
     ensures { result ≡ begins_no_item bytes.now }
 {
     bytes.len() >= 1 && !is_prefix(bytes[0])
@@ -169,6 +175,18 @@ fn read_hex(alloc: Global, text: &[u8]) -> Result<Vec<u8>, InputFault>
     Ok(bytes)
 }
 
+/// The bytes of hex beside other text.
+fn read_beside(alloc: Global, text: &[u8]) -> Result<Vec<u8>, InputFault>
+    ensures spelled { IfOk result (λ read. spelled_bytes (hex_beside text.now) ≡ Some read.items) }
+    ensures faults { (bytes : List ℕ) → spelled_bytes (hex_beside text.now) ≡ Some bytes → IfErr result IsOfHex }
+    ensures others { IfOk result (λ read. IsOnlyHex (hex_beside text.now) read.items) }
+    ensures read { (bytes : List ℕ) → spelled_bytes (hex_beside text.now) ≡ Some bytes → IsOnlyHex (hex_beside text.now) bytes
+        → IfErr result (λ fault. fault ≡ of_text InputCause.Memory) }
+{
+    let hex = hex_beside(alloc, text)?;
+    read_hex(alloc, hex.as_slice())
+}
+
 /// Why text isn't read of which it isn't clear where a comment or a string ends: that, if it has an array or a string of bytes; else
 /// it has no descriptor.
 fn unclear_fault(text: &[u8]) -> InputFault {
@@ -195,9 +213,29 @@ fn read_form(alloc: Global, text: &[u8], form: TextForm) -> Result<Vec<u8>, Inpu
         TextForm::Listed => read_listed(alloc, text),
         TextForm::Unavailable => Err(InputFault::of_text(InputCause::Unavailable)),
         TextForm::Array => read_array(alloc, text),
+        TextForm::Beside => read_beside(alloc, text),
         TextForm::Quoted => read_string(alloc, text),
         TextForm::Unclear => Err(unclear_fault(text)),
         TextForm::Other => Err(InputFault::of_text(InputCause::NoDescriptor)),
+    }
+}
+
+/// The descriptor in text of this form, if nothing speaks against its bytes.
+fn read_sure(alloc: Global, text: &[u8], form: TextForm) -> Result<Vec<u8>, InputFault>
+    ensures text { IfOk result (λ read. Encodes text.now read.items form) }
+    ensures alone { IfOk result (λ read. IsAlone text.now read.items form) }
+    ensures sure { IfOk result (λ read. doubt text.now read.items form ≡ None) }
+    ensures complete { (whole : List ℕ) → Encodes text.now whole form
+        → IfErr result (λ fault. IsFaultOf fault form ⊎ IsDoubted fault (doubt text.now whole form)) }
+    ensures one_way { (whole : List ℕ) → Encodes text.now whole form → IsAlone text.now whole form
+        → IfErr result (λ fault. IsMemory fault ⊎ IsDoubted fault (doubt text.now whole form)) }
+{
+    match read_form(alloc, text, form) {
+        Err(fault) => Err(fault),
+        Ok(bytes) => match doubt(alloc, text, bytes.as_slice(), form)? {
+            Some(cause) => Err(InputFault::of_text(cause)),
+            None => Ok(bytes),
+        },
     }
 }
 
@@ -205,18 +243,20 @@ fn read_form(alloc: Global, text: &[u8], form: TextForm) -> Result<Vec<u8>, Inpu
 fn descriptor_in_text(alloc: Global, text: &[u8]) -> Result<Vec<u8>, InputFault>
     ensures text { IfOk result (λ read. Encodes text.now read.items (form_of text.now)) }
     ensures alone { IfOk result (λ read. IsAlone text.now read.items (form_of text.now)) }
+    ensures sure { IfOk result (λ read. doubt text.now read.items (form_of text.now) ≡ None) }
     ensures complete { (whole : List ℕ) → Encodes text.now whole (form_of text.now)
-        → IfErr result (λ fault. IsFaultOf fault (form_of text.now)) }
+        → IfErr result (λ fault. IsFaultOf fault (form_of text.now) ⊎ IsDoubted fault (doubt text.now whole (form_of text.now))) }
     ensures one_way { (whole : List ℕ) → Encodes text.now whole (form_of text.now)
-        → IsAlone text.now whole (form_of text.now) → IfErr result IsMemory }
+        → IsAlone text.now whole (form_of text.now)
+        → IfErr result (λ fault. IsMemory fault ⊎ IsDoubted fault (doubt text.now whole (form_of text.now))) }
 {
     let form = form_of(alloc, text)?;
-    read_form(alloc, text, form)
+    read_sure(alloc, text, form)
 }
 
 /// The descriptor in the bytes of a file. Text is read as the first of these that it has: a dump whose first word is an offset,
-/// hex, a line `R:` of hid-recorder, a descriptor of usbhid-dump or of lsusb, an array or a string of C. Other bytes are taken as
-/// they are.
+/// hex, a line `R:` of hid-recorder, a descriptor of usbhid-dump or of lsusb, hex beside comments, an array or a string of C. Other
+/// bytes are taken as they are.
 ///
 /// # Errors
 /// An [`InputFault`]: what is wrong with the form that is found, or that there is none.
@@ -226,19 +266,25 @@ pub fn descriptor_in(alloc: Global, bytes: &[u8]) -> Result<Vec<u8>, InputFault>
         → IfOk result (λ read. Encodes (without_mark bytes.now) read.items (form_of (without_mark bytes.now))) }
     ensures alone { is_text (without_mark bytes.now) ≡ true
         → IfOk result (λ read. IsAlone (without_mark bytes.now) read.items (form_of (without_mark bytes.now))) }
+    ensures sure { is_text (without_mark bytes.now) ≡ true
+        → IfOk result (λ read. doubt (without_mark bytes.now) read.items (form_of (without_mark bytes.now)) ≡ None) }
 
-    // Text that encodes bytes is refused for memory alone, or since it can be read in another way too.
+    // Text that encodes bytes is refused for memory alone, since it can be read in another way too, or for a doubt.
     ensures complete { (whole : List ℕ) → is_utf16 bytes.now ≡ false → is_text (without_mark bytes.now) ≡ true
         → Encodes (without_mark bytes.now) whole (form_of (without_mark bytes.now))
-        → IfErr result (λ fault. IsFaultOf fault (form_of (without_mark bytes.now))) }
+        → IfErr result (λ fault. IsFaultOf fault (form_of (without_mark bytes.now))
+        ⊎ IsDoubted fault (doubt (without_mark bytes.now) whole (form_of (without_mark bytes.now)))) }
     ensures one_way { (whole : List ℕ) → is_utf16 bytes.now ≡ false → is_text (without_mark bytes.now) ≡ true
         → Encodes (without_mark bytes.now) whole (form_of (without_mark bytes.now))
         → IsAlone (without_mark bytes.now) whole (form_of (without_mark bytes.now))
-        → IfErr result IsMemory }
+        → IfErr result (λ fault. IsMemory fault
+        ⊎ IsDoubted fault (doubt (without_mark bytes.now) whole (form_of (without_mark bytes.now)))) }
 
     // Other bytes.
     ensures binary { is_text (without_mark bytes.now) ≡ false → IfOk result (λ read. read.items ≡ bytes.now) }
-    ensures memory { is_utf16 bytes.now ≡ false → is_text (without_mark bytes.now) ≡ false
+    ensures frame { is_utf16 bytes.now ≡ false → is_text (without_mark bytes.now) ≡ false → is_frame bytes.now ≡ true
+        → result ≡ Err (of_text InputCause.Frame) }
+    ensures memory { is_utf16 bytes.now ≡ false → is_text (without_mark bytes.now) ≡ false → is_frame bytes.now ≡ false
         → IfErr result (λ fault. fault ≡ of_text InputCause.Memory) }
     ensures utf16 { is_utf16 bytes.now ≡ true → result ≡ Err (of_text InputCause.Utf16) }
 {
@@ -248,6 +294,9 @@ pub fn descriptor_in(alloc: Global, bytes: &[u8]) -> Result<Vec<u8>, InputFault>
     let text = without_mark(bytes);
     if is_text(text) {
         return descriptor_in_text(alloc, text);
+    }
+    if is_frame(bytes) {
+        return Err(InputFault::of_text(InputCause::Frame));
     }
     Ok(Vec::from_slice(alloc, bytes)?)
 }

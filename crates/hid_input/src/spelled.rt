@@ -232,7 +232,7 @@ fn is_spelled_byte(byte: u8) -> bool
 }
 
 /// Whether each byte may stand in hex.
-fn are_spelled_bytes(text: &[u8]) -> bool
+pub fn are_spelled_bytes(text: &[u8]) -> bool
     ensures { result ≡ list_all is_spelled_byte text.now }
 {
     text.iter().all(|byte| is_spelled_byte(*byte))

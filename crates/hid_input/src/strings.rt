@@ -384,6 +384,18 @@ fn string_fault(alloc: Global, parts: &[Vec<u8>]) -> InputFault {
     }
 }
 
+/// The bytes of the strings in code, if they can be read.
+///
+/// # Errors
+/// Out of memory.
+#[tactic(auto, unfolding(crate::specs::Strings::strings_bytes))]
+pub fn try_strings(alloc: Global, code: &[u8]) -> Result<Option<Vec<u8>>, AllocError>
+    ensures { IfOk result (λ read. option_map (λ bytes. bytes.items) read ≡ strings_bytes code.now) }
+{
+    let parts = parts_of(alloc, code)?;
+    read_parts(alloc, parts.as_slice())
+}
+
 /// The bytes of the first string that begins with an escape, and of those after it, with white space and comments between them.
 ///
 /// # Errors

@@ -1,0 +1,13 @@
+use Rattle.std.proofs.Common.{◌≡◌, false, List, ℕ, drop, sym, ap, ◌∙◌}
+use Rattle.std.proofs.lemmas.List.{take_rest}
+use Rattle.hid_input.specs.Comments.{begins_comment}
+use Rattle.hid_input.proofs.CommentLemmas.{comment_passed}
+use Rattle.hid_input.proofs.comments.before_comment.Goals as goal
+
+pub loop-place-preserved : goal.loop-place-preserved
+loop-place-preserved c =
+    let line = c.args.line.now in
+    let i = c.loop-place.place in
+    let is : begins_comment (drop i line) ≡ false =
+    sym (ap begins_comment (take_rest line i)) ∙ (sym c.begins_comment.ensures ∙ c.if-begins_comment.false) in
+    comment_passed line i _ c.loop-place-test.true is c.loop-place.invariant

@@ -1,0 +1,35 @@
+use Rattle.std.proofs.Common.{◌≡◌, ℕ, List, Option, Some, inr, subst, sym, ap, refl, ◌∙◌}
+use Rattle.hid_input.specs.declared.fault.InputFault.{InputFault}
+use Rattle.hid_input.specs.declared.fault.InputCause.{InputCause}
+use Rattle.hid_input.specs.Faults.{of_text}
+use Rattle.hid_input.specs.Doubts.{doubt, IsDoubted}
+use Rattle.hid_input.proofs.FormLemmas.{same_bytes}
+use Rattle.hid_input.proofs.reading.read_sure.Goals as goal
+
+pub returns-in-Some-clause-complete : goal.returns-in-Some-clause-complete
+returns-in-Some-clause-complete c = λ whole read.
+    let text = c.args.text.now in
+    let bytes = c.in-Ok.bytes.items in
+    let text_read = (rw c.in-Ok.is at c.read_form.ensures.text) in
+    let alone_read = (rw c.in-Ok.is at c.read_form.ensures.alone) in
+    let same : whole ≡ bytes = same_bytes text bytes whole c.args.form text_read alone_read read in
+    let found : Some c.in-Some.cause ≡ doubt text whole c.args.form =
+    sym c.in-Some.is
+    ∙ (c.in_ok-cause.ensures
+    ∙ (ap (λ (b : List ℕ). doubt text b c.args.form) c.as_slice.ensures.value ∙ ap (λ (b : List ℕ). doubt text b c.args.form) (sym same))) in
+    inr (subst (λ (f : InputFault). IsDoubted f (doubt text whole c.args.form)) (sym c.of_text.ensures)
+    (subst (λ (d : Option InputCause). IsDoubted (of_text c.in-Some.cause) d) found refl))
+
+pub returns-in-Some-clause-one_way : goal.returns-in-Some-clause-one_way
+returns-in-Some-clause-one_way c = λ whole read _.
+    let text = c.args.text.now in
+    let bytes = c.in-Ok.bytes.items in
+    let text_read = (rw c.in-Ok.is at c.read_form.ensures.text) in
+    let alone_read = (rw c.in-Ok.is at c.read_form.ensures.alone) in
+    let same : whole ≡ bytes = same_bytes text bytes whole c.args.form text_read alone_read read in
+    let found : Some c.in-Some.cause ≡ doubt text whole c.args.form =
+    sym c.in-Some.is
+    ∙ (c.in_ok-cause.ensures
+    ∙ (ap (λ (b : List ℕ). doubt text b c.args.form) c.as_slice.ensures.value ∙ ap (λ (b : List ℕ). doubt text b c.args.form) (sym same))) in
+    inr (subst (λ (f : InputFault). IsDoubted f (doubt text whole c.args.form)) (sym c.of_text.ensures)
+    (subst (λ (d : Option InputCause). IsDoubted (of_text c.in-Some.cause) d) found refl))

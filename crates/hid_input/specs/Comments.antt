@@ -1,0 +1,89 @@
+-- Hex beside other text: with a comment after it in a line, or in front of what Linux prints of a descriptor (our choice: docs/PICTURES.md).
+use Rattle.std.specs.Prelude.{ℕ, ◌==◌, ◌-◌, Bool, true, false, not, ◌&&◌, ◌||◌, nat_le, nat_eq, List, [], ◌∷◌, ◌++◌, length, slice_index, slice_index_or, take, drop, if◌then◌else◌, Option, None, Some, codes}
+use Rattle.std.specs.List.{list_any, list_all, starts_with}
+use Rattle.std.specs.Char.{is_ascii_whitespace}
+use Rattle.std.specs.Str.{bytes_eq}
+use Rattle.hid_input.specs.Numbers.{trimmed_text}
+use Rattle.hid_input.specs.Hex.{lines_of, first_word, in_front, is_spelled_byte, is_spelled}
+use Rattle.hid_input.specs.Dump.{is_blank, place_of}
+
+-- a word after # that may leave lines out, or add some, in C (C11, 6.10)
+abbrev pub is_directive : List ℕ → Bool
+is_directive word =
+    bytes_eq word (codes "if") || (bytes_eq word (codes "ifdef") || (bytes_eq word (codes "ifndef") || (bytes_eq word (codes "elif")
+    || (bytes_eq word (codes "else") || (bytes_eq word (codes "endif") || (bytes_eq word (codes "define") || bytes_eq word (codes "include")))))))
+
+-- what stands after # is a comment: nothing, or a blank and no directive
+abbrev pub is_remark : List ℕ → Bool
+is_remark text =
+    list_all is_ascii_whitespace text || (nat_le 1 (length text) && (is_blank (slice_index text 0) && not (is_directive (first_word text))))
+
+-- # or // begins a comment
+abbrev pub begins_mark : List ℕ → Bool
+begins_mark text =
+    ((slice_index text 0 == 35) && is_remark (drop 1 text))
+    || (nat_le 2 (length text) && ((slice_index text 0 == 47) && (slice_index text 1 == 47)))
+
+-- no program takes a line for the end of more, or of less, than another one: no CR stands in it, and no backslash at its end
+abbrev pub is_one_line : List ℕ → Bool
+is_one_line text =
+    not (list_any (λ byte. byte == 13) text) && not (nat_le 1 (length text) && (slice_index text (length text - 1) == 92))
+
+-- a comment begins, and it ends with its line for all programs
+unfoldable pub begins_comment : List ℕ → Bool
+begins_comment text = nat_le 1 (length text) && (begins_mark text && is_one_line (trimmed_text text))
+
+-- what stands in a line in front of its comment
+abbrev pub before_comment : List ℕ → List ℕ
+before_comment [] = []
+before_comment (byte ∷ line) = if begins_comment (byte ∷ line) then [] else byte ∷ before_comment line
+
+-- what stands in front of any #, but in a line of C that begins with #define
+abbrev pub before_hash : List ℕ → List ℕ
+before_hash line = if bytes_eq (first_word line) (codes "#define") then line else in_front (place_of 35 line) line
+
+-- what stands in front of a semicolon that only hex stands in front of, or nothing, by which assemblers begin comments
+abbrev pub before_semicolon_at : Option ℕ → List ℕ → List ℕ
+before_semicolon_at None line = line
+before_semicolon_at (Some place) line = if list_all is_spelled_byte (take place line) then take place line else line
+
+abbrev pub before_semicolon : List ℕ → List ℕ
+before_semicolon line = before_semicolon_at (place_of 59 line) line
+
+-- what stands in front of a comment: of # and //, or, where these are left out, of any # and ;
+abbrev pub line_front : Bool → List ℕ → List ℕ
+line_front has_semicolons line = if has_semicolons then before_semicolon (before_hash line) else before_comment line
+
+-- lines without their comments, each with its end
+abbrev pub without_comments : Bool → List (List ℕ) → List ℕ
+without_comments has_semicolons [] = []
+without_comments has_semicolons (line ∷ lines) = line_front has_semicolons line ++ 10 ∷ without_comments has_semicolons lines
+
+-- code as it may be meant where it is no C: without what may be comments of # and ;
+unfoldable pub without_remarks : List ℕ → List ℕ
+without_remarks text = without_comments true (lines_of text)
+
+-- a line of Linux that begins a report: INPUT, OUTPUT or FEATURE
+abbrev pub begins_report : List ℕ → Bool
+begins_report word =
+    starts_with nat_eq word (codes "INPUT[") || (starts_with nat_eq word (codes "INPUT(") || (starts_with nat_eq word (codes "OUTPUT[")
+    || (starts_with nat_eq word (codes "OUTPUT(") || (starts_with nat_eq word (codes "FEATURE[") || starts_with nat_eq word (codes "FEATURE(")))))
+
+-- what rdesc of debugfs has: a line of hex, an empty one, the reports, and no other line of hex, as of another device
+abbrev pub is_parsed : List (List ℕ) → Bool
+is_parsed lines =
+    nat_le 3 (length lines)
+    && ((list_all is_ascii_whitespace (slice_index_or lines 1 []) && begins_report (first_word (slice_index_or lines 2 [])))
+    && not (list_any is_spelled (drop 2 lines)))
+
+-- the hex in lines: the first one, where Linux printed them, or all without their comments
+abbrev pub hex_in : List (List ℕ) → List ℕ
+hex_in lines = if is_parsed lines then slice_index_or lines 0 [] else without_comments false lines
+
+-- the hex in a text
+unfoldable pub hex_beside : List ℕ → List ℕ
+hex_beside text = hex_in (lines_of text)
+
+-- a text has hex beside other text
+abbrev pub has_hex : List ℕ → Bool
+has_hex text = is_spelled (hex_beside text)

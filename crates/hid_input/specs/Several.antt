@@ -1,0 +1,101 @@
+-- Hex in several lines, which may be several descriptors one below the other (our choice: docs/PICTURES.md).
+use Rattle.std.specs.Prelude.{ℕ, ◌==◌, ◌-◌, ◌+◌, Bool, true, false, not, ◌&&◌, ◌||◌, nat_le, List, [], ◌∷◌, length, slice_index, drop, if◌then◌else◌, Option, None, Some}
+use Rattle.std.specs.List.{list_any, list_all, position, zip}
+use Rattle.std.specs.Char.{is_ascii_whitespace}
+use Rattle.hid_input.specs.declared.several.LineEnd.{LineEnd}
+use Rattle.hid_input.specs.declared.several.LineEnd.TheVariants.{Other, Letter, Closed}
+use Rattle.hid_input.specs.Numbers.{trimmed_text}
+use Rattle.hid_input.specs.Words.{is_x, is_h, digits_of}
+use Rattle.hid_input.specs.Hex.{is_separator, in_front, lines_of}
+use Rattle.hid_input.specs.Dump.{place_of, from_place}
+
+-- one of , : - and \, by which a line says that it goes on in the next one
+abbrev pub is_joint : ℕ → Bool
+is_joint byte = (byte == 44) || ((byte == 58) || ((byte == 45) || (byte == 92)))
+
+abbrev pub ends_with_joint : List ℕ → Bool
+ends_with_joint text = nat_le 1 (length text) && is_joint (slice_index text (length text - 1))
+
+abbrev pub goes_on : List ℕ → Bool
+goes_on line = ends_with_joint (trimmed_text line)
+
+-- a byte that may follow C0 at the end of a line: zeros, which may be more bytes, marks of hex or of C, and separators
+abbrev pub is_tail : ℕ → Bool
+is_tail byte = (byte == 48) || (is_x byte || (is_h byte || (((byte == 117) || (byte == 85)) || is_separator byte)))
+
+abbrev pub is_c : ℕ → Bool
+is_c byte = (byte == 99) || (byte == 67)
+
+-- where a line stands after one more byte: after C0 and such bytes, after C, or after others
+abbrev pub end_after : LineEnd → ℕ → LineEnd
+end_after Closed byte = if is_tail byte then Closed else (if is_c byte then Letter else Other)
+end_after Letter byte = if byte == 48 then Closed else (if is_c byte then Letter else Other)
+end_after Other byte = if is_c byte then Letter else Other
+
+abbrev pub end_from : LineEnd → List ℕ → LineEnd
+end_from end [] = end
+end_from end (byte ∷ line) = end_from (end_after end byte) line
+
+abbrev pub is_closed : LineEnd → Bool
+is_closed Closed = true
+is_closed end = false
+
+-- the last byte of a line is C0, an End Collection (HID 1.11, 6.2.2.4), perhaps with zeros after it, or it has zeros alone
+abbrev pub closes : List ℕ → Bool
+closes line = is_closed (end_from Closed line)
+
+-- the first word of a line
+abbrev pub behind_separators : List ℕ → List ℕ
+behind_separators line = from_place (position (λ byte. not (is_separator byte)) line) line
+
+abbrev pub first_part : List ℕ → List ℕ
+first_part line = in_front (position is_separator (behind_separators line)) (behind_separators line)
+
+-- digits that begin with a byte of 04 to 07, the prefix of a Usage Page (HID 1.11, 6.2.2.7)
+abbrev pub is_page_digit : ℕ → Bool
+is_page_digit byte = nat_le 52 byte && nat_le byte 55
+
+abbrev pub are_page : List ℕ → Bool
+are_page digits =
+    ((length digits == 1) && is_page_digit (slice_index digits 0))
+    || (nat_le 2 (length digits) && ((slice_index digits 0 == 48) && is_page_digit (slice_index digits 1)))
+
+abbrev pub begins_page : List ℕ → Bool
+begins_page line = are_page (digits_of (first_part line))
+
+-- a line has white space alone
+abbrev pub is_empty : List ℕ → Bool
+is_empty line = list_all is_ascii_whitespace line
+
+-- a line may end a descriptor, if the next one is empty: it doesn't say that it goes on, or it closes a collection
+abbrev pub ends_above : List ℕ → Bool
+ends_above line = not (goes_on line) || closes line
+
+-- a line may end a descriptor in front of one that begins with a Usage Page: it closes a collection, and doesn't say that it goes on
+abbrev pub ends_in_front : List ℕ → List ℕ → Bool
+ends_in_front line next = not (goes_on line) && (closes line && begins_page next)
+
+-- a descriptor may end with a line, and another one begin below it
+abbrev pub is_apart : List ℕ × List ℕ → Bool
+is_apart pair =
+    not (is_empty pair.0) && ((is_empty pair.1 && ends_above pair.0) || (not (is_empty pair.1) && ends_in_front pair.0 pair.1))
+
+-- lines may be of several descriptors
+abbrev pub are_apart : List (List ℕ) → Bool
+are_apart lines = list_any is_apart (zip lines (drop 1 lines))
+
+-- hex may be of several descriptors
+abbrev pub may_be_several : List ℕ → Bool
+may_be_several hex = are_apart (lines_of (trimmed_text hex))
+
+-- something stands after the first semicolon of a line: more bytes, or a comment of assemblers
+abbrev pub has_behind : Option ℕ → List ℕ → Bool
+has_behind None line = false
+has_behind (Some place) line = not (is_empty (drop (place + 1) line))
+
+abbrev pub has_remark : List ℕ → Bool
+has_remark line = has_behind (place_of 59 line) line
+
+-- some line of hex has such
+abbrev pub has_remarks : List ℕ → Bool
+has_remarks hex = list_any has_remark (lines_of hex)
