@@ -10,7 +10,7 @@ use Rattle.hid_input.specs.declared.code.Place.{Place}
 use Rattle.hid_input.specs.Words.{both, single_byte}
 use Rattle.hid_input.specs.Code.{place_after}
 use Rattle.hid_input.specs.Characters.{character_byte, character_length, bytes_after}
-use Rattle.hid_input.specs.Strings.{opens, closes, with_front, cut_parts, parts_from, string_bytes, ends_strings, more_bytes, begins_with_escape, alone_bytes, bytes_from}
+use Rattle.hid_input.specs.Strings.{opens, closes, with_front, cut_parts, parts_from, string_bytes, ends_strings, may_end, more_bytes, begins_with_escape, alone_bytes, bytes_from}
 use Rattle.hid_input.proofs.WordLemmas.{both_assoc}
 use Rattle.hid_input.proofs.WayLemmas.{items_of}
 
@@ -143,14 +143,20 @@ more_ends quote (one ∷ two ∷ parts) before code ends all some first blank is
     ∙ (ap (both (Some before)) (cond-false (list_all is_ascii_whitespace one.items) (both (string_bytes quote two.items) others) (if last then Some [] else None) not)
     ∙ (ended before last ∙ ap (λ (b : Bool). if b then Some before else None) (sym same)))
 
-more_end : (quote : ℕ) (parts : List (Vec ℕ)) → length parts < 2 → more_bytes quote (map items_of parts) ≡ Some []
+more_end : (quote : ℕ) (parts : List (Vec ℕ)) → length parts < 2
+    → more_bytes quote (map items_of parts) ≡ (if may_end (map items_of parts) then Some [] else None)
 more_end quote [] few = refl
 more_end quote (code ∷ []) few = refl
 more_end quote (code ∷ string ∷ parts) few = absurd (omega arith)
 
-pub more_over : (quote : ℕ) (rest : List (Vec ℕ)) (before : List ℕ) (all : Option (List ℕ)) → length rest < 2
-    → both (Some before) (more_bytes quote (map items_of rest)) ≡ all → all ≡ Some before
-more_over quote rest before all few so_far = sym so_far ∙ (ap (both (Some before)) (more_end quote rest few) ∙ ap Some (append-nil before))
+-- no more strings
+pub more_over : (quote : ℕ) (rest : List (Vec ℕ)) (before : List ℕ) (ends : Bool) (all : Option (List ℕ)) → length rest < 2
+    → ends ≡ may_end (map items_of rest)
+    → both (Some before) (more_bytes quote (map items_of rest)) ≡ all → all ≡ (if ends then Some before else None)
+more_over quote rest before ends all few is so_far =
+    sym so_far
+    ∙ (ap (both (Some before)) (more_end quote rest few)
+    ∙ (ended before (may_end (map items_of rest)) ∙ ap (λ (b : Bool). if b then Some before else None) (sym is)))
 
 -- the first string of parts begins with an escape, or another does
 pub string_found : (has_other : Bool) (rest : List (Vec ℕ)) (code string : Vec ℕ) (all : Option (List ℕ)) → 2 ≤ length rest

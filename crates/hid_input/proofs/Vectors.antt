@@ -6,7 +6,8 @@ use Rattle.hid_input.specs.Numbers.{number_of}
 use Rattle.hid_input.specs.Characters.{characters_bytes}
 use Rattle.hid_input.specs.Strings.{parts_of, strings_bytes}
 use Rattle.hid_input.specs.Hex.{spelled_bytes, is_spelled, first_word, is_offset}
-use Rattle.hid_input.specs.Decimal.{begins_no_item}
+use Rattle.hid_input.specs.Beginnings.{begins_descriptor}
+use Rattle.hid_input.specs.Dump.{repeated_row}
 use Rattle.hid_input.specs.Dump.{dump_of, dumps_of, dumps_in, line_below, row_bytes, words_row, enclosed_bytes, parted_bytes, shown_bytes, cells_bytes}
 
 with_a_blank : spelled_bytes (codes "05 a1") ≡ Some (0x05 ∷ 0xA1 ∷ [])
@@ -162,7 +163,7 @@ unfolding strings_bytes parts_of characters_bytes number_of
 two_strings = refl
 
 -- three octal digits, and a digit as it is
-octal_and_a_digit : characters_bytes (codes "\\0223") ≡ Some (0x12 ∷ 0x33 ∷ [])
+octal_and_a_digit : characters_bytes (codes "\\0223") ≡ None
 unfolding characters_bytes number_of
 octal_and_a_digit = refl
 
@@ -177,11 +178,33 @@ unfolding strings_bytes parts_of characters_bytes number_of
 over_two_lines = refl
 
 -- DB has a local tag that is reserved, 13, and 10 a main tag, 1
-a_word_of_assembly : begins_no_item (0xDB ∷ 0x05 ∷ 0x01 ∷ []) ≡ true
+a_word_of_assembly : begins_descriptor (0xDB ∷ 0x05 ∷ 0x01 ∷ []) ≡ false
 a_word_of_assembly = refl
 
-an_offset_of_a_row : begins_no_item (0x10 ∷ 0x05 ∷ 0x01 ∷ []) ≡ true
+an_offset_of_a_row : begins_descriptor (0x10 ∷ 0x05 ∷ 0x01 ∷ []) ≡ false
 an_offset_of_a_row = refl
 
-a_usage_page_of_two_bytes : begins_no_item (0x06 ∷ 0x00 ∷ 0xFF ∷ []) ≡ false
+a_usage_page_of_two_bytes : begins_descriptor (0x06 ∷ 0x00 ∷ 0xFF ∷ []) ≡ true
 a_usage_page_of_two_bytes = refl
+
+-- a mouse begins so; a byte of USB, 4B, in front of it takes the page for its data
+a_mouse : begins_descriptor (0x05 ∷ 0x01 ∷ 0x09 ∷ 0x02 ∷ 0xA1 ∷ 0x01 ∷ 0x09 ∷ 0x01 ∷ []) ≡ true
+a_mouse = refl
+
+a_packet : begins_descriptor (0x4B ∷ 0x05 ∷ 0x01 ∷ 0x09 ∷ 0x02 ∷ 0xA1 ∷ 0x01 ∷ 0x09 ∷ 0x01 ∷ []) ≡ false
+a_packet = refl
+
+-- a Usage of four bytes has its page
+a_usage_with_its_page : begins_descriptor (0x0B ∷ 0x02 ∷ 0x00 ∷ 0x01 ∷ 0x00 ∷ 0xA1 ∷ 0x01 ∷ []) ≡ true
+a_usage_with_its_page = refl
+
+-- a descriptor of the class, of version 1.11, names a report descriptor of 52 bytes (HID 1.11, 6.2.1)
+a_descriptor_of_the_class : begins_descriptor (0x09 ∷ 0x21 ∷ 0x11 ∷ 0x01 ∷ 0x00 ∷ 0x01 ∷ 0x22 ∷ 0x34 ∷ 0x00 ∷ []) ≡ false
+a_descriptor_of_the_class = refl
+
+-- 35 00 is a Physical Minimum, or the length of 53 bytes
+a_physical_minimum : begins_descriptor (0x35 ∷ 0x00 ∷ 0x05 ∷ 0x01 ∷ []) ≡ true
+a_physical_minimum = refl
+
+a_length : begins_descriptor (0x34 ∷ repeated_row 52 (0x04 ∷ [])) ≡ false
+a_length = refl

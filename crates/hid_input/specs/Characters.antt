@@ -1,6 +1,7 @@
 -- The characters of a string of C, and the bytes that they are (C11, 6.4.4.4 and 6.4.5).
-use Rattle.std.specs.Prelude.{ℕ, ◌==◌, ◌-◌, ◌+◌, Bool, not, ◌&&◌, ◌||◌, nat_le, List, [], ◌∷◌, length, slice_index, take, drop, if◌then◌else◌, Option, None, Some, zero, suc}
+use Rattle.std.specs.Prelude.{ℕ, ◌==◌, ◌-◌, ◌+◌, Bool, not, ◌&&◌, ◌||◌, nat_le, nat_lt, List, [], ◌∷◌, length, slice_index, take, drop, if◌then◌else◌, Option, None, Some, zero, suc}
 use Rattle.std.specs.List.{position}
+use Rattle.std.specs.Char.{is_ascii_digit}
 use Rattle.hid_input.specs.Numbers.{is_digit_of, byte_in_base}
 use Rattle.hid_input.specs.Words.{both, single_byte}
 use Rattle.hid_input.specs.Hex.{in_front}
@@ -35,10 +36,14 @@ octal_digits text = digits_front 8 (take 3 text)
 abbrev pub hex_byte : List ℕ → Option ℕ
 hex_byte digits = if nat_le (length digits) 2 then byte_in_base 16 digits else None
 
+-- a decimal digit stands after so many characters: other languages take more digits, or fewer (our choice)
+abbrev pub has_digit_after : ℕ → List ℕ → Bool
+has_digit_after count text = nat_lt count (length text) && is_ascii_digit (slice_index text count)
+
 -- the byte of an escape of octal digits, or of one character
 abbrev pub octal_or_letter : List ℕ → List ℕ → Option ℕ
 octal_or_letter digits text =
-    if nat_le 1 (length digits) then byte_in_base 8 digits
+    if nat_le 1 (length digits) then (if has_digit_after (length digits) text then None else byte_in_base 8 digits)
     else (if nat_le 1 (length text) then letter_byte (slice_index text 0) else None)
 
 abbrev pub escape_byte : List ℕ → Option ℕ

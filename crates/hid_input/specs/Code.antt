@@ -4,7 +4,7 @@ use Rattle.std.specs.List.{list_any, list_all, zip, slice_split}
 use Rattle.std.specs.Option.{option_and_then}
 use Rattle.std.specs.Char.{is_ascii_whitespace, is_ascii_digit}
 use Rattle.hid_input.specs.declared.code.Place.{Place}
-use Rattle.hid_input.specs.declared.code.Place.TheVariants.{Code, Slash, Quoted, Escape, Line, Splice, Return, Block, Inner, Star, Turn, Unclear}
+use Rattle.hid_input.specs.declared.code.Place.TheVariants.{Code, Slash, Quoted, Escape, Joined, Line, Splice, Return, Block, Inner, Star, Turn, Unclear}
 use Rattle.hid_input.specs.declared.words.WordForm.TheVariants.{Element}
 use Rattle.hid_input.specs.Numbers.{without_space}
 use Rattle.hid_input.specs.Words.{both, all_bytes, word_bytes, is_x}
@@ -26,6 +26,13 @@ is_splice byte = (byte == 92) || ((byte == 32) || (byte == 9))
 abbrev pub place_in_quotes : ℕ → ℕ → Place
 place_in_quotes quote byte =
     if byte == 92 then Escape quote else (if byte == quote then Code else (if is_line_end byte then Unclear else Quoted quote))
+
+-- a line that a backslash ends in a string goes on in the next one: C keeps the blanks there, and Rust leaves them out
+abbrev pub place_after_escape : ℕ → ℕ → Place
+place_after_escape quote byte = if is_line_end byte then Joined quote else Quoted quote
+
+abbrev pub place_in_joined : ℕ → ℕ → Place
+place_in_joined quote byte = if is_ascii_whitespace byte then Unclear else place_in_quotes quote byte
 
 -- a comment of // goes on up to the end of its line: one that a CR alone or a backslash may end is unclear
 abbrev pub place_in_line : ℕ → Place
@@ -71,7 +78,8 @@ abbrev pub place_after : Place → ℕ → Place
 place_after Code byte = place_after_code byte
 place_after Slash byte = place_after_slash byte
 place_after (Quoted quote) byte = place_in_quotes quote byte
-place_after (Escape quote) byte = Quoted quote
+place_after (Escape quote) byte = place_after_escape quote byte
+place_after (Joined quote) byte = place_in_joined quote byte
 place_after Line byte = place_in_line byte
 place_after Splice byte = place_after_splice byte
 place_after Return byte = place_after_return byte
@@ -92,6 +100,7 @@ code_part are_whole Code byte = bytes_if (not (byte == 47)) (byte ∷ [])
 code_part are_whole Slash byte = bytes_if (not ((byte == 47) || (byte == 42))) (47 ∷ byte ∷ [])
 code_part are_whole (Quoted quote) byte = bytes_if (are_whole || (byte == quote)) (byte ∷ [])
 code_part are_whole (Escape quote) byte = bytes_if are_whole (byte ∷ [])
+code_part are_whole (Joined quote) byte = bytes_if (are_whole || (byte == quote)) (byte ∷ [])
 code_part are_whole Line byte = bytes_if (byte == 10) (10 ∷ [])
 code_part are_whole Return byte = bytes_if (byte == 10) (10 ∷ [])
 code_part are_whole Star byte = bytes_if (byte == 47) (32 ∷ [])

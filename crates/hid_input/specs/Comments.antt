@@ -3,7 +3,7 @@ use Rattle.std.specs.Prelude.{ℕ, ◌==◌, ◌-◌, Bool, true, false, not, �
 use Rattle.std.specs.List.{list_any, list_all, starts_with}
 use Rattle.std.specs.Char.{is_ascii_whitespace}
 use Rattle.std.specs.Str.{bytes_eq}
-use Rattle.hid_input.specs.Numbers.{trimmed_text}
+use Rattle.hid_input.specs.Numbers.{without_space, trimmed_text}
 use Rattle.hid_input.specs.Hex.{lines_of, first_word, in_front, is_spelled_byte, is_spelled}
 use Rattle.hid_input.specs.Dump.{is_blank, place_of}
 
@@ -38,9 +38,23 @@ abbrev pub before_comment : List ℕ → List ℕ
 before_comment [] = []
 before_comment (byte ∷ line) = if begins_comment (byte ∷ line) then [] else byte ∷ before_comment line
 
--- what stands in front of any #, but in a line of C that begins with #define
+-- a line of C that begins with # and define
+abbrev pub is_definition : List ℕ → Bool
+is_definition line =
+    nat_le 1 (length (without_space line))
+    && ((slice_index (without_space line) 0 == 35) && bytes_eq (first_word (drop 1 (without_space line))) (codes "define"))
+
+-- what stands in front of any #, but in such a line
 abbrev pub before_hash : List ℕ → List ℕ
-before_hash line = if bytes_eq (first_word line) (codes "#define") then line else in_front (place_of 35 line) line
+before_hash line = if is_definition line then line else in_front (place_of 35 line) line
+
+-- what stands in front of two dashes, by which Lua, SQL and Ada begin comments
+abbrev pub begins_dashes : List ℕ → Bool
+begins_dashes line = nat_le 2 (length line) && ((slice_index line 0 == 45) && (slice_index line 1 == 45))
+
+abbrev pub before_dashes : List ℕ → List ℕ
+before_dashes [] = []
+before_dashes (byte ∷ line) = if begins_dashes (byte ∷ line) then [] else byte ∷ before_dashes line
 
 -- what stands in front of a semicolon that only hex stands in front of, or nothing, by which assemblers begin comments
 abbrev pub before_semicolon_at : Option ℕ → List ℕ → List ℕ
@@ -50,16 +64,16 @@ before_semicolon_at (Some place) line = if list_all is_spelled_byte (take place 
 abbrev pub before_semicolon : List ℕ → List ℕ
 before_semicolon line = before_semicolon_at (place_of 59 line) line
 
--- what stands in front of a comment: of # and //, or, where these are left out, of any # and ;
-abbrev pub line_front : Bool → List ℕ → List ℕ
-line_front has_semicolons line = if has_semicolons then before_semicolon (before_hash line) else before_comment line
+-- what stands in front of a comment: of # and //, or, where these are left out, of any #, -- and ;
+unfoldable pub line_front : Bool → List ℕ → List ℕ
+line_front has_semicolons line = if has_semicolons then before_semicolon (before_dashes (before_hash line)) else before_comment line
 
 -- lines without their comments, each with its end
 abbrev pub without_comments : Bool → List (List ℕ) → List ℕ
 without_comments has_semicolons [] = []
 without_comments has_semicolons (line ∷ lines) = line_front has_semicolons line ++ 10 ∷ without_comments has_semicolons lines
 
--- code as it may be meant where it is no C: without what may be comments of # and ;
+-- code as it may be meant where it is no C: without what may be comments of #, -- and ;
 unfoldable pub without_remarks : List ℕ → List ℕ
 without_remarks text = without_comments true (lines_of text)
 

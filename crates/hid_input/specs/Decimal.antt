@@ -1,9 +1,8 @@
 -- Bytes in decimal numbers (our choice: docs/PICTURES.md).
-use Rattle.std.specs.Prelude.{◌≡◌, ℕ, ◌==◌, Bool, false, not, ◌&&◌, ◌||◌, nat_le, bit_and, List, ◌++◌, length, slice_index, drop, is_some, if◌then◌else◌, Option, None}
+use Rattle.std.specs.Prelude.{◌≡◌, ℕ, ◌==◌, Bool, not, ◌&&◌, ◌||◌, List, ◌++◌, drop, is_some, if◌then◌else◌, Option, None}
 use Rattle.std.specs.List.{list_any, list_all, zip, All}
 use Rattle.std.specs.Option.{option_to_list}
 use Rattle.std.specs.Char.{is_ascii_whitespace}
-use Rattle.hid_input.specs.declared.items.TheConstants.{PREFIXES}
 use Rattle.hid_input.specs.declared.words.WordForm.TheVariants.{Number}
 use Rattle.hid_input.specs.Words.{all_bytes, word_bytes, marked_digits}
 use Rattle.hid_input.specs.Hex.{words_of}
@@ -52,19 +51,6 @@ decimal_bytes text = if may_be_decimal text then all_bytes (word_bytes Number) (
 unfoldable pub others_of : List ℕ → List (List ℕ)
 others_of text = option_to_list (decimal_bytes text) ++ dumps_of text
 
--- a byte is the prefix of an item, with any code of a size (HID 1.11, 6.2.2.4, 6.2.2.7 and 6.2.2.8)
-abbrev pub is_prefix : ℕ → Bool
-is_prefix byte = list_any (λ prefix. prefix == bit_and byte 0xFC) PREFIXES
-
--- a first byte that is the prefix of no item begins no descriptor: it is an offset, the number of a line, part of a line that counts
--- the columns, or a word such as db of assemblers
-abbrev pub begins_no_item : List ℕ → Bool
-begins_no_item bytes = nat_le 1 (length bytes) && not (is_prefix (slice_index bytes 0))
-
 -- hex is read in no other way as other bytes
 abbrev pub HasNoOtherHex : List ℕ → List ℕ → Type 0
 HasNoOtherHex text bytes = All (λ other. other ≡ bytes) (others_of text)
-
--- hex is bytes alone: it begins with an item, and is read in no other way as other bytes
-abbrev pub IsOnlyHex : List ℕ → List ℕ → Type 0
-IsOnlyHex text bytes = (begins_no_item bytes ≡ false) × HasNoOtherHex text bytes

@@ -2,7 +2,7 @@
 use Rattle.std.specs.Prelude.{◌≡◌, ◌==◌, ◌⊎◌, ℕ, if◌then◌else◌, List, [], ◌++◌, Option, None, Some, codes}
 use Rattle.std.specs.Fmt.{decimal}
 use Rattle.hid_input.specs.declared.fault.InputCause.{InputCause}
-use Rattle.hid_input.specs.declared.fault.InputCause.TheVariants.{BadHex, NoCount, BadCount, BadArray, ArrayEnd, SeveralArrays, SeveralLists, Unclear, BadEscape, SeveralStrings, WordOrder, Offset, Dump, BadItem, Unavailable, NoItem, Frame, TwoWays, Utf16, NoDescriptor, Memory}
+use Rattle.hid_input.specs.declared.fault.InputCause.TheVariants.{BadHex, NoCount, BadCount, BadArray, ArrayEnd, SeveralArrays, SeveralLists, Unclear, BadEscape, SeveralStrings, WordOrder, Offset, Dump, BadItem, Unavailable, OtherBytes, UsbDescriptors, LineNumbers, SeveralDescriptors, Frame, TwoWays, Utf16, NoDescriptor, Memory}
 use Rattle.hid_input.specs.declared.fault.InputFault.{InputFault}
 
 -- what is wrong with the whole text
@@ -29,21 +29,24 @@ cause_text NoCount = codes "the count is missing, or no number"
 cause_text (BadCount said found) = codes "the count says " ++ (decimal said ++ bytes_text found)
 cause_text BadArray = codes "an element of the array is no byte"
 cause_text ArrayEnd = codes "the array has no end: } and nothing, or ; , ) or } after it"
-cause_text SeveralArrays = codes "several arrays, or a table of them: which one is meant isn't known"
-cause_text SeveralLists = codes "one descriptor, or several? Write one in a line, or as an array: { 0x05, .. }"
+cause_text SeveralArrays = codes "several arrays, or a table of them: which one is meant?"
+cause_text SeveralLists = codes "one descriptor or several? Write one in a line, or as an array"
 cause_text Unclear = codes "it isn't clear where a comment or a string ends"
 cause_text BadEscape = codes "an escape of the string is no byte, or a digit follows it"
-cause_text SeveralStrings = codes "a string beside others, or a single character: which bytes are meant isn't known"
-cause_text WordOrder = codes "words of two bytes or more: their order isn't known (try xxd, hexdump -C or od -t x1)"
+cause_text SeveralStrings = codes "several strings, or a single character: which bytes are meant?"
+cause_text WordOrder = codes "the order of bytes in words isn't known (try xxd or od -t x1)"
 cause_text Offset = codes "an offset? The first word doesn't count the bytes before it"
 cause_text Dump = codes "a dump with offsets, of which this line can't be read"
 cause_text BadItem = codes "no item as lsusb prints them"
-cause_text Unavailable = codes "lsusb couldn't read the report descriptor (/sys/class/hidraw has those)"
-cause_text NoItem = codes "its first byte begins no descriptor: are there bytes in front, as the header of a frame? (hidplay reads captures)"
-cause_text Frame = codes "a frame of a capture with its header: give the descriptor's bytes alone (hidplay reads the capture itself)"
+cause_text Unavailable = codes "lsusb couldn't read the descriptor (/sys/class/hidraw has it)"
+cause_text OtherBytes = codes "no descriptor begins so: leave out an offset or a header in front"
+cause_text UsbDescriptors = codes "USB descriptors, without a report descriptor (/sys/class/hidraw has those)"
+cause_text LineNumbers = codes "are these numbers of lines? Leave them out"
+cause_text SeveralDescriptors = codes "several report descriptors: give one of them alone"
+cause_text Frame = codes "a frame of a capture: give the descriptor alone (hidplay takes all)"
 cause_text TwoWays = codes "it can be read in two ways, which give different bytes"
 cause_text Utf16 = codes "text of UTF-16: write it as UTF-8"
-cause_text NoDescriptor = codes "text without a descriptor: an R: line, hex, an array of C, or what xxd, hexdump -C, od, Wireshark, lsusb -v or usbhid-dump print is expected"
+cause_text NoDescriptor = codes "text without a descriptor: hex, an array of C or a dump is expected"
 cause_text Memory = codes "out of memory"
 
 -- the line of a fault in words, or nothing where the whole text is meant

@@ -8,7 +8,7 @@ use Rattle.hid_input.specs.declared.form.TextForm.TheVariants.{Dump, Hex, Record
 use Rattle.hid_input.specs.Faults.{of_text, IsOfHex}
 use Rattle.hid_input.specs.Hex.{lines_of, first_word, is_offset, is_spelled, spelled_bytes}
 use Rattle.hid_input.specs.Dump.{IsDump, HasNoOthers}
-use Rattle.hid_input.specs.Decimal.{IsOnlyHex}
+use Rattle.hid_input.specs.Decimal.{HasNoOtherHex}
 use Rattle.hid_input.specs.Recorded.{has_recorded, recorded_bytes, has_dumped, block_below, block_bytes}
 use Rattle.hid_input.specs.Listed.{has_listed, listed_bytes, has_unavailable}
 use Rattle.hid_input.specs.Code.{code_of, has_array, array_bytes, is_array}
@@ -58,8 +58,8 @@ Encodes text bytes Other = ⊥
 -- a dump is no dump of other bytes in another way, nor are lines of usbhid-dump one; hex is neither that, nor numbers that are other bytes
 abbrev pub IsAlone : List ℕ → List ℕ → TextForm → Type 0
 IsAlone text bytes Dump = HasNoOthers text bytes
-IsAlone text bytes Hex = IsOnlyHex text bytes
-IsAlone text bytes Beside = IsOnlyHex (hex_beside text) bytes
+IsAlone text bytes Hex = HasNoOtherHex text bytes
+IsAlone text bytes Beside = HasNoOtherHex (hex_beside text) bytes
 IsAlone text bytes Dumped = HasNoOthers (block_below (lines_of text)) bytes
 IsAlone text bytes form = Unit {0}
 

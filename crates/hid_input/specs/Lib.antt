@@ -1,3 +1,5 @@
+pub mod Beginnings
+pub mod Causes
 pub mod Characters
 pub mod Code
 pub mod Comments
@@ -10,6 +12,7 @@ pub mod Frames
 pub mod Hex
 pub mod Known
 pub mod Listed
+pub mod Numbered
 pub mod Numbers
 pub mod Parts
 pub mod Readings

@@ -1,6 +1,6 @@
 -- The items of a report descriptor as lsusb -v prints them (our choice: docs/PICTURES.md).
 use Rattle.std.specs.Prelude.{ℕ, ◌==◌, ◌-◌, ◌+◌, ◌*◌, bit_or, Bool, false, ◌&&◌, ◌||◌, nat_le, List, [], ◌∷◌, length, slice_index, take, drop, is_some, if◌then◌else◌, Option, None, Some, codes, nat_eq}
-use Rattle.std.specs.List.{list_any, find, ends_with}
+use Rattle.std.specs.List.{list_any, filter, find, ends_with}
 use Rattle.std.specs.Str.{bytes_eq}
 use Rattle.std.specs.Option.{option_map, option_and_then}
 use Rattle.hid_input.specs.declared.items.TheConstants.{PREFIXES}
@@ -153,3 +153,7 @@ is_unavailable line = bytes_eq (trimmed_text line) (codes "** UNAVAILABLE **")
 -- some line of a text is one
 abbrev pub has_unavailable : List ℕ → Bool
 has_unavailable text = list_any is_unavailable (lines_of text)
+
+-- a text has several report descriptors
+abbrev pub has_several_listed : List ℕ → Bool
+has_several_listed text = nat_le 2 (length (filter (λ line. is_some (length_in line)) (lines_of text)))

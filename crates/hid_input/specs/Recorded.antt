@@ -1,6 +1,6 @@
 -- Descriptors in what hid-recorder and usbhid-dump print (our choice: docs/PICTURES.md).
 use Rattle.std.specs.Prelude.{ℕ, ◌==◌, Bool, false, not, ◌&&◌, nat_le, List, [], ◌∷◌, ◌++◌, length, slice_index, drop, is_some, if◌then◌else◌, Option, None, Some, ◌+◌, take, codes}
-use Rattle.std.specs.List.{list_any, list_all, position}
+use Rattle.std.specs.List.{list_any, list_all, position, find, filter}
 use Rattle.std.specs.Str.{bytes_eq}
 use Rattle.std.specs.Option.{option_and_then}
 use Rattle.std.specs.Char.{is_ascii_whitespace}
@@ -49,6 +49,20 @@ recorded_bytes (line ∷ lines) = recorded_here (after_letter line) (recorded_by
 abbrev pub has_recorded : List ℕ → Bool
 has_recorded text = list_any (λ line. is_some (after_letter line)) (lines_of text)
 
+-- another record than this one
+abbrev pub are_others : Option (List ℕ) → Option (List ℕ) → Bool
+are_others None other = false
+are_others (Some one) None = false
+are_others (Some one) (Some other) = not (bytes_eq (trimmed_text other) (trimmed_text one))
+
+-- lines R: that aren't all the same, by the first of them
+abbrev pub has_others : Option (List ℕ) → List (List ℕ) → Bool
+has_others None lines = false
+has_others (Some first) lines = list_any (λ line. are_others (after_letter first) (after_letter line)) lines
+
+abbrev pub has_other_records : List ℕ → Bool
+has_other_records text = has_others (find (λ line. is_some (after_letter line)) (lines_of text)) (lines_of text)
+
 -- a colon, which parts the words of a heading
 abbrev pub is_colon : ℕ → Bool
 is_colon byte = byte == 58
@@ -86,6 +100,10 @@ block_below (line ∷ lines) =
 -- a text has such lines
 abbrev pub has_dumped : List ℕ → Bool
 has_dumped text = not (length (block_below (lines_of text)) == 0)
+
+-- a text has several headings
+abbrev pub has_headings : List ℕ → Bool
+has_headings text = nat_le 2 (length (filter is_heading (lines_of text)))
 
 -- the bytes of such lines, if all are hex
 unfoldable pub block_bytes : List ℕ → Option (List ℕ)

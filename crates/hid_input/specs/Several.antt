@@ -1,10 +1,10 @@
 -- Hex in several lines, which may be several descriptors one below the other (our choice: docs/PICTURES.md).
-use Rattle.std.specs.Prelude.{ℕ, ◌==◌, ◌-◌, ◌+◌, Bool, true, false, not, ◌&&◌, ◌||◌, nat_le, List, [], ◌∷◌, length, slice_index, drop, if◌then◌else◌, Option, None, Some}
+use Rattle.std.specs.Prelude.{ℕ, ◌==◌, ◌-◌, ◌+◌, Bool, true, false, not, ◌&&◌, ◌||◌, nat_le, List, [], ◌∷◌, length, slice_index, slice_index_or, take, drop, if◌then◌else◌, Option, None, Some}
 use Rattle.std.specs.List.{list_any, list_all, position, zip}
 use Rattle.std.specs.Char.{is_ascii_whitespace}
 use Rattle.hid_input.specs.declared.several.LineEnd.{LineEnd}
 use Rattle.hid_input.specs.declared.several.LineEnd.TheVariants.{Other, Letter, Closed}
-use Rattle.hid_input.specs.Numbers.{trimmed_text}
+use Rattle.hid_input.specs.Numbers.{without_space, trimmed_text}
 use Rattle.hid_input.specs.Words.{is_x, is_h, digits_of}
 use Rattle.hid_input.specs.Hex.{is_separator, in_front, lines_of}
 use Rattle.hid_input.specs.Dump.{place_of, from_place}
@@ -40,9 +40,9 @@ abbrev pub is_closed : LineEnd → Bool
 is_closed Closed = true
 is_closed end = false
 
--- the last byte of a line is C0, an End Collection (HID 1.11, 6.2.2.4), perhaps with zeros after it, or it has zeros alone
+-- the last byte of a line is C0, an End Collection (HID 1.11, 6.2.2.4), perhaps with zeros after it
 abbrev pub closes : List ℕ → Bool
-closes line = is_closed (end_from Closed line)
+closes line = is_closed (end_from Other line)
 
 -- the first word of a line
 abbrev pub behind_separators : List ℕ → List ℕ
@@ -84,17 +84,53 @@ is_apart pair =
 abbrev pub are_apart : List (List ℕ) → Bool
 are_apart lines = list_any is_apart (zip lines (drop 1 lines))
 
+-- lines are all so long, without white space at their ends
+abbrev pub is_as_long : ℕ → List ℕ → Bool
+is_as_long wanted line = length (trimmed_text line) == wanted
+
+-- rows of one descriptor: all are as long as the first one but the last, which is no longer; the first has no C0 at its end
+abbrev pub have_width : ℕ → List (List ℕ) → Bool
+have_width wanted lines =
+    list_all (is_as_long wanted) (take (length lines - 1) lines)
+    && nat_le (length (trimmed_text (slice_index_or lines (length lines - 1) []))) wanted
+
+abbrev pub are_rows : List (List ℕ) → Bool
+are_rows lines =
+    nat_le 1 (length lines)
+    && (not (closes (slice_index_or lines 0 [])) && have_width (length (trimmed_text (slice_index_or lines 0 []))) lines)
+
 -- hex may be of several descriptors
 abbrev pub may_be_several : List ℕ → Bool
-may_be_several hex = are_apart (lines_of (trimmed_text hex))
+may_be_several hex = not (are_rows (lines_of (trimmed_text hex))) && are_apart (lines_of (trimmed_text hex))
 
 -- something stands after the first semicolon of a line: more bytes, or a comment of assemblers
 abbrev pub has_behind : Option ℕ → List ℕ → Bool
 has_behind None line = false
 has_behind (Some place) line = not (is_empty (drop (place + 1) line))
 
+-- two dashes, by which Lua, SQL and Ada begin comments
+abbrev pub are_dashes : ℕ × ℕ → Bool
+are_dashes pair = (pair.0 == 45) && (pair.1 == 45)
+
+abbrev pub has_dashes : List ℕ → Bool
+has_dashes line = list_any are_dashes (zip line (drop 1 line))
+
+-- a backslash first that no x follows, by which Forth begins comments
+abbrev pub begins_with_backslash : List ℕ → Bool
+begins_with_backslash text =
+    nat_le 1 (length text) && ((slice_index text 0 == 92) && not (nat_le 2 (length text) && is_x (slice_index text 1)))
+
+-- colons beside other separators, which part something else than bytes
+abbrev pub is_other_separator : ℕ → Bool
+is_other_separator byte = is_separator byte && not (byte == 58)
+
+abbrev pub is_mixed : List ℕ → Bool
+is_mixed text = list_any (λ byte. byte == 58) text && list_any is_other_separator text
+
 abbrev pub has_remark : List ℕ → Bool
-has_remark line = has_behind (place_of 59 line) line
+has_remark line =
+    has_behind (place_of 59 line) line
+    || (has_dashes line || (begins_with_backslash (without_space line) || is_mixed (trimmed_text line)))
 
 -- some line of hex has such
 abbrev pub has_remarks : List ℕ → Bool

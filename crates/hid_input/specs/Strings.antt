@@ -1,10 +1,10 @@
 -- Strings of C that begin with an escape (C11, 5.1.1.2, 6.4.4.4 and 6.4.5; which of them are read is our choice: docs/PICTURES.md).
 use Rattle.std.specs.Prelude.{ℕ, ◌==◌, ◌-◌, Bool, not, true, false, ◌&&◌, ◌||◌, nat_le, List, [], ◌∷◌, ◌++◌, length, slice_index, take, drop, if◌then◌else◌, Option, None, Some}
-use Rattle.std.specs.List.{list_any, list_all, suffix_len, zip}
+use Rattle.std.specs.List.{list_any, list_all, suffix_len, position, zip}
 use Rattle.std.specs.Option.{option_and_then}
 use Rattle.std.specs.Char.{is_ascii_whitespace, is_ascii_alphanumeric}
 use Rattle.hid_input.specs.declared.code.Place.{Place}
-use Rattle.hid_input.specs.declared.code.Place.TheVariants.{Code, Slash, Quoted}
+use Rattle.hid_input.specs.declared.code.Place.TheVariants.{Code, Slash, Quoted, Joined}
 use Rattle.hid_input.specs.Words.{both}
 use Rattle.hid_input.specs.Hex.{lines_of}
 use Rattle.hid_input.specs.Code.{place_after}
@@ -42,6 +42,7 @@ opens place byte = false
 
 abbrev pub closes : Place → ℕ → Bool
 closes (Quoted quote) byte = byte == quote
+closes (Joined quote) byte = byte == quote
 closes place byte = false
 
 -- parts with more in front of the first one
@@ -97,16 +98,46 @@ abbrev pub string_bytes : ℕ → List ℕ → Option (List ℕ)
 string_bytes quote string =
     if nat_le 1 (length string) && (slice_index string 0 == quote) then characters_bytes (drop 1 string) else None
 
+-- what may stand between a string and what follows it: white space, and the closing of brackets
+abbrev pub is_closing : ℕ → Bool
+is_closing byte = is_ascii_whitespace byte || ((byte == 41) || ((byte == 93) || (byte == 125)))
+
+-- one of ; , > and #, which are no operators on strings
+abbrev pub ends_value : ℕ → Bool
+ends_value byte = (byte == 59) || ((byte == 44) || ((byte == 62) || (byte == 35)))
+
+-- a letter or a low line begins another statement, if it stands in another line
+abbrev pub begins_name : ℕ → Bool
+begins_name byte = is_ascii_alphanumeric byte || (byte == 95)
+
+-- after brackets, which have an end of a line or not, stands nothing, such a character, or another statement
+abbrev pub may_follow : Bool → List ℕ → Bool
+may_follow has_end rest =
+    (length rest == 0) || (ends_value (slice_index rest 0) || (has_end && begins_name (slice_index rest 0)))
+
+-- code may follow a string: no operator is first after brackets, which would make other bytes of it
+abbrev pub after_closing : Option ℕ → List ℕ → Bool
+after_closing None code = true
+after_closing (Some place) code = may_follow (has_byte 10 (take place code)) (drop place code)
+
+abbrev pub is_after_string : List ℕ → Bool
+is_after_string code = after_closing (position (λ byte. not (is_closing byte)) code) code
+
 -- code after which other strings may follow: a semicolon, and no backslash in all that follows
 abbrev pub ends_strings : List ℕ → List (List ℕ) → Bool
-ends_strings code parts = has_byte 59 code && not (list_any (has_byte 92) (code ∷ parts))
+ends_strings code parts = is_after_string code && (has_byte 59 code && not (list_any (has_byte 92) (code ∷ parts)))
+
+-- no operator stands in the code after the last string
+abbrev pub may_end : List (List ℕ) → Bool
+may_end [] = true
+may_end (code ∷ parts) = is_after_string code
 
 -- the bytes of strings that belong together: white space alone stands between them (5.1.1.2)
 abbrev pub more_bytes : ℕ → List (List ℕ) → Option (List ℕ)
 more_bytes quote (code ∷ string ∷ parts) =
     if list_all is_ascii_whitespace code then both (string_bytes quote string) (more_bytes quote parts)
     else (if ends_strings code (string ∷ parts) then Some [] else None)
-more_bytes quote _ = Some []
+more_bytes quote parts = if may_end parts then Some [] else None
 
 -- bytes, if they are no single character in single quotes
 abbrev pub if_several : ℕ → List ℕ → Option (List ℕ)

@@ -1,14 +1,17 @@
 //! The bytes of a row of a dump, as its cells are written.
 
-ghost use Rattle.std.specs.Prelude.{◌≡◌, ◌<◌, IfOk, map};
+ghost use Rattle.std.specs.Prelude.{◌≡◌, ◌<◌, Some, IfOk, length, map};
 ghost use Rattle.std.specs.Option.{option_map};
 ghost use Rattle.hid_input.specs.Words.{words_by, all_bytes, word_bytes};
-ghost use Rattle.hid_input.specs.Dump.{is_blank, cells_bytes, shown_bytes, enclosed_bytes, parted_bytes, words_row, pieces, row_bytes};
+ghost use Rattle.hid_input.specs.Dump.{is_blank, cells_bytes, shown_bytes, enclosed_bytes, gapped_bytes, parted_bytes, words_row, pieces, row_bytes};
 
 use crate::columns::{front_of, gap_place, has_characters, is_blank};
 use crate::parts::{place_of, trimmed_text};
 use crate::words::{WordForm, read_words};
 use std::alloc::{AllocError, Global};
+
+/// Where eight pairs end, with a blank between them.
+const EIGHT: usize = 23;
 
 /// The words of a row.
 fn words_at_blanks(alloc: Global, cells: &[u8]) -> Result<Vec<&[u8]>, AllocError>
@@ -76,6 +79,21 @@ fn read_enclosed(
     read_shown(alloc, &front[..place], &front[place + 1..], form)
 }
 
+/// The bytes of a row of pairs with two blanks at a place: in front of its characters, or after eight pairs.
+fn read_gapped(alloc: Global, row: &[u8], place: usize) -> Result<Option<Vec<u8>>, AllocError>
+    requires { place < length row.now }
+    ensures { IfOk result (λ read. option_map (λ bytes. bytes.items) read ≡ gapped_bytes WordForm.Pair row.now (Some place)) }
+{
+    if let Some(bytes) = read_shown(alloc, &row[..place], &row[place..], WordForm::Pair)? {
+        return Ok(Some(bytes));
+    }
+    if place == EIGHT {
+        read_cells(alloc, row, WordForm::Pair)
+    } else {
+        Ok(None)
+    }
+}
+
 /// The bytes of a row with two blanks in front of its characters, or of pairs without characters. Words of several bytes need
 /// characters.
 #[tactic(auto, unfolding(crate::specs::Dump::parted_bytes))]
@@ -83,6 +101,7 @@ fn read_parted(alloc: Global, row: &[u8], form: WordForm) -> Result<Option<Vec<u
     ensures { IfOk result (λ read. option_map (λ bytes. bytes.items) read ≡ parted_bytes form row.now) }
 {
     match (gap_place(row), form) {
+        (Some(place), WordForm::Pair) => read_gapped(alloc, row, place),
         (Some(place), _) => read_shown(alloc, &row[..place], &row[place..], form),
         (None, WordForm::Pair) => read_cells(alloc, row, form),
         (None, _) => Ok(None),

@@ -4,7 +4,7 @@ ghost use Rattle.std.specs.Prelude.{◌≡◌, ◌≤◌, ◌<◌, length, not, 
 ghost use Rattle.std.specs.List.{position};
 ghost use Rattle.std.specs.Option.{option_map};
 ghost use Rattle.hid_input.specs.Numbers.{is_digit_of};
-ghost use Rattle.hid_input.specs.Characters.{letter_byte, digits_front, is_hex_escape, hex_digits, octal_digits, hex_byte, octal_or_letter, escape_byte, at_least_one, escape_length, character_byte, character_length, characters_bytes};
+ghost use Rattle.hid_input.specs.Characters.{letter_byte, digits_front, is_hex_escape, hex_digits, octal_digits, hex_byte, has_digit_after, octal_or_letter, escape_byte, at_least_one, escape_length, character_byte, character_length, characters_bytes};
 
 use crate::digits::{byte_of, digit_of};
 use std::alloc::{AllocError, Global};
@@ -84,11 +84,21 @@ fn hex_byte(digits: &[u8]) -> Option<u8>
     }
 }
 
+/// Whether a decimal digit stands after so many characters.
+fn has_digit_after(count: usize, text: &[u8]) -> bool
+    ensures { result ≡ has_digit_after count text.now }
+{
+    count < text.len() && text[count].is_ascii_digit()
+}
+
 /// The byte of an escape of octal digits, or of one letter.
 fn octal_or_letter(digits: &[u8], text: &[u8]) -> Option<u8>
     ensures { result ≡ octal_or_letter digits.now text.now }
 {
     if digits.len() >= 1 {
+        if has_digit_after(digits.len(), text) {
+            return None;
+        }
         byte_of(digits, 8)
     } else if text.len() >= 1 {
         letter_byte(text[0])

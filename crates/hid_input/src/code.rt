@@ -2,11 +2,12 @@
 
 ghost use Rattle.std.specs.Prelude.{◌≡◌, ◌==◌, ◌++◌, ◌∷◌, ℕ, false, List, [], Some, OnOk, IfOk, IfErr, map, drop, if◌then◌else◌};
 ghost use Rattle.std.specs.List.{list_any, list_all, zip, slice_split};
+ghost use Rattle.std.specs.Char.{is_ascii_whitespace};
 ghost use Rattle.std.specs.Option.{option_map, option_and_then, option_copied};
 ghost use Rattle.hid_input.specs.Faults.{of_text};
 ghost use Rattle.hid_input.specs.Words.{IsAdded};
 ghost use Rattle.hid_input.specs.Dump.{place_of};
-ghost use Rattle.hid_input.specs.Code.{place_in_code, is_line_end, is_splice, place_in_quotes, place_in_line, place_after_code, place_after_slash, place_after_splice, place_after_return, place_in_block, place_after_inner, place_after_star, place_after_turn, place_after, bytes_if, code_part, code_end, code_from, code_of, begins_number, behind_brace, is_hex_mark, has_array, is_array_end, begins_row, may_follow_array, ends_array, closed_text, elements_text, array_text, without_empty, is_comma, elements_bytes, array_bytes, is_array};
+ghost use Rattle.hid_input.specs.Code.{place_in_code, is_line_end, is_splice, place_in_quotes, place_after_escape, place_in_joined, place_in_line, place_after_code, place_after_slash, place_after_splice, place_after_return, place_in_block, place_after_inner, place_after_star, place_after_turn, place_after, bytes_if, code_part, code_end, code_from, code_of, begins_number, behind_brace, is_hex_mark, has_array, is_array_end, begins_row, may_follow_array, ends_array, closed_text, elements_text, array_text, without_empty, is_comma, elements_bytes, array_bytes, is_array};
 
 use crate::fault::{InputCause, InputFault};
 use crate::parts::{is_empty_line, place_of, without_space};
@@ -23,6 +24,8 @@ pub enum Place {
     Quoted(u8),
     /// After a backslash in it.
     Escape(u8),
+    /// At the beginning of a line of it, after one that a backslash ends.
+    Joined(u8),
     /// After `//`.
     Line,
     /// After a backslash there, and blanks.
@@ -78,6 +81,28 @@ fn place_in_quotes(quote: u8, byte: u8) -> Place
         Place::Unclear
     } else {
         Place::Quoted(quote)
+    }
+}
+
+/// Where the next byte stands after a backslash and a byte in a string or a character.
+fn place_after_escape(quote: u8, byte: u8) -> Place
+    ensures { result ≡ place_after_escape quote byte }
+{
+    if is_line_end(byte) {
+        Place::Joined(quote)
+    } else {
+        Place::Quoted(quote)
+    }
+}
+
+/// Where the next byte stands after the first one of a line in a string: blanks there are bytes of it in C, and not in Rust.
+fn place_in_joined(quote: u8, byte: u8) -> Place
+    ensures { result ≡ place_in_joined quote byte }
+{
+    if byte.is_ascii_whitespace() {
+        Place::Unclear
+    } else {
+        place_in_quotes(quote, byte)
     }
 }
 
@@ -208,7 +233,8 @@ pub fn place_after(place: Place, byte: u8) -> Place
         Place::Code => place_after_code(byte),
         Place::Slash => place_after_slash(byte),
         Place::Quoted(quote) => place_in_quotes(quote, byte),
-        Place::Escape(quote) => Place::Quoted(quote),
+        Place::Escape(quote) => place_after_escape(quote, byte),
+        Place::Joined(quote) => place_in_joined(quote, byte),
         Place::Line => place_in_line(byte),
         Place::Splice => place_after_splice(byte),
         Place::Return => place_after_return(byte),
@@ -237,7 +263,11 @@ fn add_part(code: &mut Vec<u8>, place: Place, byte: u8, are_whole: bool) -> Resu
     match place {
         Place::Code => add_if(code, &[byte], byte != b'/'),
         Place::Slash => add_if(code, &[b'/', byte], byte != b'/' && byte != b'*'),
-        Place::Quoted(quote) => add_if(code, &[byte], are_whole || byte == quote),
+        Place::Quoted(quote) | Place::Joined(quote) => add_if(
+            code,
+            &[byte],
+            are_whole || byte == quote,
+        ),
         Place::Escape(_) => add_if(code, &[byte], are_whole),
         Place::Line | Place::Return => add_if(code, b"\n", byte == b'\n'),
         Place::Star => add_if(code, b" ", byte == b'/'),
@@ -257,6 +287,7 @@ fn add_end(code: &mut Vec<u8>, place: Place) -> Result<bool, AllocError>
         }
         Place::Quoted(_)
         | Place::Escape(_)
+        | Place::Joined(_)
         | Place::Block
         | Place::Inner
         | Place::Star
@@ -292,7 +323,9 @@ pub fn without_comments(
 }
 
 /// Why it isn't clear how far a comment or a string goes: the line in which that is met, or a comment of which the end isn't there.
-pub fn unclear_code(text: &[u8]) -> InputFault {
+pub fn unclear_code(text: &[u8]) -> InputFault
+    ensures { result.cause ≡ InputCause.Unclear }
+{
     let mut place = Place::Code;
     let mut line = 1u64;
     let mut opened = 1;
@@ -309,7 +342,10 @@ pub fn unclear_code(text: &[u8]) -> InputFault {
         place = next;
     }
     match place {
-        Place::Quoted(_) | Place::Escape(_) => InputFault::of_line(line, InputCause::Unclear),
+        Place::Quoted(_) | Place::Escape(_) | Place::Joined(_) => InputFault::of_line(
+            line,
+            InputCause::Unclear,
+        ),
         _ => InputFault::of_line(opened, InputCause::Unclear),
     }
 }

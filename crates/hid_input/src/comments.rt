@@ -9,10 +9,12 @@
 ghost use Rattle.std.specs.Prelude.{◌≡◌, ◌≤◌, ◌==◌, length, IfOk, map, drop};
 ghost use Rattle.std.specs.List.{list_any, list_all};
 ghost use Rattle.hid_input.specs.Hex.{lines_of, is_spelled};
-ghost use Rattle.hid_input.specs.Comments.{is_directive, is_remark, begins_mark, is_one_line, begins_comment, before_comment, before_hash, before_semicolon, line_front, without_comments, without_remarks, begins_report, is_parsed, hex_in, hex_beside, has_hex};
+ghost use Rattle.hid_input.specs.Comments.{is_directive, is_remark, begins_mark, is_one_line, begins_comment, before_comment, is_definition, before_hash, begins_dashes, before_dashes, before_semicolon, line_front, without_comments, without_remarks, begins_report, is_parsed, hex_in, hex_beside, has_hex};
 
 use crate::columns::is_blank;
-use crate::parts::{first_word, in_front_of, is_empty_line, lines_of, place_of, trimmed_text};
+use crate::parts::{
+    first_word, in_front_of, is_empty_line, lines_of, place_of, trimmed_text, without_space,
+};
 use crate::spelled::{are_spelled_bytes, has_byte, is_spelled};
 use std::alloc::{AllocError, Global};
 
@@ -83,23 +85,51 @@ fn before_semicolon(line: &[u8]) -> &[u8]
     }
 }
 
+/// Whether a line of C begins with `#` and `define`.
+fn is_definition(line: &[u8]) -> bool
+    ensures { result ≡ is_definition line.now }
+{
+    let text = without_space(line);
+    text.len() >= 1 && text[0] == b'#' && first_word(&text[1..]) == b"define".as_slice()
+}
+
+/// Whether two dashes are first.
+fn begins_dashes(line: &[u8]) -> bool
+    ensures { result ≡ begins_dashes line.now }
+{
+    line.len() >= 2 && line[0] == b'-' && line[1] == b'-'
+}
+
+/// What stands in a line in front of two dashes: Lua, SQL and Ada begin comments by them.
+fn before_dashes(line: &[u8]) -> &[u8]
+    ensures { result.now ≡ before_dashes line.now }
+{
+    for place in 0..line.len() {
+        if begins_dashes(&line[place..]) {
+            return &line[..place];
+        }
+    }
+    line
+}
+
 /// What stands in a line in front of any `#`, but in one of C that begins with `#define`.
 fn before_hash(line: &[u8]) -> &[u8]
     ensures { result.now ≡ before_hash line.now }
 {
-    if first_word(line) == b"#define".as_slice() {
+    if is_definition(line) {
         line
     } else {
         in_front_of(line, b'#')
     }
 }
 
-/// What stands in a line in front of its comment: of `#` and `//`, or, where these are left out, of any `#` and `;`.
+/// What stands in a line in front of its comment: of `#` and `//`, or, where these are left out, of any `#`, `--` and `;`.
+#[tactic(auto, unfolding(crate::specs::Comments::line_front))]
 fn line_front(has_semicolons: bool, line: &[u8]) -> &[u8]
     ensures { result.now ≡ line_front has_semicolons line.now }
 {
     if has_semicolons {
-        before_semicolon(before_hash(line))
+        before_semicolon(before_dashes(before_hash(line)))
     } else {
         before_comment(line)
     }
@@ -120,7 +150,7 @@ fn plain_lines(alloc: Global, has_semicolons: bool, lines: &[&[u8]]) -> Result<V
     Ok(plain)
 }
 
-/// Code as it may be meant where it is no C: without what may be comments of `#` and `;`.
+/// Code as it may be meant where it is no C: without what may be comments of `#`, `--` and `;`.
 ///
 /// # Errors
 /// Out of memory.

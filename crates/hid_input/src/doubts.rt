@@ -1,17 +1,21 @@
 //! What speaks against the bytes that a text encodes: nothing says whether they are those of one descriptor.
 
-ghost use Rattle.std.specs.Prelude.{◌≡◌, true, false, Some, IfOk};
+ghost use Rattle.std.specs.Prelude.{◌≡◌, true, false, Some, None, IfOk, if◌then◌else◌};
 ghost use Rattle.std.specs.Option.{option_map};
 ghost use Rattle.hid_input.specs.Code.{code_of, behind_brace};
 ghost use Rattle.hid_input.specs.Comments.{hex_beside};
-ghost use Rattle.hid_input.specs.Doubts.{hex_doubt, is_same, elements_doubt, array_doubt, string_doubt, form_doubt, doubt};
+ghost use Rattle.hid_input.specs.Doubts.{hex_doubt, is_same, elements_doubt, array_doubt, string_doubt, form_doubt, names_descriptor, bytes_doubt, other_doubt, binary_doubt, doubt};
 
+use crate::beginning::begins_descriptor;
 use crate::code::{behind_brace, try_array, without_comments};
 use crate::comments::{hex_beside, without_remarks};
 use crate::fault::InputCause;
 use crate::form::TextForm;
 use crate::frames::is_frame;
-use crate::reading::begins_no_item;
+use crate::items::has_several_listed;
+use crate::known::{KnownFile, begins_text, known_file};
+use crate::numbered::may_be_numbered;
+use crate::recorded::{has_headings, has_other_records};
 use crate::several::{has_remarks, may_be_several};
 use crate::strings::try_strings;
 use std::alloc::{AllocError, Global};
@@ -20,6 +24,9 @@ use std::alloc::{AllocError, Global};
 fn hex_doubt(alloc: Global, hex: &[u8]) -> Result<Option<InputCause>, AllocError>
     ensures { IfOk result (λ cause. cause ≡ hex_doubt hex.now) }
 {
+    if may_be_numbered(alloc, hex)? {
+        return Ok(Some(InputCause::LineNumbers));
+    }
     if has_remarks(hex) {
         return Ok(Some(InputCause::TwoWays));
     }
@@ -111,6 +118,17 @@ fn beside_doubt(alloc: Global, text: &[u8]) -> Result<Option<InputCause>, AllocE
     hex_doubt(alloc, hex.as_slice())
 }
 
+/// That there are several descriptors, if there are.
+fn several_if(are_several: bool) -> Option<InputCause>
+    ensures { result ≡ (if are_several then Some InputCause.SeveralDescriptors else None) }
+{
+    if are_several {
+        Some(InputCause::SeveralDescriptors)
+    } else {
+        None
+    }
+}
+
 /// What speaks against the bytes of a text by its form.
 fn form_doubt(
     alloc: Global,
@@ -121,21 +139,71 @@ fn form_doubt(
     ensures { IfOk result (λ cause. cause ≡ form_doubt text.now bytes.now form) }
 {
     match form {
-        TextForm::Dump => if begins_no_item(bytes) {
-            Ok(Some(InputCause::NoItem))
-        } else {
-            Ok(None)
-        },
         TextForm::Hex => hex_doubt(alloc, text),
         TextForm::Beside => beside_doubt(alloc, text),
         TextForm::Array => array_doubt(alloc, text, bytes),
         TextForm::Quoted => string_doubt(alloc, text, bytes),
-        TextForm::Recorded
-        | TextForm::Dumped
-        | TextForm::Listed
+        TextForm::Recorded => Ok(several_if(has_other_records(text))),
+        TextForm::Dumped => Ok(several_if(has_headings(text))),
+        TextForm::Listed => Ok(several_if(has_several_listed(text))),
+        TextForm::Dump | TextForm::Unavailable | TextForm::Unclear | TextForm::Other => Ok(None),
+    }
+}
+
+/// Whether a form itself says that the bytes are those of a report descriptor.
+fn names_descriptor(form: TextForm) -> bool
+    ensures { result ≡ names_descriptor form }
+{
+    match form {
+        TextForm::Recorded | TextForm::Dumped | TextForm::Listed => true,
+        TextForm::Dump
+        | TextForm::Hex
         | TextForm::Unavailable
+        | TextForm::Array
+        | TextForm::Beside
+        | TextForm::Quoted
         | TextForm::Unclear
-        | TextForm::Other => Ok(None),
+        | TextForm::Other => false,
+    }
+}
+
+/// What speaks against the bytes themselves: they begin as no report descriptor does.
+fn bytes_doubt(bytes: &[u8], form: TextForm) -> Option<InputCause>
+    ensures { result ≡ bytes_doubt bytes.now form }
+{
+    if names_descriptor(form) || begins_descriptor(bytes) {
+        None
+    } else {
+        Some(InputCause::OtherBytes)
+    }
+}
+
+/// What speaks against bytes that begin as no report descriptor does, by what is known of their file.
+fn other_doubt(known: Option<KnownFile>, bytes: &[u8]) -> Option<InputCause>
+    ensures { result ≡ other_doubt known bytes.now }
+{
+    match known {
+        Some(KnownFile::UsbDescriptors) => Some(InputCause::UsbDescriptors),
+        Some(KnownFile::Capture | KnownFile::Compressed | KnownFile::Program) => None,
+        None => if begins_text(bytes) {
+            None
+        } else {
+            Some(InputCause::OtherBytes)
+        },
+    }
+}
+
+/// What speaks against bytes that aren't text, if anything does.
+#[tactic(auto, unfolding(crate::specs::Doubts::binary_doubt))]
+pub fn binary_doubt(bytes: &[u8]) -> Option<InputCause>
+    ensures { result ≡ binary_doubt bytes.now }
+{
+    if is_frame(bytes) {
+        Some(InputCause::Frame)
+    } else if begins_descriptor(bytes) {
+        None
+    } else {
+        other_doubt(known_file(bytes), bytes)
     }
 }
 
@@ -155,5 +223,8 @@ pub fn doubt(
     if is_frame(bytes) {
         return Ok(Some(InputCause::Frame));
     }
-    form_doubt(alloc, text, bytes, form)
+    match form_doubt(alloc, text, bytes, form)? {
+        Some(cause) => Ok(Some(cause)),
+        None => Ok(bytes_doubt(bytes, form)),
+    }
 }

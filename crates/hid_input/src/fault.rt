@@ -38,8 +38,15 @@ pub enum InputCause {
     BadItem,
     /// lsusb says that it couldn't read the report descriptor.
     Unavailable,
-    /// The first byte of a dump begins no item (HID 1.11, 6.2.2), as that of a frame with its header.
-    NoItem,
+    /// The bytes don't begin as those of a report descriptor (HID 1.11, 6.2.2): something stands in front of it, as a header, a length or
+    /// an offset.
+    OtherBytes,
+    /// Descriptors of a device or of a configuration (USB 2.0, 9.6).
+    UsbDescriptors,
+    /// In front of the lines stand numbers that count them.
+    LineNumbers,
+    /// Several report descriptors that aren't the same, as of several interfaces.
+    SeveralDescriptors,
     /// The bytes of a frame of a capture, with its header.
     Frame,
     /// Two ways to read it, which give different bytes.
@@ -111,36 +118,39 @@ impl fmt::Display for InputCause {
             InputCause::NoCount => "the count is missing, or no number",
             InputCause::BadArray => "an element of the array is no byte",
             InputCause::ArrayEnd => "the array has no end: } and nothing, or ; , ) or } after it",
-            InputCause::SeveralArrays => {
-                "several arrays, or a table of them: which one is meant isn't known"
-            }
+            InputCause::SeveralArrays => "several arrays, or a table of them: which one is meant?",
             InputCause::SeveralLists => {
-                "one descriptor, or several? Write one in a line, or as an array: { 0x05, .. }"
+                "one descriptor or several? Write one in a line, or as an array"
             }
             InputCause::Unclear => "it isn't clear where a comment or a string ends",
             InputCause::BadEscape => "an escape of the string is no byte, or a digit follows it",
             InputCause::SeveralStrings => {
-                "a string beside others, or a single character: which bytes are meant isn't known"
+                "several strings, or a single character: which bytes are meant?"
             }
             InputCause::WordOrder => {
-                "words of two bytes or more: their order isn't known (try xxd, hexdump -C or od -t x1)"
+                "the order of bytes in words isn't known (try xxd or od -t x1)"
             }
             InputCause::Offset => "an offset? The first word doesn't count the bytes before it",
             InputCause::Dump => "a dump with offsets, of which this line can't be read",
             InputCause::BadItem => "no item as lsusb prints them",
             InputCause::Unavailable => {
-                "lsusb couldn't read the report descriptor (/sys/class/hidraw has those)"
+                "lsusb couldn't read the descriptor (/sys/class/hidraw has it)"
             }
-            InputCause::NoItem => {
-                "its first byte begins no descriptor: are there bytes in front, as the header of a frame? (hidplay reads captures)"
+            InputCause::OtherBytes => {
+                "no descriptor begins so: leave out an offset or a header in front"
             }
+            InputCause::UsbDescriptors => {
+                "USB descriptors, without a report descriptor (/sys/class/hidraw has those)"
+            }
+            InputCause::LineNumbers => "are these numbers of lines? Leave them out",
+            InputCause::SeveralDescriptors => "several report descriptors: give one of them alone",
             InputCause::Frame => {
-                "a frame of a capture with its header: give the descriptor's bytes alone (hidplay reads the capture itself)"
+                "a frame of a capture: give the descriptor alone (hidplay takes all)"
             }
             InputCause::TwoWays => "it can be read in two ways, which give different bytes",
             InputCause::Utf16 => "text of UTF-16: write it as UTF-8",
             InputCause::NoDescriptor => {
-                "text without a descriptor: an R: line, hex, an array of C, or what xxd, hexdump -C, od, Wireshark, lsusb -v or usbhid-dump print is expected"
+                "text without a descriptor: hex, an array of C or a dump is expected"
             }
             InputCause::Memory => "out of memory",
         };

@@ -5,7 +5,7 @@ ghost use Rattle.std.specs.Option.{option_map};
 ghost use Rattle.hid_input.specs.Words.{IsAdded};
 ghost use Rattle.hid_input.specs.Dump.{cells_bytes};
 ghost use Rattle.hid_input.specs.Hex.{lines_of};
-ghost use Rattle.hid_input.specs.Listed.{item_name, prefix_of, size_code, sized_item, data_number, negated_number, signed_number, are_same, numbered_bytes, is_unavailable, has_unavailable, data_bytes, item_bytes, line_bytes, length_in, ends_items, items_bytes, listed_bytes, has_listed};
+ghost use Rattle.hid_input.specs.Listed.{item_name, prefix_of, size_code, sized_item, data_number, negated_number, signed_number, are_same, numbered_bytes, is_unavailable, has_unavailable, data_bytes, item_bytes, line_bytes, length_in, ends_items, items_bytes, listed_bytes, has_listed, has_several_listed};
 ghost use Rattle.hid_input.specs.Recorded.{if_counted};
 
 use crate::cells::read_cells;
@@ -218,6 +218,16 @@ pub fn has_listed(text: &[u8]) -> bool
 {
     text.split(|byte| *byte == b'\n')
         .any(|line| length_in(line).is_some())
+}
+
+/// Whether a text has several report descriptors of lsusb.
+pub fn has_several_listed(text: &[u8]) -> bool
+    ensures { result ≡ has_several_listed text.now }
+{
+    text.split(|byte| *byte == b'\n')
+        .filter(|line| length_in(line).is_some())
+        .count()
+        >= 2
 }
 
 /// Whether lsusb says in a line that it couldn't read a report descriptor.

@@ -14,6 +14,8 @@
 //! `complete` and `one_way` on [`descriptor_in`]). Bytes that aren't text are the descriptor, byte for byte.
 #![tactic(auto)]
 
+mod beginning;
+mod causes;
 mod cells;
 mod characters;
 mod code;
@@ -28,6 +30,7 @@ mod form;
 mod frames;
 mod items;
 mod known;
+mod numbered;
 mod parts;
 mod reading;
 mod recorded;

@@ -4,28 +4,26 @@ ghost use Rattle.std.specs.Prelude.{◌≡◌, ◌⊎◌, ℕ, false, true, List
 ghost use Rattle.std.specs.List.{list_all};
 ghost use Rattle.hid_input.specs.Hex.{spelled_bytes};
 ghost use Rattle.hid_input.specs.Dump.{IsDump, HasNoOthers};
-ghost use Rattle.hid_input.specs.Decimal.{is_prefix, begins_no_item, HasNoOtherHex, IsOnlyHex};
+ghost use Rattle.hid_input.specs.Decimal.{HasNoOtherHex};
 ghost use Rattle.hid_input.specs.Forms.{form_of, Encodes, IsAlone, IsFaultOf, IsMemory};
-ghost use Rattle.hid_input.specs.Doubts.{doubt, IsDoubted};
-ghost use Rattle.hid_input.specs.Frames.{is_frame};
+ghost use Rattle.hid_input.specs.Doubts.{doubt, binary_doubt, IsDoubted};
 ghost use Rattle.hid_input.specs.Comments.{hex_beside};
 ghost use Rattle.hid_input.specs.Faults.{of_text, IsOfHex};
 ghost use Rattle.hid_input.specs.Text.{is_space, is_text_byte, has_printed, is_text, is_utf16, without_mark};
 ghost use Rattle.hid_input.specs.Records.{is_recording};
 
-use crate::code::{has_array, read_array, unclear_code};
+use crate::causes::{dump_cause, unclear_fault};
+use crate::code::read_array;
 use crate::comments::hex_beside;
 use crate::decimal::add_decimal;
-use crate::doubts::doubt;
+use crate::doubts::{binary_doubt, doubt};
 use crate::fault::{InputCause, InputFault};
-use crate::form::{TextForm, are_digits, form_of};
-use crate::frames::is_frame;
-use crate::items::{PREFIXES, read_listed};
+use crate::form::{TextForm, form_of};
+use crate::items::read_listed;
 use crate::known::begins_text;
-use crate::parts::line_number;
 use crate::recorded::{has_record, read_dumped, read_recorded};
 use crate::spelled::read_spelled;
-use crate::strings::{has_string, read_string};
+use crate::strings::read_string;
 use crate::ways::{add_dumps, agreed, are_all};
 use std::alloc::Global;
 
@@ -84,33 +82,6 @@ fn is_utf16(bytes: &[u8]) -> bool
             || (bytes[0] == 0xFE && bytes[1] == 0xFF && bytes[2] == 0))
 }
 
-/// Whether a word is hex digits of several bytes.
-fn is_long(word: &[u8]) -> bool {
-    word.len() >= 4 && are_digits(word)
-}
-
-/// Why a line of a dump can't be read: after its offset it has nothing but words of several bytes, or something else.
-fn line_cause(line: &[u8]) -> InputCause {
-    let mut words = line
-        .split(|byte| byte.is_ascii_whitespace())
-        .filter(|word| !word.is_empty());
-    let _offset = words.next();
-    match words.next() {
-        Some(word) if is_long(word) && words.all(is_long) => InputCause::WordOrder,
-        _ => InputCause::Dump,
-    }
-}
-
-/// Why the line of this number can't be read.
-fn dump_cause(text: &[u8], number: u64) -> InputCause {
-    for (before, line) in text.split(|byte| *byte == b'\n').enumerate() {
-        if line_number(before) == number {
-            return line_cause(line);
-        }
-    }
-    InputCause::Dump
-}
-
 /// The bytes of a dump: in each way in which the text can be read they are the same.
 fn read_offset_dump(alloc: Global, text: &[u8]) -> Result<Vec<u8>, InputFault>
     ensures dump { IfOk result (λ read. IsDump text.now read.items × HasNoOthers text.now read.items) }
@@ -122,28 +93,16 @@ fn read_offset_dump(alloc: Global, text: &[u8]) -> Result<Vec<u8>, InputFault>
     let reached = add_dumps(alloc, text, &mut readings)?;
     match agreed(readings)? {
         Some(bytes) => Ok(bytes),
-        None => Err(InputFault::of_line(reached, dump_cause(text, reached))),
+        None => {
+            let cause = dump_cause(alloc, text, reached)?;
+            Err(InputFault::of_line(reached, cause))
+        }
     }
-}
-
-/// Whether a byte is the prefix of an item, with any code of a size (HID 1.11, 6.2.2.4, 6.2.2.7 and 6.2.2.8).
-fn is_prefix(byte: u8) -> bool
-    ensures { result ≡ is_prefix byte }
-{
-    PREFIXES.iter().any(|prefix| *prefix == byte & 0xFC)
-}
-
-/// Whether the first byte begins no item of a descriptor, but may be an offset, the number of a line or of a column, or a word such
-/// as `db` of assemblers.
-pub fn begins_no_item(bytes: &[u8]) -> bool
-    ensures { result ≡ begins_no_item bytes.now }
-{
-    bytes.len() >= 1 && !is_prefix(bytes[0])
 }
 
 /// The bytes of hex, which may be decimal, and of which a first column may count the bytes: in each way in which the text can be
 /// read they are the same.
-fn read_one_way(alloc: Global, text: &[u8]) -> Result<Vec<u8>, InputFault>
+fn read_hex(alloc: Global, text: &[u8]) -> Result<Vec<u8>, InputFault>
     ensures spelled { IfOk result (λ read. spelled_bytes text.now ≡ Some read.items) }
     ensures faults { (bytes : List ℕ) → spelled_bytes text.now ≡ Some bytes → IfErr result IsOfHex }
     ensures others { IfOk result (λ read. HasNoOtherHex text.now read.items) }
@@ -160,41 +119,16 @@ fn read_one_way(alloc: Global, text: &[u8]) -> Result<Vec<u8>, InputFault>
     Ok(spelled)
 }
 
-/// The bytes of hex alone.
-fn read_hex(alloc: Global, text: &[u8]) -> Result<Vec<u8>, InputFault>
-    ensures spelled { IfOk result (λ read. spelled_bytes text.now ≡ Some read.items) }
-    ensures faults { (bytes : List ℕ) → spelled_bytes text.now ≡ Some bytes → IfErr result IsOfHex }
-    ensures others { IfOk result (λ read. IsOnlyHex text.now read.items) }
-    ensures read { (bytes : List ℕ) → spelled_bytes text.now ≡ Some bytes → IsOnlyHex text.now bytes
-        → IfErr result (λ fault. fault ≡ of_text InputCause.Memory) }
-{
-    let bytes = read_one_way(alloc, text)?;
-    if begins_no_item(bytes.as_slice()) {
-        return Err(InputFault::of_text(InputCause::TwoWays));
-    }
-    Ok(bytes)
-}
-
 /// The bytes of hex beside other text.
 fn read_beside(alloc: Global, text: &[u8]) -> Result<Vec<u8>, InputFault>
     ensures spelled { IfOk result (λ read. spelled_bytes (hex_beside text.now) ≡ Some read.items) }
     ensures faults { (bytes : List ℕ) → spelled_bytes (hex_beside text.now) ≡ Some bytes → IfErr result IsOfHex }
-    ensures others { IfOk result (λ read. IsOnlyHex (hex_beside text.now) read.items) }
-    ensures read { (bytes : List ℕ) → spelled_bytes (hex_beside text.now) ≡ Some bytes → IsOnlyHex (hex_beside text.now) bytes
+    ensures others { IfOk result (λ read. HasNoOtherHex (hex_beside text.now) read.items) }
+    ensures read { (bytes : List ℕ) → spelled_bytes (hex_beside text.now) ≡ Some bytes → HasNoOtherHex (hex_beside text.now) bytes
         → IfErr result (λ fault. fault ≡ of_text InputCause.Memory) }
 {
     let hex = hex_beside(alloc, text)?;
     read_hex(alloc, hex.as_slice())
-}
-
-/// Why text isn't read of which it isn't clear where a comment or a string ends: that, if it has an array or a string of bytes; else
-/// it has no descriptor.
-fn unclear_fault(text: &[u8]) -> InputFault {
-    if has_array(text) || has_string(text) {
-        unclear_code(text)
-    } else {
-        InputFault::of_text(InputCause::NoDescriptor)
-    }
 }
 
 /// The descriptor in text of this form.
@@ -254,6 +188,18 @@ fn descriptor_in_text(alloc: Global, text: &[u8]) -> Result<Vec<u8>, InputFault>
     read_sure(alloc, text, form)
 }
 
+/// Bytes that aren't text, if nothing speaks against them.
+fn read_binary(alloc: Global, bytes: &[u8]) -> Result<Vec<u8>, InputFault>
+    ensures binary { IfOk result (λ read. read.items ≡ bytes.now) }
+    ensures sure { IfOk result (λ read. binary_doubt bytes.now ≡ None) }
+    ensures whole { IfErr result (λ fault. fault ≡ of_text InputCause.Memory ⊎ IsDoubted fault (binary_doubt bytes.now)) }
+{
+    match binary_doubt(bytes) {
+        Some(cause) => Err(InputFault::of_text(cause)),
+        None => Ok(Vec::from_slice(alloc, bytes)?),
+    }
+}
+
 /// The descriptor in the bytes of a file. Text is read as the first of these that it has: a dump whose first word is an offset,
 /// hex, a line `R:` of hid-recorder, a descriptor of usbhid-dump or of lsusb, hex beside comments, an array or a string of C. Other
 /// bytes are taken as they are.
@@ -282,10 +228,9 @@ pub fn descriptor_in(alloc: Global, bytes: &[u8]) -> Result<Vec<u8>, InputFault>
 
     // Other bytes.
     ensures binary { is_text (without_mark bytes.now) ≡ false → IfOk result (λ read. read.items ≡ bytes.now) }
-    ensures frame { is_utf16 bytes.now ≡ false → is_text (without_mark bytes.now) ≡ false → is_frame bytes.now ≡ true
-        → result ≡ Err (of_text InputCause.Frame) }
-    ensures memory { is_utf16 bytes.now ≡ false → is_text (without_mark bytes.now) ≡ false → is_frame bytes.now ≡ false
-        → IfErr result (λ fault. fault ≡ of_text InputCause.Memory) }
+    ensures sure_binary { is_text (without_mark bytes.now) ≡ false → IfOk result (λ read. binary_doubt bytes.now ≡ None) }
+    ensures whole { is_utf16 bytes.now ≡ false → is_text (without_mark bytes.now) ≡ false
+        → IfErr result (λ fault. fault ≡ of_text InputCause.Memory ⊎ IsDoubted fault (binary_doubt bytes.now)) }
     ensures utf16 { is_utf16 bytes.now ≡ true → result ≡ Err (of_text InputCause.Utf16) }
 {
     if is_utf16(bytes) {
@@ -295,10 +240,7 @@ pub fn descriptor_in(alloc: Global, bytes: &[u8]) -> Result<Vec<u8>, InputFault>
     if is_text(text) {
         return descriptor_in_text(alloc, text);
     }
-    if is_frame(bytes) {
-        return Err(InputFault::of_text(InputCause::Frame));
-    }
-    Ok(Vec::from_slice(alloc, bytes)?)
+    read_binary(alloc, bytes)
 }
 
 /// Whether bytes are the text of a recording: some line is one that hid-recorder or usbhid-dump writes. Control characters may stand

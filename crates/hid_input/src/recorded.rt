@@ -1,11 +1,11 @@
 //! Descriptors in what hid-recorder and usbhid-dump print.
 
-ghost use Rattle.std.specs.Prelude.{◌≡◌, ◌<◌, [], ℕ, List, None, Some, length, not, IfOk, IfSome, IfErr, map};
+ghost use Rattle.std.specs.Prelude.{◌≡◌, ◌<◌, [], is_some, ℕ, List, None, Some, length, not, IfOk, IfSome, IfErr, map};
 ghost use Rattle.std.specs.List.{slice_split, position, find};
 ghost use Rattle.std.specs.Option.{option_map, option_copied, option_and_then};
 ghost use Rattle.std.specs.Char.{is_ascii_whitespace};
 ghost use Rattle.hid_input.specs.Hex.{lines_of};
-ghost use Rattle.hid_input.specs.Recorded.{ordered_bytes, after_letter, bytes_behind, counted_bytes, recorded_bytes, has_recorded, is_colon, behind_number, is_heading, block_of, block_below, has_dumped, block_bytes};
+ghost use Rattle.hid_input.specs.Recorded.{ordered_bytes, after_letter, bytes_behind, counted_bytes, recorded_bytes, has_recorded, are_others, has_others, has_other_records, has_headings, is_colon, behind_number, is_heading, block_of, block_below, has_dumped, block_bytes};
 ghost use Rattle.hid_input.specs.Records.{is_record_letter, begins_with_letter, is_head, is_record, has_record, is_passed, begins_recording};
 ghost use Rattle.hid_input.specs.Dump.{HasNoOthers};
 ghost use Rattle.hid_input.specs.Faults.{of_text, IsOfHex};
@@ -102,6 +102,42 @@ pub fn has_recorded(text: &[u8]) -> bool
 {
     text.split(|byte| *byte == b'\n')
         .any(|line| after_letter(line).is_some())
+}
+
+/// Whether two lines have records that aren't the same.
+fn are_others(line: &[u8], other: &[u8]) -> bool
+    ensures { result ≡ are_others (after_letter line.now) (after_letter other.now) }
+{
+    match (after_letter(line), after_letter(other)) {
+        (Some(one), Some(other)) => trimmed_text(other) != trimmed_text(one),
+        _ => false,
+    }
+}
+
+/// The first line of hid-recorder that has a descriptor.
+fn first_record(text: &[u8]) -> Option<&[u8]>
+    ensures { option_copied result ≡ find (λ line. is_some (after_letter line)) (lines_of text.now) }
+{
+    text.split(|byte| *byte == b'\n')
+        .find(|line| after_letter(line).is_some())
+}
+
+/// Whether some line has another record than this one.
+fn has_others(first: &[u8], text: &[u8]) -> bool
+    ensures { result ≡ has_others (Some first.now) (lines_of text.now) }
+{
+    text.split(|byte| *byte == b'\n')
+        .any(|line| are_others(first, line))
+}
+
+/// Whether lines of hid-recorder have descriptors that aren't all the same.
+pub fn has_other_records(text: &[u8]) -> bool
+    ensures { result ≡ has_other_records text.now }
+{
+    match first_record(text) {
+        Some(first) => has_others(first, text),
+        None => false,
+    }
 }
 
 /// The bytes of hex in a line whose tool writes them in their order: words of digits, marked or not.
@@ -217,6 +253,16 @@ fn is_heading(line: &[u8]) -> bool
         Some(word) => word == b"DESCRIPTOR".as_slice(),
         None => false,
     }
+}
+
+/// Whether a text has several headings of usbhid-dump.
+pub fn has_headings(text: &[u8]) -> bool
+    ensures { result ≡ has_headings text.now }
+{
+    text.split(|byte| *byte == b'\n')
+        .filter(|line| is_heading(line))
+        .count()
+        >= 2
 }
 
 /// The lines with which lines begin, up to an empty one, each with its end.

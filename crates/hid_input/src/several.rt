@@ -8,13 +8,14 @@
 //!   09 06                                                     0x05, 0x01
 //! ```
 
-ghost use Rattle.std.specs.Prelude.{◌≡◌, ◌<◌, not, length, map, drop, IfOk, IfSome};
-ghost use Rattle.std.specs.List.{list_any, position, zip};
+ghost use Rattle.std.specs.Prelude.{◌≡◌, ◌≤◌, ◌<◌, not, length, map, drop, IfOk, IfSome};
+ghost use Rattle.std.specs.List.{list_any, list_all, position, zip};
+ghost use Rattle.hid_input.specs.Dump.{place_of};
 ghost use Rattle.hid_input.specs.Hex.{is_separator, lines_of};
-ghost use Rattle.hid_input.specs.Several.{is_joint, ends_with_joint, goes_on, is_tail, is_c, end_after, end_from, is_closed, closes, behind_separators, first_part, is_page_digit, are_page, begins_page, is_empty, ends_above, ends_in_front, is_apart, are_apart, may_be_several, has_remark, has_remarks};
+ghost use Rattle.hid_input.specs.Several.{is_joint, ends_with_joint, goes_on, is_tail, is_c, end_after, end_from, is_closed, closes, behind_separators, first_part, is_page_digit, are_page, begins_page, is_empty, ends_above, ends_in_front, is_apart, are_apart, is_as_long, have_width, are_rows, may_be_several, has_behind, are_dashes, has_dashes, begins_with_backslash, is_other_separator, is_mixed, has_remark, has_remarks};
 
-use crate::parts::{is_empty_line, lines_of, place_of, trimmed_text};
-use crate::spelled::is_separator;
+use crate::parts::{is_empty_line, lines_of, place_of, trimmed_text, without_space};
+use crate::spelled::{has_byte, is_separator};
 use crate::words::{digits_in, is_h, is_x};
 use std::alloc::{AllocError, Global};
 
@@ -85,11 +86,11 @@ fn end_after(end: LineEnd, byte: u8) -> LineEnd
     }
 }
 
-/// Whether the last byte of a line is an End Collection, perhaps with zeros after it, or the line has zeros alone.
+/// Whether the last byte of a line is an End Collection, perhaps with zeros after it.
 fn closes(line: &[u8]) -> bool
     ensures { result ≡ closes line.now }
 {
-    let mut end = LineEnd::Closed;
+    let mut end = LineEnd::Other;
     for byte in line {
         end = end_after(end, *byte);
     }
@@ -123,7 +124,7 @@ fn behind_separators(line: &[u8]) -> &[u8]
 }
 
 /// The first word of a line.
-fn first_part(line: &[u8]) -> &[u8]
+pub fn first_part(line: &[u8]) -> &[u8]
     ensures { result.now ≡ first_part line.now }
 {
     let words = behind_separators(line);
@@ -191,6 +192,29 @@ fn are_apart(lines: &[&[u8]]) -> bool
         .any(|(line, next)| is_apart(line, next))
 }
 
+/// Whether each line is so long, without white space at its ends.
+fn are_as_long(lines: &[&[u8]], wanted: usize) -> bool
+    ensures { result ≡ list_all (is_as_long wanted) (map (λ line. line.now) lines.now) }
+{
+    lines.iter().all(|line| trimmed_text(line).len() == wanted)
+}
+
+/// Whether lines are all so long but the last, which is no longer.
+fn have_width(lines: &[&[u8]], wanted: usize) -> bool
+    requires { 1 ≤ length lines.now }
+    ensures { result ≡ have_width wanted (map (λ line. line.now) lines.now) }
+{
+    are_as_long(&lines[..lines.len() - 1], wanted)
+        && trimmed_text(lines[lines.len() - 1]).len() <= wanted
+}
+
+/// Whether lines are rows of one descriptor, as tools write them.
+fn are_rows(lines: &[&[u8]]) -> bool
+    ensures { result ≡ are_rows (map (λ line. line.now) lines.now) }
+{
+    lines.len() >= 1 && !closes(lines[0]) && have_width(lines, trimmed_text(lines[0]).len())
+}
+
 /// Whether hex may be of several descriptors.
 ///
 /// # Errors
@@ -199,17 +223,67 @@ pub fn may_be_several(alloc: Global, hex: &[u8]) -> Result<bool, AllocError>
     ensures { IfOk result (λ may. may ≡ may_be_several hex.now) }
 {
     let lines = lines_of(alloc, trimmed_text(hex))?;
-    Ok(are_apart(lines.as_slice()))
+    Ok(!are_rows(lines.as_slice()) && are_apart(lines.as_slice()))
 }
 
 /// Whether something stands after the first semicolon of a line: more bytes, or a comment of assemblers.
-fn has_remark(line: &[u8]) -> bool
-    ensures { result ≡ has_remark line.now }
+fn has_behind(line: &[u8]) -> bool
+    ensures { result ≡ has_behind (place_of 59 line.now) line.now }
 {
     match place_of(line, b';') {
         Some(place) => !is_empty_line(&line[place + 1..]),
         None => false,
     }
+}
+
+/// Whether a line has two dashes, by which Lua, SQL and Ada begin comments.
+fn has_dashes(line: &[u8]) -> bool
+    ensures { result ≡ has_dashes line.now }
+{
+    if line.is_empty() {
+        return false;
+    }
+    line.iter()
+        .zip(line[1..].iter())
+        .any(|(one, next)| *one == b'-' && *next == b'-')
+}
+
+/// Whether a backslash is first that no `x` follows, by which Forth begins comments.
+fn begins_with_backslash(text: &[u8]) -> bool
+    ensures { result ≡ begins_with_backslash text.now }
+{
+    text.len() >= 1 && text[0] == b'\\' && !(text.len() >= 2 && is_x(text[1]))
+}
+
+/// Whether a byte parts words, and is no colon.
+fn is_other_separator(byte: u8) -> bool
+    ensures { result ≡ is_other_separator byte }
+{
+    is_separator(byte) && byte != b':'
+}
+
+/// Whether a text has such a byte.
+fn has_other_separator(text: &[u8]) -> bool
+    ensures { result ≡ list_any is_other_separator text.now }
+{
+    text.iter().any(|byte| is_other_separator(*byte))
+}
+
+/// Whether a text has colons beside other separators.
+fn is_mixed(text: &[u8]) -> bool
+    ensures { result ≡ is_mixed text.now }
+{
+    has_byte(text, b':') && has_other_separator(text)
+}
+
+/// Whether a part of a line may be a comment: of assemblers, of Lua, or of Forth, or what stands after a colon.
+fn has_remark(line: &[u8]) -> bool
+    ensures { result ≡ has_remark line.now }
+{
+    has_behind(line)
+        || has_dashes(line)
+        || begins_with_backslash(without_space(line))
+        || is_mixed(trimmed_text(line))
 }
 
 /// Whether some line has such.

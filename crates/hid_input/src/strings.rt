@@ -1,11 +1,11 @@
 //! The bytes of a string in a source text, as its escapes say them.
 
-ghost use Rattle.std.specs.Prelude.{◌≡◌, ◌≤◌, length, ℕ, ◌++◌, ◌∷◌, [], Bool, false, true, List, Some, None, OnOk, IfOk, IfErr, map};
-ghost use Rattle.std.specs.List.{list_any, list_all};
+ghost use Rattle.std.specs.Prelude.{◌≡◌, ◌≤◌, ◌<◌, not, length, IfSome, ℕ, ◌++◌, ◌∷◌, [], Bool, false, true, List, Some, None, OnOk, IfOk, IfErr, map};
+ghost use Rattle.std.specs.List.{list_any, list_all, position};
 ghost use Rattle.std.specs.Option.{option_map, option_and_then};
 ghost use Rattle.hid_input.specs.Code.{code_of};
 ghost use Rattle.hid_input.specs.Faults.{of_text};
-ghost use Rattle.hid_input.specs.Strings.{has_string, line_front, goes_on, joined_line, joined_lines, opens, closes, with_front, cut_parts, parts_from, parts_of, has_byte, begins_with_escape, begins_value, ends_word, ends_with_b, stands_alone, string_bytes, ends_strings, more_bytes, if_several, first_bytes, alone_bytes, bytes_from, strings_bytes};
+ghost use Rattle.hid_input.specs.Strings.{has_string, line_front, goes_on, joined_line, joined_lines, opens, closes, with_front, cut_parts, parts_from, parts_of, has_byte, begins_with_escape, begins_value, ends_word, ends_with_b, stands_alone, string_bytes, is_closing, ends_value, begins_name, may_follow, after_closing, is_after_string, ends_strings, may_end, more_bytes, if_several, first_bytes, alone_bytes, bytes_from, strings_bytes};
 ghost use Rattle.hid_input.specs.Words.{both, IsAdded};
 
 use crate::characters::read_characters;
@@ -74,6 +74,7 @@ fn opens(place: Place, byte: u8) -> bool
         Place::Code | Place::Slash => byte == b'"' || byte == b'\'',
         Place::Quoted(_)
         | Place::Escape(_)
+        | Place::Joined(_)
         | Place::Line
         | Place::Splice
         | Place::Return
@@ -90,7 +91,7 @@ fn closes(place: Place, byte: u8) -> bool
     ensures { result ≡ closes place byte }
 {
     match place {
-        Place::Quoted(quote) => byte == quote,
+        Place::Quoted(quote) | Place::Joined(quote) => byte == quote,
         Place::Code
         | Place::Slash
         | Place::Escape(_)
@@ -253,11 +254,67 @@ fn add_string(
     }
 }
 
+/// Whether a byte may stand between a string and what follows it: white space, and the closing of brackets.
+fn is_closing(byte: u8) -> bool
+    ensures { result ≡ is_closing byte }
+{
+    byte.is_ascii_whitespace() || matches!(byte, b')' | b']' | b'}')
+}
+
+/// Whether a byte is none of an operator on strings.
+fn ends_value(byte: u8) -> bool
+    ensures { result ≡ ends_value byte }
+{
+    matches!(byte, b';' | b',' | b'>' | b'#')
+}
+
+/// Whether a byte begins another statement, if it stands in another line.
+fn begins_name(byte: u8) -> bool
+    ensures { result ≡ begins_name byte }
+{
+    byte.is_ascii_alphanumeric() || byte == b'_'
+}
+
+/// Whether this may follow a string after brackets, which have an end of a line or not.
+fn may_follow(has_end: bool, rest: &[u8]) -> bool
+    ensures { result ≡ may_follow has_end rest.now }
+{
+    rest.is_empty() || ends_value(rest[0]) || (has_end && begins_name(rest[0]))
+}
+
+/// Where the brackets and the white space end with which code begins.
+fn closing_end(code: &[u8]) -> Option<usize>
+    ensures place { result ≡ position (λ byte. not (is_closing byte)) code.now }
+    ensures bound { IfSome result (λ place. place < length code.now) }
+{
+    code.iter().position(|byte| !is_closing(*byte))
+}
+
+/// Whether code may follow a string: no operator is first.
+fn is_after_string(code: &[u8]) -> bool
+    ensures { result ≡ is_after_string code.now }
+{
+    match closing_end(code) {
+        Some(place) => may_follow(has_byte(&code[..place], b'\n'), &code[place..]),
+        None => true,
+    }
+}
+
+/// Whether no operator stands in the code after the last string.
+fn may_end(parts: &[Vec<u8>]) -> bool
+    ensures { result ≡ may_end (map (λ part. part.items) parts.now) }
+{
+    parts.is_empty() || is_after_string(parts[0].as_slice())
+}
+
 /// Whether other strings may follow the first of these parts, which is code.
 fn ends_strings(code: &[u8], parts: &[Vec<u8>]) -> bool
     ensures { result ≡ ends_strings code.now (map (λ part. part.items) parts.now) }
 {
-    has_byte(code, b';') && !has_byte(code, b'\\') && !have_backslash(parts)
+    is_after_string(code)
+        && has_byte(code, b';')
+        && !has_byte(code, b'\\')
+        && !have_backslash(parts)
 }
 
 /// Adds the bytes of the strings that belong to one in front of these parts; false where that isn't known, or one has none.
@@ -282,7 +339,7 @@ fn add_more(
         let (_taken, more) = rest.split_at(2);
         rest = more;
     }
-    Ok(true)
+    Ok(may_end(rest))
 }
 
 /// The bytes of a string and of those that belong to it, which stand in the parts after it.

@@ -1,4 +1,4 @@
-use Rattle.std.proofs.Common.{◌≡◌, false, List, ℕ, drop, sym, ap, ◌∙◌}
+use Rattle.std.proofs.Common.{◌≡◌, false, drop, sym, ap, ◌∙◌}
 use Rattle.std.proofs.lemmas.List.{take_rest}
 use Rattle.hid_input.specs.Comments.{begins_comment}
 use Rattle.hid_input.proofs.CommentLemmas.{comment_passed}

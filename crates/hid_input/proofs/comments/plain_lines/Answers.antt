@@ -1,6 +1,5 @@
-use Rattle.std.proofs.Common.{◌≡◌, ◌<◌, [], length, get_or, map, ap, ◌∙◌, sym, arith}
+use Rattle.std.proofs.Common.{◌<◌, [], length, map, arith}
 use Rattle.std.proofs.lemmas.List.{length-map, get_or-map}
-use Rattle.hid_input.specs.Comments.{line_front}
 use Rattle.hid_input.proofs.DumpLemmas.{now_of}
 use Rattle.hid_input.proofs.CommentLemmas.{plain_more}
 use Rattle.hid_input.proofs.comments.plain_lines.Goals as goal

@@ -1,7 +1,7 @@
 use Rattle.std.proofs.Common.{◌≡◌, List, ℕ, drop, map, ap, ◌∙◌, rules}
 use Rattle.std.specs.Global.{Vec}
 use Rattle.hid_input.specs.Strings.{ends_strings}
-use Rattle.hid_input.proofs.StringLemmas.{more_taken, more_ends, more_over}
+use Rattle.hid_input.proofs.StringLemmas.{more_taken, more_refused, more_ends, more_over}
 use Rattle.hid_input.proofs.WayLemmas.{items_of}
 use Rattle.hid_input.proofs.strings.add_more.Goals as goal
 
@@ -16,6 +16,11 @@ returns-then-not-is_empty_line c =
     more_ends c.args.quote rest c.loop-rest.bytes.items code c.ends_strings.result _
     c.loop-rest-test.true c.index-rest-0.is (search rules) ends c.loop-rest.invariant
 
+pub returns-then-not-branch : goal.returns-then-not-branch
+returns-then-not-branch c =
+    more_refused c.args.quote c.loop-rest.rest.now c.loop-rest.bytes.items c.index-rest-0.result c.index-rest-1.result _
+    c.loop-rest-test.true c.index-rest-0.is c.index-rest-1.is (search rules) (search rules) c.loop-rest.invariant
+
 pub loop-rest-preserved : goal.loop-rest-preserved
 loop-rest-preserved c =
     let taken = more_taken c.args.quote c.loop-rest.rest.now c.loop-rest.bytes.items c.add_string.new.bytes.items c.index-rest-0.result c.index-rest-1.result _
@@ -23,4 +28,4 @@ loop-rest-preserved c =
     cc (taken, c.split_at-in-loop-rest.ensures.back)
 
 pub returns : goal.returns
-returns c = more_over c.args.quote c.loop-rest.rest.now c.loop-rest.bytes.items _ c.loop-rest-test.false c.loop-rest.invariant
+returns c = more_over c.args.quote c.loop-rest.rest.now c.loop-rest.bytes.items c.may_end.result _ c.loop-rest-test.false c.may_end.ensures c.loop-rest.invariant
