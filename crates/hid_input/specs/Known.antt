@@ -52,6 +52,6 @@ begins_text bytes =
 -- what it is, and what can be done, in words
 abbrev pub known_text : KnownFile → List ℕ
 known_text Capture = codes "a capture of a bus: hidplay reads it"
-known_text UsbDescriptors = codes "USB descriptors, without a report descriptor (/sys/class/hidraw has those)"
+known_text UsbDescriptors = codes "USB descriptors, no report descriptor (/sys/class/hidraw has those)"
 known_text Compressed = codes "a compressed file: unpack it first"
 known_text Program = codes "a program, without a report descriptor"

@@ -127,9 +127,7 @@ impl fmt::Display for InputCause {
             InputCause::SeveralStrings => {
                 "several strings, or a single character: which bytes are meant?"
             }
-            InputCause::WordOrder => {
-                "the order of bytes in words isn't known (try xxd or od -t x1)"
-            }
+            InputCause::WordOrder => { "the order of bytes isn't known (try xxd or od -t x1)" }
             InputCause::Offset => "an offset? The first word doesn't count the bytes before it",
             InputCause::Dump => "a dump with offsets, of which this line can't be read",
             InputCause::BadItem => "no item as lsusb prints them",
@@ -140,7 +138,7 @@ impl fmt::Display for InputCause {
                 "no descriptor begins so: leave out an offset or a header in front"
             }
             InputCause::UsbDescriptors => {
-                "USB descriptors, without a report descriptor (/sys/class/hidraw has those)"
+                "USB descriptors, no report descriptor (/sys/class/hidraw has those)"
             }
             InputCause::LineNumbers => "are these numbers of lines? Leave them out",
             InputCause::SeveralDescriptors => "several report descriptors: give one of them alone",

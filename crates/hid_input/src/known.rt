@@ -33,7 +33,7 @@ impl fmt::Display for KnownFile {
         f.write_str(match *self {
             KnownFile::Capture => "a capture of a bus: hidplay reads it",
             KnownFile::UsbDescriptors => {
-                "USB descriptors, without a report descriptor (/sys/class/hidraw has those)"
+                "USB descriptors, no report descriptor (/sys/class/hidraw has those)"
             }
             KnownFile::Compressed => "a compressed file: unpack it first",
             KnownFile::Program => "a program, without a report descriptor",
