@@ -5,10 +5,11 @@ use Rattle.hid_input.specs.declared.items.TheConstants.{PREFIXES}
 use Rattle.hid_input.specs.declared.beginning.Opening.{Opening}
 use Rattle.hid_input.specs.declared.beginning.Opening.TheVariants.{Item, Long, Decided}
 
--- a prefix without the two bits of its size, which are that of the item's data: 0, 1, 2 or 4 bytes (6.2.2.2)
+-- a prefix without the two bits of its size
 abbrev pub tag_of : ℕ → ℕ
 tag_of prefix = bit_and prefix 0xFC
 
+-- how many bytes of data follow a prefix: 0, 1, 2 or 4 (6.2.2.2)
 abbrev pub data_size : ℕ → ℕ
 data_size prefix = if bit_and prefix 3 == 3 then 4 else bit_and prefix 3
 

@@ -1,6 +1,6 @@
 -- The characters of a string of C, and the bytes that they are (C11, 6.4.4.4 and 6.4.5).
 use Rattle.std.specs.Prelude.{ℕ, ◌==◌, ◌-◌, ◌+◌, Bool, not, ◌&&◌, ◌||◌, nat_le, nat_lt, List, [], ◌∷◌, length, slice_index, take, drop, if◌then◌else◌, Option, None, Some, zero, suc}
-use Rattle.std.specs.List.{position}
+use Rattle.std.specs.List.{position, list_any, zip}
 use Rattle.std.specs.Char.{is_ascii_digit}
 use Rattle.hid_input.specs.Numbers.{is_digit_of, byte_in_base}
 use Rattle.hid_input.specs.Words.{both, single_byte}
@@ -75,3 +75,21 @@ bytes_after zero (byte ∷ text) =
 -- the bytes of all characters of a text
 unfoldable pub characters_bytes : List ℕ → Option (List ℕ)
 characters_bytes text = bytes_after 0 text
+
+-- a zero and another digit after a backslash: one byte in C, and several where \0 is a byte alone, as in Rust and C#
+abbrev pub is_zero_escape : (ℕ × ℕ) × ℕ → Bool
+is_zero_escape three = (three.0.0 == 92) && ((three.0.1 == 48) && is_ascii_digit three.1)
+
+-- a digit of 1 to 7 after one backslash: such an escape is octal in each language that has it
+abbrev pub is_octal_escape : (ℕ × ℕ) × ℕ → Bool
+is_octal_escape three = not (three.0.0 == 92) && ((three.0.1 == 92) && (nat_le 49 three.1 && nat_le three.1 55))
+
+abbrev pub has_zero_escape : List ℕ → Bool
+has_zero_escape text = list_any is_zero_escape (zip (zip text (drop 1 text)) (drop 2 text))
+
+abbrev pub has_octal_escape : List ℕ → Bool
+has_octal_escape text = list_any is_octal_escape (zip (zip text (drop 1 text)) (drop 2 text))
+
+-- nothing says whether escapes are octal
+abbrev pub may_be_octal : List ℕ → Bool
+may_be_octal text = has_zero_escape text && not (has_octal_escape text)

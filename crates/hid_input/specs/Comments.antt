@@ -1,10 +1,10 @@
 -- Hex beside other text: with a comment after it in a line, or in front of what Linux prints of a descriptor (our choice: docs/PICTURES.md).
 use Rattle.std.specs.Prelude.{ℕ, ◌==◌, ◌-◌, Bool, true, false, not, ◌&&◌, ◌||◌, nat_le, nat_eq, List, [], ◌∷◌, ◌++◌, length, slice_index, slice_index_or, take, drop, if◌then◌else◌, Option, None, Some, codes}
-use Rattle.std.specs.List.{list_any, list_all, starts_with}
+use Rattle.std.specs.List.{list_any, list_all, starts_with, zip}
 use Rattle.std.specs.Char.{is_ascii_whitespace}
 use Rattle.std.specs.Str.{bytes_eq}
 use Rattle.hid_input.specs.Numbers.{without_space, trimmed_text}
-use Rattle.hid_input.specs.Hex.{lines_of, first_word, in_front, is_spelled_byte, is_spelled}
+use Rattle.hid_input.specs.Hex.{lines_of, first_word, in_front, is_spelled_byte, is_spelled, is_offset}
 use Rattle.hid_input.specs.Dump.{is_blank, place_of}
 
 -- a word after # that may leave lines out, or add some, in C (C11, 6.10)
@@ -48,10 +48,11 @@ is_definition line =
 abbrev pub before_hash : List ℕ → List ℕ
 before_hash line = if is_definition line then line else in_front (place_of 35 line) line
 
--- what stands in front of two dashes, by which Lua, SQL and Ada begin comments
+-- two dashes, by which Lua, SQL and Ada begin comments
 abbrev pub begins_dashes : List ℕ → Bool
 begins_dashes line = nat_le 2 (length line) && ((slice_index line 0 == 45) && (slice_index line 1 == 45))
 
+-- what stands in front of two dashes in a line
 abbrev pub before_dashes : List ℕ → List ℕ
 before_dashes [] = []
 before_dashes (byte ∷ line) = if begins_dashes (byte ∷ line) then [] else byte ∷ before_dashes line
@@ -83,12 +84,27 @@ begins_report word =
     starts_with nat_eq word (codes "INPUT[") || (starts_with nat_eq word (codes "INPUT(") || (starts_with nat_eq word (codes "OUTPUT[")
     || (starts_with nat_eq word (codes "OUTPUT(") || (starts_with nat_eq word (codes "FEATURE[") || starts_with nat_eq word (codes "FEATURE(")))))
 
--- what rdesc of debugfs has: a line of hex, an empty one, the reports, and no other line of hex, as of another device
+-- a line has hex in front of its comment, or an offset
+abbrev pub is_hex_line : List ℕ → Bool
+is_hex_line line = is_spelled (before_comment line) || is_offset (first_word line)
+
+abbrev pub has_hex_lines : List ℕ → Bool
+has_hex_lines text = list_any is_hex_line (lines_of text)
+
+-- the reports of a device begin below an empty line
+abbrev pub begins_reports : List ℕ × List ℕ → Bool
+begins_reports pair = list_all is_ascii_whitespace pair.0 && begins_report (first_word pair.1)
+
+-- lines have something of another device: hex, or its reports
+unfoldable pub has_others : List (List ℕ) → Bool
+has_others lines = list_any is_hex_line lines || list_any begins_reports (zip lines (drop 1 lines))
+
+-- what rdesc of debugfs has: a line of hex, an empty one, the reports, and nothing of another device
 abbrev pub is_parsed : List (List ℕ) → Bool
 is_parsed lines =
     nat_le 3 (length lines)
     && ((list_all is_ascii_whitespace (slice_index_or lines 1 []) && begins_report (first_word (slice_index_or lines 2 [])))
-    && not (list_any is_spelled (drop 2 lines)))
+    && not (has_others (drop 2 lines)))
 
 -- the hex in lines: the first one, where Linux printed them, or all without their comments
 abbrev pub hex_in : List (List ℕ) → List ℕ

@@ -1,9 +1,9 @@
 -- What speaks against the bytes that a text encodes: nothing says whether they are those of one descriptor (our choice: docs/PICTURES.md).
-use Rattle.std.specs.Prelude.{◌≡◌, ℕ, Bool, true, false, ◌||◌, is_some, List, if◌then◌else◌, Option, None, Some}
+use Rattle.std.specs.Prelude.{◌≡◌, ℕ, Bool, true, false, ◌||◌, is_some, List, if◌then◌else◌, Option, None, Some, drop}
 use Rattle.std.specs.Str.{bytes_eq}
 use Rattle.std.specs.Option.{option_or}
 use Rattle.hid_input.specs.declared.fault.InputCause.{InputCause}
-use Rattle.hid_input.specs.declared.fault.InputCause.TheVariants.{SeveralArrays, SeveralLists, OtherBytes, UsbDescriptors, LineNumbers, SeveralDescriptors, TwoWays, Frame}
+use Rattle.hid_input.specs.declared.fault.InputCause.TheVariants.{BadEscape, SeveralArrays, SeveralLists, OtherBytes, UsbDescriptors, LineNumbers, SeveralDescriptors, TwoWays, Frame}
 use Rattle.hid_input.specs.declared.fault.InputFault.{InputFault}
 use Rattle.hid_input.specs.declared.form.TextForm.{TextForm}
 use Rattle.hid_input.specs.declared.form.TextForm.TheVariants.{Hex, Array, Beside, Quoted, Recorded, Dumped, Listed}
@@ -12,9 +12,10 @@ use Rattle.hid_input.specs.declared.known.KnownFile.TheVariants as files
 use Rattle.hid_input.specs.Beginnings.{begins_descriptor}
 use Rattle.hid_input.specs.Known.{known_file, begins_text}
 use Rattle.hid_input.specs.Numbered.{may_be_numbered}
-use Rattle.hid_input.specs.Recorded.{has_other_records, has_headings}
-use Rattle.hid_input.specs.Listed.{has_several_listed}
-use Rattle.hid_input.specs.Code.{behind_brace, code_of, array_bytes}
+use Rattle.hid_input.specs.Dump.{place_of}
+use Rattle.hid_input.specs.Characters.{may_be_octal}
+use Rattle.hid_input.specs.Code.{behind_brace, code_of, array_bytes, has_array}
+use Rattle.hid_input.specs.Others.{has_beside_record, has_beside_dump, has_beside_list, has_lists_beside, has_page_string, has_lists, string_lines}
 use Rattle.hid_input.specs.Comments.{hex_beside, without_remarks}
 use Rattle.hid_input.specs.Faults.{of_text}
 use Rattle.hid_input.specs.Frames.{is_frame}
@@ -32,10 +33,18 @@ abbrev pub is_same : List ℕ → Option (List ℕ) → Bool
 is_same bytes None = false
 is_same bytes (Some others) = bytes_eq others bytes
 
--- another array begins after the first brace; elements alone may be several lists
+-- more elements stand after the brace that closes some
+abbrev pub has_more_elements : Option ℕ → List ℕ → Bool
+has_more_elements None code = false
+has_more_elements (Some place) code = has_array (drop place code)
+
+-- another array begins after the first brace, or a list is beside the array; elements alone may be several lists
 abbrev pub elements_doubt : Option (List ℕ) → List ℕ → Option InputCause
-elements_doubt (Some inside) code = if is_some (behind_brace inside) then Some SeveralArrays else None
-elements_doubt None code = if may_be_several code then Some SeveralLists else None
+elements_doubt (Some inside) code =
+    if is_some (behind_brace inside) || has_lists_beside inside code then Some SeveralArrays else None
+elements_doubt None code =
+    if has_more_elements (place_of 125 code) code then Some SeveralArrays
+    else (if may_be_several code then Some SeveralLists else None)
 
 -- an array may stand in a comment of another language than C, another one may follow it, and elements alone may be several lists
 abbrev pub array_doubt : List ℕ → Option (List ℕ) → Option InputCause
@@ -43,20 +52,36 @@ array_doubt bytes None = None
 array_doubt bytes (Some code) =
     if is_same bytes (array_bytes (without_remarks code)) then elements_doubt (behind_brace code) code else Some TwoWays
 
--- a string may stand in a comment of another language than C
+-- a string that may be a descriptor is beside an array
+abbrev pub strings_beside : Option (List ℕ) → Option InputCause
+strings_beside None = None
+strings_beside (Some code) = if has_page_string code then Some SeveralDescriptors else None
+
+-- a list is beside strings
+abbrev pub lists_beside : Option (List ℕ) → Option InputCause
+lists_beside None = None
+lists_beside (Some code) = if has_lists code then Some SeveralDescriptors else None
+
+-- strings, each in a line: an escape may be octal or not, and they may be of several descriptors
+abbrev pub strings_doubt : List ℕ → Option InputCause
+strings_doubt lines = if may_be_octal lines then Some BadEscape else (if may_be_several lines then Some SeveralLists else None)
+
+-- a string may stand in a comment of another language than C, or nothing says what strings are
 abbrev pub string_doubt : List ℕ → Option (List ℕ) → Option InputCause
 string_doubt bytes None = None
-string_doubt bytes (Some code) = if is_same bytes (strings_bytes (without_remarks code)) then None else Some TwoWays
+string_doubt bytes (Some code) =
+    if is_same bytes (strings_bytes (without_remarks code))
+    then strings_doubt (string_lines code) else Some TwoWays
 
 -- what speaks against the bytes of a text, by its form
 abbrev pub form_doubt : List ℕ → List ℕ → TextForm → Option InputCause
 form_doubt text bytes Hex = hex_doubt text
-form_doubt text bytes Recorded = if has_other_records text then Some SeveralDescriptors else None
-form_doubt text bytes Dumped = if has_headings text then Some SeveralDescriptors else None
-form_doubt text bytes Listed = if has_several_listed text then Some SeveralDescriptors else None
+form_doubt text bytes Recorded = if has_beside_record text then Some SeveralDescriptors else None
+form_doubt text bytes Dumped = if has_beside_dump text then Some SeveralDescriptors else None
+form_doubt text bytes Listed = if has_beside_list text then Some SeveralDescriptors else None
 form_doubt text bytes Beside = hex_doubt (hex_beside text)
-form_doubt text bytes Array = array_doubt bytes (code_of false text)
-form_doubt text bytes Quoted = string_doubt bytes (code_of true text)
+form_doubt text bytes Array = option_or (array_doubt bytes (code_of false text)) (strings_beside (code_of true text))
+form_doubt text bytes Quoted = option_or (string_doubt bytes (code_of true text)) (lists_beside (code_of false text))
 form_doubt text bytes form = None
 
 -- a form that itself says that the bytes are those of a report descriptor

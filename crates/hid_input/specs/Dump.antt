@@ -101,13 +101,13 @@ abbrev pub gap_place : List ℕ → Option ℕ
 gap_place row = position is_gap (zip row (drop 1 row))
 
 -- the bytes of a row with two blanks in front of its characters, as xxd and Wireshark write it, or of pairs without characters; after
--- eight pairs hexdump -C writes two blanks too
+-- eight pairs hexdump -C writes two blanks too. A last offset has no bytes after it
 abbrev pub gapped_bytes : WordForm → List ℕ → Option ℕ → Option (List ℕ)
 gapped_bytes Pair row (Some place) =
     option_or (shown_bytes Pair (take place row) (drop place row)) (if place == 23 then cells_bytes Pair row else None)
 gapped_bytes form row (Some place) = shown_bytes form (take place row) (drop place row)
 gapped_bytes Pair row None = cells_bytes Pair row
-gapped_bytes form row None = None
+gapped_bytes form row None = if length row == 0 then Some [] else None
 
 unfoldable pub parted_bytes : WordForm → List ℕ → Option (List ℕ)
 parted_bytes form row = gapped_bytes form row (gap_place row)

@@ -4,8 +4,9 @@ use Rattle.std.specs.Option.{option_and_then}
 use Rattle.hid_input.specs.declared.fault.InputCause.TheVariants.{Memory}
 use Rattle.hid_input.specs.declared.fault.InputFault.{InputFault}
 use Rattle.hid_input.specs.declared.form.TextForm.{TextForm}
-use Rattle.hid_input.specs.declared.form.TextForm.TheVariants.{Dump, Hex, Recorded, Dumped, Listed, Unavailable, Array, Beside, Quoted, Unclear, Other}
+use Rattle.hid_input.specs.declared.form.TextForm.TheVariants.{OtherEnds, Dump, Hex, Recorded, Dumped, Listed, Unavailable, Array, Beside, Quoted, Unclear, Other}
 use Rattle.hid_input.specs.Faults.{of_text, IsOfHex}
+use Rattle.hid_input.specs.Text.{has_other_ends}
 use Rattle.hid_input.specs.Hex.{lines_of, first_word, is_offset, is_spelled, spelled_bytes}
 use Rattle.hid_input.specs.Dump.{IsDump, HasNoOthers}
 use Rattle.hid_input.specs.Decimal.{HasNoOtherHex}
@@ -30,19 +31,21 @@ abbrev pub form_in_source : List ℕ → TextForm
 form_in_source text =
     if not (is_array (code_of false text)) && has_hex text then Beside else form_in_code (code_of false text) (code_of true text)
 
--- the first form that a text has: a dump if its first word is an offset by its looks, hex, a line R: of hid-recorder, lines of
--- usbhid-dump, items of lsusb, or one of these
+-- the first form that a text has: none if it isn't clear where its lines end; a dump if its first word is an offset by its looks, hex,
+-- a line R: of hid-recorder, lines of usbhid-dump, items of lsusb, or a form of other text
 unfoldable pub form_of : List ℕ → TextForm
 form_of text =
-    if is_offset (first_word text) then Dump
+    if has_other_ends text then OtherEnds
+    else (if is_offset (first_word text) then Dump
     else (if is_spelled text then Hex
     else (if has_recorded text then Recorded
     else (if has_dumped text then Dumped
     else (if has_listed text then Listed
-    else (if has_unavailable text then Unavailable else form_in_source text)))))
+    else (if has_unavailable text then Unavailable else form_in_source text))))))
 
 -- a text of a form encodes these bytes; other text encodes none
 abbrev pub Encodes : List ℕ → List ℕ → TextForm → Type 0
+Encodes text bytes OtherEnds = ⊥
 Encodes text bytes Dump = IsDump text bytes
 Encodes text bytes Hex = spelled_bytes text ≡ Some bytes
 Encodes text bytes Recorded = recorded_bytes (lines_of text) ≡ Some bytes
@@ -65,6 +68,7 @@ IsAlone text bytes form = Unit {0}
 
 -- why text that encodes bytes is refused: memory ran out, or it can be read in another way too, which gives other bytes
 abbrev pub IsFaultOf : InputFault → TextForm → Type 0
+IsFaultOf fault OtherEnds = ⊥
 IsFaultOf fault Dump = IsOfHex fault
 IsFaultOf fault Hex = IsOfHex fault
 IsFaultOf fault Recorded = fault.cause ≡ Memory

@@ -20,10 +20,11 @@ is_usbmon bytes =
     nat_le 48 (length bytes)
     && (is_event (slice_index bytes 8) && (nat_le (slice_index bytes 9) 3 && counts_rest (number_at 36 bytes) (length bytes)))
 
--- a frame of USBPcap: first the length of its header, 27 or more, and from byte 23 on how many bytes stand after it
+-- the length of a header of USBPcap, which is first in it
 abbrev pub header_size : List ℕ → ℕ
 header_size bytes = slice_index bytes 0 + slice_index bytes 1 * 256
 
+-- a frame of USBPcap: its header has 27 bytes or more, and from byte 23 on says how many stand after it
 abbrev pub is_usbpcap : List ℕ → Bool
 is_usbpcap bytes =
     nat_le 27 (length bytes) && (nat_le 27 (header_size bytes) && (header_size bytes + number_at 23 bytes == length bytes))

@@ -14,6 +14,7 @@ pub mod Known
 pub mod Listed
 pub mod Numbered
 pub mod Numbers
+pub mod Others
 pub mod Parts
 pub mod Readings
 pub mod Recorded

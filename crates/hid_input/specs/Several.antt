@@ -44,10 +44,11 @@ is_closed end = false
 abbrev pub closes : List ℕ → Bool
 closes line = is_closed (end_from Other line)
 
--- the first word of a line
+-- a line from its first word on
 abbrev pub behind_separators : List ℕ → List ℕ
 behind_separators line = from_place (position (λ byte. not (is_separator byte)) line) line
 
+-- the first word of a line
 abbrev pub first_part : List ℕ → List ℕ
 first_part line = in_front (position is_separator (behind_separators line)) (behind_separators line)
 

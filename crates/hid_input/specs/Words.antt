@@ -2,7 +2,7 @@
 use Rattle.std.specs.Prelude.{◌≡◌, ℕ, ◌==◌, ◌-◌, ◌+◌, ◌*◌, Bool, not, ◌&&◌, ◌||◌, nat_le, nat_lt, List, [], ◌∷◌, ◌++◌, length, slice_index, take, drop, reverse, if◌then◌else◌, Option, None, Some}
 use Rattle.std.specs.List.{filter, slice_split}
 use Rattle.std.specs.Option.{option_map, option_or, option_and_then}
-use Rattle.std.specs.Char.{digit_value}
+use Rattle.std.specs.Char.{digit_value, is_ascii_digit}
 use Rattle.hid_input.specs.declared.words.WordForm.{WordForm}
 use Rattle.hid_input.specs.declared.words.WordForm.TheVariants.{Byte, Pair, Run, Hex, Swapped, Octal, Decimal, Signed, Number, Element}
 use Rattle.hid_input.specs.Numbers.{byte_in_base, octal_byte, column_byte, trimmed_text}
@@ -37,10 +37,15 @@ byte_of_pair (high ∷ low ∷ []) =
     then Some (digit_value high * 16 + digit_value low) else None
 byte_of_pair _ = None
 
--- the byte that one or two hex digits encode
+-- three digits without a zero in front of a letter, which assemblers want there: 0A1h is A1
+abbrev pub without_zero : List ℕ → List ℕ
+without_zero digits =
+    if (length digits == 3) && ((slice_index digits 0 == 48) && not (is_ascii_digit (slice_index digits 1))) then drop 1 digits else digits
+
+-- the byte that one or two hex digits encode, perhaps with such a zero
 abbrev pub byte_of_digits : List ℕ → Option ℕ
 byte_of_digits (one ∷ []) = if nat_lt (digit_value one) 16 then Some (digit_value one) else None
-byte_of_digits digits = byte_of_pair digits
+byte_of_digits digits = byte_of_pair (without_zero digits)
 
 -- x or X; h or H
 abbrev pub is_x : ℕ → Bool

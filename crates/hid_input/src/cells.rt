@@ -104,6 +104,7 @@ fn read_parted(alloc: Global, row: &[u8], form: WordForm) -> Result<Option<Vec<u
         (Some(place), WordForm::Pair) => read_gapped(alloc, row, place),
         (Some(place), _) => read_shown(alloc, &row[..place], &row[place..], form),
         (None, WordForm::Pair) => read_cells(alloc, row, form),
+        (None, _) if row.is_empty() => Ok(Some(Vec::new(alloc))),
         (None, _) => Ok(None),
     }
 }

@@ -4,7 +4,7 @@ ghost use Rattle.std.specs.Prelude.{◌≡◌, ◌≤◌, ◌<◌, length, not, 
 ghost use Rattle.std.specs.List.{position};
 ghost use Rattle.std.specs.Option.{option_map};
 ghost use Rattle.hid_input.specs.Numbers.{is_digit_of};
-ghost use Rattle.hid_input.specs.Characters.{letter_byte, digits_front, is_hex_escape, hex_digits, octal_digits, hex_byte, has_digit_after, octal_or_letter, escape_byte, at_least_one, escape_length, character_byte, character_length, characters_bytes};
+ghost use Rattle.hid_input.specs.Characters.{letter_byte, digits_front, is_hex_escape, hex_digits, octal_digits, hex_byte, has_digit_after, octal_or_letter, escape_byte, at_least_one, escape_length, character_byte, character_length, has_zero_escape, has_octal_escape, may_be_octal, characters_bytes};
 
 use crate::digits::{byte_of, digit_of};
 use std::alloc::{AllocError, Global};
@@ -177,4 +177,36 @@ pub fn read_characters(alloc: Global, text: &[u8]) -> Result<Option<Vec<u8>>, Al
         rest = more;
     }
     Ok(Some(bytes))
+}
+
+/// Whether an escape of a zero and more digits is in a text, which is one byte in C, and several where `\0` is a byte alone.
+fn has_zero_escape(text: &[u8]) -> bool
+    ensures { result ≡ has_zero_escape text.now }
+{
+    if text.len() < 2 {
+        return false;
+    }
+    text.iter().zip(text[1..].iter()).zip(text[2..].iter()).any(|((one, next), last)| *one == b'\\'
+        && *next == b'0'
+        && last.is_ascii_digit())
+}
+
+/// Whether an octal escape is in a text that all languages have that read more digits than one.
+fn has_octal_escape(text: &[u8]) -> bool
+    ensures { result ≡ has_octal_escape text.now }
+{
+    if text.len() < 2 {
+        return false;
+    }
+    text.iter().zip(text[1..].iter()).zip(text[2..].iter()).any(|((one, next), last)| *one != b'\\'
+        && *next == b'\\'
+        && b'1' <= *last
+        && *last <= b'7')
+}
+
+/// Whether escapes of a text may be octal or not.
+pub fn may_be_octal(text: &[u8]) -> bool
+    ensures { result ≡ may_be_octal text.now }
+{
+    has_zero_escape(text) && !has_octal_escape(text)
 }

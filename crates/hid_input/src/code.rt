@@ -351,7 +351,7 @@ pub fn unclear_code(text: &[u8]) -> InputFault
 }
 
 /// Whether a number stands first.
-fn begins_number(text: &[u8]) -> bool
+pub fn begins_number(text: &[u8]) -> bool
     ensures { result ≡ begins_number text.now }
 {
     let text = without_space(text);

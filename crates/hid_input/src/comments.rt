@@ -7,11 +7,12 @@
 //! ```
 
 ghost use Rattle.std.specs.Prelude.{◌≡◌, ◌≤◌, ◌==◌, length, IfOk, map, drop};
-ghost use Rattle.std.specs.List.{list_any, list_all};
+ghost use Rattle.std.specs.List.{list_any, list_all, zip};
 ghost use Rattle.hid_input.specs.Hex.{lines_of, is_spelled};
-ghost use Rattle.hid_input.specs.Comments.{is_directive, is_remark, begins_mark, is_one_line, begins_comment, before_comment, is_definition, before_hash, begins_dashes, before_dashes, before_semicolon, line_front, without_comments, without_remarks, begins_report, is_parsed, hex_in, hex_beside, has_hex};
+ghost use Rattle.hid_input.specs.Comments.{is_directive, is_remark, begins_mark, is_one_line, begins_comment, before_comment, is_definition, before_hash, begins_dashes, before_dashes, before_semicolon, line_front, without_comments, without_remarks, begins_report, is_hex_line, has_hex_lines, begins_reports, has_others, is_parsed, hex_in, hex_beside, has_hex};
 
 use crate::columns::is_blank;
+use crate::form::is_offset;
 use crate::parts::{
     first_word, in_front_of, is_empty_line, lines_of, place_of, trimmed_text, without_space,
 };
@@ -174,11 +175,53 @@ fn begins_report(word: &[u8]) -> bool
         || word.starts_with(b"FEATURE(")
 }
 
-/// Whether some line is hex alone.
-fn has_spelled(lines: &[&[u8]]) -> bool
-    ensures { result ≡ list_any is_spelled (map (λ line. line.now) lines.now) }
+/// Whether a line has hex in front of its comment, or an offset.
+pub fn is_hex_line(line: &[u8]) -> bool
+    ensures { result ≡ is_hex_line line.now }
 {
-    lines.iter().any(|line| is_spelled(line))
+    is_spelled(before_comment(line)) || is_offset(first_word(line))
+}
+
+/// Whether some line of a text is such.
+pub fn has_hex_lines(text: &[u8]) -> bool
+    ensures { result ≡ has_hex_lines text.now }
+{
+    text.split(|byte| *byte == b'\n').any(is_hex_line)
+}
+
+/// Whether the reports of a device begin below an empty line.
+fn begins_reports(line: &[u8], next: &[u8]) -> bool
+    ensures { result ≡ begins_reports (line.now, next.now) }
+{
+    is_empty_line(line) && begins_report(first_word(next))
+}
+
+/// Whether such reports are among lines.
+fn have_reports(lines: &[&[u8]]) -> bool
+    ensures { result ≡ list_any begins_reports (zip (map (λ line. line.now) lines.now) (drop 1 (map (λ line. line.now) lines.now))) }
+{
+    if lines.is_empty() {
+        return false;
+    }
+    lines
+        .iter()
+        .zip(lines[1..].iter())
+        .any(|(line, next)| begins_reports(line, next))
+}
+
+/// Whether some line has hex.
+fn has_spelled(lines: &[&[u8]]) -> bool
+    ensures { result ≡ list_any is_hex_line (map (λ line. line.now) lines.now) }
+{
+    lines.iter().any(|line| is_hex_line(line))
+}
+
+/// Whether lines have something of another device: hex, or its reports.
+#[tactic(auto, unfolding(crate::specs::Comments::has_others))]
+fn has_others(lines: &[&[u8]]) -> bool
+    ensures { result ≡ has_others (map (λ line. line.now) lines.now) }
+{
+    has_spelled(lines) || have_reports(lines)
 }
 
 /// Whether lines are what Linux prints of one descriptor: a line of hex, an empty one, and then the reports.
@@ -188,7 +231,7 @@ fn is_parsed(lines: &[&[u8]]) -> bool
     lines.len() >= 3
         && is_empty_line(lines[1])
         && begins_report(first_word(lines[2]))
-        && !has_spelled(&lines[2..])
+        && !has_others(&lines[2..])
 }
 
 /// The hex in lines.

@@ -2,20 +2,25 @@
 
 ghost use Rattle.std.specs.Prelude.{◌≡◌, true, false, Some, None, IfOk, if◌then◌else◌};
 ghost use Rattle.std.specs.Option.{option_map};
+ghost use Rattle.hid_input.specs.Dump.{place_of};
 ghost use Rattle.hid_input.specs.Code.{code_of, behind_brace};
 ghost use Rattle.hid_input.specs.Comments.{hex_beside};
-ghost use Rattle.hid_input.specs.Doubts.{hex_doubt, is_same, elements_doubt, array_doubt, string_doubt, form_doubt, names_descriptor, bytes_doubt, other_doubt, binary_doubt, doubt};
+ghost use Rattle.hid_input.specs.Doubts.{hex_doubt, is_same, has_more_elements, elements_doubt, strings_beside, lists_beside, array_doubt, strings_doubt, string_doubt, form_doubt, names_descriptor, bytes_doubt, other_doubt, binary_doubt, doubt};
 
 use crate::beginning::begins_descriptor;
-use crate::code::{behind_brace, try_array, without_comments};
+use crate::characters::may_be_octal;
+use crate::code::{behind_brace, has_array, try_array, without_comments};
 use crate::comments::{hex_beside, without_remarks};
 use crate::fault::InputCause;
 use crate::form::TextForm;
 use crate::frames::is_frame;
-use crate::items::has_several_listed;
 use crate::known::{KnownFile, begins_text, known_file};
 use crate::numbered::may_be_numbered;
-use crate::recorded::{has_headings, has_other_records};
+use crate::others::{
+    has_beside_dump, has_beside_list, has_beside_record, has_lists, has_lists_beside,
+    has_page_string, string_lines,
+};
+use crate::parts::place_of;
 use crate::several::{has_remarks, may_be_several};
 use crate::strings::try_strings;
 use std::alloc::{AllocError, Global};
@@ -37,20 +42,41 @@ fn hex_doubt(alloc: Global, hex: &[u8]) -> Result<Option<InputCause>, AllocError
     }
 }
 
+/// Whether more elements stand after the brace that closes some.
+fn has_more_elements(code: &[u8]) -> bool
+    ensures { result ≡ has_more_elements (place_of 125 code.now) code.now }
+{
+    match place_of(code, b'}') {
+        Some(place) => has_array(&code[place..]),
+        None => false,
+    }
+}
+
+/// What speaks against elements alone.
+fn lists_doubt(alloc: Global, code: &[u8]) -> Result<Option<InputCause>, AllocError>
+    ensures { IfOk result (λ cause. cause ≡ elements_doubt None code.now) }
+{
+    if has_more_elements(code) {
+        return Ok(Some(InputCause::SeveralArrays));
+    }
+    if may_be_several(alloc, code)? {
+        Ok(Some(InputCause::SeveralLists))
+    } else {
+        Ok(None)
+    }
+}
+
 /// What speaks against the first array of code, or against elements alone.
 fn elements_doubt(alloc: Global, code: &[u8]) -> Result<Option<InputCause>, AllocError>
     ensures { IfOk result (λ cause. cause ≡ elements_doubt (behind_brace code.now) code.now) }
 {
     match behind_brace(code) {
-        Some(inside) => match behind_brace(inside) {
-            Some(_) => Ok(Some(InputCause::SeveralArrays)),
-            None => Ok(None),
-        },
-        None => if may_be_several(alloc, code)? {
-            Ok(Some(InputCause::SeveralLists))
+        Some(inside) => if behind_brace(inside).is_some() || has_lists_beside(inside, code) {
+            Ok(Some(InputCause::SeveralArrays))
         } else {
             Ok(None)
         },
+        None => lists_doubt(alloc, code),
     }
 }
 
@@ -87,17 +113,31 @@ fn array_doubt(alloc: Global, text: &[u8], bytes: &[u8]) -> Result<Option<InputC
     }
 }
 
+/// What speaks against strings, each in a line.
+fn strings_doubt(alloc: Global, lines: &[u8]) -> Result<Option<InputCause>, AllocError>
+    ensures { IfOk result (λ cause. cause ≡ strings_doubt lines.now) }
+{
+    if may_be_octal(lines) {
+        return Ok(Some(InputCause::BadEscape));
+    }
+    if may_be_several(alloc, lines)? {
+        Ok(Some(InputCause::SeveralLists))
+    } else {
+        Ok(None)
+    }
+}
+
 /// What speaks against the strings in a text without comments of C.
 fn quoted_doubt(alloc: Global, code: &[u8], bytes: &[u8]) -> Result<Option<InputCause>, AllocError>
     ensures { IfOk result (λ cause. cause ≡ string_doubt bytes.now (Some code.now)) }
 {
     let plain = without_remarks(alloc, code)?;
     let other = try_strings(alloc, plain.as_slice())?;
-    if is_same(bytes, other) {
-        Ok(None)
-    } else {
-        Ok(Some(InputCause::TwoWays))
+    if !is_same(bytes, other) {
+        return Ok(Some(InputCause::TwoWays));
     }
+    let lines = string_lines(alloc, code)?;
+    strings_doubt(alloc, lines.as_slice())
 }
 
 /// What speaks against the strings of a text.
@@ -129,6 +169,54 @@ fn several_if(are_several: bool) -> Option<InputCause>
     }
 }
 
+/// What speaks against an array: a string beside it that may be a descriptor.
+fn strings_beside(alloc: Global, text: &[u8]) -> Result<Option<InputCause>, AllocError>
+    ensures { IfOk result (λ cause. cause ≡ strings_beside (code_of true text.now)) }
+{
+    match without_comments(alloc, text, true)? {
+        Some(code) => Ok(several_if(has_page_string(alloc, code.as_slice())?)),
+        None => Ok(None),
+    }
+}
+
+/// What speaks against strings: a list beside them.
+fn lists_beside(alloc: Global, text: &[u8]) -> Result<Option<InputCause>, AllocError>
+    ensures { IfOk result (λ cause. cause ≡ lists_beside (code_of false text.now)) }
+{
+    match without_comments(alloc, text, false)? {
+        Some(code) => Ok(several_if(has_lists(code.as_slice()))),
+        None => Ok(None),
+    }
+}
+
+/// What speaks against an array or the elements of one.
+fn any_array_doubt(
+    alloc: Global,
+    text: &[u8],
+    bytes: &[u8],
+) -> Result<Option<InputCause>, AllocError>
+    ensures { IfOk result (λ cause. cause ≡ form_doubt text.now bytes.now TextForm.Array) }
+{
+    match array_doubt(alloc, text, bytes)? {
+        Some(cause) => Ok(Some(cause)),
+        None => strings_beside(alloc, text),
+    }
+}
+
+/// What speaks against strings.
+fn any_string_doubt(
+    alloc: Global,
+    text: &[u8],
+    bytes: &[u8],
+) -> Result<Option<InputCause>, AllocError>
+    ensures { IfOk result (λ cause. cause ≡ form_doubt text.now bytes.now TextForm.Quoted) }
+{
+    match string_doubt(alloc, text, bytes)? {
+        Some(cause) => Ok(Some(cause)),
+        None => lists_beside(alloc, text),
+    }
+}
+
 /// What speaks against the bytes of a text by its form.
 fn form_doubt(
     alloc: Global,
@@ -141,12 +229,16 @@ fn form_doubt(
     match form {
         TextForm::Hex => hex_doubt(alloc, text),
         TextForm::Beside => beside_doubt(alloc, text),
-        TextForm::Array => array_doubt(alloc, text, bytes),
-        TextForm::Quoted => string_doubt(alloc, text, bytes),
-        TextForm::Recorded => Ok(several_if(has_other_records(text))),
-        TextForm::Dumped => Ok(several_if(has_headings(text))),
-        TextForm::Listed => Ok(several_if(has_several_listed(text))),
-        TextForm::Dump | TextForm::Unavailable | TextForm::Unclear | TextForm::Other => Ok(None),
+        TextForm::Array => any_array_doubt(alloc, text, bytes),
+        TextForm::Quoted => any_string_doubt(alloc, text, bytes),
+        TextForm::Recorded => Ok(several_if(has_beside_record(alloc, text)?)),
+        TextForm::Dumped => Ok(several_if(has_beside_dump(alloc, text)?)),
+        TextForm::Listed => Ok(several_if(has_beside_list(alloc, text)?)),
+        TextForm::OtherEnds
+        | TextForm::Dump
+        | TextForm::Unavailable
+        | TextForm::Unclear
+        | TextForm::Other => Ok(None),
     }
 }
 
@@ -156,7 +248,8 @@ fn names_descriptor(form: TextForm) -> bool
 {
     match form {
         TextForm::Recorded | TextForm::Dumped | TextForm::Listed => true,
-        TextForm::Dump
+        TextForm::OtherEnds
+        | TextForm::Dump
         | TextForm::Hex
         | TextForm::Unavailable
         | TextForm::Array

@@ -24,10 +24,12 @@ pub enum InputCause {
     SeveralLists,
     /// A comment or a string of C has no end, or one that not all programs take for it.
     Unclear,
-    /// An escape of a string of C is no byte, or a digit follows it.
+    /// An escape of a string of C is no byte, or a digit follows it, or it is octal in some languages alone.
     BadEscape,
     /// A string beside others, of which nothing says whether they belong together; or a single character.
     SeveralStrings,
+    /// Lines end with CR or FF alone, which not all programs take for the end of a line.
+    LineEnds,
     /// Words of more than two digits, of which nothing says in which order their bytes are.
     WordOrder,
     /// A first word that is longer than the others, and doesn't count the bytes.
@@ -120,35 +122,34 @@ impl fmt::Display for InputCause {
             InputCause::ArrayEnd => "the array has no end: } and nothing, or ; , ) or } after it",
             InputCause::SeveralArrays => "several arrays, or a table of them: which one is meant?",
             InputCause::SeveralLists => {
-                "one descriptor or several? Write one in a line, or as an array"
+                "one descriptor or several? Write one in a line or an array"
             }
             InputCause::Unclear => "it isn't clear where a comment or a string ends",
             InputCause::BadEscape => "an escape of the string is no byte, or a digit follows it",
             InputCause::SeveralStrings => {
-                "several strings, or a single character: which bytes are meant?"
+                "several strings, or a character: which bytes are meant?"
             }
+            InputCause::LineEnds => "lines that end with CR or FF alone: end each with LF",
             InputCause::WordOrder => { "the order of bytes isn't known (try xxd or od -t x1)" }
             InputCause::Offset => "an offset? The first word doesn't count the bytes before it",
             InputCause::Dump => "a dump with offsets, of which this line can't be read",
             InputCause::BadItem => "no item as lsusb prints them",
             InputCause::Unavailable => {
-                "lsusb couldn't read the descriptor (/sys/class/hidraw has it)"
+                "lsusb couldn't read the descriptor: /sys/class/hidraw has it"
             }
             InputCause::OtherBytes => {
-                "no descriptor begins so: leave out an offset or a header in front"
+                "no descriptor begins so: is an offset or a header in front?"
             }
             InputCause::UsbDescriptors => {
-                "USB descriptors, no report descriptor (/sys/class/hidraw has those)"
+                "USB descriptors: /sys/class/hidraw has report descriptors"
             }
             InputCause::LineNumbers => "are these numbers of lines? Leave them out",
             InputCause::SeveralDescriptors => "several report descriptors: give one of them alone",
-            InputCause::Frame => {
-                "a frame of a capture: give the descriptor alone (hidplay takes all)"
-            }
+            InputCause::Frame => { "a frame of a capture: give its descriptor alone" }
             InputCause::TwoWays => "it can be read in two ways, which give different bytes",
             InputCause::Utf16 => "text of UTF-16: write it as UTF-8",
             InputCause::NoDescriptor => {
-                "text without a descriptor: hex, an array of C or a dump is expected"
+                "text without a descriptor: hex, a dump or numbers in { }"
             }
             InputCause::Memory => "out of memory",
         };

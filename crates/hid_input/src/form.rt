@@ -1,8 +1,9 @@
 //! The form of a text that has a descriptor.
 
-ghost use Rattle.std.specs.Prelude.{◌≡◌, ◌==◌, ◌-◌, ◌&&◌, true, false, nat_le, length, slice_index, take, IfOk};
-ghost use Rattle.std.specs.List.{list_all};
+ghost use Rattle.std.specs.Prelude.{◌≡◌, ◌==◌, ◌-◌, ◌&&◌, true, false, nat_le, length, slice_index, take, drop, IfOk};
+ghost use Rattle.std.specs.List.{list_all, list_any, zip};
 ghost use Rattle.std.specs.Char.{is_ascii_hexdigit};
+ghost use Rattle.hid_input.specs.Text.{is_other_end, has_other_ends};
 ghost use Rattle.hid_input.specs.Hex.{is_offset};
 ghost use Rattle.hid_input.specs.Code.{code_of};
 ghost use Rattle.hid_input.specs.Forms.{form_of_code, form_in_code, form_in_source, form_of};
@@ -10,7 +11,7 @@ ghost use Rattle.hid_input.specs.Forms.{form_of_code, form_in_code, form_in_sour
 use crate::code::{has_array, is_array, without_comments};
 use crate::comments::has_hex;
 use crate::items::{has_listed, has_unavailable};
-use crate::parts::first_word;
+use crate::parts::{first_word, trimmed_text};
 use crate::recorded::{has_dumped, has_recorded};
 use crate::spelled::is_spelled;
 use crate::strings::has_string;
@@ -19,6 +20,8 @@ use std::alloc::{AllocError, Global};
 /// A form of text.
 #[derive(Clone, Copy, Debug, PartialEq, Eq)]
 pub enum TextForm {
+    /// Text in which it isn't clear where lines end.
+    OtherEnds,
     /// A dump with offsets.
     Dump,
     /// Hex alone.
@@ -44,7 +47,7 @@ pub enum TextForm {
 }
 
 /// Whether a word is an offset by its looks: two digits or more and a colon, or four zeros or more.
-fn is_offset(word: &[u8]) -> bool
+pub fn is_offset(word: &[u8]) -> bool
     ensures { result ≡ is_offset word.now }
 {
     is_marked_offset(word) || is_zero(word)
@@ -118,6 +121,24 @@ fn form_in_source(alloc: Global, text: &[u8]) -> Result<TextForm, AllocError>
     }
 }
 
+/// Whether lines of a text end with CR or FF alone, which not all programs take for the end of one.
+fn has_other_ends(text: &[u8]) -> bool
+    ensures { result ≡ has_other_ends text.now }
+{
+    are_other_ends(trimmed_text(text))
+}
+
+/// Whether such an end stands in a text in front of other characters.
+fn are_other_ends(text: &[u8]) -> bool
+    ensures { result ≡ list_any is_other_end (zip text.now (drop 1 text.now)) }
+{
+    if text.is_empty() {
+        return false;
+    }
+    text.iter().zip(text[1..].iter()).any(|(one, next)| (*one == b'\r' && *next != b'\n')
+        || *one == 0x0C)
+}
+
 /// The form of a text: the first one that it has.
 ///
 /// # Errors
@@ -126,6 +147,9 @@ fn form_in_source(alloc: Global, text: &[u8]) -> Result<TextForm, AllocError>
 pub fn form_of(alloc: Global, text: &[u8]) -> Result<TextForm, AllocError>
     ensures { IfOk result (λ form. form ≡ form_of text.now) }
 {
+    if has_other_ends(text) {
+        return Ok(TextForm::OtherEnds);
+    }
     if is_offset(first_word(text)) {
         return Ok(TextForm::Dump);
     }

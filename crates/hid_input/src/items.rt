@@ -205,7 +205,7 @@ fn add_line(alloc: Global, bytes: &mut Vec<u8>, line: &[u8]) -> Result<bool, All
 }
 
 /// The length in `Report Descriptor: (length is 50)`.
-fn length_in(line: &[u8]) -> Option<u64>
+pub fn length_in(line: &[u8]) -> Option<u64>
     ensures { result ≡ length_in line.now }
 {
     let behind = behind_part(trimmed_text(line), b"Report Descriptor: (length is ")?;

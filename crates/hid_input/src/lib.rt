@@ -31,6 +31,7 @@ mod frames;
 mod items;
 mod known;
 mod numbered;
+mod others;
 mod parts;
 mod reading;
 mod recorded;

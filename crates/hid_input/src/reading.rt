@@ -41,7 +41,7 @@ fn is_text_byte(byte: u8) -> bool
     is_space(byte) || (b' ' <= byte && byte != 127)
 }
 
-/// Whether a byte is no space.
+/// Whether some byte is no space.
 fn has_printed(bytes: &[u8]) -> bool
     ensures { result ≡ has_printed bytes.now }
 {
@@ -140,6 +140,7 @@ fn read_form(alloc: Global, text: &[u8], form: TextForm) -> Result<Vec<u8>, Inpu
         → IfErr result IsMemory }
 {
     match form {
+        TextForm::OtherEnds => Err(InputFault::of_text(InputCause::LineEnds)),
         TextForm::Dump => read_offset_dump(alloc, text),
         TextForm::Hex => read_hex(alloc, text),
         TextForm::Recorded => read_recorded(alloc, text),

@@ -246,7 +246,7 @@ fn behind_address(text: &[u8]) -> Option<&[u8]>
 }
 
 /// Whether a line is one that usbhid-dump prints in front of a descriptor: it begins with BUS:DEVICE:INTERFACE:DESCRIPTOR.
-fn is_heading(line: &[u8]) -> bool
+pub fn is_heading(line: &[u8]) -> bool
     ensures { result ≡ is_heading line.now }
 {
     match behind_address(before_space(line)) {

@@ -150,7 +150,7 @@ fn are_page(digits: &[u8]) -> bool
 }
 
 /// Whether a line begins with a Usage Page.
-fn begins_page(line: &[u8]) -> bool
+pub fn begins_page(line: &[u8]) -> bool
     ensures { result ≡ begins_page line.now }
 {
     are_page(digits_in(first_part(line)))

@@ -164,8 +164,11 @@ fn parts_in(alloc: Global, text: &[u8]) -> Result<Vec<Vec<u8>>, AllocError>
 }
 
 /// The parts of a text without comments.
+///
+/// # Errors
+/// Out of memory.
 #[tactic(auto, unfolding(crate::specs::Strings::parts_of))]
-fn parts_of(alloc: Global, code: &[u8]) -> Result<Vec<Vec<u8>>, AllocError>
+pub fn parts_of(alloc: Global, code: &[u8]) -> Result<Vec<Vec<u8>>, AllocError>
     ensures { IfOk result (λ parts. map (λ part. part.items) parts.items ≡ parts_of code.now) }
 {
     let lines = lines_of(alloc, code)?;
@@ -174,7 +177,7 @@ fn parts_of(alloc: Global, code: &[u8]) -> Result<Vec<Vec<u8>>, AllocError>
 }
 
 /// Whether the first character of a string is an escape.
-fn begins_with_escape(string: &[u8]) -> bool
+pub fn begins_with_escape(string: &[u8]) -> bool
     ensures is { result ≡ begins_with_escape string.now }
     ensures some { result ≡ true → 1 ≤ length string.now }
 {

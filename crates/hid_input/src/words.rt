@@ -2,7 +2,7 @@
 
 ghost use Rattle.std.specs.Prelude.{◌≡◌, IfOk, map, reverse, is_some};
 ghost use Rattle.std.specs.Option.{option_map, option_copied};
-ghost use Rattle.hid_input.specs.Words.{all_bytes, IsAdded, single_byte, byte_of_digits, is_x, is_h, marked_digits, digits_of, byte_of_word, is_prefixed, number_by, number_byte, hex_bytes, same_byte, constant_byte, without_suffix, element_byte, run_bytes, word_bytes};
+ghost use Rattle.hid_input.specs.Words.{all_bytes, IsAdded, single_byte, without_zero, byte_of_digits, is_x, is_h, marked_digits, digits_of, byte_of_word, is_prefixed, number_by, number_byte, hex_bytes, same_byte, constant_byte, without_suffix, element_byte, run_bytes, word_bytes};
 
 use crate::digits::{byte_of, column_byte, octal_byte, pair_of};
 use crate::parts::trimmed_text;
@@ -63,13 +63,24 @@ pub fn marked_digits(word: &[u8]) -> Option<&[u8]>
     }
 }
 
-/// The byte that one or two hex digits encode.
+/// Three digits without a zero in front of a letter, which assemblers want there.
+fn without_zero(digits: &[u8]) -> &[u8]
+    ensures { result.now ≡ without_zero digits.now }
+{
+    if digits.len() == 3 && digits[0] == b'0' && !digits[1].is_ascii_digit() {
+        &digits[1..]
+    } else {
+        digits
+    }
+}
+
+/// The byte that one or two hex digits encode, perhaps with such a zero.
 fn byte_of_digits(digits: &[u8]) -> Option<u8>
     ensures { result ≡ byte_of_digits digits.now }
 {
     match digits {
         [digit] => Some(char::from(*digit).to_digit(16)? as u8),
-        _ => pair_of(digits),
+        _ => pair_of(without_zero(digits)),
     }
 }
 

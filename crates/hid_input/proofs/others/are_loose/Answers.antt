@@ -1,0 +1,19 @@
+use Rattle.std.proofs.Common.{ℕ, List, Bor, drop, ◌∙◌, rules, tests}
+use Rattle.std.specs.List.{zip}
+use Rattle.std.proofs.lemmas.List.{take_rest}
+use Rattle.std.proofs.lemmas.Iterator.{YieldsList, YieldsList-from_slice, YieldsList-from_zip}
+use Rattle.std.proofs.lemmas.Iterator.Consumers.{YieldsList-at}
+use Rattle.std.proofs.lemmas.Iterator.Search.{any_from_yields_List}
+use Rattle.hid_input.specs.Others.{is_loose}
+use Rattle.hid_input.proofs.SeveralLemmas.{both_now, any_apart}
+use Rattle.hid_input.proofs.others.are_loose.Goals as goal
+
+pub returns : goal.returns
+returns c =
+    let lines = c.args.lines.now in
+    let road : YieldsList _ (λ (pair : Bor (Bor (List ℕ)) × Bor (Bor (List ℕ))). (pair.0.now, pair.1.now)) c.zip.result (zip lines (drop 1 lines)) =
+    YieldsList-from_zip
+    (YieldsList-at c.zip.ensures.first (YieldsList-from_slice lines c.iter.ensures.rest))
+    (YieldsList-at c.zip.ensures.second (YieldsList-from_slice (drop 1 lines) (c.iter-2.ensures.rest ∙ take_rest lines 1))) in
+    any_from_yields_List (λ (pair : Bor (List ℕ) × Bor (List ℕ)). is_loose (both_now pair)) c.any.new.self _ c.any.result c.any.ensures.ran road (λ x b q k. search (rules, tests))
+    ∙ any_apart is_loose lines
