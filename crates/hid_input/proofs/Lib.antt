@@ -1,3 +1,4 @@
+mod AlternativeLemmas
 mod CodeLemmas
 mod CommentLemmas
 mod DecimalLemmas
@@ -6,6 +7,7 @@ mod FormLemmas
 mod ListedLemmas
 mod NumberLemmas
 mod RecordLemmas
+mod RefusalLemmas
 mod SeveralLemmas
 mod StringLemmas
 mod Vectors

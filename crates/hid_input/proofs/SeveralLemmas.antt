@@ -21,7 +21,7 @@ end_end line i end all above so_far = sym (ap (end_from end) (drop_all i line ab
 abbrev pub both_now : Bor (List ℕ) × Bor (List ℕ) → List ℕ × List ℕ
 both_now pair = (pair.0.now, pair.1.now)
 
-zip-now : (a b : List (Bor (List ℕ))) → zip (map now_of a) (map now_of b) ≡ map both_now (zip a b)
+pub zip-now : (a b : List (Bor (List ℕ))) → zip (map now_of a) (map now_of b) ≡ map both_now (zip a b)
 zip-now [] b = refl
 zip-now (x ∷ a) [] = refl
 zip-now (x ∷ a) (y ∷ b) = ap (λ rest. (x.now, y.now) ∷ rest) (zip-now a b)

@@ -7,6 +7,7 @@ use Rattle.hid_input.specs.Characters.{characters_bytes}
 use Rattle.hid_input.specs.Strings.{parts_of, strings_bytes}
 use Rattle.hid_input.specs.Hex.{spelled_bytes, is_spelled, first_word, is_offset}
 use Rattle.hid_input.specs.Beginnings.{begins_descriptor}
+use Rattle.hid_input.specs.Collections.{is_one_collection}
 use Rattle.hid_input.specs.Dump.{repeated_row}
 use Rattle.hid_input.specs.Dump.{dump_of, dumps_of, dumps_in, line_below, row_bytes, words_row, enclosed_bytes, parted_bytes, shown_bytes, cells_bytes}
 
@@ -163,19 +164,37 @@ unfolding strings_bytes parts_of characters_bytes number_of
 two_strings = refl
 
 -- three octal digits, and a digit as it is
-octal_and_a_digit : characters_bytes (codes "\\0223") ≡ None
+octal_and_a_digit : characters_bytes false (codes "\\0223") ≡ None
 unfolding characters_bytes number_of
 octal_and_a_digit = refl
 
 -- a character of three hex digits is no byte
-three_hex_digits : characters_bytes (codes "\\x123") ≡ None
+three_hex_digits : characters_bytes false (codes "\\x123") ≡ None
 unfolding characters_bytes number_of
 three_hex_digits = refl
+
+-- in a string of bytes of Python or Rust two digits are one, and the third is a character
+two_hex_digits : characters_bytes true (codes "\\x123") ≡ Some (0x12 ∷ 0x33 ∷ [])
+unfolding characters_bytes number_of
+two_hex_digits = refl
 
 -- a line that a backslash ends, in the middle of an escape
 over_two_lines : strings_bytes (codes "\"\\x0\\" ++ 10 ∷ codes "5\"") ≡ Some (0x05 ∷ [])
 unfolding strings_bytes parts_of characters_bytes number_of
 over_two_lines = refl
+
+-- a collection in another is one; with another one after it, or another byte than zero, it is none
+one_collection : is_one_collection (0x05 ∷ 0x01 ∷ 0x09 ∷ 0x02 ∷ 0xA1 ∷ 0x01 ∷ 0xA1 ∷ 0x00 ∷ 0xC0 ∷ 0xC0 ∷ []) ≡ true
+one_collection = refl
+
+a_second_collection : is_one_collection (0x05 ∷ 0x01 ∷ 0xA1 ∷ 0x01 ∷ 0xC0 ∷ 0xA1 ∷ 0x01 ∷ 0xC0 ∷ []) ≡ false
+a_second_collection = refl
+
+a_byte_after_it : is_one_collection (0x05 ∷ 0x01 ∷ 0xA1 ∷ 0x01 ∷ 0xC0 ∷ 0x01 ∷ []) ≡ false
+a_byte_after_it = refl
+
+a_zero_after_it : is_one_collection (0x05 ∷ 0x01 ∷ 0xA1 ∷ 0x01 ∷ 0xC0 ∷ 0x00 ∷ []) ≡ true
+a_zero_after_it = refl
 
 -- DB has a local tag that is reserved, 13, and 10 a main tag, 1
 a_word_of_assembly : begins_descriptor (0xDB ∷ 0x05 ∷ 0x01 ∷ []) ≡ false

@@ -4,7 +4,7 @@ use Rattle.std.specs.List.{list_all}
 use Rattle.std.specs.Option.{option_and_then}
 use Rattle.std.specs.Char.{is_ascii_whitespace, is_ascii_hexdigit}
 use Rattle.hid_input.specs.declared.fault.InputCause.{InputCause}
-use Rattle.hid_input.specs.declared.fault.InputCause.TheVariants.{WordOrder, Offset, Dump, Unclear, NoDescriptor}
+use Rattle.hid_input.specs.declared.fault.InputCause.TheVariants.{WordOrder, Offset, Dump}
 use Rattle.hid_input.specs.declared.words.WordForm.{WordForm}
 use Rattle.hid_input.specs.declared.words.WordForm.TheVariants.{Pair, Run}
 use Rattle.hid_input.specs.Numbers.{trimmed_text}
@@ -40,6 +40,6 @@ abbrev pub dump_cause : List (List ℕ) → ℕ → InputCause
 dump_cause lines number =
     if nat_le 1 number && nat_le number (length lines) then line_cause (slice_index_or lines (number - 1) []) else Dump
 
--- why text isn't read of which it isn't clear where a comment or a string ends: that, if it has an array or a string of bytes
-abbrev pub unclear_cause : List ℕ → InputCause
-unclear_cause text = if has_array text || has_string text then Unclear else NoDescriptor
+-- a text has an array or a string of bytes: so it matters that it isn't clear where a comment or a string ends
+abbrev pub has_code : List ℕ → Bool
+has_code text = has_array text || has_string text

@@ -26,15 +26,21 @@ digits_front base text = in_front (position (λ byte. not (is_digit_of base byte
 abbrev pub is_hex_escape : List ℕ → Bool
 is_hex_escape text = nat_le 1 (length text) && (slice_index text 0 == 120)
 
-abbrev pub hex_digits : List ℕ → List ℕ
-hex_digits text = digits_front 16 (drop 1 text)
+-- the hex digits of an escape: in C all that follow x, and in a string of bytes of Python or Rust two
+abbrev pub hex_digits : Bool → List ℕ → List ℕ
+hex_digits is_bytes text = digits_front 16 (if is_bytes then take 2 (drop 1 text) else drop 1 text)
 
 abbrev pub octal_digits : List ℕ → List ℕ
 octal_digits text = digits_front 8 (take 3 text)
 
--- the byte of hex digits: of more than two C takes all, and other languages the first two, so that they are none (our choice)
-abbrev pub hex_byte : List ℕ → Option ℕ
-hex_byte digits = if nat_le (length digits) 2 then byte_in_base 16 digits else None
+-- a count of hex digits that are a byte: two in a string of bytes, else one or two; where C takes more, other languages take the first
+-- two, so that these are none (our choice)
+abbrev pub is_hex_length : Bool → ℕ → Bool
+is_hex_length is_bytes count = nat_le count 2 && (not is_bytes || nat_le 2 count)
+
+-- the byte of hex digits
+abbrev pub hex_byte : Bool → List ℕ → Option ℕ
+hex_byte is_bytes digits = if is_hex_length is_bytes (length digits) then byte_in_base 16 digits else None
 
 -- a decimal digit stands after so many characters: other languages take more digits, or fewer (our choice)
 abbrev pub has_digit_after : ℕ → List ℕ → Bool
@@ -46,35 +52,35 @@ octal_or_letter digits text =
     if nat_le 1 (length digits) then (if has_digit_after (length digits) text then None else byte_in_base 8 digits)
     else (if nat_le 1 (length text) then letter_byte (slice_index text 0) else None)
 
-abbrev pub escape_byte : List ℕ → Option ℕ
-escape_byte text = if is_hex_escape text then hex_byte (hex_digits text) else octal_or_letter (octal_digits text) text
+abbrev pub escape_byte : Bool → List ℕ → Option ℕ
+escape_byte is_bytes text = if is_hex_escape text then hex_byte is_bytes (hex_digits is_bytes text) else octal_or_letter (octal_digits text) text
 
 -- how many characters spell an escape after its backslash
 abbrev pub at_least_one : ℕ → ℕ
 at_least_one count = if nat_le 1 count then count else 1
 
-abbrev pub escape_length : List ℕ → ℕ
-escape_length text =
-    if is_hex_escape text then 1 + length (hex_digits text) else at_least_one (length (octal_digits text))
+abbrev pub escape_length : Bool → List ℕ → ℕ
+escape_length is_bytes text =
+    if is_hex_escape text then 1 + length (hex_digits is_bytes text) else at_least_one (length (octal_digits text))
 
 -- the byte of the character with which a text begins, and how many characters spell it
-abbrev pub character_byte : List ℕ → Option ℕ
-character_byte text = if slice_index text 0 == 92 then escape_byte (drop 1 text) else Some (slice_index text 0)
+abbrev pub character_byte : Bool → List ℕ → Option ℕ
+character_byte is_bytes text = if slice_index text 0 == 92 then escape_byte is_bytes (drop 1 text) else Some (slice_index text 0)
 
-abbrev pub character_length : List ℕ → ℕ
-character_length text =
-    if nat_le 2 (length text) && (slice_index text 0 == 92) then 1 + escape_length (drop 1 text) else 1
+abbrev pub character_length : Bool → List ℕ → ℕ
+character_length is_bytes text =
+    if nat_le 2 (length text) && (slice_index text 0 == 92) then 1 + escape_length is_bytes (drop 1 text) else 1
 
 -- the bytes of the characters of a text without this number of its first ones
-abbrev pub bytes_after : ℕ → List ℕ → Option (List ℕ)
-bytes_after skipped [] = Some []
-bytes_after (suc skipped) (byte ∷ text) = bytes_after skipped text
-bytes_after zero (byte ∷ text) =
-    both (single_byte (character_byte (byte ∷ text))) (bytes_after (character_length (byte ∷ text) - 1) text)
+abbrev pub bytes_after : Bool → ℕ → List ℕ → Option (List ℕ)
+bytes_after is_bytes skipped [] = Some []
+bytes_after is_bytes (suc skipped) (byte ∷ text) = bytes_after is_bytes skipped text
+bytes_after is_bytes zero (byte ∷ text) =
+    both (single_byte (character_byte is_bytes (byte ∷ text))) (bytes_after is_bytes (character_length is_bytes (byte ∷ text) - 1) text)
 
--- the bytes of all characters of a text
-unfoldable pub characters_bytes : List ℕ → Option (List ℕ)
-characters_bytes text = bytes_after 0 text
+-- the bytes of all characters of a text, of a string of bytes or of C
+unfoldable pub characters_bytes : Bool → List ℕ → Option (List ℕ)
+characters_bytes is_bytes text = bytes_after is_bytes 0 text
 
 -- a zero and another digit after a backslash: one byte in C, and several where \0 is a byte alone, as in Rust and C#
 abbrev pub is_zero_escape : (ℕ × ℕ) × ℕ → Bool

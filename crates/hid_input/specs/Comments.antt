@@ -49,8 +49,11 @@ abbrev pub before_hash : List ℕ → List ℕ
 before_hash line = if is_definition line then line else in_front (place_of 35 line) line
 
 -- two dashes, by which Lua, SQL and Ada begin comments
+abbrev pub are_dashes : ℕ × ℕ → Bool
+are_dashes pair = (pair.0 == 45) && (pair.1 == 45)
+
 abbrev pub begins_dashes : List ℕ → Bool
-begins_dashes line = nat_le 2 (length line) && ((slice_index line 0 == 45) && (slice_index line 1 == 45))
+begins_dashes line = nat_le 2 (length line) && are_dashes (slice_index line 0, slice_index line 1)
 
 -- what stands in front of two dashes in a line
 abbrev pub before_dashes : List ℕ → List ℕ

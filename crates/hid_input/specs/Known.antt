@@ -3,7 +3,9 @@ use Rattle.std.specs.Prelude.{ℕ, ◌==◌, Bool, ◌&&◌, ◌||◌, nat_le, L
 use Rattle.std.specs.List.{starts_with, list_all}
 use Rattle.std.specs.Char.{is_ascii_whitespace}
 use Rattle.usb_capture.specs.Extent.{is_capture}
+use Rattle.hid_input.specs.declared.fault.InputCause.TheVariants as causes
 use Rattle.hid_input.specs.declared.known.KnownFile.{KnownFile}
+use Rattle.hid_input.specs.Faults.{cause_text}
 use Rattle.hid_input.specs.declared.known.KnownFile.TheVariants.{Capture, UsbDescriptors, Compressed, Program}
 
 -- bytes begin with these
@@ -52,6 +54,6 @@ begins_text bytes =
 -- what it is, and what can be done, in words
 abbrev pub known_text : KnownFile → List ℕ
 known_text Capture = codes "a capture of a bus: hidplay reads it"
-known_text UsbDescriptors = codes "USB descriptors, no report descriptor (/sys/class/hidraw has those)"
+known_text UsbDescriptors = cause_text causes.UsbDescriptors
 known_text Compressed = codes "a compressed file: unpack it first"
 known_text Program = codes "a program, without a report descriptor"

@@ -1,7 +1,9 @@
+pub mod Alternatives
 pub mod Beginnings
 pub mod Causes
 pub mod Characters
 pub mod Code
+pub mod Collections
 pub mod Comments
 pub mod Decimal
 pub mod Doubts
@@ -19,6 +21,7 @@ pub mod Parts
 pub mod Readings
 pub mod Recorded
 pub mod Records
+pub mod Refusals
 pub mod Several
 pub mod Strings
 pub mod Text

@@ -1,17 +1,16 @@
 -- What is beside the descriptor that is found in a text, and may be of another one (our choice: docs/PICTURES.md).
 use Rattle.std.specs.Prelude.{ℕ, ◌==◌, ◌-◌, slice_index, Bool, true, false, not, ◌&&◌, ◌||◌, nat_le, nat_eq, List, [], ◌∷◌, ◌++◌, length, slice_index_or, take, drop, is_some, if◌then◌else◌, Option, None, Some, codes}
-use Rattle.std.specs.List.{list_any, list_all, zip, find, ends_with}
-use Rattle.std.specs.Char.{is_ascii_whitespace}
+use Rattle.std.specs.List.{list_any, zip, find, ends_with}
 use Rattle.hid_input.specs.Numbers.{trimmed_text}
 use Rattle.hid_input.specs.Hex.{lines_of, first_word, is_spelled, is_offset}
 use Rattle.hid_input.specs.Dump.{place_of, from_place}
 use Rattle.hid_input.specs.Parts.{behind_part}
 use Rattle.hid_input.specs.Recorded.{is_heading, has_other_records, has_headings}
 use Rattle.hid_input.specs.Listed.{length_in, has_several_listed}
-use Rattle.hid_input.specs.Code.{code_of, begins_number, behind_brace, has_array, is_array}
+use Rattle.hid_input.specs.Code.{code_of, begins_number, is_array}
 use Rattle.hid_input.specs.Comments.{is_hex_line, has_hex_lines}
 use Rattle.hid_input.specs.Several.{begins_page}
-use Rattle.hid_input.specs.Strings.{has_string, parts_of, begins_with_escape}
+use Rattle.hid_input.specs.Strings.{has_string, parts_of, has_byte, begins_with_escape, joins_strings}
 
 -- an array of C that can be read, or a string with escapes
 abbrev pub has_code : List ℕ → Bool
@@ -83,20 +82,35 @@ has_page_string code = list_any is_page_string (parts_of code)
 
 -- what stands between two strings parts them: an empty line, or one with a comment
 abbrev pub is_gap : List ℕ → Bool
-is_gap part = list_all is_ascii_whitespace part && nat_le 3 (length (lines_of part))
+is_gap part = (joins_strings false part || joins_strings true part) && nat_le 3 (length (lines_of part))
 
 -- a part with a quote in front is a string
 abbrev pub is_string : List ℕ → Bool
 is_string part = nat_le 1 (length part) && ((slice_index part 0 == 34) || (slice_index part 0 == 39))
 
--- the characters of a string in a line, or an empty line for what parts strings
+-- a string without escapes that begins with a Usage Page: its hex may be another descriptor
+abbrev pub is_hex_string : List ℕ → Bool
+is_hex_string part = is_string part && (not (has_byte 92 part) && begins_page (drop 1 part))
+
+abbrev pub has_hex_string : List ℕ → Bool
+has_hex_string code = list_any is_hex_string (parts_of code)
+
+-- a string may be of a descriptor: it has an escape, or its hex begins with a Usage Page
+abbrev pub may_be_bytes : List ℕ → Bool
+may_be_bytes string = has_byte 92 string || begins_page (drop 1 string)
+
+-- the characters of a string that may be of a descriptor, in a line
+abbrev pub string_line : List ℕ → List ℕ
+string_line string = if may_be_bytes string then drop 1 string ++ 10 ∷ [] else []
+
+-- what a part of code is in lines: a string that may be of a descriptor, or an empty line for what parts strings
 abbrev pub part_line : List ℕ → List ℕ
-part_line part = if is_string part then drop 1 part ++ 10 ∷ [] else (if is_gap part then 10 ∷ [] else [])
+part_line part = if is_string part then string_line part else (if is_gap part then 10 ∷ [] else [])
 
 abbrev pub part_lines : List (List ℕ) → List ℕ
 part_lines [] = []
 part_lines (part ∷ parts) = part_line part ++ part_lines parts
 
--- the strings of a text without comments, each in a line
+-- the strings of a text without comments that may be of a descriptor, each in a line
 unfoldable pub string_lines : List ℕ → List ℕ
 string_lines code = part_lines (parts_of code)

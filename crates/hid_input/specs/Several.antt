@@ -8,6 +8,7 @@ use Rattle.hid_input.specs.Numbers.{without_space, trimmed_text}
 use Rattle.hid_input.specs.Words.{is_x, is_h, digits_of}
 use Rattle.hid_input.specs.Hex.{is_separator, in_front, lines_of}
 use Rattle.hid_input.specs.Dump.{place_of, from_place}
+use Rattle.hid_input.specs.Comments.{are_dashes}
 
 -- one of , : - and \, by which a line says that it goes on in the next one
 abbrev pub is_joint : ℕ → Bool
@@ -68,7 +69,11 @@ begins_page line = are_page (digits_of (first_part line))
 abbrev pub is_empty : List ℕ → Bool
 is_empty line = list_all is_ascii_whitespace line
 
--- a line may end a descriptor, if the next one is empty: it doesn't say that it goes on, or it closes a collection
+-- a line has no word
+abbrev pub has_no_words : List ℕ → Bool
+has_no_words line = list_all is_separator line
+
+-- a line may end a descriptor, if the next one has no word: it doesn't say that it goes on, or it closes a collection
 abbrev pub ends_above : List ℕ → Bool
 ends_above line = not (goes_on line) || closes line
 
@@ -79,7 +84,8 @@ ends_in_front line next = not (goes_on line) && (closes line && begins_page next
 -- a descriptor may end with a line, and another one begin below it
 abbrev pub is_apart : List ℕ × List ℕ → Bool
 is_apart pair =
-    not (is_empty pair.0) && ((is_empty pair.1 && ends_above pair.0) || (not (is_empty pair.1) && ends_in_front pair.0 pair.1))
+    not (has_no_words pair.0)
+    && ((has_no_words pair.1 && ends_above pair.0) || (not (has_no_words pair.1) && ends_in_front pair.0 pair.1))
 
 -- lines may be of several descriptors
 abbrev pub are_apart : List (List ℕ) → Bool
@@ -108,10 +114,6 @@ may_be_several hex = not (are_rows (lines_of (trimmed_text hex))) && are_apart (
 abbrev pub has_behind : Option ℕ → List ℕ → Bool
 has_behind None line = false
 has_behind (Some place) line = not (is_empty (drop (place + 1) line))
-
--- two dashes, by which Lua, SQL and Ada begin comments
-abbrev pub are_dashes : ℕ × ℕ → Bool
-are_dashes pair = (pair.0 == 45) && (pair.1 == 45)
 
 abbrev pub has_dashes : List ℕ → Bool
 has_dashes line = list_any are_dashes (zip line (drop 1 line))

@@ -1,19 +1,16 @@
 -- Which files are text (our choice: docs/PICTURES.md).
 use Rattle.std.specs.Prelude.{ℕ, ◌==◌, Bool, not, ◌&&◌, ◌||◌, nat_le, List, length, slice_index, drop, if◌then◌else◌}
 use Rattle.std.specs.List.{list_any, list_all, zip}
+use Rattle.std.specs.Char.{is_ascii_whitespace}
 use Rattle.hid_input.specs.Numbers.{trimmed_text}
 
--- a blank, a tab, or an end of a line or of a page
-abbrev pub is_space : ℕ → Bool
-is_space byte = (byte == 9) || ((byte == 10) || ((byte == 12) || ((byte == 13) || (byte == 32))))
-
--- a byte that text may have: any but control bytes, of which it may have spaces
+-- a byte that text may have: any but control bytes, of which it may have white space, as tabs and the ends of lines and of pages
 abbrev pub is_text_byte : ℕ → Bool
-is_text_byte byte = is_space byte || (nat_le 32 byte && not (byte == 127))
+is_text_byte byte = is_ascii_whitespace byte || (nat_le 32 byte && not (byte == 127))
 
--- some byte is no space
+-- some byte is no white space
 abbrev pub has_printed : List ℕ → Bool
-has_printed bytes = list_any (λ byte. not (is_space byte)) bytes
+has_printed bytes = list_any (λ byte. not (is_ascii_whitespace byte)) bytes
 
 -- one end of a line that not all programs take for one: CR without LF after it, or the end of a page
 abbrev pub is_other_end : ℕ × ℕ → Bool
@@ -23,7 +20,7 @@ is_other_end pair = ((pair.0 == 13) && not (pair.1 == 10)) || (pair.0 == 12)
 abbrev pub has_other_ends : List ℕ → Bool
 has_other_ends text = list_any is_other_end (zip (trimmed_text text) (drop 1 (trimmed_text text)))
 
--- bytes are text if something is printed, and no control byte is among them but spaces. They need not be UTF-8
+-- bytes are text if something is printed, and no control byte is among them but white space. They need not be UTF-8
 abbrev pub is_text : List ℕ → Bool
 is_text bytes = has_printed bytes && list_all is_text_byte bytes
 

@@ -29,14 +29,14 @@ enum Opening {
 }
 
 /// A prefix without the bits of its size.
-fn tag_of(prefix: u8) -> u8
+pub fn tag_of(prefix: u8) -> u8
     ensures { result ≡ tag_of prefix }
 {
     prefix & 0xFC
 }
 
 /// How many bytes of data follow a prefix (HID 1.11, 6.2.2.2).
-fn data_size(prefix: u8) -> u16
+pub fn data_size(prefix: u8) -> u16
     ensures { result ≡ data_size prefix }
 {
     match prefix & 3 {
@@ -46,7 +46,7 @@ fn data_size(prefix: u8) -> u16
 }
 
 /// Whether a byte is the prefix of an item, with any code of a size (HID 1.11, 6.2.2.4, 6.2.2.7 and 6.2.2.8).
-fn is_prefix(byte: u8) -> bool
+pub fn is_prefix(byte: u8) -> bool
     ensures { result ≡ is_prefix byte }
 {
     PREFIXES.iter().any(|prefix| *prefix == byte & 0xFC)

@@ -1,11 +1,12 @@
 //! Why a text is refused that has no bytes to read.
 
-ghost use Rattle.std.specs.Prelude.{◌≡◌, map, drop, IfOk};
+ghost use Rattle.std.specs.Prelude.{◌≡◌, true, false, map, drop, IfOk};
 ghost use Rattle.std.specs.List.{list_all};
 ghost use Rattle.std.specs.Char.{is_ascii_whitespace};
 ghost use Rattle.hid_input.specs.Words.{words_by};
 ghost use Rattle.hid_input.specs.Hex.{lines_of};
-ghost use Rattle.hid_input.specs.Causes.{is_long_word, are_long_words, is_row_of, is_misplaced, line_cause, dump_cause, unclear_cause};
+ghost use Rattle.hid_input.specs.Causes.{is_long_word, are_long_words, is_row_of, is_misplaced, line_cause, dump_cause, has_code};
+ghost use Rattle.hid_input.specs.Refusals.{missing_fault};
 
 use crate::cells::read_row;
 use crate::code::{has_array, unclear_code};
@@ -13,6 +14,7 @@ use crate::columns::{behind_offset, offset_of};
 use crate::fault::{InputCause, InputFault};
 use crate::form::are_digits;
 use crate::parts::{lines_of, trimmed_text};
+use crate::refusals::missing_fault;
 use crate::strings::has_string;
 use crate::words::WordForm;
 use std::alloc::{AllocError, Global};
@@ -116,11 +118,12 @@ pub fn dump_cause(alloc: Global, text: &[u8], number: u64) -> Result<InputCause,
 /// Why text isn't read of which it isn't clear where a comment or a string ends: that, if it has an array or a string of bytes; else
 /// it has no descriptor.
 pub fn unclear_fault(text: &[u8]) -> InputFault
-    ensures { result.cause ≡ unclear_cause text.now }
+    ensures unclear { has_code text.now ≡ true → result.cause ≡ InputCause.Unclear }
+    ensures missing { has_code text.now ≡ false → result ≡ missing_fault text.now }
 {
     if has_array(text) || has_string(text) {
         unclear_code(text)
     } else {
-        InputFault::of_text(InputCause::NoDescriptor)
+        missing_fault(text)
     }
 }

@@ -4,7 +4,7 @@ ghost use Rattle.std.specs.Prelude.{◌≡◌, ◌≤◌, ◌<◌, length, not, 
 ghost use Rattle.std.specs.List.{position};
 ghost use Rattle.std.specs.Option.{option_map};
 ghost use Rattle.hid_input.specs.Numbers.{is_digit_of};
-ghost use Rattle.hid_input.specs.Characters.{letter_byte, digits_front, is_hex_escape, hex_digits, octal_digits, hex_byte, has_digit_after, octal_or_letter, escape_byte, at_least_one, escape_length, character_byte, character_length, has_zero_escape, has_octal_escape, may_be_octal, characters_bytes};
+ghost use Rattle.hid_input.specs.Characters.{letter_byte, digits_front, is_hex_escape, hex_digits, octal_digits, is_hex_length, hex_byte, has_digit_after, octal_or_letter, escape_byte, at_least_one, escape_length, character_byte, character_length, has_zero_escape, has_octal_escape, may_be_octal, characters_bytes};
 
 use crate::digits::{byte_of, digit_of};
 use std::alloc::{AllocError, Global};
@@ -52,13 +52,17 @@ fn is_hex_escape(text: &[u8]) -> bool
     text.len() >= 1 && text[0] == b'x'
 }
 
-/// The digits after `x`.
-fn hex_digits(text: &[u8]) -> &[u8]
+/// The digits after `x`: in C all that follow it, and in a string of bytes of Python or Rust two.
+fn hex_digits(text: &[u8], is_bytes: bool) -> &[u8]
     requires { 1 ≤ length text.now }
-    ensures digits { result.now ≡ hex_digits text.now }
+    ensures digits { result.now ≡ hex_digits is_bytes text.now }
     ensures bound { length result.now < length text.now }
 {
-    digits_front(&text[1..], 16)
+    if is_bytes && text.len() > 3 {
+        digits_front(&text[1..3], 16)
+    } else {
+        digits_front(&text[1..], 16)
+    }
 }
 
 /// The octal digits of an escape, of which it has three at most.
@@ -73,11 +77,18 @@ fn octal_digits(text: &[u8]) -> &[u8]
     }
 }
 
-/// The byte of hex digits; none of more than two.
-fn hex_byte(digits: &[u8]) -> Option<u8>
-    ensures { result ≡ hex_byte digits.now }
+/// Whether so many hex digits are a byte: two in a string of bytes, and no more in any.
+fn is_hex_length(is_bytes: bool, count: usize) -> bool
+    ensures { result ≡ is_hex_length is_bytes count }
 {
-    if digits.len() <= 2 {
+    count <= 2 && (!is_bytes || count >= 2)
+}
+
+/// The byte of hex digits; none of more than two, and in a string of bytes none of fewer.
+fn hex_byte(digits: &[u8], is_bytes: bool) -> Option<u8>
+    ensures { result ≡ hex_byte is_bytes digits.now }
+{
+    if is_hex_length(is_bytes, digits.len()) {
         byte_of(digits, 16)
     } else {
         None
@@ -108,72 +119,76 @@ fn octal_or_letter(digits: &[u8], text: &[u8]) -> Option<u8>
 }
 
 /// The byte of an escape, by what stands after its backslash.
-fn escape_byte(text: &[u8]) -> Option<u8>
-    ensures { result ≡ escape_byte text.now }
+fn escape_byte(text: &[u8], is_bytes: bool) -> Option<u8>
+    ensures { result ≡ escape_byte is_bytes text.now }
 {
     if is_hex_escape(text) {
-        hex_byte(hex_digits(text))
+        hex_byte(hex_digits(text, is_bytes), is_bytes)
     } else {
         octal_or_letter(octal_digits(text), text)
     }
 }
 
 /// How many characters spell an escape after its backslash.
-fn escape_length(text: &[u8]) -> usize
+fn escape_length(text: &[u8], is_bytes: bool) -> usize
     requires { 1 ≤ length text.now }
-    ensures length { result ≡ escape_length text.now }
+    ensures length { result ≡ escape_length is_bytes text.now }
     ensures some { 1 ≤ result }
     ensures bound { result ≤ length text.now }
 {
     if is_hex_escape(text) {
-        1 + hex_digits(text).len()
+        1 + hex_digits(text, is_bytes).len()
     } else {
         octal_digits(text).len().max(1)
     }
 }
 
 /// The byte of the character with which a text begins.
-fn character_byte(text: &[u8]) -> Option<u8>
+fn character_byte(text: &[u8], is_bytes: bool) -> Option<u8>
     requires { 1 ≤ length text.now }
-    ensures { result ≡ character_byte text.now }
+    ensures { result ≡ character_byte is_bytes text.now }
 {
     if text[0] == b'\\' {
-        escape_byte(&text[1..])
+        escape_byte(&text[1..], is_bytes)
     } else {
         Some(text[0])
     }
 }
 
 /// How many characters spell it.
-fn character_length(text: &[u8]) -> usize
+fn character_length(text: &[u8], is_bytes: bool) -> usize
     requires { 1 ≤ length text.now }
-    ensures length { result ≡ character_length text.now }
+    ensures length { result ≡ character_length is_bytes text.now }
     ensures some { 1 ≤ result }
     ensures bound { result ≤ length text.now }
 {
     if text.len() >= 2 && text[0] == b'\\' {
-        1 + escape_length(&text[1..])
+        1 + escape_length(&text[1..], is_bytes)
     } else {
         1
     }
 }
 
-/// The bytes of the characters of a string; none where an escape is no byte.
+/// The bytes of the characters of a string of C, or of one of bytes of Python or Rust; none where an escape is no byte.
 ///
 /// # Errors
 /// Out of memory.
 #[tactic(auto, unfolding(crate::specs::Characters::characters_bytes))]
-pub fn read_characters(alloc: Global, text: &[u8]) -> Result<Option<Vec<u8>>, AllocError>
-    ensures { IfOk result (λ read. option_map (λ bytes. bytes.items) read ≡ characters_bytes text.now) }
+pub fn read_characters(
+    alloc: Global,
+    text: &[u8],
+    is_bytes: bool,
+) -> Result<Option<Vec<u8>>, AllocError>
+    ensures { IfOk result (λ read. option_map (λ bytes. bytes.items) read ≡ characters_bytes is_bytes text.now) }
 {
     let mut bytes = Vec::new(alloc);
     let mut rest = text;
     while !rest.is_empty() {
-        let Some(byte) = character_byte(rest) else {
+        let Some(byte) = character_byte(rest, is_bytes) else {
             return Ok(None);
         };
         bytes.push(byte)?;
-        let (_taken, more) = rest.split_at(character_length(rest));
+        let (_taken, more) = rest.split_at(character_length(rest, is_bytes));
         rest = more;
     }
     Ok(Some(bytes))

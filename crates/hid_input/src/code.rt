@@ -1,16 +1,18 @@
 //! The elements of an array in a source text, or elements alone.
 
-ghost use Rattle.std.specs.Prelude.{◌≡◌, ◌==◌, ◌++◌, ◌∷◌, ℕ, false, List, [], Some, OnOk, IfOk, IfErr, map, drop, if◌then◌else◌};
+ghost use Rattle.std.specs.Prelude.{◌≡◌, ◌==◌, ◌++◌, ◌∷◌, ℕ, false, List, [], None, Some, OnOk, IfOk, IfErr, map, drop, if◌then◌else◌};
 ghost use Rattle.std.specs.List.{list_any, list_all, zip, slice_split};
 ghost use Rattle.std.specs.Char.{is_ascii_whitespace};
 ghost use Rattle.std.specs.Option.{option_map, option_and_then, option_copied};
 ghost use Rattle.hid_input.specs.Faults.{of_text};
 ghost use Rattle.hid_input.specs.Words.{IsAdded};
+ghost use Rattle.hid_input.specs.Refusals.{IsOrMemory, IsNamedIn, end_cause, array_cause, array_fault};
 ghost use Rattle.hid_input.specs.Dump.{place_of};
 ghost use Rattle.hid_input.specs.Code.{place_in_code, is_line_end, is_splice, place_in_quotes, place_after_escape, place_in_joined, place_in_line, place_after_code, place_after_slash, place_after_splice, place_after_return, place_in_block, place_after_inner, place_after_star, place_after_turn, place_after, bytes_if, code_part, code_end, code_from, code_of, begins_number, behind_brace, is_hex_mark, has_array, is_array_end, begins_row, may_follow_array, ends_array, closed_text, elements_text, array_text, without_empty, is_comma, elements_bytes, array_bytes, is_array};
 
 use crate::fault::{InputCause, InputFault};
 use crate::parts::{is_empty_line, place_of, without_space};
+use crate::refusals::missing_fault;
 use crate::words::{WordForm, is_x, read_words};
 use std::alloc::{AllocError, Global};
 
@@ -483,7 +485,10 @@ fn array_text(code: &[u8]) -> Option<&[u8]>
 }
 
 /// The words between commas.
-fn words_at_commas(alloc: Global, elements: &[u8]) -> Result<Vec<&[u8]>, AllocError>
+///
+/// # Errors
+/// Out of memory.
+pub fn words_at_commas(alloc: Global, elements: &[u8]) -> Result<Vec<&[u8]>, AllocError>
     ensures { IfOk result (λ words. map (λ word. word.now) words.items ≡ slice_split is_comma elements.now) }
 {
     elements.split(|byte| *byte == b',').collect(alloc)
@@ -509,7 +514,9 @@ fn read_elements(alloc: Global, elements: &[u8]) -> Result<Option<Vec<u8>>, Allo
 }
 
 /// Why no end of an array is found: another row of a table follows it, or it has none.
-fn end_cause(code: &[u8]) -> InputCause {
+fn end_cause(code: &[u8]) -> InputCause
+    ensures { result ≡ end_cause (behind_brace code.now) }
+{
     let Some(inside) = behind_brace(code) else {
         return InputCause::ArrayEnd;
     };
@@ -519,27 +526,36 @@ fn end_cause(code: &[u8]) -> InputCause {
     }
 }
 
-/// Why an array isn't read, or that there is none: no brace that a number follows.
-fn array_fault(code: &[u8], cause: InputCause) -> InputFault {
-    match behind_brace(code) {
-        Some(_) => InputFault::of_text(cause),
-        None => InputFault::of_text(InputCause::NoDescriptor),
+/// Why the array of code isn't read.
+fn array_cause(code: &[u8]) -> InputCause
+    ensures { result ≡ array_cause code.now }
+{
+    match array_text(code) {
+        Some(_) => InputCause::BadArray,
+        None => end_cause(code),
     }
 }
 
-/// The bytes of an array in a text without comments.
-#[tactic(auto, unfolding(crate::specs::Code::array_bytes))]
-fn read_code(alloc: Global, code: &[u8]) -> Result<Vec<u8>, InputFault>
+/// Why an array isn't read, or why there is none: no brace that a number follows.
+fn array_fault(text: &[u8], code: &[u8]) -> InputFault
+    ensures { result ≡ array_fault text.now code.now }
+{
+    match behind_brace(code) {
+        Some(_) => InputFault::of_text(array_cause(code)),
+        None => missing_fault(text),
+    }
+}
+
+/// The bytes of an array in a text, by what it is without comments.
+fn read_code(alloc: Global, text: &[u8], code: &[u8]) -> Result<Vec<u8>, InputFault>
     ensures bytes { IfOk result (λ read. array_bytes code.now ≡ Some read.items) }
     ensures faults { (bytes : List ℕ) → array_bytes code.now ≡ Some bytes
         → IfErr result (λ fault. fault ≡ of_text InputCause.Memory) }
+    ensures why { array_bytes code.now ≡ None → IfErr result (IsOrMemory (array_fault text.now code.now)) }
 {
-    let Some(elements) = array_text(code) else {
-        return Err(array_fault(code, end_cause(code)));
-    };
-    match read_elements(alloc, elements)? {
+    match try_array(alloc, code)? {
         Some(bytes) => Ok(bytes),
-        None => Err(array_fault(code, InputCause::BadArray)),
+        None => Err(array_fault(text, code)),
     }
 }
 
@@ -547,15 +563,17 @@ fn read_code(alloc: Global, code: &[u8]) -> Result<Vec<u8>, InputFault>
 ///
 /// # Errors
 /// [`InputCause::BadArray`] where an element is no byte; [`InputCause::ArrayEnd`] where no brace closes the array, or something else
-/// follows it; [`InputCause::SeveralArrays`] of a row of a table; [`InputCause::NoDescriptor`] of elements alone, which aren't in
+/// follows it; [`InputCause::SeveralArrays`] of a row of a table; what [`missing_fault`] says of elements alone, which aren't in
 /// braces; [`InputCause::Unclear`]; [`InputCause::Memory`].
 pub fn read_array(alloc: Global, text: &[u8]) -> Result<Vec<u8>, InputFault>
     ensures bytes { IfOk result (λ read. option_and_then array_bytes (code_of false text.now) ≡ Some read.items) }
     ensures faults { (bytes : List ℕ) → option_and_then array_bytes (code_of false text.now) ≡ Some bytes
         → IfErr result (λ fault. fault ≡ of_text InputCause.Memory) }
+    ensures why { option_and_then array_bytes (code_of false text.now) ≡ None
+        → IfErr result (IsNamedIn (array_fault text.now) (code_of false text.now)) }
 {
     match without_comments(alloc, text, false)? {
-        Some(code) => read_code(alloc, code.as_slice()),
+        Some(code) => read_code(alloc, text, code.as_slice()),
         None => Err(unclear_code(text)),
     }
 }

@@ -65,7 +65,7 @@ fn begins_comment(text: &[u8]) -> bool
 }
 
 /// What stands in a line in front of its comment.
-fn before_comment(line: &[u8]) -> &[u8]
+pub fn before_comment(line: &[u8]) -> &[u8]
     ensures { result.now ≡ before_comment line.now }
 {
     for place in 0..line.len() {

@@ -1,15 +1,19 @@
 //! What speaks against the bytes that a text encodes: nothing says whether they are those of one descriptor.
 
-ghost use Rattle.std.specs.Prelude.{◌≡◌, true, false, Some, None, IfOk, if◌then◌else◌};
+ghost use Rattle.std.specs.Prelude.{◌≡◌, true, false, Some, None, IfOk, map, if◌then◌else◌};
+ghost use Rattle.std.specs.List.{list_any, list_all, slice_split};
+ghost use Rattle.std.specs.Char.{is_ascii_whitespace};
 ghost use Rattle.std.specs.Option.{option_map};
 ghost use Rattle.hid_input.specs.Dump.{place_of};
-ghost use Rattle.hid_input.specs.Code.{code_of, behind_brace};
+ghost use Rattle.hid_input.specs.Code.{code_of, is_comma, behind_brace};
 ghost use Rattle.hid_input.specs.Comments.{hex_beside};
-ghost use Rattle.hid_input.specs.Doubts.{hex_doubt, is_same, has_more_elements, elements_doubt, strings_beside, lists_beside, array_doubt, strings_doubt, string_doubt, form_doubt, names_descriptor, bytes_doubt, other_doubt, binary_doubt, doubt};
+ghost use Rattle.hid_input.specs.Doubts.{lines_doubt, has_numbers, has_twins, has_hole, hex_doubt, is_same, has_more_elements, has_more, elements_doubt, strings_beside, lists_beside, array_doubt, are_one_collection, strings_doubt, quote_count, have_no_strings, are_outside_remarks, string_doubt, form_doubt, names_descriptor, bytes_doubt, other_doubt, binary_doubt, doubt};
 
+use crate::alternatives::{are_doubled, are_side_by_side, is_numbered};
 use crate::beginning::begins_descriptor;
 use crate::characters::may_be_octal;
-use crate::code::{behind_brace, has_array, try_array, without_comments};
+use crate::code::{behind_brace, has_array, try_array, without_comments, words_at_commas};
+use crate::collections::is_one_collection;
 use crate::comments::{hex_beside, without_remarks};
 use crate::fault::InputCause;
 use crate::form::TextForm;
@@ -17,29 +21,89 @@ use crate::frames::is_frame;
 use crate::known::{KnownFile, begins_text, known_file};
 use crate::numbered::may_be_numbered;
 use crate::others::{
-    has_beside_dump, has_beside_list, has_beside_record, has_lists, has_lists_beside,
-    has_page_string, string_lines,
+    has_beside_dump, has_beside_list, has_beside_record, has_hex_string, has_lists,
+    has_lists_beside, has_page_string, string_lines,
 };
-use crate::parts::place_of;
+use crate::parts::{from_character, is_empty_line, lines_of, place_of};
 use crate::several::{has_remarks, may_be_several};
-use crate::strings::try_strings;
+use crate::strings::{line_front, try_strings};
 use std::alloc::{AllocError, Global};
 
-/// What speaks against the bytes of hex.
-fn hex_doubt(alloc: Global, hex: &[u8]) -> Result<Option<InputCause>, AllocError>
-    ensures { IfOk result (λ cause. cause ≡ hex_doubt hex.now) }
+/// That another descriptor may begin in a later line, but where the bytes are one collection from its beginning to its end.
+fn lines_doubt(alloc: Global, bytes: &[u8], hex: &[u8]) -> Result<Option<InputCause>, AllocError>
+    ensures { IfOk result (λ cause. cause ≡ lines_doubt bytes.now hex.now) }
+{
+    if !is_one_collection(bytes) && may_be_several(alloc, hex)? {
+        Ok(Some(InputCause::SeveralLists))
+    } else {
+        Ok(None)
+    }
+}
+
+/// Whether lines may have numbers in front of them: what stands after these is a descriptor, as the whole may be.
+fn has_numbers(alloc: Global, bytes: &[u8], hex: &[u8]) -> Result<bool, AllocError>
+    ensures { IfOk result (λ has. has ≡ has_numbers bytes.now hex.now) }
 {
     if may_be_numbered(alloc, hex)? {
+        return Ok(true);
+    }
+    Ok(begins_descriptor(bytes) && is_numbered(alloc, hex)?)
+}
+
+/// Whether two descriptors may stand side by side in lines, or one in lines that each stand there twice.
+fn has_twins(alloc: Global, hex: &[u8]) -> Result<bool, AllocError>
+    ensures { IfOk result (λ has. has ≡ has_twins hex.now) }
+{
+    let lines = lines_of(alloc, line_front(hex))?;
+    if are_side_by_side(alloc, lines.as_slice())? {
+        return Ok(true);
+    }
+    Ok(are_doubled(lines.as_slice()))
+}
+
+/// Whether some element has white space alone.
+fn have_empty(elements: &[&[u8]]) -> bool
+    ensures { result ≡ list_any (list_all is_ascii_whitespace) (map (λ element. element.now) elements.now) }
+{
+    elements.iter().any(|element| is_empty_line(element))
+}
+
+/// Whether an element is missing between two commas: some has white space alone, but for the first one and the last.
+fn have_hole(elements: &[&[u8]]) -> bool
+    ensures { result ≡ has_hole (map (λ element. element.now) elements.now) }
+{
+    if elements.len() < 2 {
+        return false;
+    }
+    let front = &elements[..elements.len() - 1];
+    have_empty(&front[1..])
+}
+
+/// Whether an element of hex is missing between two commas.
+fn has_hole(alloc: Global, hex: &[u8]) -> Result<bool, AllocError>
+    ensures { IfOk result (λ has. has ≡ has_hole (slice_split is_comma hex.now)) }
+{
+    let elements = words_at_commas(alloc, hex)?;
+    Ok(have_hole(elements.as_slice()))
+}
+
+/// What speaks against the bytes of hex.
+fn hex_doubt(alloc: Global, bytes: &[u8], hex: &[u8]) -> Result<Option<InputCause>, AllocError>
+    ensures { IfOk result (λ cause. cause ≡ hex_doubt bytes.now hex.now) }
+{
+    if has_numbers(alloc, bytes, hex)? {
         return Ok(Some(InputCause::LineNumbers));
     }
     if has_remarks(hex) {
         return Ok(Some(InputCause::TwoWays));
     }
-    if may_be_several(alloc, hex)? {
-        Ok(Some(InputCause::SeveralLists))
-    } else {
-        Ok(None)
+    if has_hole(alloc, hex)? {
+        return Ok(Some(InputCause::BadArray));
     }
+    if has_twins(alloc, hex)? {
+        return Ok(Some(InputCause::SeveralLists));
+    }
+    lines_doubt(alloc, bytes, hex)
 }
 
 /// Whether more elements stand after the brace that closes some.
@@ -52,23 +116,33 @@ fn has_more_elements(code: &[u8]) -> bool
     }
 }
 
-/// What speaks against elements alone.
-fn lists_doubt(alloc: Global, code: &[u8]) -> Result<Option<InputCause>, AllocError>
-    ensures { IfOk result (λ cause. cause ≡ elements_doubt None code.now) }
+/// Whether more elements, or a list, stand after the brace that closes some.
+fn has_more(code: &[u8]) -> bool
+    ensures { result ≡ has_more code.now }
 {
-    if has_more_elements(code) {
+    has_more_elements(code) || has_lists(from_character(code, b'}'))
+}
+
+/// What speaks against elements alone.
+fn list_doubt(alloc: Global, bytes: &[u8], code: &[u8]) -> Result<Option<InputCause>, AllocError>
+    ensures { IfOk result (λ cause. cause ≡ elements_doubt bytes.now None code.now) }
+{
+    if has_more(code) {
         return Ok(Some(InputCause::SeveralArrays));
     }
-    if may_be_several(alloc, code)? {
-        Ok(Some(InputCause::SeveralLists))
-    } else {
-        Ok(None)
+    if has_twins(alloc, code)? {
+        return Ok(Some(InputCause::SeveralLists));
     }
+    lines_doubt(alloc, bytes, code)
 }
 
 /// What speaks against the first array of code, or against elements alone.
-fn elements_doubt(alloc: Global, code: &[u8]) -> Result<Option<InputCause>, AllocError>
-    ensures { IfOk result (λ cause. cause ≡ elements_doubt (behind_brace code.now) code.now) }
+fn elements_doubt(
+    alloc: Global,
+    bytes: &[u8],
+    code: &[u8],
+) -> Result<Option<InputCause>, AllocError>
+    ensures { IfOk result (λ cause. cause ≡ elements_doubt bytes.now (behind_brace code.now) code.now) }
 {
     match behind_brace(code) {
         Some(inside) => if behind_brace(inside).is_some() || has_lists_beside(inside, code) {
@@ -76,7 +150,7 @@ fn elements_doubt(alloc: Global, code: &[u8]) -> Result<Option<InputCause>, Allo
         } else {
             Ok(None)
         },
-        None => lists_doubt(alloc, code),
+        None => list_doubt(alloc, bytes, code),
     }
 }
 
@@ -97,7 +171,7 @@ fn code_doubt(alloc: Global, code: &[u8], bytes: &[u8]) -> Result<Option<InputCa
     let plain = without_remarks(alloc, code)?;
     let other = try_array(alloc, plain.as_slice())?;
     if is_same(bytes, other) {
-        elements_doubt(alloc, code)
+        elements_doubt(alloc, bytes, code)
     } else {
         Ok(Some(InputCause::TwoWays))
     }
@@ -113,49 +187,88 @@ fn array_doubt(alloc: Global, text: &[u8], bytes: &[u8]) -> Result<Option<InputC
     }
 }
 
-/// What speaks against strings, each in a line.
-fn strings_doubt(alloc: Global, lines: &[u8]) -> Result<Option<InputCause>, AllocError>
-    ensures { IfOk result (λ cause. cause ≡ strings_doubt lines.now) }
+/// Whether the bytes of strings are one collection, and no other string may be a descriptor in hex.
+fn are_one_collection(alloc: Global, bytes: &[u8], strings: &[u8]) -> Result<bool, AllocError>
+    ensures { IfOk result (λ are. are ≡ are_one_collection bytes.now strings.now) }
 {
-    if may_be_octal(lines) {
+    Ok(is_one_collection(bytes) && !has_hex_string(alloc, strings)?)
+}
+
+/// What speaks against strings.
+fn strings_doubt(
+    alloc: Global,
+    bytes: &[u8],
+    strings: &[u8],
+) -> Result<Option<InputCause>, AllocError>
+    ensures { IfOk result (λ cause. cause ≡ strings_doubt bytes.now strings.now) }
+{
+    let lines = string_lines(alloc, strings)?;
+    if may_be_octal(lines.as_slice()) {
         return Ok(Some(InputCause::BadEscape));
     }
-    if may_be_several(alloc, lines)? {
+    if !are_one_collection(alloc, bytes, strings)? && may_be_several(alloc, lines.as_slice())? {
         Ok(Some(InputCause::SeveralLists))
     } else {
         Ok(None)
     }
 }
 
-/// What speaks against the strings in a text without comments of C.
-fn quoted_doubt(alloc: Global, code: &[u8], bytes: &[u8]) -> Result<Option<InputCause>, AllocError>
-    ensures { IfOk result (λ cause. cause ≡ string_doubt bytes.now (Some code.now)) }
+/// How many quotes stand in code.
+fn quote_count(code: &[u8]) -> usize
+    ensures { result ≡ quote_count code.now }
 {
-    let plain = without_remarks(alloc, code)?;
-    let other = try_strings(alloc, plain.as_slice())?;
-    if !is_same(bytes, other) {
-        return Ok(Some(InputCause::TwoWays));
+    code.iter()
+        .filter(|byte| **byte == b'"' || **byte == b'\'')
+        .count()
+}
+
+/// Whether a text whose strings are left empty has none in what may be a comment of another language than C.
+fn have_no_strings(alloc: Global, text: &[u8]) -> Result<bool, AllocError>
+    ensures { IfOk result (λ have. have ≡ have_no_strings (code_of false text.now)) }
+{
+    let Some(code) = without_comments(alloc, text, false)? else {
+        return Ok(false);
+    };
+    let plain = without_remarks(alloc, code.as_slice())?;
+    Ok(quote_count(plain.as_slice()) == quote_count(code.as_slice()))
+}
+
+/// Whether no string is in what may be a comment of another language than C, or the same ones are read without it.
+fn are_outside_remarks(
+    alloc: Global,
+    text: &[u8],
+    strings: &[u8],
+    bytes: &[u8],
+) -> Result<bool, AllocError>
+    ensures { IfOk result (λ are. are ≡ are_outside_remarks bytes.now strings.now (code_of false text.now)) }
+{
+    if have_no_strings(alloc, text)? {
+        return Ok(true);
     }
-    let lines = string_lines(alloc, code)?;
-    strings_doubt(alloc, lines.as_slice())
+    let plain = without_remarks(alloc, strings)?;
+    let other = try_strings(alloc, plain.as_slice())?;
+    Ok(is_same(bytes, other))
 }
 
 /// What speaks against the strings of a text.
 fn string_doubt(alloc: Global, text: &[u8], bytes: &[u8]) -> Result<Option<InputCause>, AllocError>
-    ensures { IfOk result (λ cause. cause ≡ string_doubt bytes.now (code_of true text.now)) }
+    ensures { IfOk result (λ cause. cause ≡ string_doubt bytes.now (code_of true text.now) (code_of false text.now)) }
 {
-    match without_comments(alloc, text, true)? {
-        Some(code) => quoted_doubt(alloc, code.as_slice(), bytes),
-        None => Ok(None),
+    let Some(strings) = without_comments(alloc, text, true)? else {
+        return Ok(None);
+    };
+    if !are_outside_remarks(alloc, text, strings.as_slice(), bytes)? {
+        return Ok(Some(InputCause::TwoWays));
     }
+    strings_doubt(alloc, bytes, strings.as_slice())
 }
 
 /// What speaks against the bytes of hex beside other text.
-fn beside_doubt(alloc: Global, text: &[u8]) -> Result<Option<InputCause>, AllocError>
-    ensures { IfOk result (λ cause. cause ≡ hex_doubt (hex_beside text.now)) }
+fn beside_doubt(alloc: Global, text: &[u8], bytes: &[u8]) -> Result<Option<InputCause>, AllocError>
+    ensures { IfOk result (λ cause. cause ≡ hex_doubt bytes.now (hex_beside text.now)) }
 {
     let hex = hex_beside(alloc, text)?;
-    hex_doubt(alloc, hex.as_slice())
+    hex_doubt(alloc, bytes, hex.as_slice())
 }
 
 /// That there are several descriptors, if there are.
@@ -227,8 +340,8 @@ fn form_doubt(
     ensures { IfOk result (λ cause. cause ≡ form_doubt text.now bytes.now form) }
 {
     match form {
-        TextForm::Hex => hex_doubt(alloc, text),
-        TextForm::Beside => beside_doubt(alloc, text),
+        TextForm::Hex => hex_doubt(alloc, bytes, text),
+        TextForm::Beside => beside_doubt(alloc, text, bytes),
         TextForm::Array => any_array_doubt(alloc, text, bytes),
         TextForm::Quoted => any_string_doubt(alloc, text, bytes),
         TextForm::Recorded => Ok(several_if(has_beside_record(alloc, text)?)),

@@ -55,6 +55,10 @@ pub enum InputCause {
     TwoWays,
     /// Text of UTF-16.
     Utf16,
+    /// Numbers in brackets that aren't braces, as lists of Python, Rust and JSON have them.
+    OtherBrackets,
+    /// A line that is neither hex nor a comment, beside lines of hex.
+    OtherLine,
     /// Text in which no descriptor is found.
     NoDescriptor,
     /// Memory ran out.
@@ -118,7 +122,7 @@ impl fmt::Display for InputCause {
             }
             InputCause::BadHex { at } => return write!(f, "byte {at} isn't two hex digits"),
             InputCause::NoCount => "the count is missing, or no number",
-            InputCause::BadArray => "an element of the array is no byte",
+            InputCause::BadArray => "an element is no number from 0 to 255, or one is missing",
             InputCause::ArrayEnd => "the array has no end: } and nothing, or ; , ) or } after it",
             InputCause::SeveralArrays => "several arrays, or a table of them: which one is meant?",
             InputCause::SeveralLists => {
@@ -127,7 +131,7 @@ impl fmt::Display for InputCause {
             InputCause::Unclear => "it isn't clear where a comment or a string ends",
             InputCause::BadEscape => "an escape of the string is no byte, or a digit follows it",
             InputCause::SeveralStrings => {
-                "several strings, or a character: which bytes are meant?"
+                "other strings or operators beside it: give one string alone"
             }
             InputCause::LineEnds => "lines that end with CR or FF alone: end each with LF",
             InputCause::WordOrder => { "the order of bytes isn't known (try xxd or od -t x1)" }
@@ -143,11 +147,13 @@ impl fmt::Display for InputCause {
             InputCause::UsbDescriptors => {
                 "USB descriptors: /sys/class/hidraw has report descriptors"
             }
-            InputCause::LineNumbers => "are these numbers of lines? Leave them out",
+            InputCause::LineNumbers => "numbers of lines, or offsets? Leave them out, or use { }",
             InputCause::SeveralDescriptors => "several report descriptors: give one of them alone",
             InputCause::Frame => { "a frame of a capture: give its descriptor alone" }
-            InputCause::TwoWays => "it can be read in two ways, which give different bytes",
+            InputCause::TwoWays => "it can be read in two ways: write it as { 0x05, 0x01, .. }",
             InputCause::Utf16 => "text of UTF-16: write it as UTF-8",
+            InputCause::OtherBrackets => "numbers in [ ] or ( ): write them in { }",
+            InputCause::OtherLine => "neither hex nor a comment of // or #, as other lines are",
             InputCause::NoDescriptor => {
                 "text without a descriptor: hex, a dump or numbers in { }"
             }

@@ -6,9 +6,9 @@ ghost use Rattle.std.specs.Char.{is_ascii_hexdigit};
 ghost use Rattle.hid_input.specs.Text.{is_other_end, has_other_ends};
 ghost use Rattle.hid_input.specs.Hex.{is_offset};
 ghost use Rattle.hid_input.specs.Code.{code_of};
-ghost use Rattle.hid_input.specs.Forms.{form_of_code, form_in_code, form_in_source, form_of};
+ghost use Rattle.hid_input.specs.Forms.{has_elements, form_of_code, form_in_code, form_in_source, form_of};
 
-use crate::code::{has_array, is_array, without_comments};
+use crate::code::{behind_brace, has_array, is_array, try_array, without_comments};
 use crate::comments::has_hex;
 use crate::items::{has_listed, has_unavailable};
 use crate::parts::{first_word, trimmed_text};
@@ -84,16 +84,29 @@ fn is_zero(word: &[u8]) -> bool
     word.len() >= 4 && are_zeros(word)
 }
 
-/// The form of a text without comments, by its code with empty strings and with whole ones.
-fn form_of_code(code: &[u8], strings: &[u8]) -> TextForm
-    ensures { result ≡ form_of_code code.now strings.now }
+/// Whether code is read as an array: it has one in braces, or a number that is marked as hex and no string beside it, or elements alone.
+fn has_elements(alloc: Global, code: &[u8], strings: &[u8]) -> Result<bool, AllocError>
+    ensures { IfOk result (λ has. has ≡ has_elements code.now strings.now) }
 {
-    if has_array(code) {
-        TextForm::Array
+    if behind_brace(code).is_some() {
+        return Ok(true);
+    }
+    if !has_array(code) || !has_string(strings) {
+        return Ok(has_array(code));
+    }
+    Ok(try_array(alloc, code)?.is_some())
+}
+
+/// The form of a text without comments, by its code with empty strings and with whole ones.
+fn form_of_code(alloc: Global, code: &[u8], strings: &[u8]) -> Result<TextForm, AllocError>
+    ensures { IfOk result (λ form. form ≡ form_of_code code.now strings.now) }
+{
+    if has_elements(alloc, code, strings)? {
+        Ok(TextForm::Array)
     } else if has_string(strings) {
-        TextForm::Quoted
+        Ok(TextForm::Quoted)
     } else {
-        TextForm::Other
+        Ok(TextForm::Other)
     }
 }
 
@@ -105,7 +118,7 @@ fn form_in_code(alloc: Global, text: &[u8]) -> Result<TextForm, AllocError>
         return Ok(TextForm::Unclear);
     };
     match without_comments(alloc, text, true)? {
-        Some(strings) => Ok(form_of_code(code.as_slice(), strings.as_slice())),
+        Some(strings) => form_of_code(alloc, code.as_slice(), strings.as_slice()),
         None => Ok(TextForm::Unclear),
     }
 }

@@ -4,6 +4,7 @@ ghost use Rattle.std.specs.Prelude.{◌≡◌};
 ghost use Rattle.std.specs.List.{list_all};
 ghost use Rattle.hid_input.specs.Known.{are_usb_descriptors, is_compressed, is_program, known_file, is_printed, is_written, begins_text};
 
+use crate::fault::InputCause;
 use std::fmt;
 use usb_capture::is_capture;
 
@@ -30,14 +31,13 @@ impl fmt::Display for KnownFile {
     ghost output = { λ known. Some (known_text known) };
 
     fn fmt<W: fmt::Write>(&self, f: &mut fmt::Formatter<W>) -> fmt::Result {
-        f.write_str(match *self {
+        let words = match *self {
             KnownFile::Capture => "a capture of a bus: hidplay reads it",
-            KnownFile::UsbDescriptors => {
-                "USB descriptors, no report descriptor (/sys/class/hidraw has those)"
-            }
+            KnownFile::UsbDescriptors => return fmt::Display::fmt(&InputCause::UsbDescriptors, f),
             KnownFile::Compressed => "a compressed file: unpack it first",
             KnownFile::Program => "a program, without a report descriptor",
-        })
+        };
+        f.write_str(words)
     }
 }
 

@@ -14,11 +14,13 @@
 //! `complete` and `one_way` on [`descriptor_in`]). Bytes that aren't text are the descriptor, byte for byte.
 #![tactic(auto)]
 
+mod alternatives;
 mod beginning;
 mod causes;
 mod cells;
 mod characters;
 mod code;
+mod collections;
 mod columns;
 mod comments;
 mod decimal;
@@ -35,6 +37,7 @@ mod others;
 mod parts;
 mod reading;
 mod recorded;
+mod refusals;
 mod several;
 mod spelled;
 mod strings;

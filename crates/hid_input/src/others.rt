@@ -6,23 +6,21 @@
 //!    A1 01 C0
 //! ```
 
-ghost use Rattle.std.specs.Prelude.{◌≡◌, ◌-◌, length, take, drop, map, IfOk};
+ghost use Rattle.std.specs.Prelude.{◌≡◌, ◌≤◌, ◌-◌, true, length, take, drop, map, IfOk};
 ghost use Rattle.std.specs.List.{list_any, zip, find};
 ghost use Rattle.std.specs.Option.{option_copied};
 ghost use Rattle.hid_input.specs.Hex.{lines_of};
-ghost use Rattle.hid_input.specs.Others.{has_code, is_item, has_items, heads_hex, is_loose, have_loose, is_listed, begins_with_item, has_beside_record, has_beside_dump, has_beside_list, is_list_line, has_lists, has_lists_beside, is_page_string, has_page_string, is_gap, is_string, part_line, part_lines, string_lines};
+ghost use Rattle.hid_input.specs.Others.{has_code, is_item, has_items, heads_hex, is_loose, have_loose, is_listed, begins_with_item, has_beside_record, has_beside_dump, has_beside_list, is_list_line, has_lists, has_lists_beside, is_page_string, has_page_string, is_gap, is_string, is_hex_string, has_hex_string, may_be_bytes, string_line, part_line, part_lines, string_lines};
 
 use crate::code::{begins_number, is_array};
 use crate::comments::{has_hex_lines, is_hex_line};
 use crate::form::is_offset;
 use crate::items::{has_several_listed, length_in};
-use crate::parts::{
-    behind_part, first_word, from_character, is_empty_line, lines_of, trimmed_text,
-};
+use crate::parts::{behind_part, first_word, from_character, lines_of, trimmed_text};
 use crate::recorded::{has_headings, has_other_records, is_heading};
 use crate::several::begins_page;
-use crate::spelled::is_spelled;
-use crate::strings::{begins_with_escape, has_string, parts_of};
+use crate::spelled::{has_byte, is_spelled};
+use crate::strings::{begins_with_escape, has_string, joins_strings, parts_of};
 use std::alloc::{AllocError, Global};
 
 /// Whether a text has an array of C that can be read, or a string with escapes.
@@ -197,24 +195,69 @@ fn is_gap(alloc: Global, part: &[u8]) -> Result<bool, AllocError>
     ensures { IfOk result (λ is_one. is_one ≡ is_gap part.now) }
 {
     let lines = lines_of(alloc, part)?;
-    Ok(is_empty_line(part) && lines.len() >= 3)
+    Ok((joins_strings(false, part) || joins_strings(true, part)) && lines.len() >= 3)
 }
 
 /// Whether a part of code is a string: a quote is in front of it.
 fn is_string(part: &[u8]) -> bool
-    ensures { result ≡ is_string part.now }
+    ensures is { result ≡ is_string part.now }
+    ensures some { result ≡ true → 1 ≤ length part.now }
 {
     part.len() >= 1 && (part[0] == b'"' || part[0] == b'\'')
 }
 
-/// The characters of a string in a line, or an empty line for what parts strings.
+/// Whether a part of code is a string without escapes that begins with a Usage Page.
+fn is_hex_string(part: &[u8]) -> bool
+    ensures { result ≡ is_hex_string part.now }
+{
+    is_string(part) && !has_byte(part, b'\\') && begins_page(&part[1..])
+}
+
+/// Whether some part is one.
+fn have_hex_string(parts: &[Vec<u8>]) -> bool
+    ensures { result ≡ list_any is_hex_string (map (λ part. part.items) parts.now) }
+{
+    parts.iter().any(|part| is_hex_string(part.as_slice()))
+}
+
+/// Whether a text without comments has such a string.
+///
+/// # Errors
+/// Out of memory.
+pub fn has_hex_string(alloc: Global, code: &[u8]) -> Result<bool, AllocError>
+    ensures { IfOk result (λ has. has ≡ has_hex_string code.now) }
+{
+    let parts = parts_of(alloc, code)?;
+    Ok(have_hex_string(parts.as_slice()))
+}
+
+/// Whether a string may be of a descriptor: it has an escape, or its hex begins with a Usage Page.
+fn may_be_bytes(string: &[u8]) -> bool
+    requires { 1 ≤ length string.now }
+    ensures { result ≡ may_be_bytes string.now }
+{
+    has_byte(string, b'\\') || begins_page(&string[1..])
+}
+
+/// The characters of a string that may be of a descriptor, in a line.
+fn string_line(alloc: Global, string: &[u8]) -> Result<Vec<u8>, AllocError>
+    requires { 1 ≤ length string.now }
+    ensures { IfOk result (λ line. line.items ≡ string_line string.now) }
+{
+    if !may_be_bytes(string) {
+        return Ok(Vec::new(alloc));
+    }
+    let mut line = Vec::from_slice(alloc, &string[1..])?;
+    line.push(b'\n')?;
+    Ok(line)
+}
+
+/// What a part of code is in lines: a string that may be of a descriptor, or an empty line for what parts strings.
 fn part_line(alloc: Global, part: &[u8]) -> Result<Vec<u8>, AllocError>
     ensures { IfOk result (λ line. line.items ≡ part_line part.now) }
 {
     if is_string(part) {
-        let mut line = Vec::from_slice(alloc, &part[1..])?;
-        line.push(b'\n')?;
-        return Ok(line);
+        return string_line(alloc, part);
     }
     let mut line = Vec::new(alloc);
     if is_gap(alloc, part)? {
@@ -235,7 +278,7 @@ fn part_lines(alloc: Global, parts: &[Vec<u8>]) -> Result<Vec<u8>, AllocError>
     Ok(hex)
 }
 
-/// The strings of a text without comments, each in a line, with empty lines where something parts them.
+/// The strings of a text without comments that may be of a descriptor, each in a line, with empty lines where something parts them.
 ///
 /// # Errors
 /// Out of memory.

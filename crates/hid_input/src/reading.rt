@@ -5,12 +5,13 @@ ghost use Rattle.std.specs.List.{list_all};
 ghost use Rattle.hid_input.specs.Hex.{spelled_bytes};
 ghost use Rattle.hid_input.specs.Dump.{IsDump, HasNoOthers};
 ghost use Rattle.hid_input.specs.Decimal.{HasNoOtherHex};
-ghost use Rattle.hid_input.specs.Forms.{form_of, Encodes, IsAlone, IsFaultOf, IsMemory};
+ghost use Rattle.hid_input.specs.Forms.{form_of, Encodes, IsAlone, IsFaultOf, IsMemory, IsUnread, IsNamed};
 ghost use Rattle.hid_input.specs.Doubts.{doubt, binary_doubt, IsDoubted};
 ghost use Rattle.hid_input.specs.Comments.{hex_beside};
 ghost use Rattle.hid_input.specs.Faults.{of_text, IsOfHex};
-ghost use Rattle.hid_input.specs.Text.{is_space, is_text_byte, has_printed, is_text, is_utf16, without_mark};
+ghost use Rattle.hid_input.specs.Text.{is_text_byte, has_printed, is_text, is_utf16, without_mark};
 ghost use Rattle.hid_input.specs.Records.{is_recording};
+ghost use Rattle.hid_input.specs.Refusals.{IsOrMemory, spelling_fault};
 
 use crate::causes::{dump_cause, unclear_fault};
 use crate::code::read_array;
@@ -22,30 +23,24 @@ use crate::form::{TextForm, form_of};
 use crate::items::read_listed;
 use crate::known::begins_text;
 use crate::recorded::{has_record, read_dumped, read_recorded};
+use crate::refusals::missing_fault;
 use crate::spelled::read_spelled;
 use crate::strings::read_string;
 use crate::ways::{add_dumps, agreed, are_all};
 use std::alloc::Global;
 
-/// Whether a byte is a blank, a tab, or an end of a line or of a page.
-fn is_space(byte: u8) -> bool
-    ensures { result ≡ is_space byte }
-{
-    matches!(byte, b'\t' | b'\n' | 0x0C | b'\r' | b' ')
-}
-
 /// Whether a byte may stand in text: any but control bytes, of which spaces may.
 fn is_text_byte(byte: u8) -> bool
     ensures { result ≡ is_text_byte byte }
 {
-    is_space(byte) || (b' ' <= byte && byte != 127)
+    byte.is_ascii_whitespace() || (b' ' <= byte && byte != 127)
 }
 
 /// Whether some byte is no space.
 fn has_printed(bytes: &[u8]) -> bool
     ensures { result ≡ has_printed bytes.now }
 {
-    bytes.iter().any(|byte| !is_space(*byte))
+    bytes.iter().any(|byte| !byte.is_ascii_whitespace())
 }
 
 /// Whether each byte may stand in text.
@@ -108,6 +103,7 @@ fn read_hex(alloc: Global, text: &[u8]) -> Result<Vec<u8>, InputFault>
     ensures others { IfOk result (λ read. HasNoOtherHex text.now read.items) }
     ensures read { (bytes : List ℕ) → spelled_bytes text.now ≡ Some bytes → HasNoOtherHex text.now bytes
         → IfErr result (λ fault. fault ≡ of_text InputCause.Memory) }
+    ensures why { spelled_bytes text.now ≡ None → IfErr result (IsOrMemory (spelling_fault text.now)) }
 {
     let spelled = read_spelled(alloc, text)?;
     let mut others = Vec::new(alloc);
@@ -126,6 +122,8 @@ fn read_beside(alloc: Global, text: &[u8]) -> Result<Vec<u8>, InputFault>
     ensures others { IfOk result (λ read. HasNoOtherHex (hex_beside text.now) read.items) }
     ensures read { (bytes : List ℕ) → spelled_bytes (hex_beside text.now) ≡ Some bytes → HasNoOtherHex (hex_beside text.now) bytes
         → IfErr result (λ fault. fault ≡ of_text InputCause.Memory) }
+    ensures why { spelled_bytes (hex_beside text.now) ≡ None
+        → IfErr result (IsOrMemory (spelling_fault (hex_beside text.now))) }
 {
     let hex = hex_beside(alloc, text)?;
     read_hex(alloc, hex.as_slice())
@@ -138,6 +136,7 @@ fn read_form(alloc: Global, text: &[u8], form: TextForm) -> Result<Vec<u8>, Inpu
     ensures complete { (whole : List ℕ) → Encodes text.now whole form → IfErr result (λ fault. IsFaultOf fault form) }
     ensures one_way { (whole : List ℕ) → Encodes text.now whole form → IsAlone text.now whole form
         → IfErr result IsMemory }
+    ensures why { IsUnread text.now form → IfErr result (λ fault. IsNamed text.now fault form) }
 {
     match form {
         TextForm::OtherEnds => Err(InputFault::of_text(InputCause::LineEnds)),
@@ -151,11 +150,12 @@ fn read_form(alloc: Global, text: &[u8], form: TextForm) -> Result<Vec<u8>, Inpu
         TextForm::Beside => read_beside(alloc, text),
         TextForm::Quoted => read_string(alloc, text),
         TextForm::Unclear => Err(unclear_fault(text)),
-        TextForm::Other => Err(InputFault::of_text(InputCause::NoDescriptor)),
+        TextForm::Other => Err(missing_fault(text)),
     }
 }
 
 /// The descriptor in text of this form, if nothing speaks against its bytes.
+#[tactic(auto, using(crate::proofs::FormLemmas::memory_named))]
 fn read_sure(alloc: Global, text: &[u8], form: TextForm) -> Result<Vec<u8>, InputFault>
     ensures text { IfOk result (λ read. Encodes text.now read.items form) }
     ensures alone { IfOk result (λ read. IsAlone text.now read.items form) }
@@ -164,6 +164,7 @@ fn read_sure(alloc: Global, text: &[u8], form: TextForm) -> Result<Vec<u8>, Inpu
         → IfErr result (λ fault. IsFaultOf fault form ⊎ IsDoubted fault (doubt text.now whole form)) }
     ensures one_way { (whole : List ℕ) → Encodes text.now whole form → IsAlone text.now whole form
         → IfErr result (λ fault. IsMemory fault ⊎ IsDoubted fault (doubt text.now whole form)) }
+    ensures why { IsUnread text.now form → IfErr result (λ fault. IsNamed text.now fault form) }
 {
     match read_form(alloc, text, form) {
         Err(fault) => Err(fault),
@@ -175,6 +176,7 @@ fn read_sure(alloc: Global, text: &[u8], form: TextForm) -> Result<Vec<u8>, Inpu
 }
 
 /// The descriptor in text.
+#[tactic(auto, using(crate::proofs::FormLemmas::memory_named))]
 fn descriptor_in_text(alloc: Global, text: &[u8]) -> Result<Vec<u8>, InputFault>
     ensures text { IfOk result (λ read. Encodes text.now read.items (form_of text.now)) }
     ensures alone { IfOk result (λ read. IsAlone text.now read.items (form_of text.now)) }
@@ -184,6 +186,7 @@ fn descriptor_in_text(alloc: Global, text: &[u8]) -> Result<Vec<u8>, InputFault>
     ensures one_way { (whole : List ℕ) → Encodes text.now whole (form_of text.now)
         → IsAlone text.now whole (form_of text.now)
         → IfErr result (λ fault. IsMemory fault ⊎ IsDoubted fault (doubt text.now whole (form_of text.now))) }
+    ensures why { IsUnread text.now (form_of text.now) → IfErr result (λ fault. IsNamed text.now fault (form_of text.now)) }
 {
     let form = form_of(alloc, text)?;
     read_sure(alloc, text, form)
@@ -226,6 +229,11 @@ pub fn descriptor_in(alloc: Global, bytes: &[u8]) -> Result<Vec<u8>, InputFault>
         → IsAlone (without_mark bytes.now) whole (form_of (without_mark bytes.now))
         → IfErr result (λ fault. IsMemory fault
         ⊎ IsDoubted fault (doubt (without_mark bytes.now) whole (form_of (without_mark bytes.now)))) }
+
+    // Text that encodes no bytes is refused for memory, or by its line, byte and cause.
+    ensures why { is_utf16 bytes.now ≡ false → is_text (without_mark bytes.now) ≡ true
+        → IsUnread (without_mark bytes.now) (form_of (without_mark bytes.now))
+        → IfErr result (λ fault. IsNamed (without_mark bytes.now) fault (form_of (without_mark bytes.now))) }
 
     // Other bytes.
     ensures binary { is_text (without_mark bytes.now) ≡ false → IfOk result (λ read. read.items ≡ bytes.now) }

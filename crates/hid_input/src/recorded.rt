@@ -1,14 +1,15 @@
 //! Descriptors in what hid-recorder and usbhid-dump print.
 
-ghost use Rattle.std.specs.Prelude.{◌≡◌, ◌<◌, [], is_some, ℕ, List, None, Some, length, not, IfOk, IfSome, IfErr, map};
-ghost use Rattle.std.specs.List.{slice_split, position, find};
+ghost use Rattle.std.specs.Prelude.{◌≡◌, ◌<◌, ◌⊎◌, [], drop, is_some, ℕ, List, None, Some, length, not, IfOk, IfSome, IfErr, map};
+ghost use Rattle.std.specs.List.{slice_split, position, find, zip};
 ghost use Rattle.std.specs.Option.{option_map, option_copied, option_and_then};
 ghost use Rattle.std.specs.Char.{is_ascii_whitespace};
 ghost use Rattle.hid_input.specs.Hex.{lines_of};
 ghost use Rattle.hid_input.specs.Recorded.{ordered_bytes, after_letter, bytes_behind, counted_bytes, recorded_bytes, has_recorded, are_others, has_others, has_other_records, has_headings, is_colon, behind_number, is_heading, block_of, block_below, has_dumped, block_bytes};
 ghost use Rattle.hid_input.specs.Records.{is_record_letter, begins_with_letter, is_head, is_record, has_record, is_passed, begins_recording};
 ghost use Rattle.hid_input.specs.Dump.{HasNoOthers};
-ghost use Rattle.hid_input.specs.Faults.{of_text, IsOfHex};
+ghost use Rattle.hid_input.specs.Faults.{of_text, of_line, IsOfHex};
+ghost use Rattle.hid_input.specs.Refusals.{IsOrMemory, unspelled_fault, begins_block, block_front, below, block_fault, cause_behind, counted_cause, recorded_fault};
 
 use crate::digits::number_of;
 use crate::fault::{InputCause, InputFault};
@@ -16,7 +17,8 @@ use crate::parts::{
     before_space, first_word, from_space, is_empty_line, line_number, lines_of, trimmed_text,
     without_space,
 };
-use crate::spelled::{is_spelled, unspelled_fault, words_of};
+use crate::refusals::unspelled_fault;
+use crate::spelled::{is_spelled, words_of};
 use crate::ways::has_no_others;
 use crate::words::{WordForm, read_words};
 use std::alloc::{AllocError, Global};
@@ -146,6 +148,7 @@ fn read_digits(alloc: Global, hex: &[u8]) -> Result<Vec<u8>, InputFault>
     ensures bytes { IfOk result (λ read. ordered_bytes hex.now ≡ Some read.items) }
     ensures faults { (bytes : List ℕ) → ordered_bytes hex.now ≡ Some bytes
         → IfErr result (λ fault. fault ≡ of_text InputCause.Memory) }
+    ensures why { ordered_bytes hex.now ≡ None → IfErr result (IsOrMemory (unspelled_fault hex.now)) }
 {
     let words = words_of(alloc, hex)?;
     match read_words(alloc, words.as_slice(), WordForm::Hex)? {
@@ -158,6 +161,7 @@ fn read_digits(alloc: Global, hex: &[u8]) -> Result<Vec<u8>, InputFault>
 fn read_behind(alloc: Global, text: &[u8]) -> Result<Vec<u8>, InputFault>
     ensures bytes { IfOk result (λ read. bytes_behind text.now ≡ Some read.items) }
     ensures faults { (bytes : List ℕ) → bytes_behind text.now ≡ Some bytes → IfErr result (λ fault. fault.cause ≡ InputCause.Memory) }
+    ensures why { bytes_behind text.now ≡ None → IfErr result (λ fault. (fault.cause ≡ cause_behind text.now) ⊎ (fault.cause ≡ InputCause.Memory)) }
 {
     let Some(said) = number_of(before_space(text), 10) else {
         return Err(InputFault::of_text(InputCause::NoCount));
@@ -171,10 +175,11 @@ fn read_behind(alloc: Global, text: &[u8]) -> Result<Vec<u8>, InputFault>
 }
 
 /// The bytes of `COUNT HEX`, if they are so many.
-#[tactic(auto, unfolding(crate::specs::Recorded::counted_bytes))]
+#[tactic(auto, unfolding(crate::specs::Recorded::counted_bytes, crate::specs::Refusals::counted_cause))]
 fn read_counted(alloc: Global, counted: &[u8]) -> Result<Vec<u8>, InputFault>
     ensures bytes { IfOk result (λ read. counted_bytes counted.now ≡ Some read.items) }
     ensures faults { (bytes : List ℕ) → counted_bytes counted.now ≡ Some bytes → IfErr result (λ fault. fault.cause ≡ InputCause.Memory) }
+    ensures why { counted_bytes counted.now ≡ None → IfErr result (λ fault. (fault.cause ≡ counted_cause counted.now) ⊎ (fault.cause ≡ InputCause.Memory)) }
 {
     read_behind(alloc, trimmed_text(counted))
 }
@@ -183,6 +188,8 @@ fn read_counted(alloc: Global, counted: &[u8]) -> Result<Vec<u8>, InputFault>
 fn read_line(alloc: Global, counted: &[u8], number: u64) -> Result<Vec<u8>, InputFault>
     ensures bytes { IfOk result (λ read. counted_bytes counted.now ≡ Some read.items) }
     ensures faults { (bytes : List ℕ) → counted_bytes counted.now ≡ Some bytes → IfErr result (λ fault. fault.cause ≡ InputCause.Memory) }
+    ensures why { counted_bytes counted.now ≡ None
+        → IfErr result (λ fault. (fault ≡ of_line number (counted_cause counted.now)) ⊎ (fault.cause ≡ InputCause.Memory)) }
 {
     match read_counted(alloc, counted) {
         Ok(bytes) => Ok(bytes),
@@ -195,6 +202,8 @@ fn read_first(alloc: Global, lines: &[&[u8]]) -> Result<Vec<u8>, InputFault>
     ensures bytes { IfOk result (λ read. recorded_bytes (map (λ line. line.now) lines.now) ≡ Some read.items) }
     ensures faults { (bytes : List ℕ) → recorded_bytes (map (λ line. line.now) lines.now) ≡ Some bytes
         → IfErr result (λ fault. fault.cause ≡ InputCause.Memory) }
+    ensures why { recorded_bytes (map (λ line. line.now) lines.now) ≡ None
+        → IfErr result (λ fault. (fault ≡ recorded_fault 0 (map (λ line. line.now) lines.now)) ⊎ (fault.cause ≡ InputCause.Memory)) }
 {
     for (before, line) in lines.iter().enumerate() {
         if let Some(counted) = after_letter(line) {
@@ -213,6 +222,8 @@ pub fn read_recorded(alloc: Global, text: &[u8]) -> Result<Vec<u8>, InputFault>
     ensures bytes { IfOk result (λ read. recorded_bytes (lines_of text.now) ≡ Some read.items) }
     ensures faults { (bytes : List ℕ) → recorded_bytes (lines_of text.now) ≡ Some bytes
         → IfErr result (λ fault. fault.cause ≡ InputCause.Memory) }
+    ensures why { recorded_bytes (lines_of text.now) ≡ None
+        → IfErr result (λ fault. (fault ≡ recorded_fault 0 (lines_of text.now)) ⊎ (fault.cause ≡ InputCause.Memory)) }
 {
     let lines = lines_of(alloc, text)?;
     read_first(alloc, lines.as_slice())
@@ -313,6 +324,7 @@ fn read_hex_block(alloc: Global, block: &[u8]) -> Result<Vec<u8>, InputFault>
     ensures bytes { IfOk result (λ read. block_bytes block.now ≡ Some read.items) }
     ensures faults { (bytes : List ℕ) → block_bytes block.now ≡ Some bytes
         → IfErr result (λ fault. fault ≡ of_text InputCause.Memory) }
+    ensures why { block_bytes block.now ≡ None → IfErr result (IsOrMemory (unspelled_fault block.now)) }
 {
     if !is_spelled(block) {
         return Err(unspelled_fault(block));
@@ -327,6 +339,7 @@ fn read_block(alloc: Global, block: &[u8]) -> Result<Vec<u8>, InputFault>
     ensures faults { (bytes : List ℕ) → block_bytes block.now ≡ Some bytes → IfErr result IsOfHex }
     ensures read { (bytes : List ℕ) → block_bytes block.now ≡ Some bytes → HasNoOthers block.now bytes
         → IfErr result (λ fault. fault ≡ of_text InputCause.Memory) }
+    ensures why { block_bytes block.now ≡ None → IfErr result (IsOrMemory (unspelled_fault block.now)) }
 {
     let bytes = read_hex_block(alloc, block)?;
     if has_no_others(alloc, block, bytes.as_slice())? {
@@ -336,19 +349,39 @@ fn read_block(alloc: Global, block: &[u8]) -> Result<Vec<u8>, InputFault>
     }
 }
 
-/// How many lines stand in front of those below the first heading of usbhid-dump that has some.
-fn block_front(lines: &[&[u8]]) -> u64 {
-    for (before, line) in lines.iter().enumerate() {
-        if is_heading(line) && before + 1 < lines.len() && !is_empty_line(lines[before + 1]) {
-            return line_number(before);
-        }
+/// Whether a line is a heading of usbhid-dump, and the next one isn't empty.
+fn begins_block(line: &[u8], next: &[u8]) -> bool
+    ensures { result ≡ begins_block (line.now, next.now) }
+{
+    is_heading(line) && !is_empty_line(next)
+}
+
+/// How many lines stand in front of the first such heading.
+fn block_place(lines: &[&[u8]]) -> Option<usize>
+    ensures { result ≡ position begins_block (zip (map (λ line. line.now) lines.now) (drop 1 (map (λ line. line.now) lines.now))) }
+{
+    if lines.is_empty() {
+        return None;
     }
-    0
+    lines
+        .iter()
+        .zip(lines[1..].iter())
+        .position(|(line, next)| begins_block(line, next))
+}
+
+/// How many lines stand in front of those below it.
+fn block_front(lines: &[&[u8]]) -> u64
+    ensures { result ≡ block_front (map (λ line. line.now) lines.now) }
+{
+    match block_place(lines) {
+        Some(place) => line_number(place),
+        None => 0,
+    }
 }
 
 /// A fault of lines with so many in front of them.
 fn below(fault: InputFault, front: u64) -> InputFault
-    ensures whole { fault.line ≡ None → result ≡ fault }
+    ensures { result ≡ below front fault }
 {
     match fault.line {
         Some(line) => InputFault::of_line(line.saturating_add(front), fault.cause),
@@ -367,6 +400,7 @@ pub fn read_dumped(alloc: Global, text: &[u8]) -> Result<Vec<u8>, InputFault>
     ensures faults { (bytes : List ℕ) → block_bytes (block_below (lines_of text.now)) ≡ Some bytes → IfErr result IsOfHex }
     ensures read { (bytes : List ℕ) → block_bytes (block_below (lines_of text.now)) ≡ Some bytes
         → HasNoOthers (block_below (lines_of text.now)) bytes → IfErr result (λ fault. fault ≡ of_text InputCause.Memory) }
+    ensures why { block_bytes (block_below (lines_of text.now)) ≡ None → IfErr result (IsOrMemory (block_fault (lines_of text.now))) }
 {
     let lines = lines_of(alloc, text)?;
     let block = block_below(alloc, lines.as_slice())?;

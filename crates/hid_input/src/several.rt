@@ -10,9 +10,10 @@
 
 ghost use Rattle.std.specs.Prelude.{◌≡◌, ◌≤◌, ◌<◌, not, length, map, drop, IfOk, IfSome};
 ghost use Rattle.std.specs.List.{list_any, list_all, position, zip};
+ghost use Rattle.hid_input.specs.Comments.{are_dashes};
 ghost use Rattle.hid_input.specs.Dump.{place_of};
 ghost use Rattle.hid_input.specs.Hex.{is_separator, lines_of};
-ghost use Rattle.hid_input.specs.Several.{is_joint, ends_with_joint, goes_on, is_tail, is_c, end_after, end_from, is_closed, closes, behind_separators, first_part, is_page_digit, are_page, begins_page, is_empty, ends_above, ends_in_front, is_apart, are_apart, is_as_long, have_width, are_rows, may_be_several, has_behind, are_dashes, has_dashes, begins_with_backslash, is_other_separator, is_mixed, has_remark, has_remarks};
+ghost use Rattle.hid_input.specs.Several.{is_joint, ends_with_joint, goes_on, is_tail, is_c, end_after, end_from, is_closed, closes, behind_separators, first_part, is_page_digit, are_page, begins_page, has_no_words, ends_above, ends_in_front, is_apart, are_apart, is_as_long, have_width, are_rows, may_be_several, has_behind, has_dashes, begins_with_backslash, is_other_separator, is_mixed, has_remark, has_remarks};
 
 use crate::parts::{is_empty_line, lines_of, place_of, trimmed_text, without_space};
 use crate::spelled::{has_byte, is_separator};
@@ -106,7 +107,7 @@ fn word_place(line: &[u8]) -> Option<usize>
 }
 
 /// Where the first byte stands that parts words.
-fn separator_place(text: &[u8]) -> Option<usize>
+pub fn separator_place(text: &[u8]) -> Option<usize>
     ensures place { result ≡ position is_separator text.now }
     ensures bound { IfSome result (λ place. place < length text.now) }
 {
@@ -114,7 +115,7 @@ fn separator_place(text: &[u8]) -> Option<usize>
 }
 
 /// A line from its first word on.
-fn behind_separators(line: &[u8]) -> &[u8]
+pub fn behind_separators(line: &[u8]) -> &[u8]
     ensures { result.now ≡ behind_separators line.now }
 {
     match word_place(line) {
@@ -156,7 +157,14 @@ pub fn begins_page(line: &[u8]) -> bool
     are_page(digits_in(first_part(line)))
 }
 
-/// Whether a descriptor may end with a line above an empty one.
+/// Whether a line has no word.
+fn has_no_words(line: &[u8]) -> bool
+    ensures { result ≡ has_no_words line.now }
+{
+    line.iter().all(|byte| is_separator(*byte))
+}
+
+/// Whether a descriptor may end with a line above one without a word.
 fn ends_above(line: &[u8]) -> bool
     ensures { result ≡ ends_above line.now }
 {
@@ -174,9 +182,9 @@ fn ends_in_front(line: &[u8], next: &[u8]) -> bool
 fn is_apart(line: &[u8], next: &[u8]) -> bool
     ensures { result ≡ is_apart (line.now, next.now) }
 {
-    !is_empty_line(line)
-        && ((is_empty_line(next) && ends_above(line))
-            || (!is_empty_line(next) && ends_in_front(line, next)))
+    !has_no_words(line)
+        && ((has_no_words(next) && ends_above(line))
+            || (!has_no_words(next) && ends_in_front(line, next)))
 }
 
 /// Whether lines may be of several descriptors.

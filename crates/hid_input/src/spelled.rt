@@ -1,15 +1,17 @@
 //! Bytes in hex, in whatever way they are spelled: `05 01`, `0501`, `05:01`, `0x05, 0x01`, `\x05\x01`.
 
-ghost use Rattle.std.specs.Prelude.{◌≡◌, ℕ, ◌==◌, List, Some, IfOk, IfErr, map};
+ghost use Rattle.std.specs.Prelude.{◌≡◌, ℕ, ◌==◌, List, None, Some, IfOk, IfErr, map};
 ghost use Rattle.hid_input.specs.Faults.{of_text};
+ghost use Rattle.hid_input.specs.Refusals.{IsOrMemory, spelling_fault};
 ghost use Rattle.std.specs.List.{list_any, list_all};
 ghost use Rattle.std.specs.Option.{option_map};
 ghost use Rattle.std.specs.Char.{is_ascii_hexdigit};
 ghost use Rattle.hid_input.specs.Hex.{is_separator, words_of, lines_of, is_one_word, is_long, are_long, is_bare, are_runs, runs_bytes, spelled_bytes, is_spelled_byte, begins_with_colon, is_last, is_label, is_marked_line, has_marked_line, is_spelled};
 
 use crate::fault::{InputCause, InputFault};
-use crate::parts::{first_word, line_number, place_of, without_space};
-use crate::words::{WordForm, byte_in, digits_in, is_h, is_x, read_words};
+use crate::parts::{first_word, place_of, without_space};
+use crate::refusals::spelling_fault;
+use crate::words::{WordForm, is_h, is_x, read_words};
 use std::alloc::{AllocError, Global};
 
 /// The most digits of a word of `od -t x8`. A run of more digits than this has its bytes in their order.
@@ -20,59 +22,6 @@ pub fn is_separator(byte: u8) -> bool
     ensures { result ≡ is_separator byte }
 {
     byte.is_ascii_whitespace() || matches!(byte, b',' | b';' | b':' | b'-' | b'\\')
-}
-
-/// Whether a word is hex digits, two for each byte, marked as hex or not.
-fn is_run(word: &[u8]) -> bool {
-    let digits = digits_in(word);
-    digits.len() % 2 == 0 && digits.iter().all(|byte| byte.is_ascii_hexdigit())
-}
-
-/// With how many bytes a word begins: one, or one for each two digits.
-fn bytes_before(word: &[u8]) -> u64 {
-    if byte_in(word).is_some() {
-        return 1;
-    }
-    let digits = digits_in(word);
-    let count = digits.iter().position(|byte| !byte.is_ascii_hexdigit());
-    count.unwrap_or(digits.len()) as u64 / 2
-}
-
-/// How many bytes stand in a line before the first that isn't hex: a byte, or a run of digits. None where all are.
-fn bad_byte(line: &[u8]) -> Option<u64> {
-    let mut bytes = 0u64;
-    for word in line.split(|byte| is_separator(*byte)) {
-        bytes = bytes.saturating_add(bytes_before(word));
-        if byte_in(word).is_none() && !is_run(word) {
-            return Some(bytes);
-        }
-    }
-    None
-}
-
-/// Sees that each word is hex: a byte, or a run of digits.
-///
-/// # Errors
-/// [`InputCause::BadHex`] of the first line with another word.
-fn check_words(text: &[u8]) -> Result<(), InputFault> {
-    for (before, line) in text.split(|byte| *byte == b'\n').enumerate() {
-        if let Some(at) = bad_byte(line) {
-            return Err(InputFault::of_line(line_number(before), InputCause::BadHex { at }));
-        }
-    }
-    Ok(())
-}
-
-/// Why lines aren't hex alone: the first one that isn't.
-pub fn unspelled_fault(text: &[u8]) -> InputFault {
-    for (before, line) in text.split(|byte| *byte == b'\n').enumerate() {
-        let at = bad_byte(line);
-        if at.is_some() || !is_spelled(line) {
-            let at = at.unwrap_or(0);
-            return InputFault::of_line(line_number(before), InputCause::BadHex { at });
-        }
-    }
-    InputFault::of_text(InputCause::BadHex { at: 0 })
 }
 
 /// Whether a line has one word at most.
@@ -128,32 +77,6 @@ fn are_runs(text: &[u8], words: &[&[u8]]) -> bool
     (are_long(words) || is_bare(text, words)) && are_one_word_lines(text)
 }
 
-/// Why nothing says what the first word of a line is, where it is longer than a byte: an offset that doesn't count, or a word of
-/// several bytes.
-fn longer_word(line: &[u8]) -> Option<InputCause> {
-    let mut words = line
-        .split(|byte| is_separator(*byte))
-        .filter(|word| !word.is_empty());
-    let first = words.next()?;
-    if byte_in(first).is_some() {
-        return None;
-    }
-    match words.next() {
-        Some(second) if byte_in(second).is_some() => Some(InputCause::Offset),
-        _ => Some(InputCause::WordOrder),
-    }
-}
-
-/// The first line that begins with a longer word, and why nothing says what it is.
-fn unknown_word(text: &[u8]) -> InputFault {
-    for (before, line) in text.split(|byte| *byte == b'\n').enumerate() {
-        if let Some(cause) = longer_word(line) {
-            return InputFault::of_line(line_number(before), cause);
-        }
-    }
-    InputFault::of_text(InputCause::WordOrder)
-}
-
 /// The words of a text.
 ///
 /// # Errors
@@ -181,32 +104,35 @@ fn read_runs(alloc: Global, text: &[u8], words: &[&[u8]]) -> Result<Option<Vec<u
     }
 }
 
-/// The bytes of hex in any spelling: each word a byte, or each line a run of digits.
+/// The bytes of hex in any spelling: each word a byte, or each line a run of digits; none where a text is no hex.
+///
+/// # Errors
+/// Out of memory.
+#[tactic(auto, unfolding(crate::specs::Hex::spelled_bytes))]
+pub fn try_spelled(alloc: Global, text: &[u8]) -> Result<Option<Vec<u8>>, AllocError>
+    ensures { IfOk result (λ read. option_map (λ bytes. bytes.items) read ≡ spelled_bytes text.now) }
+{
+    let words = words_of(alloc, text)?;
+    match read_words(alloc, words.as_slice(), WordForm::Byte)? {
+        Some(bytes) => Ok(Some(bytes)),
+        None => read_runs(alloc, text, words.as_slice()),
+    }
+}
+
+/// The bytes of hex in any spelling.
 ///
 /// # Errors
 /// [`InputCause::BadHex`] where a word isn't hex; [`InputCause::Offset`] and [`InputCause::WordOrder`] where longer words stand
 /// beside others; [`InputCause::Memory`].
-#[tactic(auto, unfolding(crate::specs::Hex::spelled_bytes))]
 pub fn read_spelled(alloc: Global, text: &[u8]) -> Result<Vec<u8>, InputFault>
     ensures bytes { IfOk result (λ read. spelled_bytes text.now ≡ Some read.items) }
     ensures faults { (bytes : List ℕ) → spelled_bytes text.now ≡ Some bytes
         → IfErr result (λ fault. fault ≡ of_text InputCause.Memory) }
+    ensures why { spelled_bytes text.now ≡ None → IfErr result (IsOrMemory (spelling_fault text.now)) }
 {
-    let words = words_of(alloc, text)?;
-    if let Some(bytes) = read_words(alloc, words.as_slice(), WordForm::Byte)? {
-        return Ok(bytes);
-    }
-    match read_runs(alloc, text, words.as_slice())? {
+    match try_spelled(alloc, text)? {
         Some(bytes) => Ok(bytes),
         None => Err(spelling_fault(text)),
-    }
-}
-
-/// Why text isn't hex: the first line with a word that isn't, or the first one that begins with a longer word.
-fn spelling_fault(text: &[u8]) -> InputFault {
-    match check_words(text) {
-        Err(fault) => fault,
-        Ok(()) => unknown_word(text),
     }
 }
 
@@ -239,7 +165,7 @@ pub fn are_spelled_bytes(text: &[u8]) -> bool
 }
 
 /// Whether a line begins with a colon, as Intel HEX, or with a label: a letter of hid-recorder, or an offset.
-fn is_marked_line(line: &[u8]) -> bool
+pub fn is_marked_line(line: &[u8]) -> bool
     ensures { result ≡ is_marked_line line.now }
 {
     begins_with_colon(without_space(line)) || is_label(first_word(line))

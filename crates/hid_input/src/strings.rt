@@ -1,17 +1,20 @@
 //! The bytes of a string in a source text, as its escapes say them.
 
 ghost use Rattle.std.specs.Prelude.{◌≡◌, ◌≤◌, ◌<◌, not, length, IfSome, ℕ, ◌++◌, ◌∷◌, [], Bool, false, true, List, Some, None, OnOk, IfOk, IfErr, map};
-ghost use Rattle.std.specs.List.{list_any, list_all, position};
+ghost use Rattle.std.specs.List.{list_any, list_all, position, suffix_len};
 ghost use Rattle.std.specs.Option.{option_map, option_and_then};
+ghost use Rattle.std.specs.Char.{is_ascii_whitespace, is_ascii_lowercase};
 ghost use Rattle.hid_input.specs.Code.{code_of};
 ghost use Rattle.hid_input.specs.Faults.{of_text};
-ghost use Rattle.hid_input.specs.Strings.{has_string, line_front, goes_on, joined_line, joined_lines, opens, closes, with_front, cut_parts, parts_from, parts_of, has_byte, begins_with_escape, begins_value, ends_word, ends_with_b, stands_alone, string_bytes, is_closing, ends_value, begins_name, may_follow, after_closing, is_after_string, ends_strings, may_end, more_bytes, if_several, first_bytes, alone_bytes, bytes_from, strings_bytes};
+ghost use Rattle.hid_input.specs.Strings.{has_string, line_front, goes_on, joined_line, joined_lines, opens, closes, with_front, cut_parts, parts_from, parts_of, has_byte, begins_with_escape, begins_value, ends_word, ends_with_b, without_b, is_opening, is_operator, ends_with_equals, ends_with_opening, last_name, before_name, is_word, ends_with_operator, ends_line, ends_statement, may_precede, string_front, stands_alone, is_quoted, string_bytes, is_closing, ends_value, begins_name, may_follow, after_closing, is_after_string, ends_strings, may_end, joins_strings, more_bytes, if_several, first_bytes, alone_bytes, bytes_from, strings_bytes};
 ghost use Rattle.hid_input.specs.Words.{both, IsAdded};
+ghost use Rattle.hid_input.specs.Refusals.{IsNamedIn, is_bad_string, has_bad_string, string_fault};
 
 use crate::characters::read_characters;
 use crate::code::{Place, place_after, unclear_code, without_comments};
 use crate::fault::{InputCause, InputFault};
 use crate::parts::{is_empty_line, lines_of};
+use crate::refusals::missing_fault;
 use crate::spelled::has_byte;
 use std::alloc::{AllocError, Global};
 use std::mem;
@@ -28,7 +31,7 @@ pub fn has_string(code: &[u8]) -> bool
 }
 
 /// A line without the white space at its end.
-fn line_front(line: &[u8]) -> &[u8]
+pub fn line_front(line: &[u8]) -> &[u8]
     ensures { result.now ≡ line_front line.now }
 {
     line.trim_ascii_end()
@@ -214,19 +217,164 @@ fn has_value(code: &[u8]) -> bool
     code.iter().any(|byte| begins_value(*byte))
 }
 
+/// Code without the letter b in front of a string.
+fn without_b(code: &[u8]) -> &[u8]
+    ensures { result.now ≡ without_b code.now }
+{
+    if ends_with_b(code) {
+        &code[..code.len() - 1]
+    } else {
+        code
+    }
+}
+
+/// Whether a string may begin after a byte: an opening bracket, a sign between values, or the `$` of bash.
+fn is_opening(byte: u8) -> bool
+    ensures { result ≡ is_opening byte }
+{
+    matches!(byte, b'(' | b'[' | b'{' | b',' | b':' | b';' | b'>' | b'$')
+}
+
+/// Whether a byte makes another operator of the `=` after it.
+fn is_operator(byte: u8) -> bool
+    ensures { result ≡ is_operator byte }
+{
+    matches!(
+        byte,
+        b'+' | b'-' | b'*' | b'/' | b'%' | b'.' | b'|' | b'&' | b'^' | b'!' | b'<' | b'>' | b'='
+    )
+}
+
+/// Whether code ends with `=` alone.
+fn ends_with_equals(code: &[u8]) -> bool
+    ensures { result ≡ ends_with_equals code.now }
+{
+    code.len() >= 1
+        && code[code.len() - 1] == b'='
+        && !(code.len() >= 2 && is_operator(code[code.len() - 2]))
+}
+
+/// Whether a string may begin after the last byte of code.
+fn ends_with_opening(code: &[u8]) -> bool
+    ensures { result ≡ ends_with_opening code.now }
+{
+    code.len() >= 1 && is_opening(code[code.len() - 1])
+}
+
+/// How many letters, digits and low lines code ends with.
+fn name_length(code: &[u8]) -> usize
+    ensures value { result ≡ suffix_len begins_name code.now }
+    ensures bound { result ≤ length code.now }
+{
+    let length = code.len();
+    for at in 0..length {
+        if !begins_name(code[length - 1 - at]) {
+            return at;
+        }
+    }
+    length
+}
+
+/// The name with which code ends.
+fn last_name(code: &[u8]) -> &[u8]
+    ensures { result.now ≡ last_name code.now }
+{
+    &code[code.len() - name_length(code)..]
+}
+
+/// What stands in front of the name with which code ends.
+fn before_name(code: &[u8]) -> &[u8]
+    ensures { result.now ≡ before_name code.now }
+{
+    line_front(&code[..code.len() - name_length(code)])
+}
+
+/// Whether a name has a small letter.
+fn has_small_letter(name: &[u8]) -> bool
+    ensures { result ≡ list_any is_ascii_lowercase name.now }
+{
+    name.iter().any(|byte| byte.is_ascii_lowercase())
+}
+
+/// Whether the name with which code ends is no macro, or one that is being defined.
+fn is_word(code: &[u8]) -> bool
+    ensures { result ≡ is_word code.now }
+{
+    let name = last_name(code);
+    has_small_letter(name) || (name.len() >= 1 && before_name(code).ends_with(b"define"))
+}
+
+/// Whether code ends with an operator.
+fn ends_with_operator(code: &[u8]) -> bool
+    ensures { result ≡ ends_with_operator code.now }
+{
+    code.len() >= 1 && is_operator(code[code.len() - 1])
+}
+
+/// Whether a line ends after the front of code.
+fn ends_line(code: &[u8], front: &[u8]) -> bool
+    requires { length front.now ≤ length code.now }
+    ensures { result ≡ ends_line code.now front.now }
+{
+    has_byte(&code[front.len()..], b'\n')
+}
+
+/// Whether code ends with another statement, or a comment, in a line above a string of bytes.
+fn ends_statement(code: &[u8], front: &[u8]) -> bool
+    requires { length front.now ≤ length code.now }
+    ensures { result ≡ ends_statement code.now front.now }
+{
+    ends_with_b(code) && ends_line(code, front) && !ends_with_operator(front)
+}
+
+/// Whether a string may begin after code, which is this without white space and b at its end.
+fn may_precede(code: &[u8], front: &[u8]) -> bool
+    requires { length front.now ≤ length code.now }
+    ensures { result ≡ may_precede code.now front.now }
+{
+    front.is_empty()
+        || ends_with_opening(front)
+        || ends_with_equals(front)
+        || is_word(front)
+        || ends_statement(code, front)
+}
+
+/// Code without white space and b at its end.
+fn string_front(code: &[u8]) -> &[u8]
+    ensures front { result.now ≡ string_front code.now }
+    ensures bound { length result.now ≤ length code.now }
+{
+    line_front(without_b(code))
+}
+
 /// Whether a string with this code in front of it stands alone.
 fn stands_alone(has_other: bool, code: &[u8]) -> bool
     ensures { result ≡ stands_alone has_other code.now }
 {
-    (ends_word(code) || ends_with_b(code)) && (!has_other || has_value(code))
+    (ends_word(code) || ends_with_b(code))
+        && (!has_other || has_value(code))
+        && may_precede(code, string_front(code))
+}
+
+/// Whether a string may go on in one that begins with this quote.
+fn is_quoted(is_bytes: bool, quote: u8, string: &[u8]) -> bool
+    ensures is { result ≡ is_quoted is_bytes quote string.now }
+    ensures some { result ≡ true → 1 ≤ length string.now }
+{
+    string.len() >= 1 && (is_bytes || string[0] == quote)
 }
 
 /// The bytes of a string, if this quote is in front of it.
-fn read_string_part(alloc: Global, quote: u8, string: &[u8]) -> Result<Option<Vec<u8>>, AllocError>
-    ensures { IfOk result (λ read. option_map (λ bytes. bytes.items) read ≡ string_bytes quote string.now) }
+fn read_string_part(
+    alloc: Global,
+    is_bytes: bool,
+    quote: u8,
+    string: &[u8],
+) -> Result<Option<Vec<u8>>, AllocError>
+    ensures { IfOk result (λ read. option_map (λ bytes. bytes.items) read ≡ string_bytes is_bytes quote string.now) }
 {
-    if string.len() >= 1 && string[0] == quote {
-        read_characters(alloc, &string[1..])
+    if is_quoted(is_bytes, quote, string) {
+        read_characters(alloc, &string[1..], is_bytes)
     } else {
         Ok(None)
     }
@@ -243,12 +391,13 @@ fn have_backslash(parts: &[Vec<u8>]) -> bool
 fn add_string(
     alloc: Global,
     bytes: &mut Vec<u8>,
+    is_bytes: bool,
     quote: u8,
     string: &[u8],
 ) -> Result<bool, AllocError>
-    ensures { IfOk result (λ is_read. IsAdded bytes.old.items (string_bytes quote string.now) is_read bytes.new.items) }
+    ensures { IfOk result (λ is_read. IsAdded bytes.old.items (string_bytes is_bytes quote string.now) is_read bytes.new.items) }
 {
-    match read_string_part(alloc, quote, string)? {
+    match read_string_part(alloc, is_bytes, quote, string)? {
         Some(more) => {
             bytes.extend_from_slice(more.as_slice())?;
             Ok(true)
@@ -271,7 +420,7 @@ fn ends_value(byte: u8) -> bool
     matches!(byte, b';' | b',' | b'>' | b'#')
 }
 
-/// Whether a byte begins another statement, if it stands in another line.
+/// Whether a byte is one of a name, which begins another statement, if it stands in another line.
 fn begins_name(byte: u8) -> bool
     ensures { result ≡ begins_name byte }
 {
@@ -320,23 +469,35 @@ fn ends_strings(code: &[u8], parts: &[Vec<u8>]) -> bool
         && !have_backslash(parts)
 }
 
+/// Whether strings with this code between them belong together.
+pub fn joins_strings(is_bytes: bool, code: &[u8]) -> bool
+    ensures { result ≡ joins_strings is_bytes code.now }
+{
+    if is_bytes {
+        ends_with_b(code) && is_empty_line(without_b(code))
+    } else {
+        is_empty_line(code)
+    }
+}
+
 /// Adds the bytes of the strings that belong to one in front of these parts; false where that isn't known, or one has none.
 fn add_more(
     alloc: Global,
     bytes: &mut Vec<u8>,
+    is_bytes: bool,
     quote: u8,
     parts: &[Vec<u8>],
 ) -> Result<bool, AllocError>
-    ensures { IfOk result (λ is_read. IsAdded bytes.old.items (more_bytes quote (map (λ part. part.items) parts.now)) is_read bytes.new.items) }
+    ensures { IfOk result (λ is_read. IsAdded bytes.old.items (more_bytes is_bytes quote (map (λ part. part.items) parts.now)) is_read bytes.new.items) }
 {
     let mut rest = parts;
     while rest.len() >= 2 {
         let code = rest[0].as_slice();
-        if !is_empty_line(code) {
+        if !joins_strings(is_bytes, code) {
             let (_code, others) = rest.split_at(1);
             return Ok(ends_strings(code, others));
         }
-        if !add_string(alloc, bytes, quote, rest[1].as_slice())? {
+        if !add_string(alloc, bytes, is_bytes, quote, rest[1].as_slice())? {
             return Ok(false);
         }
         let (_taken, more) = rest.split_at(2);
@@ -348,17 +509,18 @@ fn add_more(
 /// The bytes of a string and of those that belong to it, which stand in the parts after it.
 fn read_together(
     alloc: Global,
+    is_bytes: bool,
     quote: u8,
     string: &[u8],
     parts: &[Vec<u8>],
 ) -> Result<Option<Vec<u8>>, AllocError>
     ensures { IfOk result (λ read. option_map (λ bytes. bytes.items) read
-        ≡ both (string_bytes quote string.now) (more_bytes quote (map (λ part. part.items) parts.now))) }
+        ≡ both (string_bytes is_bytes quote string.now) (more_bytes is_bytes quote (map (λ part. part.items) parts.now))) }
 {
-    let Some(mut bytes) = read_string_part(alloc, quote, string)? else {
+    let Some(mut bytes) = read_string_part(alloc, is_bytes, quote, string)? else {
         return Ok(None);
     };
-    if add_more(alloc, &mut bytes, quote, parts)? {
+    if add_more(alloc, &mut bytes, is_bytes, quote, parts)? {
         Ok(Some(bytes))
     } else {
         Ok(None)
@@ -368,14 +530,15 @@ fn read_together(
 /// The bytes of a string that begins with an escape, and of those that belong to it; none of a single character.
 fn read_first(
     alloc: Global,
+    is_bytes: bool,
     string: &[u8],
     parts: &[Vec<u8>],
 ) -> Result<Option<Vec<u8>>, AllocError>
     requires { 1 ≤ length string.now }
-    ensures { IfOk result (λ read. option_map (λ bytes. bytes.items) read ≡ first_bytes string.now (map (λ part. part.items) parts.now)) }
+    ensures { IfOk result (λ read. option_map (λ bytes. bytes.items) read ≡ first_bytes is_bytes string.now (map (λ part. part.items) parts.now)) }
 {
     let quote = string[0];
-    match read_together(alloc, quote, string, parts)? {
+    match read_together(alloc, is_bytes, quote, string, parts)? {
         Some(bytes) if quote == b'\'' && bytes.len() <= 1 => Ok(None),
         Some(bytes) => Ok(Some(bytes)),
         None => Ok(None),
@@ -395,7 +558,7 @@ fn read_alone(
         ≡ alone_bytes has_other code.now string.now (map (λ part. part.items) parts.now)) }
 {
     if stands_alone(has_other, code) {
-        read_first(alloc, string, parts)
+        read_first(alloc, ends_with_b(code), string, parts)
     } else {
         Ok(None)
     }
@@ -420,27 +583,51 @@ fn read_parts(alloc: Global, parts: &[Vec<u8>]) -> Result<Option<Vec<u8>>, Alloc
     Ok(None)
 }
 
+/// Whether a part is a string with an escape that is no byte, as one of bytes or of C.
+fn is_bad_string(alloc: Global, is_bytes: bool, part: &[u8]) -> Result<bool, AllocError>
+    ensures { IfOk result (λ is_bad. is_bad ≡ is_bad_string is_bytes part.now) }
+{
+    if part.len() >= 1 && matches!(part[0], b'"' | b'\'') {
+        Ok(read_characters(alloc, &part[1..], is_bytes)?.is_none())
+    } else {
+        Ok(false)
+    }
+}
+
 /// Whether some string has an escape that is no byte.
-fn have_bad_escape(alloc: Global, parts: &[Vec<u8>]) -> Result<bool, AllocError> {
+fn have_bad_escape(alloc: Global, parts: &[Vec<u8>]) -> Result<bool, AllocError>
+    ensures { IfOk result (λ have. have ≡ has_bad_string [] (map (λ part. part.items) parts.now)) }
+{
+    let mut front: &[u8] = &[];
     for part in parts {
-        let part = part.as_slice();
-        let is_string = part.len() >= 1 && matches!(part[0], b'"' | b'\'');
-        if is_string && read_characters(alloc, &part[1..])?.is_none() {
+        if is_bad_string(alloc, ends_with_b(front), part.as_slice())? {
             return Ok(true);
         }
+        front = part.as_slice();
     }
     Ok(false)
 }
 
-/// Why no string is read: none begins with an escape, one has an escape that is no byte, or others stand beside the first that does.
-fn string_fault(alloc: Global, parts: &[Vec<u8>]) -> InputFault {
-    if !parts.iter().any(|part| begins_with_escape(part.as_slice())) {
-        return InputFault::of_text(InputCause::NoDescriptor);
+/// Whether some string begins with an escape.
+fn have_escape(parts: &[Vec<u8>]) -> bool
+    ensures { result ≡ list_any begins_with_escape (map (λ part. part.items) parts.now) }
+{
+    parts.iter().any(|part| begins_with_escape(part.as_slice()))
+}
+
+/// Why no string of a text is read: none begins with an escape, one has an escape that is no byte, or others stand beside the first
+/// that does.
+#[tactic(auto, unfolding(crate::specs::Refusals::string_fault))]
+fn string_fault(alloc: Global, text: &[u8], parts: &[Vec<u8>]) -> Result<InputFault, AllocError>
+    ensures { IfOk result (λ fault. fault ≡ string_fault text.now (map (λ part. part.items) parts.now)) }
+{
+    if !have_escape(parts) {
+        return Ok(missing_fault(text));
     }
-    match have_bad_escape(alloc, parts) {
-        Ok(true) => InputFault::of_text(InputCause::BadEscape),
-        Ok(false) => InputFault::of_text(InputCause::SeveralStrings),
-        Err(error) => InputFault::from(error),
+    if have_bad_escape(alloc, parts)? {
+        Ok(InputFault::of_text(InputCause::BadEscape))
+    } else {
+        Ok(InputFault::of_text(InputCause::SeveralStrings))
     }
 }
 
@@ -460,13 +647,16 @@ pub fn try_strings(alloc: Global, code: &[u8]) -> Result<Option<Vec<u8>>, AllocE
 ///
 /// # Errors
 /// [`InputCause::BadEscape`] where an escape is no byte or a third hex digit follows it; [`InputCause::SeveralStrings`] where another
-/// string stands beside it or has an escape, where a letter is in front of it that isn't b, and of a single character;
-/// [`InputCause::NoDescriptor`] where there is none; [`InputCause::Unclear`]; [`InputCause::Memory`].
+/// string stands beside it or has an escape, where an operator, a macro or a letter that isn't b is in front of it, and of a single
+/// character;
+/// what [`missing_fault`] says where there is none; [`InputCause::Unclear`]; [`InputCause::Memory`].
 #[tactic(auto, unfolding(crate::specs::Strings::strings_bytes))]
 pub fn read_string(alloc: Global, text: &[u8]) -> Result<Vec<u8>, InputFault>
     ensures bytes { IfOk result (λ read. option_and_then strings_bytes (code_of true text.now) ≡ Some read.items) }
     ensures faults { (bytes : List ℕ) → option_and_then strings_bytes (code_of true text.now) ≡ Some bytes
         → IfErr result (λ fault. fault ≡ of_text InputCause.Memory) }
+    ensures why { option_and_then strings_bytes (code_of true text.now) ≡ None
+        → IfErr result (IsNamedIn (λ code. string_fault text.now (parts_of code)) (code_of true text.now)) }
 {
     let Some(code) = without_comments(alloc, text, true)? else {
         return Err(unclear_code(text));
@@ -474,6 +664,6 @@ pub fn read_string(alloc: Global, text: &[u8]) -> Result<Vec<u8>, InputFault>
     let parts = parts_of(alloc, code.as_slice())?;
     match read_parts(alloc, parts.as_slice())? {
         Some(bytes) => Ok(bytes),
-        None => Err(string_fault(alloc, parts.as_slice())),
+        None => Err(string_fault(alloc, text, parts.as_slice())?),
     }
 }

@@ -1,7 +1,7 @@
 use Rattle.std.proofs.Common.{ℕ, ◌⊎◌, List, subst}
 use Rattle.std.specs.Prelude.{IfErr}
 use Rattle.hid_input.specs.declared.form.TextForm.{TextForm}
-use Rattle.hid_input.specs.Forms.{Encodes, IsAlone, IsFaultOf, IsMemory}
+use Rattle.hid_input.specs.Forms.{Encodes, IsAlone, IsFaultOf, IsMemory, IsUnread, IsNamed}
 use Rattle.hid_input.specs.Doubts.{doubt, IsDoubted}
 use Rattle.hid_input.proofs.reading.descriptor_in_text.Goals as goal
 
@@ -16,3 +16,8 @@ returns-clause-one_way c =
     subst (λ (form : TextForm). (whole : List ℕ) → Encodes c.args.text.now whole form → IsAlone c.args.text.now whole form
     → IfErr c.read_sure.result (λ fault. IsMemory fault ⊎ IsDoubted fault (doubt c.args.text.now whole form)))
     c.in_ok-form.ensures c.read_sure.ensures.one_way
+
+pub returns-clause-why : goal.returns-clause-why
+returns-clause-why c =
+    subst (λ (form : TextForm). IsUnread c.args.text.now form → IfErr c.read_sure.result (λ fault. IsNamed c.args.text.now fault form))
+    c.in_ok-form.ensures c.read_sure.ensures.why

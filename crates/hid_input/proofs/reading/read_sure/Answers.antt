@@ -3,7 +3,7 @@ use Rattle.hid_input.specs.declared.fault.InputFault.{InputFault}
 use Rattle.hid_input.specs.declared.fault.InputCause.{InputCause}
 use Rattle.hid_input.specs.Faults.{of_text}
 use Rattle.hid_input.specs.Doubts.{doubt, IsDoubted}
-use Rattle.hid_input.proofs.FormLemmas.{same_bytes}
+use Rattle.hid_input.proofs.FormLemmas.{same_bytes, read_once}
 use Rattle.hid_input.proofs.reading.read_sure.Goals as goal
 
 pub returns-in-Some-clause-complete : goal.returns-in-Some-clause-complete
@@ -39,3 +39,9 @@ returns-in-Err-clause-complete c = λ whole read. inl ((rw c.in-Err.is at c.read
 
 pub returns-in-Err-clause-one_way : goal.returns-in-Err-clause-one_way
 returns-in-Err-clause-one_way c = λ whole read alone. inl ((rw c.in-Err.is at c.read_form.ensures.one_way) whole read alone)
+
+pub returns-in-Some-clause-why : goal.returns-in-Some-clause-why
+returns-in-Some-clause-why c = λ none. absurd (read_once c.args.text.now c.in-Ok.bytes.items c.args.form (rw c.in-Ok.is at c.read_form.ensures.text) none)
+
+pub returns-in-Err-clause-why : goal.returns-in-Err-clause-why
+returns-in-Err-clause-why c = λ none. (rw c.in-Err.is at c.read_form.ensures.why) none

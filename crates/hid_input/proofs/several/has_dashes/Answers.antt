@@ -4,7 +4,7 @@ use Rattle.std.proofs.lemmas.List.{take_rest}
 use Rattle.std.proofs.lemmas.Iterator.{YieldsList, YieldsList-from_slice, YieldsList-from_zip}
 use Rattle.std.proofs.lemmas.Iterator.Consumers.{YieldsList-at}
 use Rattle.std.proofs.lemmas.Iterator.Search.{any_from_yields_List}
-use Rattle.hid_input.specs.Several.{are_dashes}
+use Rattle.hid_input.specs.Comments.{are_dashes}
 use Rattle.hid_input.proofs.several.has_dashes.Goals as goal
 
 pub returns : goal.returns
