@@ -266,6 +266,14 @@ pub fn play_source<R: Read + Drop, W: Write, H: Watch>(
     }
 }
 
+/// Whether a text has no descriptor: it may be a script.
+fn is_missing(cause: InputCause) -> bool {
+    matches!(
+        cause,
+        InputCause::OtherBrackets | InputCause::OtherLine | InputCause::NoDescriptor
+    )
+}
+
 /// Plays a file that doesn't begin as a recording: as one if it has a line of a recording, or is longer than what is read of it; else
 /// its descriptor.
 fn play_other<R: Read, W: Write, H: Watch>(
@@ -285,13 +293,16 @@ fn play_other<R: Read, W: Write, H: Watch>(
                 return play_descriptor(alloc, bytes.as_slice(), out, options, watch);
             }
             Err(fault) => {
-                if fault.cause != InputCause::NoDescriptor {
+                if !is_missing(fault.cause) {
+                    return Err(unread_descriptor(fault));
+                }
+                if is_script(front.as_slice()) {
+                    return Err(other_file(OtherFile::Script));
+                }
+                if front.len() < LONGEST && fault.cause != InputCause::NoDescriptor {
                     return Err(unread_descriptor(fault));
                 }
             }
-        }
-        if is_script(front.as_slice()) {
-            return Err(other_file(OtherFile::Script));
         }
         // (lines of a recording may come after what was read of a longer file)
         if front.len() < LONGEST && says_more(front.as_slice()) {
