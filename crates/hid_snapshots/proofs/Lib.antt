@@ -1,6 +1,7 @@
 pub mod ListLemmas
 pub mod CodeLemmas
 pub mod WordLemmas
+pub mod NoteLemmas
 pub mod FillLemmas
 pub mod ItemLemmas
 pub mod BlankLemmas

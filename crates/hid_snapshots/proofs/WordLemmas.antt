@@ -330,12 +330,14 @@ found_next ws n ps from r are e found =
     (λ i. ap (λ (b : Bool). is_bit ws i && not b) (no_bit i) ∙ and_not_false (is_bit ws i) ∙ bit_on_at ws n ps i are e)
     (omega arith) (λ i h. on_within ps i h) found
 
-pub found_next_alone : (ws vs : List ℕ) (n m : ℕ) (ps qs : List Bool) (from : ℕ) (r : Option ℕ) → AreWords ws n → places_in ws n ≡ ps → AreWords vs m → places_in vs m ≡ qs
+pub found_next_alone : (ws vs : List ℕ) (n : ℕ) (ps qs : List Bool) (from : ℕ) (r : Option ℕ) → AreWords ws n → places_in ws n ≡ ps → vs ≡ switch_words qs
     → FindsFirst (are_alone ws vs) from (64 * length ws) r → FindsFirst (is_alone ps qs) from (length ps) r
-found_next_alone ws vs n m ps qs from r are e are' e' found =
+found_next_alone ws vs n ps qs from r are e same found =
     let t = told ws n ps are e in
     found_along (are_alone ws vs) (is_alone ps qs) from (64 * length ws) (length ps) r
-    (λ i. ap (λ (b : Bool). b && not (is_bit vs i)) (bit_on_at ws n ps i are e) ∙ ap (λ (b : Bool). is_on ps i && not b) (bit_on_at vs m qs i are' e'))
+    (λ i.
+    ap (λ (b : Bool). b && not (is_bit vs i)) (bit_on_at ws n ps i are e)
+    ∙ ap (λ (b : Bool). is_on ps i && not b) (ap (λ (xs : List ℕ). is_bit xs i) same ∙ bit_is_on (div_ceil (length qs) 64) qs i (enough (length qs))))
     (omega arith) (λ i h. on_within ps i (both_on (is_on ps i) (not (is_on qs i)) h)) found
 
 same_tests : (r s : Bool) → (r ≡ true → s ≡ true) → (s ≡ true → r ≡ true) → r ≡ s
@@ -359,22 +361,9 @@ other_words ws vs n m ps qs are e are' e' apart =
     same_tests false (pointwise beq ps qs) (λ h. absurd (cc))
     (λ h. absurd (apart ((told ws n ps are e).1 ∙ ap length (places.0 h) ∙ sym (told vs m qs are' e').1)))
 
--- as many ones as pressed places
-pub ones_pressed : (ws : List ℕ) (n : ℕ) (ps : List Bool) → AreWords ws n → places_in ws n ≡ ps → sum_by count_ones ws ≡ count_by (λ p. p) ps
-ones_pressed ws n ps are e = ap (sum_by count_ones) (told ws n ps are e).0 ∙ ones (div_ceil (length ps) 64) ps (enough (length ps))
-
-pub ones_few : (ws : List ℕ) (n : ℕ) (ps : List Bool) → AreWords ws n → places_in ws n ≡ ps → sum_by count_ones ws ≤ n
-ones_few ws n ps are e = omega (arith, ones_pressed ws n ps are e, count_by-le-length (λ (p : Bool). p) ps, (told ws n ps are e).1)
-
--- what a search through the words asks for
-pub words_few : (ws : List ℕ) (n : ℕ) (ps : List Bool) → AreWords ws n → places_in ws n ≡ ps → 64 * length ws < n + 64
-words_few ws n ps are e = let t = told ws n ps are e in omega arith
-
-pub alone_few : (ws vs : List ℕ) (n : ℕ) (ps : List Bool) (i : ℕ) → AreWords ws n → places_in ws n ≡ ps → are_alone ws vs i ≡ true → i < n
-alone_few ws vs n ps i are e h =
-    let within = on_within ps i (sym (bit_on_at ws n ps i are e) ∙ both_on (is_bit ws i) (not (is_bit vs i)) h) in
-    let t = told ws n ps are e in
-    omega arith
+-- as many ones as pressed places, at most all
+pub ones_few : (ps : List Bool) → sum_by count_ones (switch_words ps) ≤ length ps
+ones_few ps = omega (arith, ones (div_ceil (length ps) 64) ps (enough (length ps)), count_by-le-length (λ (p : Bool). p) ps)
 
 pub same_at : (ws : List ℕ) (k w old r : ℕ) → k < length ws → old ≡ get_or ws k old → ((b : ℕ) → b < 64 → b ≢ r → bit_at w b ≡ bit_at old b) → (b : ℕ) → b < 64 → b ≢ r → bit_at w b ≡ bit_at (get_or ws k 0) b
 same_at ws k w old r h is others b l ne = others b l ne ∙ ap (λ (v : ℕ). bit_at v b) (sym (get_or_from_slice_get ws k old 0 (slice_get-get_or ws k old h ∙ ap Some (sym is))))
@@ -486,14 +475,13 @@ bits_unlike zero (suc (suc y)) h k = absurd (omega arith)
 bits_unlike (suc zero) (suc (suc y)) h k = absurd (omega arith)
 
 -- a bit of a word of places and of another one
-pub unlike_at : (ws : List ℕ) (n : ℕ) (ps : List Bool) (index v w b : ℕ) → AreWords ws n → places_in ws n ≡ ps → v ≡ unwrap_or (slice_get ws index) 0 → b < 64
-    → (bit_at (bit_xor v w) b == 1) ≡ is_unlike ps index w b
-unlike_at ws n ps index v w b are e is low =
+pub unlike_at : (ps : List Bool) (index v w b : ℕ) → v ≡ unwrap_or (slice_get (switch_words ps) index) 0 → b < 64 → (bit_at (bit_xor v w) b == 1) ≡ is_unlike ps index w b
+unlike_at ps index v w b is low =
     let q : (64 * index + b) / 64 ≡ index = omega arith in
     let r : (64 * index + b) % 64 ≡ b = omega arith in
-    let here : is_bit ws (64 * index + b) ≡ (bit_at v b == 1) = rw (q, r, ← is) refl in
+    let here : is_bit (switch_words ps) (64 * index + b) ≡ (bit_at v b == 1) = rw (q, r, ← is) refl in
     ap (λ (x : ℕ). x == 1) (bit_at_xor v w b) ∙ bits_unlike (bit_at v b) (bit_at w b) (bit_at-lt v b) (bit_at-lt w b)
-    ∙ ap (λ (x : Bool). not (beq x (bit_at w b == 1))) (sym here ∙ bit_on_at ws n ps (64 * index + b) are e)
+    ∙ ap (λ (x : Bool). not (beq x (bit_at w b == 1))) (sym here ∙ bit_is_on (div_ceil (length ps) 64) ps (64 * index + b) (enough (length ps)))
 
 -- tests that pass alike find the same
 pub found_below : (s t : ℕ → Bool) (from end : ℕ) (r : Option ℕ) → ((i : ℕ) → i < end → s i ≡ t i) → FindsFirst s from end r → FindsFirst t from end r

@@ -34,6 +34,10 @@ pub record AreWords (ws : List ℕ) (n : ℕ) : Type 0 where
   pub places : length (places_in ws n) ≡ n
   pub small : n < 2 ^ 64
 
+-- as many words as n places need, of those that come first
+abbrev pub words_of : List ℕ → ℕ → List ℕ
+words_of ws n = take (div_ceil n 64) ws
+
 -- whether a place is pressed; none is past the last
 abbrev pub is_on : List Bool → ℕ → Bool
 is_on ps i = unwrap_or (slice_get ps i) false
@@ -46,9 +50,13 @@ is_alone ps qs i = is_on ps i && not (is_on qs i)
 abbrev pub is_unlike : List Bool → ℕ → ℕ → ℕ → Bool
 is_unlike ps index w b = not (beq (is_on ps (64 * index + b)) (bit_at w b == 1))
 
+-- the word at an index; 0 past the last
+abbrev pub word_at : List ℕ → ℕ → ℕ
+word_at ws k = unwrap_or (slice_get ws k) 0
+
 -- bit i mod 64 of word i div 64; 0 past the last word
 abbrev pub is_bit : List ℕ → ℕ → Bool
-is_bit ws i = bit_at (unwrap_or (slice_get ws (i / 64)) 0) (i % 64) == 1
+is_bit ws i = bit_at (word_at ws (i / 64)) (i % 64) == 1
 
 -- a bit of the first words is 1 where that of the second is 0
 abbrev pub are_alone : List ℕ → List ℕ → ℕ → Bool
@@ -65,3 +73,32 @@ pub record IsFirst (test : ℕ → Bool) (from end place : ℕ) : Type 0 where
 abbrev pub FindsFirst : (ℕ → Bool) → ℕ → ℕ → Option ℕ → Type 0
 FindsFirst test from end None = (i : ℕ) → from ≤ i → i < end → test i ≡ false
 FindsFirst test from end (Some place) = IsFirst test from end place
+
+-- after a count of words there are notes, a bit for each
+abbrev pub HasNotes : List ℕ → ℕ → Type 0
+HasNotes ws count = length ws ≡ count + div_ceil count 64
+
+-- the bit of a group of 64 words; the last bit is for all groups from there on
+abbrev pub is_group : ℕ → ℕ → Bool
+is_group top j = bit_at top (min j 63) == 1
+
+-- a group whose bit is 0 has no note
+abbrev pub AreGroups : List ℕ → ℕ → Type 0
+AreGroups notes top = (j : ℕ) → is_group top j ≡ false → word_at notes j ≡ 0
+
+-- A word without a note is 0, but for the first one; notes without a bit for their group are 0.
+pub record AreNoted (ws notes : List ℕ) (top : ℕ) : Type 0 where
+  pub filled : (k : ℕ) → 0 < k → is_bit notes k ≡ false → word_at ws k ≡ 0
+  pub groups : AreGroups notes top
+
+-- no group between one and the next has a bit; none after it, where there is no next
+abbrev pub FindsGroup : ℕ → ℕ → Option ℕ → Type 0
+FindsGroup top group None = (j : ℕ) → group < j → is_group top j ≡ false
+FindsGroup top group (Some next) =
+    (group < next) × (next ≤ group + 64) × ((j : ℕ) → group < j → j < next → is_group top j ≡ false)
+
+-- The words keep n places, and after them are their notes.
+pub record AreFlags (ws : List ℕ) (n top : ℕ) : Type 0 where
+  pub words : AreWords (words_of ws n) n
+  pub notes : HasNotes ws (div_ceil n 64)
+  pub noted : AreNoted (words_of ws n) (drop (div_ceil n 64) ws) top

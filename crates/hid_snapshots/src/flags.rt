@@ -1,31 +1,37 @@
 //! Pressed places, kept as words of 64 bits (our choice).
 
-ghost use Rattle.std.specs.Prelude.{◌≡◌, ◌≢◌, ◌+◌, ◌++◌, ◌<◌, ◌*◌, ◌/◌, ◌^◌, ◌==◌, ◌≤◌, ℕ, Bool, List, true, false, length, slice_get, slice_set, take, drop, replicate, Some, IfOk, IfSome, unwrap_or, if◌then◌else◌};
+ghost use Rattle.std.specs.Prelude.{◌≡◌, ◌≢◌, ◌+◌, ◌<◌, ◌*◌, ◌/◌, ◌^◌, ◌==◌, ◌≤◌, ℕ, Bool, List, true, false, length, slice_get, slice_set, take, drop, replicate, Some, IfOk, IfSome, unwrap_or, if◌then◌else◌};
 ghost use Rattle.std.specs.Int.{bit_at};
 ghost use Rattle.hid_snapshots.specs.ExactCapacity.{IsFull};
-ghost use Rattle.hid_snapshots.specs.Words.{bits_in, switch_words, is_on, is_alone, is_unlike, is_bit, are_alone, FindsFirst};
+ghost use Rattle.hid_snapshots.specs.Words.{bits_in, switch_words, word_at, is_on, is_alone, is_unlike, is_bit, are_alone, FindsFirst, FindsGroup, HasNotes, AreGroups, AreNoted};
 
 use crate::exact_capacity::full_of;
 use std::alloc::{AllocError, Global};
 use std::marker::Model;
 
-/// Which elements, or which keys of an array, are pressed.
+/// Which elements, or which keys of an array, are pressed. A search skips words of which none is, so that it takes time by the
+/// pressed places and not by all.
 #[derive(Drop)]
 pub struct Flags {
+    /// A bit for each place, and after these words a bit for each of them, which is 0 only where the word is. That of the first word
+    /// isn't kept: a search looks at that word in any case.
     words: Vec<u64>,
+    /// How many places there are.
     len: usize,
+    /// A bit for each of the words after those of the places, which is 0 only where the word is. The last bit is for all from there on.
+    top: u64,
     ghost full: { IsFull words },
 }
 
 impl Model for Flags {
     ghost use Rattle.std.specs.Prelude.{List, Bool};
-    ghost use Rattle.hid_snapshots.specs.Words.{places_in, AreWords};
+    ghost use Rattle.hid_snapshots.specs.Words.{places_in, words_of, AreFlags};
 
     ghost Value = { List Bool };
 
-    ghost view = { λ f. places_in f.words.items f.len };
+    ghost view = { λ f. places_in (words_of f.words.items f.len) f.len };
 
-    ghost invariant = { λ f. AreWords f.words.items f.len };
+    ghost invariant = { λ f. AreFlags f.words.items f.len f.top };
 }
 
 impl Flags {
@@ -39,9 +45,11 @@ impl Flags {
     pub fn clear(alloc: Global, count: usize) -> Result<Self, AllocError>
         ensures { IfOk result (λ f. f ≡ replicate count false) }
     {
+        let words = count.div_ceil(64);
         Ok(Flags {
-            words: full_of(alloc, 0, count.div_ceil(64))?,
+            words: full_of(alloc, 0, words + words.div_ceil(64))?,
             len: count,
+            top: 0,
         })
     }
 
@@ -72,8 +80,15 @@ impl Flags {
         requires { index < length self.old }
         ensures { self.new ≡ slice_set self.old index pressed }
     {
-        let word = with_bit(self.words[index / 64], index % 64, pressed);
-        self.words[index / 64] = word;
+        let k = index / 64;
+        let word = with_bit(self.words[k], index % 64, pressed);
+        put_word(
+            &mut self.words,
+            &mut self.top,
+            self.len.div_ceil(64),
+            k,
+            word,
+        );
     }
 
     /// Presses exactly those whose bits are 1 in the word, the first one lowest. There are at most 64, and the word has no
@@ -89,18 +104,22 @@ impl Flags {
     }
 
     /// Releases all of them.
-    pub(crate) fn release_all(&mut self)
+    #[inline(always)]
+    pub fn release_all(&mut self)
         ensures { self.new ≡ replicate (length self.old) false }
     {
-        self.words.fill(0);
+        clear_words(&mut self.words, &mut self.top, self.len.div_ceil(64));
     }
 
     /// How many are pressed.
     pub fn count(&self) -> usize
         ensures { result ≡ switch_count self.now }
     {
+        // For the prover: how many places there are at most.
+        let _ = self.len();
+
         let mut count = 0;
-        for word in &self.words {
+        for word in self.words() {
             count += word.count_ones() as usize;
         }
         count
@@ -112,6 +131,7 @@ impl Flags {
         ensures { self.new ≡ other.now }
     {
         self.words.copy_from_slice(&other.words);
+        self.top = other.top;
     }
 
     /// Makes these the first ones of the other, of which none is pressed after them, and releases all of the other.
@@ -122,30 +142,30 @@ impl Flags {
         ensures flags { self.new ≡ take (length self.old) other.old }
         ensures other { other.new ≡ replicate (length other.old) false }
     {
-        move_words(&mut self.words, &mut other.words);
-    }
-
-    /// Releases all of them, where none is pressed after the first ones, n: the words of these alone are written.
-    pub fn release_first(&mut self, count: usize)
-        requires places { count ≤ length self.old }
-        requires none { (i : ℕ) → count ≤ i → is_on self.old i ≡ false }
-        ensures { self.new ≡ replicate (length self.old) false }
-    {
-        clear_words(&mut self.words, count.div_ceil(64));
+        let count = self.len.div_ceil(64);
+        let other_count = other.len.div_ceil(64);
+        move_words(
+            &mut self.words,
+            &mut self.top,
+            count,
+            &mut other.words,
+            &mut other.top,
+            other_count,
+        );
     }
 
     /// Whether both have the same values and length.
     pub(crate) fn is_same(&self, other: &Flags) -> bool
         ensures { result ≡ same_flags self.now other.now }
     {
-        self.len == other.len && self.words.as_slice() == other.words.as_slice()
+        self.len == other.len && self.words() == other.words()
     }
 
     /// The words: bit i mod 64 of word i div 64 is 1 exactly where place i is pressed.
     pub fn words(&self) -> &[u64]
         ensures { result.now ≡ switch_words self.now }
     {
-        &self.words
+        &self.words[..self.len.div_ceil(64)]
     }
 
     /// The first pressed place from one on; a number is left after it.
@@ -153,7 +173,7 @@ impl Flags {
         ensures first { FindsFirst (is_on self.now) from (length self.now) result }
         ensures behind { IfSome result (λ place. place + 1 < 2 ^ 64) }
     {
-        first_alone(&self.words, &[], from)
+        first_alone(&self.words, self.top, self.len.div_ceil(64), &[], from)
     }
 
     /// The first place from one on that is pressed here and not in the other; a number is left after it.
@@ -161,7 +181,13 @@ impl Flags {
         ensures first { FindsFirst (is_alone self.now other.now) from (length self.now) result }
         ensures behind { IfSome result (λ place. place + 1 < 2 ^ 64) }
     {
-        first_alone(&self.words, &other.words, from)
+        first_alone(
+            &self.words,
+            self.top,
+            self.len.div_ceil(64),
+            other.words(),
+            from,
+        )
     }
 
     /// The first bit from one on that isn't the same in a word of these and in another one.
@@ -178,31 +204,132 @@ impl Flags {
     pub fn unlike(&self, index: usize, word: u64) -> u64
         ensures { (b : ℕ) → b < 64 → (bit_at result b == 1) ≡ is_unlike self.now index word b }
     {
-        word_or_zero(&self.words, index) ^ word
+        word_or_zero(self.words(), index) ^ word
+    }
+}
+
+/// Notes whether a word is filled, in the words after a count of them.
+#[inline(always)]
+fn note_word(words: &mut [u64], top: &mut u64, count: usize, k: usize, is_filled: bool)
+    requires notes { HasNotes words.old count }
+    requires k { k < count }
+    ensures words { take count words.new ≡ take count words.old }
+    ensures here { is_bit (drop count words.new) k ≡ is_filled }
+    ensures others { (i : ℕ) → i ≢ k
+        → is_bit (drop count words.new) i ≡ is_bit (drop count words.old) i }
+    ensures groups { AreGroups (drop count words.old) top.old
+        → AreGroups (drop count words.new) top.new }
+{
+    let group = k / 64;
+    let noted = with_bit(words[count + group], k % 64, is_filled);
+    words[count + group] = noted;
+    *top = with_bit(*top, group.min(63), noted != 0 || 63 <= group);
+}
+
+/// Writes one of the first words, and notes whether it is filled.
+#[inline(always)]
+fn put_word(words: &mut [u64], top: &mut u64, count: usize, k: usize, word: u64)
+    requires notes { HasNotes words.old count }
+    requires k { k < count }
+    requires noted { AreNoted (take count words.old) (drop count words.old) top.old }
+    ensures words { take count words.new ≡ slice_set (take count words.old) k word }
+    ensures noted { AreNoted (take count words.new) (drop count words.new) top.new }
+{
+    words[k] = word;
+    if k != 0 {
+        note_word(words, top, count, k, word != 0);
+    }
+}
+
+/// The next group of words after one that may have a filled word; none where no later one has.
+#[inline(always)]
+fn next_group(top: u64, group: usize) -> Option<usize>
+    requires { group + 1 < 2 ^ 64 }
+    ensures { FindsGroup top group result }
+{
+    if 63 <= group {
+        return Some(group + 1);
+    }
+    lowest_from(top, group + 1)
+}
+
+/// The next of the first words, from one on, that may be filled; their count, or more, where none is. The first of all isn't asked.
+#[inline(always)]
+fn next_filled(words: &[u64], top: u64, count: usize, from: usize) -> usize
+    requires notes { HasNotes words.now count }
+    requires noted { AreNoted (take count words.now) (drop count words.now) top }
+    requires few { 64 * count < 2 ^ 64 + 64 }
+    requires from { 0 < from }
+    requires last { from ≤ count }
+    ensures low { from ≤ result }
+    ensures none { (k : ℕ) → from ≤ k → k < result → word_at (take count words.now) k ≡ 0 }
+{
+    if top == 0 {
+        return count;
+    }
+    let mut k = from;
+    while k < count {
+        match lowest_from(words[count + k / 64], k % 64) {
+            Some(bit) => return 64 * (k / 64) + bit,
+            None => {}
+        }
+        match next_group(top, k / 64) {
+            Some(group) => k = 64 * group,
+            None => return count,
+        }
+    }
+    k
+}
+
+/// Makes the first words 0.
+#[inline(always)]
+fn clear_words(words: &mut [u64], top: &mut u64, count: usize)
+    requires notes { HasNotes words.old count }
+    requires noted { AreNoted (take count words.old) (drop count words.old) top.old }
+    requires few { 64 * count < 2 ^ 64 + 64 }
+    ensures words { take count words.new ≡ replicate count 0 }
+    ensures noted { AreNoted (take count words.new) (drop count words.new) top.new }
+{
+    let mut k = 0;
+    while k < count {
+        put_word(words, top, count, k, 0);
+        k = next_filled(words, *top, count, k + 1);
     }
 }
 
 /// Moves the first words of others into these, and leaves 0 in their place.
 #[inline(always)]
-fn move_words(words: &mut [u64], others: &mut [u64])
-    requires { length words.old ≤ length others.old }
-    ensures words { words.new ≡ take (length words.old) others.old }
-    ensures others { others.new ≡ take (length words.old) (replicate (length others.old) 0)
-        ++ drop (length words.old) others.old }
+fn move_words(
+    words: &mut [u64],
+    top: &mut u64,
+    count: usize,
+    others: &mut [u64],
+    other_top: &mut u64,
+    other_count: usize,
+)
+    requires notes { HasNotes words.old count }
+    requires noted { AreNoted (take count words.old) (drop count words.old) top.old }
+    requires other_notes { HasNotes others.old other_count }
+    requires other_noted { AreNoted (take other_count others.old) (drop other_count others.old)
+        other_top.old }
+    requires within { count ≤ other_count }
+    requires few { 64 * other_count < 2 ^ 64 + 64 }
+    ensures words { (i : ℕ) → i < count
+        → word_at (take count words.new) i ≡ word_at (take other_count others.old) i }
+    ensures first { (i : ℕ) → i < count → word_at (take other_count others.new) i ≡ 0 }
+    ensures rest { (i : ℕ) → count ≤ i
+        → word_at (take other_count others.new) i ≡ word_at (take other_count others.old) i }
+    ensures noted { AreNoted (take count words.new) (drop count words.new) top.new }
+    ensures other_noted { AreNoted (take other_count others.new) (drop other_count others.new)
+        other_top.new }
 {
-    for k in 0..words.len() {
-        words[k] = others[k];
-        others[k] = 0;
-    }
-}
-
-/// Makes the first words 0.
-fn clear_words(words: &mut [u64], count: usize)
-    requires { count ≤ length words.old }
-    ensures { words.new ≡ take count (replicate (length words.old) 0) ++ drop count words.old }
-{
-    for k in 0..count {
-        words[k] = 0;
+    let mut k = 0;
+    while k < count {
+        put_word(words, top, count, k, others[k]);
+        put_word(others, other_top, other_count, k, 0);
+        let held = next_filled(words, *top, count, k + 1);
+        let named = next_filled(others, *other_top, other_count, k + 1);
+        k = held.min(named);
     }
 }
 
@@ -257,18 +384,24 @@ fn word_or_zero(words: &[u64], k: usize) -> u64
     words.get(k).copied().unwrap_or(0)
 }
 
-/// The first bit from one on, counted through the words, that is 1 here and not in the other.
-fn first_alone(words: &[u64], others: &[u64], from: usize) -> Option<usize>
-    requires few { 64 * length words.now < 2 ^ 64 + 64 }
-    requires short { (i : ℕ) → are_alone words.now others.now i ≡ true → i < 2 ^ 64 }
-    ensures { FindsFirst (are_alone words.now others.now) from (64 * length words.now) result }
+/// The first bit from one on, counted through the first words, that is 1 here and not in the other.
+#[inline(always)]
+fn first_alone(words: &[u64], top: u64, count: usize, others: &[u64], from: usize) -> Option<usize>
+    requires notes { HasNotes words.now count }
+    requires noted { AreNoted (take count words.now) (drop count words.now) top }
+    requires few { 64 * count < 2 ^ 64 + 64 }
+    requires short { (i : ℕ) → are_alone (take count words.now) others.now i ≡ true → i < 2 ^ 64 }
+    ensures { FindsFirst (are_alone (take count words.now) others.now) from (64 * count) result }
 {
-    for k in from / 64..words.len() {
-        let start = from.saturating_sub(64 * k);
+    let mut k = from / 64;
+    let mut start = from % 64;
+    while k < count {
         match lowest_from(word_alone(words, others, k), start) {
             Some(bit) => return Some(64 * k + bit),
             None => {}
         }
+        k = next_filled(words, top, count, k + 1);
+        start = 0;
     }
     None
 }

@@ -5,12 +5,8 @@ pub mod ValueLemmas
 pub mod ViewLemmas
 pub mod NamedLemmas
 pub mod KeyLemmas
-pub mod KeySearchLemmas
-pub mod ChangedKeyLemmas
-pub mod ManyElementLemmas
 pub mod TakeLemmas
 pub mod PressLemmas
-pub mod SingleKeyLemmas
 pub mod BitLemmas
 pub mod LawLemmas
 pub mod CodePartLemmas
@@ -34,4 +30,3 @@ pub mod LastLemmas
 pub mod Vectors
 pub mod BootDescriptors
 pub mod BootLemmas
-pub mod KeptLemmas

@@ -1,8 +1,7 @@
 -- Items of a plan: as what they are read, and those that are passed over.
-use Rattle.std.proofs.Common.{All, ◌≡◌, ◌≢◌, ℕ, ◌+◌, ◌*◌, ◌<◌, ◌==◌, inl, inr, Bool, true, false, cond, List, [], ◌∷◌, ◌++◌, length, map, drop, Some, refl, sym, ap, ◌∙◌, subst, arith, get_or, zero, suc}
+use Rattle.std.proofs.Common.{All, ◌≡◌, ◌≢◌, ℕ, ◌+◌, ◌*◌, ◌<◌, inl, inr, Bool, true, false, cond, List, [], ◌∷◌, ◌++◌, length, map, drop, Some, refl, sym, ap, ◌∙◌, subst, arith, get_or, zero, suc}
 use Rattle.std.specs.List.{slice_get}
 use Rattle.std.specs.Bool.{OnTrue}
-use Rattle.std.proofs.lemmas.Bool.{eqb-true}
 use Rattle.std.proofs.lemmas.List.Elements.{All-push}
 use Rattle.std.proofs.lemmas.Option.{slice_get_within, slice_get-get_or}
 use Rattle.hid_fields.specs.Value.{is_negative}
@@ -65,32 +64,6 @@ no_keys Value h = absurd (cc)
 no_keys NullValue h = absurd (cc)
 no_keys Relative h = absurd (cc)
 
-no_key : (k : ControlKind) → kind_of_controls k ≡ kind.Key → ⊥
-no_key Switch h = absurd (cc)
-no_key Value h = absurd (cc)
-no_key NullValue h = absurd (cc)
-no_key Relative h = absurd (cc)
-
-no_key_elsewhere : (b : Bool) (k : ControlKind) → cond b kind.Bits (kind_of_controls k) ≡ kind.Key → ⊥
-no_key_elsewhere true k h = absurd (cc)
-no_key_elsewhere false k h = no_key k h
-
-no_controls_of_array : (b : Bool) (k : ControlKind) → cond b kind.Key kind.Keys ≡ kind_of_controls k → ⊥
-no_controls_of_array true k h = no_key k (sym h)
-no_controls_of_array false k h = no_keys k (sym h)
-
-no_bits_of_array : (b : Bool) → cond b kind.Key kind.Keys ≡ kind.Bits → ⊥
-no_bits_of_array true h = absurd (cc)
-no_bits_of_array false h = absurd (cc)
-
-no_padding_of_array : (b : Bool) → cond b kind.Key kind.Keys ≡ kind.Padding → ⊥
-no_padding_of_array true h = absurd (cc)
-no_padding_of_array false h = absurd (cc)
-
-key_only : (b : Bool) → cond b kind.Key kind.Keys ≡ kind.Key → b ≡ true
-key_only true h = refl
-key_only false h = absurd (cc)
-
 no_keys_elsewhere : (b : Bool) (k : ControlKind) → cond b kind.Bits (kind_of_controls k) ≡ kind.Keys → ⊥
 no_keys_elsewhere true k h = absurd (cc)
 no_keys_elsewhere false k h = no_keys k h
@@ -113,7 +86,7 @@ kind_only false a k h = same_kind_of a k h
 -- an item that is planned as bits has them
 bits_shape : (m : MainItem) (shape : Shape) → kind_of_shape m shape ≡ kind.Bits → are_bits m ≡ true
 bits_shape m Padding h = absurd (cc)
-bits_shape m Array h = absurd (no_bits_of_array (m.count == 1) h)
+bits_shape m Array h = absurd (cc)
 bits_shape m Variable h = bits_only (are_bits m) (element_kind m) h
 
 pub bits_planned : (m : MainItem) → planned_kind m ≡ kind.Bits → are_bits m ≡ true
@@ -127,7 +100,7 @@ no_padding_kind Relative h = absurd (cc)
 
 variable_shape : (m : MainItem) (shape : Shape) (k : ControlKind) → kind_of_shape m shape ≡ kind_of_controls k → (shape ≡ Variable) × (element_kind m ≡ k)
 variable_shape m Padding k h = absurd (no_padding_kind k h)
-variable_shape m Array k h = absurd (no_controls_of_array (m.count == 1) k h)
+variable_shape m Array k h = absurd (no_keys k (sym h))
 variable_shape m Variable k h = (refl, kind_only (are_bits m) (element_kind m) k h)
 
 -- an item that is planned as controls of a kind is a variable one with that kind
@@ -143,34 +116,9 @@ array_shape m Variable h = absurd (no_keys_elsewhere (are_bits m) (element_kind 
 pub array_planned : (m : MainItem) → planned_kind m ≡ kind.Keys → m.shape ≡ Array
 array_planned m h = array_shape m m.shape h
 
-apart_shape : (m : MainItem) (shape : Shape) → kind_of_shape m shape ≡ kind.Keys → (m.count == 1) ≡ false
-apart_shape m Padding h = absurd (cc)
-apart_shape m Array h = several (m.count == 1) h
-  where
-    several : (b : Bool) → cond b kind.Key kind.Keys ≡ kind.Keys → b ≡ false
-    several true k = absurd (cc)
-    several false k = refl
-apart_shape m Variable h = absurd (no_keys_elsewhere (are_bits m) (element_kind m) h)
-
--- an item that is planned as keys hasn't one element
-pub several_planned : (m : MainItem) → planned_kind m ≡ kind.Keys → m.count ≡ 1 → ⊥
-several_planned m h one =
-    let off = apart_shape m m.shape h in
-    let on : (m.count == 1) ≡ true = rw one refl in
-    cc
-
-key_shape : (m : MainItem) (shape : Shape) → kind_of_shape m shape ≡ kind.Key → (shape ≡ Array) × (m.count ≡ 1)
-key_shape m Padding h = absurd (cc)
-key_shape m Array h = (refl, eqb-true m.count 1 (key_only (m.count == 1) h))
-key_shape m Variable h = absurd (no_key_elsewhere (are_bits m) (element_kind m) h)
-
--- an item that is planned as a key is an array of one element
-pub key_planned : (m : MainItem) → planned_kind m ≡ kind.Key → (m.shape ≡ Array) × (m.count ≡ 1)
-key_planned m h = key_shape m m.shape h
-
 padding_shape : (m : MainItem) (shape : Shape) → kind_of_shape m shape ≡ kind.Padding → shape ≡ Padding
 padding_shape m Padding h = refl
-padding_shape m Array h = absurd (no_padding_of_array (m.count == 1) h)
+padding_shape m Array h = absurd (cc)
 padding_shape m Variable h = absurd (no_padding_elsewhere (are_bits m) (element_kind m) h)
 
 -- an item that is planned as padding is padding

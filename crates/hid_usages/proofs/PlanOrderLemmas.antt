@@ -15,7 +15,7 @@ use Rattle.hid_snapshots.proofs.PlanLemmas.{IsAlong, along_start, along_step}
 use Rattle.hid_usages.specs.declared.changed_bits.BitSpan.{BitSpan}
 use Rattle.hid_usages.specs.declared.plan.PlannedItem.{PlannedItem}
 use Rattle.hid_usages.specs.declared.plan.PlannedKind.TheVariants as kind
-use Rattle.hid_usages.specs.Plans.{place_of, IsPlannedItem, IsInOrder, IsPassed, ArePassed, ArePadding}
+use Rattle.hid_usages.specs.Plans.{place_of, IsPlannedItem, IsInOrder, IsPassed, ArePassed}
 use Rattle.hid_usages.specs.Known.{Knows}
 use Rattle.hid_usages.specs.Taking.{state_after_report_at, events_of_report_at, events_from_item, read_events}
 use Rattle.hid_usages.proofs.BitLemmas.{same_number}
@@ -158,30 +158,7 @@ passed_to layout r bytes last span plan start now before told len room from k kn
     let over = passed_over layout r bytes last span plan start now before told len room (k - from) from known (omega (arith, order, within)) (λ j item there low high. inl (passed j item there low (omega (arith, high, order)))) along in
     subst (λ (m : ℕ). IsAlong layout r m (HasTaken layout r bytes start now before told len room)) at over
 
--- to the end over items that are padding
-pub padding_over : (layout : Contents) (r : ℕ) (bytes last : List ℕ) (span : BitSpan) (plan : List PlannedItem) (start now : List ControlState) (before told : List Event) (len room from : ℕ)
-    → IsKnownPlan layout r bytes last span plan start now → from ≤ length plan → ArePadding plan from
-    → IsAlong layout r from (HasTaken layout r bytes start now before told len room) → IsAlong layout r (length plan) (HasTaken layout r bytes start now before told len room)
-padding_over layout r bytes last span plan start now before told len room from known within padding along =
-    let at : from + (length plan - from) ≡ length plan = omega (arith, within) in
-    let over = passed_over layout r bytes last span plan start now before told len room (length plan - from) from known (omega (arith, within)) (λ j item there low high. inr (padding j item there low)) along in
-    subst (λ (m : ℕ). IsAlong layout r m (HasTaken layout r bytes start now before told len room)) at over
-
 -- before the first item nothing is taken
 pub none_taken : (layout : Contents) (r : ℕ) (bytes : List ℕ) (start : List ControlState) (before : List Event) (len room : ℕ) → len + length (read_events layout r bytes start) ≤ room
     → IsAlong layout r 0 (HasTaken layout r bytes start start before before len room)
 none_taken layout r bytes start before len room fits = along_start layout r (HasTaken layout r bytes start start before before len room) (record { states = refl; events = refl; fits = fits })
-
--- to the end where the first item is passed over, and the others are padding
-pub single_passed : (layout : Contents) (r : ℕ) (bytes last : List ℕ) (span : BitSpan) (plan : List PlannedItem) (start : List ControlState) (before : List Event) (len room : ℕ) (planned : PlannedItem)
-    → IsKnownPlan layout r bytes last span plan start start → 0 < length plan → ArePadding plan 1
-    → slice_get plan 0 ≡ Some planned → IsPassed planned span → len + length (read_events layout r bytes start) ≤ room
-    → IsAlong layout r (length plan) (HasTaken layout r bytes start start before before len room)
-single_passed layout r bytes last span plan start before len room planned known some others first passed fits =
-    let here : ArePassed plan span 0 1 = λ j item there low high.
-    let at : j ≡ 0 = omega (arith, high) in
-    let same : Some item ≡ Some planned = sym there ∙ ap (slice_get plan) at ∙ first in
-    let is : planned ≡ item = cc in
-    subst (λ (i : PlannedItem). IsPassed i span) is passed in
-    let one = passed_to layout r bytes last span plan start start before before len room 0 1 known (omega arith) some here (none_taken layout r bytes start before len room fits) in
-    padding_over layout r bytes last span plan start start before before len room 1 known some others one

@@ -1,6 +1,5 @@
 -- The keys that the elements of an array name, as they are read one by one (HID 1.11, 6.2.2.5 and appendix C).
-use Rattle.std.specs.Prelude.{◌≡◌, ℕ, ◌*◌, ◌≤◌, ◌==◌, ◌&&◌, Bool, true, false, not, List, [], ◌∷◌, ◌++◌, length, replicate, take, Option, ℤ}
-use Rattle.std.specs.Int.{bit_at}
+use Rattle.std.specs.Prelude.{◌≡◌, ℕ, ◌*◌, ◌<◌, ◌≤◌, Bool, true, false, not, List, [], ◌∷◌, ◌++◌, length, replicate, take, slice_get, Option, Some, ℤ}
 use Rattle.std.specs.List.{list_any}
 use Rattle.hid_report_descriptor.specs.declared.usage.Usage.{Usage}
 use Rattle.hid_report_descriptor.specs.Usages.{usage_list}
@@ -26,6 +25,11 @@ keys_of_array array = array_keys array.item.now (usages_of_array array)
 -- an element of the array names ErrorRollOver by this number
 abbrev pub is_rollover_number : KeyArray → ℤ → Bool
 is_rollover_number array = names_rollover array.item.now (usages_of_array array)
+
+-- an array has the ranges of usages of the item at its place
+pub record HasUsages (array : KeyArray) : Type 0 where
+  pub there : array.place < length array.layout.now.items
+  pub entries : slice_get array.layout.now.entries array.place ≡ Some array.entries.now
 
 -- the count of an array's usages, which are at most 64 ranges of 65,536
 abbrev pub CountsUsages : KeyArray → ℕ → Type 0
@@ -67,10 +71,6 @@ pub record KeepsOtherFlags (array : KeyArray) (old new : List Bool) : Type 0 whe
 -- no flag from a place on is set
 abbrev pub NoneSetFrom : ℕ → List Bool → Type 0
 NoneSetFrom n flags = (i : ℕ) → n ≤ i → is_on flags i ≡ false
-
--- the bit is 1 in the first word and 0 in the second
-abbrev pub is_alone_bit : ℕ → ℕ → ℕ → Bool
-is_alone_bit word other b = (bit_at word b == 1) && not (bit_at other b == 1)
 
 -- the events of an array's keys, by the flags before and those after, which may be more: each release, and then each press
 abbrev pub flag_events : ℕ → List Usage → List Bool → List Bool → List Event

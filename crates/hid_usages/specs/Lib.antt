@@ -14,12 +14,9 @@ pub mod Elements
 pub mod EventSources
 pub mod ChangedBits
 pub mod SameWords
-pub mod ChangedKeys
-pub mod ManyElements
 pub mod Plans
 pub mod Known
 pub mod PlannedReports
-pub mod KeptItems
 pub mod Ranges
 pub mod Reader
 pub mod Receiving

@@ -1,5 +1,5 @@
 -- The plan of a report: of each of its items what reading needs (our choice).
-use Rattle.std.specs.Prelude.{◌≡◌, ◌≢◌, ◌==◌, ℕ, ◌+◌, ◌*◌, ◌<◌, ◌≤◌, ◌⊎◌, All, List, length, map, Option, Some, None, slice_get, false, if◌then◌else◌}
+use Rattle.std.specs.Prelude.{◌≡◌, ◌≢◌, ℕ, ◌+◌, ◌*◌, ◌<◌, ◌≤◌, ◌⊎◌, All, List, length, map, Option, Some, None, slice_get, if◌then◌else◌}
 use Rattle.hid_report_descriptor.specs.declared.shape.Shape.{Shape}
 use Rattle.hid_report_descriptor.specs.declared.shape.Shape.TheVariants.{Padding, Variable, Array}
 use Rattle.hid_layout.specs.declared.control.ControlKind.{ControlKind}
@@ -25,11 +25,10 @@ kind_of_controls Value = kind.Values
 kind_of_controls NullValue = kind.NullValues
 kind_of_controls Relative = kind.Motions
 
--- as what the fields of an item of a shape are read: up to 32 switches of one bit each are one pattern, and an array of one
--- element is read by itself
+-- as what the fields of an item of a shape are read: up to 32 switches of one bit each are one pattern
 abbrev pub kind_of_shape : MainItem → Shape → PlannedKind
 kind_of_shape item Padding = kind.Padding
-kind_of_shape item Array = if item.count == 1 then kind.Key else kind.Keys
+kind_of_shape item Array = kind.Keys
 kind_of_shape item Variable = if are_bits item then kind.Bits else kind_of_controls (element_kind item)
 
 -- as what the fields of an item are read
@@ -84,24 +83,9 @@ pub record HoldsChanged (items : List PlannedItem) (span : BitSpan) (range : Ite
   pub passed : (k : ℕ) (item : PlannedItem) → slice_get items k ≡ Some item → (k < range.first) ⊎ (range.end ≤ k)
       → IsPassed item span
 
--- a planned item is of one element
-pub record IsSingleItem (layout : Contents) (planned : PlannedItem) : Type 0 where
-  pub one : (m : MainItem) → slice_get layout.items planned.place ≡ Some m → m.count ≡ 1
-
--- the planned items from one on are padding
-abbrev pub ArePadding : List PlannedItem → ℕ → Type 0
-ArePadding items from = (k : ℕ) (item : PlannedItem) → slice_get items k ≡ Some item → from ≤ k → item.kind ≡ kind.Padding
-
--- the first planned item is of one element, and the others are padding
-pub record IsSingle (layout : Contents) (items : List PlannedItem) : Type 0 where
-  pub some : 0 < length items
-  pub first : (planned : PlannedItem) → slice_get items 0 ≡ Some planned → IsSingleItem layout planned
-  pub others : ArePadding items 1
-
 -- the items of report r are planned, in order
 pub record IsPlan (layout : Contents) (r : ℕ) (plan : ReportPlan) : Type 0 where
   pub places : map place_of plan.items.items ≡ plan_of layout r
   pub each : All (IsPlannedItem layout) plan.items.items
   pub order : IsInOrder plan.items.items
   pub motions : HoldsMotions plan.items.items plan.motions
-  pub single : plan.has_more ≡ false → IsSingle layout plan.items.items

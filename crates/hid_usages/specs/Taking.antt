@@ -203,6 +203,8 @@ pub record IsFilled (listed : ListedItem) (bytes : List ℕ) : Type 0 where
 
 -- the item at a place is an array with at most 64 ranges of usages, and each of its keys has a usage
 pub record IsArrayAt (layout : Contents) (i : ℕ) (item : MainItem) (entries : List Entry) : Type 0 where
+  pub there : i < length layout.items
+  pub listed : slice_get layout.entries i ≡ Some entries
   pub few : length entries ≤ 64
   pub keys : keys_at layout i ≡ array_keys item (usage_list entries)
   pub usages : length (usages_at layout i) ≡ length (keys_at layout i)

@@ -73,30 +73,3 @@ pub(crate) fn take_bits(
     push_bits(source, pattern, held, out);
     held.set_word(u64::from(pattern));
 }
-
-/// Sets one switch by its bit, and appends its event. That takes less than [`take_bits`] of one. Not inlined, as the registers that it
-/// needs would be saved for arrays of one element too.
-#[inline(never)]
-pub(crate) fn take_bit(
-    source: &EventSource<'_>,
-    pattern: u32,
-    held: &mut Flags,
-    out: &mut Vec<Event>,
-)
-    requires source { IsSource source.now }
-    requires held { length held.old ≡ length (usages_of_source source.now) }
-    requires one { length held.old ≡ 1 }
-    requires fits { pattern < 2 }
-    requires room { HasSpace out.old (switch_events source.now.item (usages_of_source source.now)
-        held.old (bits_in (length held.old) pattern)) }
-    ensures held { held.new ≡ bits_in (length held.old) pattern }
-    ensures appends { Appends out.old (switch_events source.now.item (usages_of_source source.now)
-        held.old (bits_in (length held.old) pattern)) out.new }
-{
-    let word = u64::from(pattern);
-    let is_pressed = pattern == 1;
-    if held.get(0) != is_pressed {
-        push_switch(source, 0, !is_pressed, is_pressed, out);
-        held.set_word(word);
-    }
-}

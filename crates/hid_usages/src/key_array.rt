@@ -4,10 +4,11 @@ ghost use Rattle.std.specs.Prelude.{All, ◌≡◌, ◌<◌, ℕ, false, length,
 ghost use Rattle.hid_report_descriptor.specs.Usages.{is_rollover};
 ghost use Rattle.hid_layout.specs.Controls.{is_key};
 ghost use Rattle.hid_usages.specs.Reading.{FitsFields};
-ghost use Rattle.hid_usages.specs.KeyArrays.{usages_of_array, is_rollover_number, CountsUsages, CanAdd, AddsKey, AddsNextKey, KeepsOtherFlags, AreClear, ReadsNumbers};
+ghost use Rattle.hid_usages.specs.KeyArrays.{usages_of_array, is_rollover_number, HasUsages, CountsUsages, CanAdd, AddsKey, AddsNextKey, KeepsOtherFlags, AreClear, ReadsNumbers};
 
+use crate::view_changes::listed_usage;
 use hid_fields::FieldCodec;
-use hid_layout::{MAX_KEYS, MainItem, Usage, usage_at, usage_count};
+use hid_layout::{Layout, MAX_KEYS, MainItem, Usage, usage_count};
 use hid_snapshots::{FieldRun, Flags};
 
 /// The place that an element of this number names, if it is below `count`.
@@ -39,9 +40,11 @@ pub(crate) fn is_pressable(item: &MainItem, number: &i64, place: usize, usage: &
     *number <= item.max && (place < MAX_KEYS && (usage.id != 0 && !usage.is_keyboard_error()))
 }
 
-/// An array's item, with its ranges of usages.
+/// An array's item at its place in a layout, with its ranges of usages.
 #[derive(Clone, Copy)]
 pub(crate) struct KeyArray<'a> {
+    pub(crate) layout: &'a Layout,
+    pub(crate) place: usize,
     pub(crate) item: &'a MainItem,
     pub(crate) entries: &'a [(Usage, Usage)],
 }
@@ -70,6 +73,7 @@ pub(crate) fn reports_rollover(item: &MainItem, number: &i64, usage: &Usage) -> 
 /// Adds the key that an element of this number names; false where it names ErrorRollOver.
 #[inline(always)]
 fn add_key(array: &KeyArray<'_>, count: usize, number: &i64, named: &mut Flags) -> bool
+    requires listed { HasUsages array.now }
     requires count { CountsUsages array.now count }
     requires can { CanAdd array.now number.now named.old }
     ensures rolls { result ≡ not (is_rollover_number array.now number.now) }
@@ -78,7 +82,7 @@ fn add_key(array: &KeyArray<'_>, count: usize, number: &i64, named: &mut Flags) 
 {
     match place_of(array.item, number, count) {
         None => true,
-        Some(place) => match usage_at(array.entries, place) {
+        Some(place) => match listed_usage(array.layout, array.place, array.entries, place) {
             None => true,
             Some(usage) => {
                 if reports_rollover(array.item, number, &usage) {
@@ -101,6 +105,7 @@ fn add_next_key(
     number: &i64,
     named: &mut Flags,
 ) -> bool
+    requires listed { HasUsages array.now }
     requires count { CountsUsages array.now count }
     requires can { CanAdd array.now number.now named.old }
     requires before { IfSome before (λ v. is_rollover_number array.now v ≡ false) }
@@ -123,6 +128,7 @@ pub(crate) fn read_keys<C: FieldCodec>(
     numbers: &FieldRun<'_>,
     named: &mut Flags,
 ) -> bool
+    requires listed { HasUsages array.now }
     requires entries { length array.now.entries.now ≤ 64 }
     requires fits { All (FitsFields array.now.item.now) numbers.now }
     requires clear { AreClear array.now named.old }
@@ -141,6 +147,7 @@ fn read_each_key<C: FieldCodec>(
     numbers: &FieldRun<'_>,
     named: &mut Flags,
 ) -> bool
+    requires listed { HasUsages array.now }
     requires entries { length array.now.entries.now ≤ 64 }
     requires fits { All (FitsFields array.now.item.now) numbers.now }
     requires clear { AreClear array.now named.old }

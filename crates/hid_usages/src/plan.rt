@@ -1,11 +1,11 @@
 //! The plan of a report: of each of its items what reading needs, so that it isn't found out at each report (our choice).
 
-ghost use Rattle.std.specs.Prelude.{All, ◌≡◌, ◌<◌, ◌≤◌, ◌+◌, ◌-◌, ◌*◌, ◌^◌, ℕ, false, length, slice_get, Some, IfOk};
+ghost use Rattle.std.specs.Prelude.{◌≡◌, ◌<◌, ◌≤◌, ◌+◌, ◌-◌, ◌*◌, ◌^◌, ℕ, false, length, slice_get, Some, IfOk};
 ghost use Rattle.std.specs.Bool.{OnTrue};
 ghost use Rattle.hid_report_descriptor.specs.Fields.{is_padding};
 ghost use Rattle.hid_layout.specs.Reports.{HasElements};
 ghost use Rattle.hid_usages.specs.declared.plan.PlannedItem.{PlannedItem as Planned};
-ghost use Rattle.hid_usages.specs.Plans.{planned_kind, IsPlannedItem, IsInOrder, HoldsMotions, HoldsChanged, IsPassed, FindsUnpassed, IsPlan, ArePadding, IsSingle};
+ghost use Rattle.hid_usages.specs.Plans.{planned_kind, IsPlannedItem, IsInOrder, HoldsMotions, HoldsChanged, IsPassed, FindsUnpassed, IsPlan};
 
 use crate::bits::are_bits;
 use crate::changed_bits::BitSpan;
@@ -32,8 +32,6 @@ pub(crate) enum PlannedKind {
     NullValues,
     /// As motions.
     Motions,
-    /// As the key that the one element of an array names.
-    Key,
     /// As keys that the elements of an array name.
     Keys,
 }
@@ -76,13 +74,7 @@ fn planned_kind(item: &MainItem) -> PlannedKind
 {
     match item.shape {
         Shape::Padding => PlannedKind::Padding,
-        Shape::Array => {
-            if item.count == 1 {
-                PlannedKind::Key
-            } else {
-                PlannedKind::Keys
-            }
-        }
+        Shape::Array => PlannedKind::Keys,
         Shape::Variable => variable_kind(item),
     }
 }
@@ -118,8 +110,6 @@ pub(crate) struct ReportPlan {
     pub(crate) items: Vec<PlannedItem>,
     /// From the first item with motions to the last one; none where no item has motions.
     pub(crate) motions: ItemRange,
-    /// Whether it is read item by item: else its first item has one element, and the others are padding.
-    pub(crate) has_more: bool,
 }
 
 /// The planned item at an index.
@@ -160,33 +150,6 @@ fn motions_in(items: &[PlannedItem]) -> ItemRange
     motions
 }
 
-/// Whether the items from one on are padding.
-fn are_padding(items: &[PlannedItem], from: usize) -> bool
-    ensures { OnTrue result (ArePadding items.now from) }
-{
-    for k in from..items.len() {
-        if planned_at(items, k).kind != PlannedKind::Padding {
-            return false;
-        }
-    }
-    true
-}
-
-/// Whether the first item has one element, and the others are padding.
-fn is_single(layout: &Layout, items: &[PlannedItem]) -> bool
-    requires { All (IsPlannedItem layout.now) items.now }
-    ensures { OnTrue result (IsSingle layout.now items.now) }
-{
-    if items.is_empty() {
-        return false;
-    }
-    let first = item_at(layout, planned_at(items, 0).place);
-    if first.count != 1 {
-        return false;
-    }
-    are_padding(items, 1)
-}
-
 /// Plans the items of a report.
 ///
 /// # Errors
@@ -208,12 +171,7 @@ pub(crate) fn plan_items(
         items.push_reserved(planned_item(layout, *place));
     }
     let motions = motions_in(&items);
-    let has_more = !is_single(layout, &items);
-    Ok(ReportPlan {
-        items,
-        motions,
-        has_more,
-    })
+    Ok(ReportPlan { items, motions })
 }
 
 /// The half of a range in which the first item stands that ends after a bit.

@@ -6,7 +6,6 @@ ghost use Rattle.hid_usages.specs.ChangedBits.{IsOneWord};
 ghost use Rattle.hid_usages.specs.PlannedReports.{IsPlannedAnew, IsStill, Keeps, KeepsBytes, without_last};
 
 use crate::changed_bits::{are_same_bits, keep_bytes};
-use crate::keep_held::{has_wide_array, sole_byte};
 use crate::plan::{ReportPlan, plan_items};
 use hid_layout::Layout;
 use hid_snapshots::full_of;
@@ -18,18 +17,12 @@ pub(crate) struct PlannedReport {
     pub(crate) plan: ReportPlan,
     /// Its bytes, with its ID where there are IDs.
     pub(crate) room: usize,
-    /// The bytes of the last one, and some more that fill words of eight; of an array that named ErrorRollOver the bits before.
+    /// The bytes of the last one, and some more that fill words of eight.
     pub(crate) last: Vec<u8>,
     /// Whether one came, so that the view is as its bytes left it.
     pub(crate) is_known: bool,
     /// Whether the last one gave no event, and would give none again.
     pub(crate) is_silent: bool,
-    /// Whether an array of many usages lists ErrorRollOver: then it is looked for, before the bytes are kept.
-    pub(crate) is_wide: bool,
-    /// Whether it has no such array, and is read item by item.
-    pub(crate) is_plain: bool,
-    /// The byte with which an element of these arrays begins that names ErrorRollOver, if it is one for all of them.
-    pub(crate) rollover: Option<u8>,
 }
 
 impl PlannedReport {
@@ -107,9 +100,6 @@ pub(crate) fn plan_report(
 
     let plan = plan_items(alloc, layout, report)?;
     let room = layout.report_bytes(report);
-    let is_wide = has_wide_array(layout, &plan);
-    let rollover = sole_byte(layout, &plan);
-    let is_plain = plan.has_more && !is_wide;
     let last = full_of(alloc, 0, 8 * (room / 8) + 8)?;
     Ok(PlannedReport {
         plan,
@@ -117,8 +107,5 @@ pub(crate) fn plan_report(
         last,
         is_known: false,
         is_silent: false,
-        is_wide,
-        is_plain,
-        rollover,
     })
 }

@@ -1,6 +1,6 @@
 //! The Input reports of one device, read one after the other.
 
-ghost use Rattle.std.specs.Prelude.{◌≡◌, ◌≤◌, ◌+◌, ◌++◌, true, false, length, vec_len, vec_capacity};
+ghost use Rattle.std.specs.Prelude.{◌≡◌, ◌≤◌, ◌+◌, ◌++◌, true, length, vec_len, vec_capacity};
 ghost use Rattle.hid_layout.specs.Controls.{items_of, max_events};
 ghost use Rattle.hid_layout.specs.Reports.{IsLayout, report_bytes};
 ghost use Rattle.hid_snapshots.specs.ControlStates.{FitsView, blank};
@@ -11,7 +11,6 @@ ghost use Rattle.hid_usages.specs.PlannedReports.{HasPlan, IsPlaceOf, IsPlannedR
 ghost use Rattle.hid_usages.specs.Taking.{IsReceived, TakesReport, read_view, read_events, view_received, events_received};
 
 use crate::changed_bits::{changed_bits, one_word};
-use crate::keep_held::keep_wide;
 use crate::planned_report::PlannedReport;
 use crate::report_index::{NO_REPORT, begun_report, place_by_index};
 use crate::report_plans::{PlannedView, ReportPlans, forget_last};
@@ -25,8 +24,7 @@ use std::marker::Model;
 /// The layout of a device's reports, and a host's view of its controls. A contract sees both.
 ///
 /// Each Input report has a plan, and the bytes of the last one of its number are kept: of the next one the items are read whose
-/// bits change, and those with motions. One with the bytes of the last one, which gave no event, is read only where an array of many
-/// usages names ErrorRollOver in it.
+/// bits change, and those with motions. One with the bytes of the last one, which gave no event, isn't read.
 #[derive(Drop)]
 pub struct Reader {
     layout: Layout,
@@ -81,9 +79,9 @@ fn read_first<C: FieldCodec>(
     planned.keep_first(bytes, word, out.len() == before);
 }
 
-/// Reads a report by its plan, and keeps its bytes. `SINGLE` says that it has one element, and `WIDE` that it may have an array of
-/// many usages that can name ErrorRollOver. Each kind is a function with one caller, where it is inlined.
-fn take_next<C: FieldCodec, const SINGLE: bool, const WIDE: bool>(
+/// Reads a report by its plan, and keeps its bytes.
+#[inline(always)]
+fn take_next<C: FieldCodec>(
     received: &ReportBytes<'_>,
     planned: &mut PlannedReport,
     view: &mut View,
@@ -91,7 +89,6 @@ fn take_next<C: FieldCodec, const SINGLE: bool, const WIDE: bool>(
 )
     requires received { IsReceived received.now }
     requires known { planned.old.is_known ≡ true }
-    requires single { SINGLE ≡ true → planned.old.plan.has_more ≡ false }
     requires planned { IsPlannedReport received.now.layout.now received.now.report view.old
         planned.old }
     requires fits { FitsView (items_of received.now.layout.now) view.old }
@@ -116,109 +113,8 @@ fn take_next<C: FieldCodec, const SINGLE: bool, const WIDE: bool>(
         bytes: &planned.last[..room],
         changed,
     };
-    view.take_planned::<C, SINGLE, WIDE>(received, &planned.plan, &last, out);
-    let is_silent = out.len() == before;
-    let ReportBytes {
-        layout,
-        report,
-        bytes,
-    } = *received;
-    if WIDE && planned.is_wide {
-        keep_wide::<C>(layout, report, bytes, planned, word, is_silent);
-    } else {
-        planned.keep(bytes, word, is_silent);
-    }
-}
-
-/// Reads a report with an array of many usages that can name ErrorRollOver, and keeps its bytes. It isn't inlined, so that others
-/// need none of its room.
-#[inline(never)]
-fn read_wide<C: FieldCodec>(
-    layout: &Layout,
-    report: usize,
-    bytes: &[u8],
-    planned: &mut PlannedReport,
-    view: &mut View,
-    out: &mut Vec<Event>,
-)
-    requires input { IsInput layout.now report }
-    requires whole { report_bytes layout.now report ≤ length bytes.now }
-    requires known { planned.old.is_known ≡ true }
-    requires planned { IsPlannedReport layout.now report view.old planned.old }
-    requires fits { FitsView (items_of layout.now) view.old }
-    requires room { vec_len out.old + max_events (items_of layout.now) ≤ vec_capacity out.old }
-    ensures planned { IsPlannedReport layout.now report view.new planned.new }
-    ensures view { view.new ≡ read_view layout.now report bytes.now view.old }
-    ensures appends { Appends out.old (read_events layout.now report bytes.now view.old) out.new }
-    ensures fits { FitsView (items_of layout.now) view.new }
-    ensures few { vec_len out.new ≤ vec_len out.old + max_events (items_of layout.now) }
-{
-    let received = ReportBytes {
-        layout,
-        report,
-        bytes,
-    };
-    take_next::<C, false, true>(&received, planned, view, out);
-}
-
-/// Reads a report of a single element, and keeps its bytes. It isn't inlined, so that others need none of its room.
-#[inline(never)]
-fn read_single<C: FieldCodec>(
-    layout: &Layout,
-    report: usize,
-    bytes: &[u8],
-    planned: &mut PlannedReport,
-    view: &mut View,
-    out: &mut Vec<Event>,
-)
-    requires input { IsInput layout.now report }
-    requires whole { report_bytes layout.now report ≤ length bytes.now }
-    requires known { planned.old.is_known ≡ true }
-    requires single { planned.old.plan.has_more ≡ false }
-    requires planned { IsPlannedReport layout.now report view.old planned.old }
-    requires fits { FitsView (items_of layout.now) view.old }
-    requires room { vec_len out.old + max_events (items_of layout.now) ≤ vec_capacity out.old }
-    ensures planned { IsPlannedReport layout.now report view.new planned.new }
-    ensures view { view.new ≡ read_view layout.now report bytes.now view.old }
-    ensures appends { Appends out.old (read_events layout.now report bytes.now view.old) out.new }
-    ensures fits { FitsView (items_of layout.now) view.new }
-    ensures few { vec_len out.new ≤ vec_len out.old + max_events (items_of layout.now) }
-{
-    let received = ReportBytes {
-        layout,
-        report,
-        bytes,
-    };
-    take_next::<C, true, true>(&received, planned, view, out);
-}
-
-/// Reads the first report of its number, or one with an array of many usages, and keeps its bytes. It isn't inlined, so that others
-/// need none of its room.
-#[inline(never)]
-fn read_otherwise<C: FieldCodec>(
-    layout: &Layout,
-    report: usize,
-    bytes: &[u8],
-    planned: &mut PlannedReport,
-    view: &mut View,
-    out: &mut Vec<Event>,
-)
-    requires input { IsInput layout.now report }
-    requires whole { report_bytes layout.now report ≤ length bytes.now }
-    requires planned { IsPlannedReport layout.now report view.old planned.old }
-    requires fits { FitsView (items_of layout.now) view.old }
-    requires room { vec_len out.old + max_events (items_of layout.now) ≤ vec_capacity out.old }
-    ensures planned { IsPlannedReport layout.now report view.new planned.new }
-    ensures view { view.new ≡ read_view layout.now report bytes.now view.old }
-    ensures appends { Appends out.old (read_events layout.now report bytes.now view.old) out.new }
-    ensures fits { FitsView (items_of layout.now) view.new }
-    ensures few { vec_len out.new ≤ vec_len out.old + max_events (items_of layout.now) }
-{
-    if planned.is_known {
-        read_wide::<C>(layout, report, bytes, planned, view, out);
-    } else {
-        read_first::<C>(layout, report, bytes, planned, view, out);
-    }
+    view.take_planned::<C>(received, &planned.plan, &last, out);
+    planned.keep(received.bytes, word, out.len() == before);
 }
 
 /// Reads a report, and keeps its bytes.
@@ -241,23 +137,15 @@ fn take_one<C: FieldCodec>(
     ensures fits { FitsView (items_of received.now.layout.now) view.new }
     ensures few { vec_len out.new ≤ vec_len out.old + max_events (items_of received.now.layout.now) }
 {
-    // Both are asked for at once, which takes less than one after the other.
-    if planned.is_known & planned.is_plain {
-        take_next::<C, false, false>(received, planned, view, out);
-    } else if planned.is_known & !planned.plan.has_more {
-        let ReportBytes {
-            layout,
-            report,
-            bytes,
-        } = *received;
-        read_single::<C>(layout, report, bytes, planned, view, out);
+    if planned.is_known {
+        take_next::<C>(received, planned, view, out);
     } else {
         let ReportBytes {
             layout,
             report,
             bytes,
         } = *received;
-        read_otherwise::<C>(layout, report, bytes, planned, view, out);
+        read_first::<C>(layout, report, bytes, planned, view, out);
     }
 }
 

@@ -1,6 +1,6 @@
 //! What a report of any bytes makes of a view, and the events of it.
 
-ghost use Rattle.std.specs.Prelude.{All, pos, ◌≡◌, ◌<◌, ◌≤◌, ◌^◌, ◌+◌, ◌++◌, false, true, length, take, replicate};
+ghost use Rattle.std.specs.Prelude.{All, pos, ◌≡◌, ◌<◌, ◌≤◌, ◌^◌, ◌+◌, ◌++◌, false, length, take, replicate};
 ghost use Rattle.hid_layout.specs.Controls.{items_of, controls_of_form};
 ghost use Rattle.hid_layout.specs.declared.control.Controls.TheVariants as head;
 ghost use Rattle.hid_layout.specs.declared.control.ControlKind.TheVariants as ControlKind;
@@ -10,7 +10,7 @@ ghost use Rattle.hid_snapshots.specs.Views.{motions_of};
 ghost use Rattle.hid_usages.specs.Appending.{HasSpace, Appends};
 ghost use Rattle.hid_usages.specs.Bits.{are_bits, read_bits};
 ghost use Rattle.hid_usages.specs.EventSources.{AreUsages};
-ghost use Rattle.hid_usages.specs.KeyArrays.{NoneSetFrom, flag_events, keys_by_array};
+ghost use Rattle.hid_usages.specs.KeyArrays.{HasUsages, NoneSetFrom, flag_events, keys_by_array};
 ghost use Rattle.hid_usages.specs.Reading.{FitsFields, keys_at};
 ghost use Rattle.hid_usages.specs.Taking.{IsInReport, HasEventRoomAt, NoFlagSet, NoFlagSetFor, usages_in, keys_in, form_in, state_after_numbers, events_of_numbers, state_after_carried, motion_carried};
 ghost use Rattle.hid_usages.specs.Taking.{IsReceived, ArePlacesOf, view_received, events_received, state_received, item_events_received};
@@ -20,7 +20,7 @@ ghost use Rattle.hid_layout.specs.Controls.{element_kind};
 ghost use Rattle.hid_layout.specs.Reports.{first_bit};
 ghost use Rattle.hid_usages.specs.Ranges.{LeaveOthers};
 
-use crate::bits::{are_bits, take_bit, take_bits};
+use crate::bits::{are_bits, take_bits};
 use crate::changed_bits::BitSpan;
 use crate::elements::{Carriable, ElementRange, every_element, take_switches, take_values};
 use crate::event_source::{EventSource, ItemUsages, no_usages};
@@ -145,16 +145,16 @@ fn take_fields<C: FieldCodec>(
     let at = first_bit(listed.layout) + item.offset;
     if are_bits(item) {
         let usages = no_usages();
-        take_pattern::<false>(listed, &usages, C::get(bytes, at, item.count), state, out);
+        take_pattern(listed, &usages, C::get(bytes, at, item.count), state, out);
     } else {
         let numbers = FieldRun::new(bytes, at, item.size, item.min < 0, item.count as usize);
         take_numbers::<C>(listed, &numbers, state, named, out);
     }
 }
 
-/// Sets switches of one bit each by their pattern, and appends their events. `SINGLE` says that there is one.
+/// Sets switches of one bit each by their pattern, and appends their events.
 #[inline(always)]
-pub(crate) fn take_pattern<const SINGLE: bool>(
+pub(crate) fn take_pattern(
     listed: &ListedItem<'_>,
     usages: &ItemUsages,
     pattern: u32,
@@ -165,7 +165,6 @@ pub(crate) fn take_pattern<const SINGLE: bool>(
     requires held { HasRoom (head.Elements ControlKind.Switch (pos 0) (pos 1)
         (length (usages_in listed.now))) state.old }
     requires few { length (usages_in listed.now) ≤ 32 }
-    requires single { SINGLE ≡ true → length (usages_in listed.now) ≡ 1 }
     requires fits { pattern < 2 ^ length (usages_in listed.now) }
     requires room { HasSpace out.old (element_events listed.now.place
         (usages_in listed.now) state.old (read_bits pattern state.old)) }
@@ -179,11 +178,7 @@ pub(crate) fn take_pattern<const SINGLE: bool>(
             item: listed.place,
             usages,
         };
-        if SINGLE {
-            take_bit(&source, pattern, held, out);
-        } else {
-            take_bits(&source, pattern, held, out);
-        }
+        take_bits(&source, pattern, held, out);
     }
 }
 
@@ -315,20 +310,26 @@ pub(crate) fn take_array<C: FieldCodec>(
     ensures named { named.new ≡ named.old }
     ensures appends { Appends out.old (key_events_in listed.now state.old state.new) out.new }
 {
+    let ListedItem {
+        layout,
+        place,
+        item,
+    } = *listed;
     let array = KeyArray {
-        item: listed.item,
+        layout,
+        place,
+        item,
         entries,
     };
-    let ListedItem { layout, place, .. } = *listed;
     if let ControlState::Switches(held) = state {
-        take_flags::<C>(layout, place, &array, numbers, held, named, out);
+        take_keys::<C>(layout, place, &array, numbers, held, named, out);
     }
 }
 
 /// Sets the held keys of an array by these numbers, and appends their events. If a number names ErrorRollOver, the keys stay
 /// (HID 1.11, appendix C).
 #[inline(always)]
-pub(crate) fn take_flags<C: FieldCodec>(
+fn take_keys<C: FieldCodec>(
     layout: &Layout,
     place: usize,
     array: &KeyArray<'_>,
@@ -338,6 +339,7 @@ pub(crate) fn take_flags<C: FieldCodec>(
     out: &mut Vec<Event>,
 )
     requires array { IsArrayAt layout.now place array.now.item.now array.now.entries.now }
+    requires listed { HasUsages array.now }
     requires fits { All (FitsFields array.now.item.now) numbers.now }
     requires held { length held.old ≡ length (keys_at layout.now place) }
     requires named { NoFlagSetFor (ControlState.Switches held.old) named.old }
@@ -353,7 +355,7 @@ pub(crate) fn take_flags<C: FieldCodec>(
     if read_keys::<C>(array, numbers, named) {
         take_first(layout, place, held, named, out);
     } else {
-        named.release_first(held.len());
+        named.release_all();
     }
 }
 

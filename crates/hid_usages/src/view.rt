@@ -131,7 +131,7 @@ impl View {
 
     /// Takes the bytes of an Input report by its plan, as [`View::take_report`] does. The bytes of the last one of its number
     /// leave the view.
-    pub(crate) fn take_planned<C: FieldCodec, const SINGLE: bool, const WIDE: bool>(
+    pub(crate) fn take_planned<C: FieldCodec>(
         &mut self,
         received: &ReportBytes<'_>,
         plan: &ReportPlan,
@@ -140,7 +140,6 @@ impl View {
     )
         requires received { IsReceived received.now }
         requires plan { IsPlan received.now.layout.now received.now.report plan.now }
-        requires single { SINGLE ≡ true → plan.now.has_more ≡ false }
         requires known { Knows received.now.layout.now received.now.report received.now.bytes.now
             last.now.bytes.now last.now.changed self.old }
         requires fits { FitsView (items_of received.now.layout.now) self.old }
@@ -155,14 +154,7 @@ impl View {
         // For the prover: what holds of every layout.
         let _ = item_count(received.layout);
 
-        take_planned::<C, SINGLE, WIDE>(
-            received,
-            plan,
-            last,
-            &mut self.states,
-            &mut self.named,
-            out,
-        );
+        take_planned::<C>(received, plan, last, &mut self.states, &mut self.named, out);
     }
 
     /// Appends what changes until the view is the initial one again, as [`changes`] does. There is reserved room for

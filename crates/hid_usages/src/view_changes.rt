@@ -14,7 +14,6 @@ ghost use Rattle.hid_usages.specs.Reading.{read_motion};
 ghost use Rattle.hid_usages.specs.Taking.{HasEventRoomAt, changes_at};
 
 use crate::event_source::{EventSource, item_usages, push_motion, usage_in_range};
-use crate::key_search::next_alone;
 use crate::value_range::Bounds;
 use hid_fields::FieldCodec;
 use hid_layout::{
@@ -298,7 +297,7 @@ pub(crate) fn releases(
     ensures { Appends out.old (ups item (usages_at layout.now item) before.now after.now) out.new }
 {
     let mut from = 0;
-    while let Some(index) = next_alone(before, after, from) {
+    while let Some(index) = before.next_alone(after, from) {
         let control = ControlId { item, index };
         let usage = usage_at(layout, item, index);
         out.push_reserved(Event::Up { control, usage });
@@ -323,7 +322,7 @@ pub(crate) fn presses(
         out.new }
 {
     let mut from = 0;
-    while let Some(index) = next_alone(after, before, from) {
+    while let Some(index) = after.next_alone(before, from) {
         let control = ControlId { item, index };
         let usage = usage_at(layout, item, index);
         out.push_reserved(Event::Down { control, usage });

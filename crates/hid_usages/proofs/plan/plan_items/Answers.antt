@@ -1,16 +1,12 @@
-use Rattle.std.proofs.Common.{◌≡◌, ◌∙◌, ◌++◌, ◌∷◌, [], ℕ, List, All, ◌<◌, get_or, length, map, sym, ap, subst, arith, Bool, true, false, not, refl}
+use Rattle.std.proofs.Common.{◌≡◌, ◌∙◌, ◌++◌, ◌∷◌, [], ℕ, List, All, ◌<◌, get_or, length, map, sym, ap, subst, arith}
 use Rattle.std.proofs.lemmas.List.{take_more, take_all}
 use Rattle.hid_layout.specs.ArrayCodes.{plan_of}
 use Rattle.hid_snapshots.proofs.PlanLemmas.{plan_within}
 use Rattle.hid_usages.specs.declared.plan.PlannedItem.{PlannedItem}
-use Rattle.hid_usages.specs.Plans.{place_of, HoldsMotions, IsSingle}
+use Rattle.hid_usages.specs.Plans.{place_of, HoldsMotions}
 use Rattle.hid_usages.proofs.PlanOrderLemmas.{plan_in_order}
-use Rattle.hid_usages.proofs.PassingLemmas.{holds_on, planned_more, places_more}
+use Rattle.hid_usages.proofs.PassingLemmas.{planned_more, places_more}
 use Rattle.hid_usages.proofs.plan.plan_items.Goals as goal
-
-not_false : (b : Bool) → not b ≡ false → b ≡ true
-not_false true h = refl
-not_false false h = absurd (cc)
 
 pub loop-place-preserved : goal.loop-place-preserved
 loop-place-preserved c =
@@ -46,5 +42,4 @@ returns c =
       each = c.loop-place.invariant.each;
       order = plan_in_order c.args.layout.now c.args.report c.loop-place.items.items c.items.ensures.layout all c.loop-place.invariant.each;
       motions = motions;
-      single = λ e. subst (λ (xs : List PlannedItem). IsSingle c.args.layout.now xs) c.deref-2.ensures.value (holds_on c.is_single-has_more.result c.is_single-has_more.ensures (not_false c.is_single-has_more.result e));
     }

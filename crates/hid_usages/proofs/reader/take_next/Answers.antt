@@ -1,28 +1,17 @@
-use Rattle.std.proofs.Common.{◌≡◌, [], List, inl, sym, subst, arith, rules, vec_len}
+use Rattle.std.proofs.Common.{◌≡◌, [], List, sym, subst, arith, rules, vec_len}
 use Rattle.hid_snapshots.specs.declared.control_state.ControlState.{ControlState}
 use Rattle.hid_usages.specs.Taking.{read_events}
-use Rattle.hid_usages.proofs.KeptLemmas.{next_read}
+use Rattle.hid_usages.proofs.LastLemmas.{planned_read}
 use Rattle.hid_usages.proofs.ReaderLemmas.{quiet_again}
 use Rattle.hid_usages.proofs.reader.take_next.Goals as goal
 
-pub returns-then-planned-clause-planned : goal.returns-then-planned-clause-planned
-returns-then-planned-clause-planned g c =
+pub returns-clause-planned : goal.returns-clause-planned
+returns-clause-planned g c =
     let layout = c.args.received.now.layout.now in
     let r = c.args.received.now.report in
     let bytes = c.args.received.now.bytes.now in
     let view = c.args.view.now in
-    next_read layout r view c.take_planned.new.self c.args.planned.now c.keep_wide.new.planned _ bytes c.items.ensures.layout c.requires.received.input c.requires.planned c.requires.known (omega (arith, c.requires.planned.plan.room, c.requires.received.whole)) c.keep_wide.ensures c.take_planned.ensures.view
-    (λ e. subst (λ (v : List ControlState). read_events layout r bytes v ≡ []) (sym c.take_planned.ensures.view)
-    (quiet_again layout r bytes view c.items.ensures.layout c.requires.received.input c.requires.fits
-    (let same : vec_len c.take_planned.new.out ≡ vec_len c.args.out.now = search rules in omega (arith, same, c.take_planned.ensures.appends.len))))
-
-pub returns-else-this-ne0-clause-planned : goal.returns-else-this-ne0-clause-planned
-returns-else-this-ne0-clause-planned g c =
-    let layout = c.args.received.now.layout.now in
-    let r = c.args.received.now.report in
-    let bytes = c.args.received.now.bytes.now in
-    let view = c.args.view.now in
-    next_read layout r view c.take_planned.new.self c.args.planned.now c.keep.new.self _ bytes c.items.ensures.layout c.requires.received.input c.requires.planned c.requires.known (omega (arith, c.requires.planned.plan.room, c.requires.received.whole)) (inl c.keep.ensures) c.take_planned.ensures.view
+    planned_read layout r view c.take_planned.new.self c.args.planned.now c.keep.new.self _ bytes c.items.ensures.layout c.requires.planned.plan (omega (arith, c.requires.planned.plan.room, c.requires.received.whole)) c.keep.ensures c.take_planned.ensures.view
     (λ e. subst (λ (v : List ControlState). read_events layout r bytes v ≡ []) (sym c.take_planned.ensures.view)
     (quiet_again layout r bytes view c.items.ensures.layout c.requires.received.input c.requires.fits
     (let same : vec_len c.take_planned.new.out ≡ vec_len c.args.out.now = search rules in omega (arith, same, c.take_planned.ensures.appends.len))))

@@ -83,6 +83,8 @@ pub take_array-requires-clause-array : goal.take_array-requires-clause-array
 take_array-requires-clause-array g c =
     let reads = reads_keys c.args.listed.now.layout.now c.args.listed.now.place c.args.listed.now.item.now c.entries-entries.result.now c.args.state.now c.args.numbers.now c.requires.listed.input c.in-Array.is c.entries-entries.ensures c.requires.held in
     record {
+      there = slice_get_within c.args.listed.now.layout.now.items c.args.listed.now.place c.args.listed.now.item.now c.requires.listed.there;
+      listed = c.entries-entries.ensures;
       few = c.requires.listed.layout.few_entries c.args.listed.now.place c.entries-entries.result.now c.entries-entries.ensures;
       keys = reads.keys;
       usages = reads.usages;

@@ -11,7 +11,7 @@ use Rattle.hid_snapshots.proofs.EncodingLemmas.{place_inside}
 use Rattle.hid_usages.proofs.take_plan.take_bit_fields.Goals as goal
 
 pub get-pattern-requires-clause-some : goal.get-pattern-requires-clause-some
-get-pattern-requires-clause-some g c = omega (arith, c.count_of.ensures, (c.requires.listed.layout.elements c.args.listed.now.place c.args.listed.now.item.now c.requires.listed.with_data.listed c.requires.listed.with_data.no_padding).some)
+get-pattern-requires-clause-some g c = omega (arith, (c.requires.listed.layout.elements c.args.listed.now.place c.args.listed.now.item.now c.requires.listed.with_data.listed c.requires.listed.with_data.no_padding).some)
 
 pub get-pattern-requires-clause-width : goal.get-pattern-requires-clause-width
 get-pattern-requires-clause-width g c =
@@ -43,7 +43,7 @@ pub take_pattern-requires-clause-fits : goal.take_pattern-requires-clause-fits
 take_pattern-requires-clause-fits g c =
     let on : are_bits c.args.listed.now.item.now ≡ true = c.requires.bits in
     let reads = reads_as_bits c.args.listed.now.layout.now c.args.bytes.now c.args.listed.now.place c.args.listed.now.item.now c.args.state.now c.requires.listed.layout c.requires.listed.with_data.listed c.requires.listed.input (has_bits c.args.listed.now.item.now on) c.requires.held in
-    subst (λ (n : ℕ). c.get-pattern.result < 2 ^ n) (c.count_of.ensures ∙ sym reads.places) c.get-pattern.ensures.fits
+    subst (λ (n : ℕ). c.get-pattern.result < 2 ^ n) (sym reads.places) c.get-pattern.ensures.fits
 
 pub take_pattern-requires-clause-room : goal.take_pattern-requires-clause-room
 take_pattern-requires-clause-room g c =
@@ -73,9 +73,3 @@ returns-clause-appends g c =
 
 pub take_pattern-requires-clause-usages : goal.take_pattern-requires-clause-usages
 take_pattern-requires-clause-usages g c = c.requires.usages
-
-pub take_pattern-requires-clause-single : goal.take_pattern-requires-clause-single
-take_pattern-requires-clause-single g c = λ single.
-    let on : are_bits c.args.listed.now.item.now ≡ true = c.requires.bits in
-    let reads = reads_as_bits c.args.listed.now.layout.now c.args.bytes.now c.args.listed.now.place c.args.listed.now.item.now c.args.state.now c.requires.listed.layout c.requires.listed.with_data.listed c.requires.listed.input (has_bits c.args.listed.now.item.now on) c.requires.held in
-    reads.places ∙ c.requires.single single

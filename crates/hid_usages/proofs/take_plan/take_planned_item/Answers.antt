@@ -11,21 +11,10 @@ use Rattle.hid_usages.specs.Reading.{item_numbers}
 use Rattle.hid_usages.specs.Taking.{events_of_numbers_at}
 use Rattle.hid_usages.proofs.BitLemmas.{has_bits}
 use Rattle.hid_usages.proofs.EventLemmas.{nothing_appended}
-use Rattle.hid_usages.proofs.FixedLemmas.{padding_stays, data_read, listed_known, listed_left}
-use Rattle.hid_usages.proofs.PassingLemmas.{planned_as, bits_planned, variable_planned, array_planned, key_planned, padding_planned}
+use Rattle.hid_usages.proofs.FixedLemmas.{padding_stays, data_read, listed_known}
+use Rattle.hid_usages.proofs.PassingLemmas.{planned_as, bits_planned, variable_planned, array_planned, padding_planned}
 use Rattle.hid_usages.proofs.TakeLemmas.{form_of_item}
-use Rattle.std.proofs.Common.{ℕ, length}
-use Rattle.hid_usages.specs.declared.changed_bits.BitSpan.{BitSpan}
-use Rattle.hid_usages.specs.declared.take.ListedItem.{ListedItem}
-use Rattle.hid_usages.specs.ChangedBits.{SameOutside}
-use Rattle.hid_usages.specs.ChangedKeys.{KnowsKeys}
-use Rattle.hid_usages.specs.Known.{LeavesListed}
 use Rattle.hid_usages.proofs.take_plan.take_planned_item.Goals as goal
-
--- what is known of the keys of an array
-knows : (listed : ListedItem) (bytes last : List ℕ) (span : BitSpan) (state : ControlState) → LeavesListed listed last state → length last ≡ report_bytes listed.layout.now listed.item.now.report → SameOutside bytes last span
-    → KnowsKeys listed bytes last span state
-knows listed bytes last span state left whole same = record { whole = whole; same = same; left = left.left }
 
 pub item_at-requires : goal.item_at-requires
 item_at-requires g c = slice_get_within c.args.received.now.layout.now.items c.args.planned.now.place c.requires.planned.item c.requires.planned.listed
@@ -175,8 +164,8 @@ take_variable-requires-in-Motions-clause-at g c =
     let as_planned = planned_as c.args.received.now.layout.now c.args.planned.now c.item_at.result.now c.requires.planned c.item_at.ensures.item in
     as_planned.0
 
-pub take_keys-requires-clause-listed : goal.take_keys-requires-clause-listed
-take_keys-requires-clause-listed g c =
+pub take_key_fields-requires-clause-listed : goal.take_key_fields-requires-clause-listed
+take_key_fields-requires-clause-listed g c =
     let layout = c.args.received.now.layout.now in
     let item = c.item_at.result.now in
     let as_planned = planned_as layout c.args.planned.now item c.requires.planned c.item_at.ensures.item in
@@ -190,13 +179,13 @@ take_keys-requires-clause-listed g c =
       whole = omega (arith, ap (report_bytes layout) in_report, c.requires.received.whole);
     }
 
-pub take_keys-requires-clause-shape : goal.take_keys-requires-clause-shape
-take_keys-requires-clause-shape g c =
+pub take_key_fields-requires-clause-shape : goal.take_key_fields-requires-clause-shape
+take_key_fields-requires-clause-shape g c =
     let as_planned = planned_as c.args.received.now.layout.now c.args.planned.now c.item_at.result.now c.requires.planned c.item_at.ensures.item in
     array_planned c.item_at.result.now (sym as_planned.2 ∙ c.in-Keys.is)
 
-pub take_keys-requires-clause-at : goal.take_keys-requires-clause-at
-take_keys-requires-clause-at g c =
+pub take_key_fields-requires-clause-at : goal.take_key_fields-requires-clause-at
+take_key_fields-requires-clause-at g c =
     let as_planned = planned_as c.args.received.now.layout.now c.args.planned.now c.item_at.result.now c.requires.planned c.item_at.ensures.item in
     as_planned.0
 
@@ -310,8 +299,8 @@ returns-in-Motions-clause-appends g c =
     subst (λ (es : List Event). Appends c.args.out.now es c.take_variable-in-Motions.new.out)
     (ap (λ (s : ControlState). events_of_numbers_at c.args.received.now.layout.now c.args.planned.now.place c.item_at.result.now c.args.state.now s numbers) c.take_variable-in-Motions.ensures.state ∙ sym read.1) c.take_variable-in-Motions.ensures.appends
 
-pub take_keys-requires-clause-room : goal.take_keys-requires-clause-room
-take_keys-requires-clause-room g c =
+pub take_key_fields-requires-clause-room : goal.take_key_fields-requires-clause-room
+take_key_fields-requires-clause-room g c =
     let as_planned = planned_as c.args.received.now.layout.now c.args.planned.now c.item_at.result.now c.requires.planned c.item_at.ensures.item in
     let read = data_read c.args.received.now.layout.now c.args.received.now.report c.args.received.now.bytes.now c.args.planned.now.place c.item_at.result.now c.args.state.now c.item_at.ensures.item (c.requires.in_report c.item_at.result.now c.item_at.ensures.item) (ap is_padding (array_planned c.item_at.result.now (sym as_planned.2 ∙ c.in-Keys.is))) in
     subst (HasSpace c.args.out.now) read.1 c.requires.room
@@ -348,89 +337,16 @@ take_variable-requires-in-Motions-clause-known g c =
     let no_padding : is_padding item.shape ≡ false = ap is_padding (variable_planned item Relative (sym as_planned.2 ∙ c.in-Motions.is)).0 in
     listed_known layout c.args.received.now.report c.args.received.now.bytes.now c.args.last.now.bytes.now c.args.last.now.changed _ c.args.state.now refl c.item_at.ensures.item (c.requires.in_report item c.item_at.ensures.item) no_padding c.requires.known
 
-pub take_keys-requires-clause-known : goal.take_keys-requires-clause-known
-take_keys-requires-clause-known g c =
-    let layout = c.args.received.now.layout.now in
-    let item = c.item_at.result.now in
-    let as_planned = planned_as layout c.args.planned.now item c.requires.planned c.item_at.ensures.item in
-    let no_padding : is_padding item.shape ≡ false = ap is_padding (array_planned item (sym as_planned.2 ∙ c.in-Keys.is)) in
-    knows _ c.args.received.now.bytes.now c.args.last.now.bytes.now c.args.last.now.changed c.args.state.now
-    (listed_left layout c.args.received.now.report c.args.received.now.bytes.now c.args.last.now.bytes.now c.args.last.now.changed _ c.args.state.now refl c.item_at.ensures.item (c.requires.in_report item c.item_at.ensures.item) no_padding c.requires.known)
-    (c.requires.known.whole ∙ ap (report_bytes layout) (sym (c.requires.in_report item c.item_at.ensures.item))) c.requires.known.same
-
-pub take_key-requires-clause-listed : goal.take_key-requires-clause-listed
-take_key-requires-clause-listed g c =
-    let layout = c.args.received.now.layout.now in
-    let item = c.item_at.result.now in
-    let as_planned = planned_as layout c.args.planned.now item c.requires.planned c.item_at.ensures.item in
-    let no_padding : is_padding item.shape ≡ false = ap is_padding (key_planned item (sym as_planned.2 ∙ c.in-Key.is)).0 in
-    let in_report = c.requires.in_report item c.item_at.ensures.item in
-    let d : IsData layout c.args.received.now.report c.args.planned.now.place item = record { listed = c.item_at.ensures.item; in_report = in_report; no_padding = no_padding } in
-    record {
-      layout = c.item_at.ensures.layout;
-      input = form_of_item layout c.args.received.now.report c.args.planned.now.place item c.item_at.ensures.layout c.requires.received.input d;
-      with_data = record { listed = d.listed; in_report = refl; no_padding = d.no_padding };
-      whole = omega (arith, ap (report_bytes layout) in_report, c.requires.received.whole);
-    }
-
-pub take_key-requires-clause-shape : goal.take_key-requires-clause-shape
-take_key-requires-clause-shape g c =
+pub returns-in-Keys-clause-state : goal.returns-in-Keys-clause-state
+returns-in-Keys-clause-state g c =
     let as_planned = planned_as c.args.received.now.layout.now c.args.planned.now c.item_at.result.now c.requires.planned c.item_at.ensures.item in
-    (key_planned c.item_at.result.now (sym as_planned.2 ∙ c.in-Key.is)).0
+    let read = data_read c.args.received.now.layout.now c.args.received.now.report c.args.received.now.bytes.now c.args.planned.now.place c.item_at.result.now c.args.state.now c.item_at.ensures.item (c.requires.in_report c.item_at.result.now c.item_at.ensures.item) (ap is_padding (array_planned c.item_at.result.now (sym as_planned.2 ∙ c.in-Keys.is))) in
+    c.take_key_fields.ensures.state ∙ sym read.0
 
-pub take_key-requires-clause-at : goal.take_key-requires-clause-at
-take_key-requires-clause-at g c =
+pub returns-in-Keys-clause-appends : goal.returns-in-Keys-clause-appends
+returns-in-Keys-clause-appends g c =
     let as_planned = planned_as c.args.received.now.layout.now c.args.planned.now c.item_at.result.now c.requires.planned c.item_at.ensures.item in
-    as_planned.0
-
-pub take_key-requires-clause-room : goal.take_key-requires-clause-room
-take_key-requires-clause-room g c =
-    let as_planned = planned_as c.args.received.now.layout.now c.args.planned.now c.item_at.result.now c.requires.planned c.item_at.ensures.item in
-    let read = data_read c.args.received.now.layout.now c.args.received.now.report c.args.received.now.bytes.now c.args.planned.now.place c.item_at.result.now c.args.state.now c.item_at.ensures.item (c.requires.in_report c.item_at.result.now c.item_at.ensures.item) (ap is_padding (key_planned c.item_at.result.now (sym as_planned.2 ∙ c.in-Key.is)).0) in
-    subst (HasSpace c.args.out.now) read.1 c.requires.room
-
-pub returns-in-Key-clause-state : goal.returns-in-Key-clause-state
-returns-in-Key-clause-state g c =
-    let as_planned = planned_as c.args.received.now.layout.now c.args.planned.now c.item_at.result.now c.requires.planned c.item_at.ensures.item in
-    let read = data_read c.args.received.now.layout.now c.args.received.now.report c.args.received.now.bytes.now c.args.planned.now.place c.item_at.result.now c.args.state.now c.item_at.ensures.item (c.requires.in_report c.item_at.result.now c.item_at.ensures.item) (ap is_padding (key_planned c.item_at.result.now (sym as_planned.2 ∙ c.in-Key.is)).0) in
-    c.take_key.ensures.state ∙ sym read.0
-
-pub returns-in-Key-clause-appends : goal.returns-in-Key-clause-appends
-returns-in-Key-clause-appends g c =
-    let as_planned = planned_as c.args.received.now.layout.now c.args.planned.now c.item_at.result.now c.requires.planned c.item_at.ensures.item in
-    let read = data_read c.args.received.now.layout.now c.args.received.now.report c.args.received.now.bytes.now c.args.planned.now.place c.item_at.result.now c.args.state.now c.item_at.ensures.item (c.requires.in_report c.item_at.result.now c.item_at.ensures.item) (ap is_padding (key_planned c.item_at.result.now (sym as_planned.2 ∙ c.in-Key.is)).0) in
+    let read = data_read c.args.received.now.layout.now c.args.received.now.report c.args.received.now.bytes.now c.args.planned.now.place c.item_at.result.now c.args.state.now c.item_at.ensures.item (c.requires.in_report c.item_at.result.now c.item_at.ensures.item) (ap is_padding (array_planned c.item_at.result.now (sym as_planned.2 ∙ c.in-Keys.is))) in
     let numbers = item_numbers c.args.received.now.layout.now c.args.received.now.bytes.now c.item_at.result.now in
-    subst (λ (es : List Event). Appends c.args.out.now es c.take_key.new.out)
-    (ap (λ (s : ControlState). events_of_numbers_at c.args.received.now.layout.now c.args.planned.now.place c.item_at.result.now c.args.state.now s numbers) c.take_key.ensures.state ∙ sym read.1) c.take_key.ensures.appends
-
-pub take_key-requires-clause-single : goal.take_key-requires-clause-single
-take_key-requires-clause-single g c =
-    let as_planned = planned_as c.args.received.now.layout.now c.args.planned.now c.item_at.result.now c.requires.planned c.item_at.ensures.item in
-    (key_planned c.item_at.result.now (sym as_planned.2 ∙ c.in-Key.is)).1
-
-pub take_key-requires-clause-whole : goal.take_key-requires-clause-whole
-take_key-requires-clause-whole g c =
-    c.requires.known.whole ∙ ap (report_bytes c.args.received.now.layout.now) (sym (c.requires.in_report c.item_at.result.now c.item_at.ensures.item))
-
-pub take_key-requires-clause-left : goal.take_key-requires-clause-left
-take_key-requires-clause-left g c =
-    let layout = c.args.received.now.layout.now in
-    let item = c.item_at.result.now in
-    let as_planned = planned_as layout c.args.planned.now item c.requires.planned c.item_at.ensures.item in
-    let no_padding : is_padding item.shape ≡ false = ap is_padding (key_planned item (sym as_planned.2 ∙ c.in-Key.is)).0 in
-    (listed_left layout c.args.received.now.report c.args.received.now.bytes.now c.args.last.now.bytes.now c.args.last.now.changed (record { layout = c.args.received.now.layout; place = c.args.planned.now.place; item = c.item_at.result }) c.args.state.now refl c.item_at.ensures.item (c.requires.in_report item c.item_at.ensures.item) no_padding c.requires.known).left
-
-pub take_bit_fields-requires-clause-single : goal.take_bit_fields-requires-clause-single
-take_bit_fields-requires-clause-single g c = λ e. (c.requires.single e).one c.item_at.result.now c.item_at.ensures.item
-
-pub take_variable-requires-clause-single : goal.take_variable-requires-clause-single
-take_variable-requires-clause-single g c = λ e. (c.requires.single e).one c.item_at.result.now c.item_at.ensures.item
-
-pub take_variable-requires-in-Values-clause-single : goal.take_variable-requires-in-Values-clause-single
-take_variable-requires-in-Values-clause-single g c = λ e. (c.requires.single e).one c.item_at.result.now c.item_at.ensures.item
-
-pub take_variable-requires-in-NullValues-clause-single : goal.take_variable-requires-in-NullValues-clause-single
-take_variable-requires-in-NullValues-clause-single g c = λ e. (c.requires.single e).one c.item_at.result.now c.item_at.ensures.item
-
-pub take_variable-requires-in-Motions-clause-single : goal.take_variable-requires-in-Motions-clause-single
-take_variable-requires-in-Motions-clause-single g c = λ e. (c.requires.single e).one c.item_at.result.now c.item_at.ensures.item
+    subst (λ (es : List Event). Appends c.args.out.now es c.take_key_fields.new.out)
+    (ap (λ (s : ControlState). events_of_numbers_at c.args.received.now.layout.now c.args.planned.now.place c.item_at.result.now c.args.state.now s numbers) c.take_key_fields.ensures.state ∙ sym read.1) c.take_key_fields.ensures.appends

@@ -3,7 +3,6 @@ use Rattle.std.proofs.lemmas.Int.{to_z-of_z}
 use Rattle.hid_layout.specs.Controls.{element_kind, least_of, greatest_of}
 use Rattle.hid_snapshots.specs.declared.control_state.ControlState.{ControlState}
 use Rattle.hid_snapshots.specs.declared.event.Event.{Event}
-use Rattle.hid_snapshots.specs.Numbers.{IsRun}
 use Rattle.hid_snapshots.specs.Events.{usages_at, element_events}
 use Rattle.hid_snapshots.specs.Views.{motions_of}
 use Rattle.hid_snapshots.proofs.EncodingLemmas.{place_inside}
@@ -27,19 +26,19 @@ pub new-numbers-requires : goal.new-numbers-requires
 new-numbers-requires g c =
     let elements = c.requires.listed.layout.elements c.args.listed.now.place c.args.listed.now.item.now c.requires.listed.with_data.listed c.requires.listed.with_data.no_padding in
     let inside = place_inside c.args.listed.now.layout.now c.args.listed.now.item.now.report c.args.listed.now.place c.args.listed.now.item.now c.requires.listed.layout c.requires.listed.with_data in
-    subst (λ (n : ℕ). IsRun c.args.bytes.now c.args.at c.args.listed.now.item.now.size n) (sym c.count_of-count.ensures) (record {
+    record {
       some = elements.some_bits;
       narrow = elements.narrow;
       inside = omega (arith, c.requires.at, c.requires.listed.whole);
       short = omega (arith, c.requires.at, c.requires.listed.layout.short c.args.listed.now.item.now.report);
-    })
+    }
 
 pub take_elements-requires-clause-numbers : goal.take_elements-requires-clause-numbers
 take_elements-requires-clause-numbers g c =
     let layout = c.args.listed.now.layout.now in
     let item = c.args.listed.now.item.now in
     let heads = variable_controls layout c.args.listed.now.place item c.requires.listed.layout c.requires.listed.with_data.listed c.requires.listed.input c.requires.shape in
-    ap length c.new-numbers.ensures ∙ numbers_in-length c.args.bytes.now _ item.size _ c.count_of-count.result ∙ c.count_of-count.ensures
+    ap length c.new-numbers.ensures ∙ numbers_in-length c.args.bytes.now _ item.size _ item.count
     ∙ sym (usages_count layout c.args.listed.now.place item (element_kind item) (least_of item) (greatest_of item) item.count c.requires.listed.layout c.requires.listed.with_data.listed c.requires.listed.with_data.no_padding c.requires.listed.input heads)
 
 pub elements_read-requires : goal.elements_read-requires
@@ -60,7 +59,7 @@ take_elements-requires-clause-others g c =
     let heads = variable_controls layout place item c.requires.listed.layout c.requires.listed.with_data.listed c.requires.listed.input c.requires.shape in
     let room = subst (λ (k : ControlKind). HasRoom (head.Elements k (least_of item) (greatest_of item) item.count) c.args.state.now) (sym c.requires.kind)
     (subst (λ (controls : Controls). HasRoom controls c.args.state.now) (sym heads) c.requires.held) in
-    let holds = subst (λ (n : ℕ). HoldsSpan n item.size item.count c.args.changed c.elements_read.result) c.requires.at (subst (λ (m : ℕ). HoldsSpan c.args.at item.size m c.args.changed c.elements_read.result) c.count_of-count.ensures c.elements_read.ensures) in
+    let holds = subst (λ (n : ℕ). HoldsSpan n item.size item.count c.args.changed c.elements_read.result) c.requires.at c.elements_read.ensures in
     subst (λ (ns : List ℤ). LeaveOthers c.args.kind (record { least = least; greatest = greatest }) ns c.elements_read.result c.args.state.now) (sym numbers)
     (others_left c.args.kind (record { least = least; greatest = greatest }) c.args.bytes.now known.last (first_bit layout + item.offset) item.size (is_negative item.min) item.count c.args.changed c.elements_read.result (least_of item) (greatest_of item) c.args.state.now room (reads.read ∙ known.left) holds
     (λ n low outside. known.same n (omega (arith, low, known.whole, c.requires.listed.layout.inside place item c.requires.listed.with_data.listed)) outside))

@@ -1,6 +1,0 @@
-use Rattle.std.proofs.Common.{◌≡◌, ℕ, ◌*◌, ◌<◌, ◌≤◌, false}
-use Rattle.hid_snapshots.specs.Words.{is_on}
-use Rattle.hid_usages.proofs.key_search.next_pressed_within.Given as goal
-
-abbrev pub invariant-loop-k : goal.invariant-loop-k
-invariant-loop-k l = (i : ℕ) → l.fn.from ≤ i → i < 64 * l.k → is_on l.fn.flags i ≡ false
