@@ -5,5 +5,8 @@ pub mod DeviceHistory
 pub mod HistoryState
 pub mod AbortedRounds
 pub mod Motion
+pub mod Agreement
+pub mod Fairness
+pub mod Convergence
 pub mod WorkedHistories
 pub mod Delivered

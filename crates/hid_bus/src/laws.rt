@@ -1,16 +1,20 @@
 //! Laws of device histories, which hold whatever runs the bus.
 
-ghost use Rattle.std.specs.Prelude.{◌≡◌, ◌≤◌, ℕ, List, None, Some, true, false};
+ghost use Rattle.std.specs.Prelude.{◌≡◌, ◌≤◌, ℕ, List, None, Ok, Some, true, false};
 ghost use Rattle.std.specs.List.{filter, list_any};
 ghost use Rattle.hid_layout.specs.Controls.{Item};
 ghost use Rattle.hid_snapshots.specs.declared.control_state.ControlState.{ControlState};
 ghost use Rattle.hid_snapshots.specs.ControlStates.{blank, FitsSnapshot, FitsShown, FitsView};
+ghost use Rattle.hid_snapshots.specs.declared.change.Change.{Change};
 ghost use Rattle.hid_snapshots.specs.Pieces.{pieces_for};
+ghost use Rattle.hid_snapshots.specs.Snapshots.{snapshot_after};
 ghost use Rattle.usb_transact.specs.declared.transaction.Fate.{Fate};
 ghost use Rattle.hid_bus.specs.HistoryState.{HistoryHolds, IsQuietPoll, StandsByRounds, StandsInEpoch, history_from};
 ghost use Rattle.hid_bus.specs.AbortedRounds.{HasAbortFlags, OpensNext, StaysDue};
 ghost use Rattle.hid_bus.specs.DeviceHistory.{Clears, BusEvent, Halts, AreWithinEpoch, outcomes_of_events, ended_rounds, events_of_outcomes, events_of_history, state_after_all};
 ghost use Rattle.hid_bus.specs.Motion.{HasMotions, KeepsMotion, KeepsAccepted, KeepsThroughHistory, AreBetweenRounds, are_accepted};
+ghost use Rattle.hid_bus.specs.Convergence.{AgreesInTime, AreSendable, RestsAfterCleanPolls, RestsInTime};
+ghost use Rattle.hid_bus.specs.Agreement.{AgreesAtNak, AnswersNak, HasNothingToSend, IsUnmoved};
 ghost use Rattle.hid_bus.specs.Rounds.{OwnStep, Round, reaches_host, is_clean, has_crossed, has_closed, rounds, events_of_rounds, events_of_epoch, initial_history};
 ghost use Rattle.hid_bus.specs.LinkState.{LinkState, OpenRound, HasPieces, is_last, initial_link, state_after_steps, events_of_steps};
 
@@ -131,4 +135,36 @@ pub fn motion_is_kept()
     ensures lived { (items : List Item) (s : LinkState) (bus_events : List BusEvent)
         → HasMotions items s
         → HasMotions items (state_after_all items s bus_events) }
+{}
+
+/// No key is left stuck. After any history of a device that was just configured, if a poll is answered by NAK, the host has what is
+/// pressed and each value, and no motion is left to report. (It keeps the keys that it had of an array with more keys pressed than
+/// elements.) A poll is answered by NAK exactly if the device has nothing to send. Such a poll delivers nothing and changes neither
+/// end.
+pub fn no_key_is_left_stuck()
+    ensures nak { (items : List Item) (s : LinkState) → AnswersNak items s → HasNothingToSend items s }
+    ensures silent { (items : List Item) (s : LinkState) → HasNothingToSend items s → AnswersNak items s }
+    ensures quiet { (items : List Item) (s : LinkState) (fate : Fate) → IsUnmoved items s fate }
+    ensures agrees { (items : List Item) (snapshot : List ControlState) (idle : List ℕ)
+        (bus_events : List BusEvent) → AgreesAtNak items snapshot idle bus_events }
+{}
+
+/// A device comes to rest. If its controls stay as they are, its endpoint isn't halted and frames pass only if no idle time is set,
+/// a number of polls that lose nothing is enough: one for each piece that the open round has left, and the pieces of each report,
+/// once for each round that its motions need, and once at least if it is due. After that many the device has nothing to send, and
+/// its host agrees. If at most `most_lost` polls in a row lose something, `most_lost + 1` times as many polls are enough.
+pub fn devices_come_to_rest()
+    ensures clean { (items : List Item) (snapshot : List ControlState) (idle : List ℕ)
+        (bus_events : List BusEvent) (rounds : ℕ → ℕ) (steps : List OwnStep)
+        → RestsAfterCleanPolls items snapshot idle bus_events rounds steps }
+    ensures fair { (most_lost : ℕ) (items : List Item) (snapshot : List ControlState)
+        (idle : List ℕ) (bus_events : List BusEvent) (rounds : ℕ → ℕ) (steps : List OwnStep)
+        → RestsInTime most_lost items snapshot idle bus_events rounds steps }
+    ensures needed { (most_lost : ℕ) (items : List Item) (snapshot : List ControlState)
+        (idle : List ℕ) (bus_events : List BusEvent) (steps : List OwnStep)
+        → AgreesInTime most_lost items snapshot idle bus_events steps }
+    ensures blank { (items : List Item) → AreSendable items (blank items) }
+    ensures changed { (items : List Item) (snapshot after : List ControlState) (change : Change)
+        → AreSendable items snapshot → snapshot_after items snapshot change ≡ Ok after
+        → AreSendable items after }
 {}

@@ -31,12 +31,15 @@
 //! - Motion is neither lost nor doubled: [`laws::motion_is_kept`].
 //! - A report whose round was aborted is due until one opens: [`laws::halts_lose_nothing`].
 //! - A report is delivered whole or not at all: [`laws::reports_cross_whole`].
+//! - No key is left stuck: if a poll is answered by NAK, the host has what is pressed: [`laws::no_key_is_left_stuck`].
+//! - If nothing changes any more, a device comes to rest within a number of polls: [`laws::devices_come_to_rest`].
 //! - Two lists, one after the other, deliver of a device what the first delivers, and then what the second does.
 #![tactic(auto)]
 
 pub mod laws;
 mod start;
 mod step;
+pub mod worked_agreement;
 pub mod worked_histories;
 
 pub use start::Start;

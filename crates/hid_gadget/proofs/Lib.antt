@@ -6,5 +6,6 @@ pub mod SoundLemmas
 pub mod TakeLemmas
 pub mod ResultLemmas
 pub mod ReceiveLemmas
+pub mod AgreementLemmas
 pub mod ReadLemmas
 mod Vectors

@@ -436,7 +436,7 @@ asks_as c (Some r) room view s sound fits at = asks_open c r room view s sound f
 
 -- ---- the token of a transfer
 
-token_at : (c : CoreState) (o : Option ℕ) (view : List ControlState)
+pub token_at : (c : CoreState) (o : Option ℕ) (view : List ControlState)
     → state_at_token (items_of c.layout) (link_with (record c { current = o }) view) ≡ link_with (core_after_due (record c { current = o }) o) view
 token_at c (Some r) view = refl
 token_at c None view = by_due (due_where (items_of c.layout) c.halted c.reports)
@@ -697,7 +697,7 @@ quiet_is core snapshot idle fresh =
     ap (λ (b : Bool). let d : CoreState = record core { current = None; halted = b } in d) (sym fresh.going)
     ∙ ap (λ (o : Option ℕ). let d : CoreState = record core { current = o } in d) (sym fresh.no_round)
 
-fresh_is : (core : CoreState) (snapshot : List ControlState) (idle : List ℕ) → IsFresh core snapshot idle
+pub fresh_is : (core : CoreState) (snapshot : List ControlState) (idle : List ℕ) → IsFresh core snapshot idle
     → link_with core (blank (items_of core.layout)) ≡ initial_link (items_of core.layout) snapshot idle
 fresh_is core snapshot idle fresh =
     let items = items_of core.layout in

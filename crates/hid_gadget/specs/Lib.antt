@@ -3,4 +3,5 @@ pub mod Gadgets
 pub mod WholeTransfers
 pub mod WholeReports
 pub mod ReceivedReports
+pub mod Agreement
 pub mod ReadReports

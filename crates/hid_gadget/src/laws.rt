@@ -23,6 +23,7 @@ ghost use Rattle.hid_gadget.specs.WholeTransfers.{IsOfTries, after_transfer};
 ghost use Rattle.hid_gadget.specs.WholeReports.{IsOfPolls, IsTakenWhole, TakesNothing, report_result};
 ghost use Rattle.hid_gadget.specs.declared.outcomes.Poll.{Poll};
 ghost use Rattle.hid_gadget.specs.ReceivedReports.{AreInStep, GadgetStep, GivesEvents, IsFresh, bus_events, events_of_crossed, events_received, new_receiver, set_configuration_1};
+ghost use Rattle.hid_gadget.specs.Agreement.{AgreesAfterSteps};
 ghost use Rattle.hid_gadget.specs.ReadReports.{AreWhole, HoldsEach, ReadsAlike, events_read, receiver_of};
 
 /// A control transfer of which nothing is lost is the tries of its pieces: after as many of them as it needs, wherever
@@ -75,6 +76,9 @@ pub fn receivers_give_events()
         → bus_events core steps ≡ steps_as_events own
         → events_received core steps (new_receiver core.layout)
         ≡ events_of_epoch (items_of core.layout) snapshot idle own }
+    // No key is left stuck: if an interrupt transfer returns `Nothing` after these steps, the receiver has what is pressed.
+    ensures agrees { (core : CoreState) (snapshot : List ControlState) (idle : List ℕ)
+        (steps : List GadgetStep) → AgreesAfterSteps core snapshot idle steps }
     // A gadget whose host just configured it is one of the headline, and in step with a new receiver.
     ensures fresh { (core : CoreState) → IsSound core
         → IsFresh (after_transfer core_table core set_configuration_1 [])

@@ -37,11 +37,13 @@ use Rattle.hid_gadget.specs.declared.outcomes.Poll.{Poll}
 use Rattle.hid_gadget.specs.declared.outcomes.Poll.TheVariants.{Done, Nothing, Stalled, TooSmall}
 use Rattle.hid_gadget.specs.WholeReports.{bytes_fitting, bytes_left, bytes_taken, core_after_poll, core_after_polls, end_of_pieces, end_of_round, fitting_pieces, pieces_taken, report_result}
 use Rattle.hid_gadget.specs.ReceivedReports.{AreInStep, Asks, Changes, Frame, GadgetStep, Transfers, bus_events, bus_events_of, bytes_before, core_after_step, core_after_steps, events_after, events_at_step, events_of_crossed, events_of_write, events_received, link_with, new_receiver, receiver_after, receiver_after_step, receiver_after_steps, write_of_transfer}
+use Rattle.hid_gadget.specs.Agreement.{AgreesAtNothing}
+use Rattle.hid_gadget.proofs.AgreementLemmas.{agrees_after_steps}
 use Rattle.hid_gadget.proofs.ReceiveLemmas.{OpenFacts, fresh_in_step, gives_events, gives_rounds, gives_schedule, open_facts, step_in_step, within_parts}
 use Rattle.hid_gadget.proofs.SoundLemmas.{at_poll_layout, sound_at_poll}
 use Rattle.hid_loopback.specs.BringUp.{core_brought_up, device_of}
 use Rattle.hid_loopback.specs.InterruptTransfers.{Hears}
-use Rattle.hid_loopback.specs.Runs.{Delivers, IsBeside, Runs, RunsStep, live_interface}
+use Rattle.hid_loopback.specs.Runs.{Delivers, DriverAgrees, IsBeside, Runs, RunsStep, live_interface}
 use Rattle.hid_loopback.proofs.BringUpLemmas.{fresh_up, layout_up}
 
 -- ---- a transfer that the driver receives as a receiver of packets does
@@ -432,3 +434,19 @@ cross_by_schedule core gadget_steps later events own sound is runs =
     up_alike core gadget_steps later events sound (subst AreWithinEpoch (sym is) (own_within own)) runs
     ∙ ap (map (event_of 0)) (gives_schedule up snapshot idle gadget_steps own (fresh_up core sound) is)
     ∙ ap (λ (l : Contents). map (event_of 0) (events_of_epoch (items_of l) snapshot idle own)) (layout_up core)
+
+-- the driver agrees with its gadget where that has nothing to send
+pub agrees_up : (core : CoreState) (gadget_steps : List GadgetStep) (later : DriverValue) (events : List DriverEvent) → IsSound core
+    → AreWithinEpoch (bus_events (core_brought_up core) gadget_steps)
+    → Runs (core_brought_up core) gadget_steps (ready_for (device_of core) core.layout) later events
+    → DriverAgrees (core_after_steps (core_brought_up core) gadget_steps) (virtual_interface (device_of core)) later
+agrees_up core gadget_steps later events sound within runs =
+    let up : CoreState = core_brought_up core in
+    let alike = runs_alike up (virtual_interface (device_of core)) (new_receiver core.layout) gadget_steps
+    (ready_for (device_of core) core.layout) later events (beside_up core sound) within runs in (
+      receiver_after_steps up gadget_steps (new_receiver core.layout),
+      alike.beside.interface,
+      subst (λ (l : Contents). AgreesAtNothing (core_after_steps up gadget_steps) (receiver_after_steps up gadget_steps (new_receiver l)).view)
+          (layout_up core)
+          (agrees_after_steps up core.reports.snapshot (no_idle core.reports.idle) gadget_steps (fresh_up core sound) within),
+    )

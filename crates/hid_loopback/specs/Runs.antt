@@ -13,6 +13,7 @@ use Rattle.hid_driver.specs.Driver.{DriverValue}
 use Rattle.hid_driver.specs.Pipe.{event_of, pipe_of_receiver}
 use Rattle.hid_gadget.specs.declared.outcomes.Poll.{Poll}
 use Rattle.hid_gadget.specs.ReceivedReports.{AreInStep, Asks, Changes, Frame, GadgetStep, Transfers, bus_events, core_after_step, core_after_steps, link_with}
+use Rattle.hid_gadget.specs.Agreement.{AgreesAtNothing}
 use Rattle.hid_gadget.specs.WholeReports.{bytes_taken, report_result}
 use Rattle.hid_loopback.specs.InterruptTransfers.{Hears}
 
@@ -69,3 +70,10 @@ pub record Delivers (core : CoreState) (info : InterfaceInfo) (receiving : Recei
   pub stands : link_with (core_after_steps core gadget_steps) seen.view
       ≡ state_after_all (items_of core.layout) (link_with core receiving.view) (bus_events core gadget_steps)
   pub beside : IsBeside (core_after_steps core gadget_steps) info seen later
+
+-- No key is left stuck: if an interrupt transfer would now return `Nothing`, the driver's view has what is pressed at the
+-- gadget and each value, and no motion is left to report.
+abbrev pub DriverAgrees : CoreState → InterfaceInfo → DriverValue → Type 0
+DriverAgrees core info driver =
+    (receiving : ReceiverState) × (driver.interfaces ≡ live_interface info receiving ∷ [])
+    × AgreesAtNothing core receiving.view

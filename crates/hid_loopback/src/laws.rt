@@ -15,11 +15,11 @@ ghost use Rattle.hid_driver.specs.declared.state.DriverState.TheVariants.{Asked}
 ghost use Rattle.hid_driver.specs.declared.state.Moved.{Moved};
 ghost use Rattle.hid_driver.specs.Driver.{DriverValue, driver_after_ask};
 ghost use Rattle.hid_driver.specs.Pipe.{event_of};
-ghost use Rattle.hid_driver.specs.VirtualDevices.{ready_for};
-ghost use Rattle.hid_gadget.specs.ReceivedReports.{GadgetStep, IsFresh, Transfers, bus_events, core_after_step, events_of_crossed};
+ghost use Rattle.hid_driver.specs.VirtualDevices.{ready_for, virtual_interface};
+ghost use Rattle.hid_gadget.specs.ReceivedReports.{GadgetStep, IsFresh, Transfers, bus_events, core_after_step, core_after_steps, events_of_crossed};
 ghost use Rattle.hid_loopback.specs.BringUp.{core_brought_up, device_of};
 ghost use Rattle.hid_loopback.specs.ControlTransfers.{MakesTransfer};
-ghost use Rattle.hid_loopback.specs.Runs.{Delivers, IsBeside, IsQuiet, Runs};
+ghost use Rattle.hid_loopback.specs.Runs.{Delivers, DriverAgrees, IsBeside, IsQuiet, Runs};
 
 /// Once a driver is up beside a gadget, its events are the changes between the reports of the gadget's rounds that crossed, in
 /// order, none twice: for every list of changes, frames, interrupt transfers with any room, and control transfers that
@@ -37,6 +37,13 @@ pub fn events_cross_once()
         → Runs (core_brought_up core) steps (ready_for (device_of core) core.layout) later events
         → events ≡ map (event_of 0) (events_of_epoch (items_of core.layout) core.reports.snapshot
         (no_idle core.reports.idle) own) }
+    // No key is left stuck: if an interrupt transfer would return `Nothing` after these steps, the driver's view has what is
+    // pressed at the gadget.
+    ensures agrees { (core : CoreState) (steps : List GadgetStep) (later : DriverValue)
+        (events : List DriverEvent) → IsSound core → AreWithinEpoch (bus_events (core_brought_up core) steps)
+        → Runs (core_brought_up core) steps (ready_for (device_of core) core.layout) later events
+        → DriverAgrees (core_after_steps (core_brought_up core) steps)
+        (virtual_interface (device_of core)) later }
     // The gadget was just configured then, with no idle time, and its snapshot is as it was.
     ensures fresh { (core : CoreState) → IsSound core
         → IsFresh (core_brought_up core) core.reports.snapshot (no_idle core.reports.idle) }

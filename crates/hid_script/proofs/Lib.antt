@@ -5,5 +5,6 @@ pub mod RepeatLemmas
 pub mod LineOutputLemmas
 pub mod FlushLemmas
 pub mod PrintingLemmas
+pub mod AgreementLemmas
 pub mod StreamLemmas
 mod Vectors

@@ -326,7 +326,7 @@ meant_done : (session next : Session) (bytes text : List ℕ) (meaning : Result 
 meant_done session next bytes text (Ok said) is few h = (said, is, line_done said session next text few h)
 meant_done session next bytes text (Err fault) is few h = let ends = ap (λ (o : Outcome). o.end) h in absurd (cc)
 
-told_done : (session next : Session) (bytes text : List ℕ) → length session.members < 10
+pub told_done : (session next : Session) (bytes text : List ℕ) → length session.members < 10
     → LinePrints session bytes (success text next)
     → (said : Line) × (meaning_of bytes ≡ Ok said) × LineDone said session text next
 unfolding LinePrints
@@ -334,7 +334,7 @@ told_done session next bytes text few h = meant_done session next bytes text (me
 
 -- ---- whole scripts
 
-all_done : (script : List (List ℕ)) (session last : Session) (text : List ℕ) → length session.members < 10
+pub all_done : (script : List (List ℕ)) (session last : Session) (text : List ℕ) → length session.members < 10
     → AllPrint session script text last
     → (acts : List Action) × AllDo session.members script acts × Done session.members text acts last.members
 all_done [] session last text few h = ([], refl, done_nothing session.members last.members text few (subst (λ t. ShowsEvents t []) (sym h.0) shows_nothing) (ap (λ (s : Session). s.members) h.1))

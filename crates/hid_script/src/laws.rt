@@ -1,6 +1,6 @@
 //! Laws of the definitions that the contract of `run` cites: they pin what it writes, up to where it ends.
 
-ghost use Rattle.hid_script.specs.Laws.{LineHasOneOutcome, LinesPrintOneText, BeginsWithPrefixes, LinesPrintLives, RunsPrintLives};
+ghost use Rattle.hid_script.specs.Laws.{LineHasOneOutcome, LinesPrintOneText, BeginsWithPrefixes, LinesAgree, LinesPrintLives, PollsBringToRest, RunsPrintLives};
 
 use hid_layout::laws::{accepted_or_refused, one_reading, one_refusal};
 use hid_stack::laws::{one_attaching, one_finding, one_telling};
@@ -42,4 +42,11 @@ pub fn prefixes()
 pub fn histories_are_printed()
     ensures lines { LinesPrintLives }
     ensures runs { RunsPrintLives }
+{}
+
+/// No key is left stuck in a script. After lines that are all accepted, the host of each device that has nothing to send has
+/// what is pressed. A last line that polls a device cleanly as often as it needs brings it there.
+pub fn devices_agree_after_lines()
+    ensures agree { LinesAgree }
+    ensures rest { PollsBringToRest }
 {}

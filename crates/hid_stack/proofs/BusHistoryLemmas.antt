@@ -33,7 +33,7 @@ use Rattle.hid_stack.proofs.RoomLemmas.{bus_layouts, layout_of_member}
 
 -- ---- one act, at one device
 
-abbrev after_own_act : Member → Option DeviceAction → Member
+abbrev pub after_own_act : Member → Option DeviceAction → Member
 after_own_act m None = m
 after_own_act m (Some act) = member_after_action m act
 
@@ -64,7 +64,7 @@ unconcluded_quiet fate m (Some t) aborts = by_request (request_aborts_round t.re
         (brings_effect fate t.ends (control_of_member m)) (none refl)
 
 -- a step is an act of the device that it is a step of
-taken_state : (m : Member) (o : Option MemberStep) → after_own m o ≡ after_own_act m (option_map (λ x. Takes x) o)
+pub taken_state : (m : Member) (o : Option MemberStep) → after_own m o ≡ after_own_act m (option_map (λ x. Takes x) o)
 taken_state m None = refl
 taken_state m (Some x) = refl
 
@@ -102,7 +102,7 @@ unconcluded_other d device members m fate other h =
           λ g. with_other members d device m t (member_out_of_memory fate t (running t.transfer)) other g h
     ] refl
 
-unconcluded_state : (d device : ℕ) (members : List Member) (m : Member) (fate : Fate) → member_at members device ≡ Some m
+pub unconcluded_state : (d device : ℕ) (members : List Member) (m : Member) (fate : Fate) → member_at members device ≡ Some m
     → member_at (bus_after_try_out_of_memory members d fate) device ≡ Some (after_own_act m (if_own_act d device fate))
 unconcluded_state d device members m fate h = elim (same_or_not d device) [
   | inl same ↦ unconcluded_same d device members m fate same.0 h ∙ sym (ap (λ (b : Bool). Some (after_own_act m (cond b (Some (Unconcludes fate)) None))) same.1)
@@ -202,7 +202,11 @@ told_later_acts (Unconcluded d fate ∷ acts) members device m h ends =
     (unconcluded_events d device m fate actions ends))
     ∙ own_act_told m own actions
 
-actions_links : (actions : List DeviceAction) (m : Member)
+pub actions_layout : (actions : List DeviceAction) (m : Member) → (member_after_actions m actions).layout ≡ m.layout
+actions_layout [] m = refl
+actions_layout (act ∷ actions) m = actions_layout actions (member_after_action m act) ∙ act_layout m act
+
+pub actions_links : (actions : List DeviceAction) (m : Member)
     → (member_after_actions m actions).link
     ≡ state_after_all (items_of m.layout) m.link (bus_events_of_actions m actions)
 actions_links [] m = refl

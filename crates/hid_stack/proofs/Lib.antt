@@ -42,3 +42,4 @@ pub mod LawLemmas
 pub mod SuitLemmas
 pub mod RoundLemmas
 pub mod ControlStepLemmas
+pub mod AgreementLemmas

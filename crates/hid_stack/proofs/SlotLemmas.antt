@@ -92,7 +92,7 @@ StartsReady =
 abbrev StartsCold : Type 0
 StartsCold = (addr : ℕ) (control : DevControlState CoreState) → IsConsistent (cold_host addr) control
 
-laid_by : (descriptor : List ℕ) (layout : Contents) → ParsesTo descriptor layout → IsLayout layout
+pub laid_by : (descriptor : List ℕ) (layout : Contents) → ParsesTo descriptor layout → IsLayout layout
 laid_by descriptor layout lays = subst IsLayout (sym lays.laid) (layout_of_accepted Bus descriptor lays.items lays.accepted)
 
 pub makes_ready : (addr : ℕ) (config : Config) (descriptor : List ℕ) (made device : DeviceState)

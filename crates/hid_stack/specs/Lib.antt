@@ -9,6 +9,7 @@ pub mod Accessors
 pub mod Sums
 pub mod Steps
 pub mod Headline
+pub mod Agreement
 pub mod ExpectedToggles
 pub mod Trails
 pub mod Transfers

@@ -17,8 +17,9 @@ ghost use Rattle.hid_stack.specs.Laws.{HasSameOrigin, ResultIsUnique, FindsOneCo
 ghost use Rattle.hid_bus.specs.declared.start.Start.{Start};
 ghost use Rattle.hid_layout.specs.Layout.{Contents};
 ghost use Rattle.hid_device.specs.declared.config.Config.{Config};
-ghost use Rattle.hid_stack.specs.Attaching.{member_at_start};
+ghost use Rattle.hid_stack.specs.Attaching.{CanAttach, member_at_start};
 ghost use Rattle.hid_stack.specs.ExpectedToggles.{AllHoldToggles, ExpectsParity, HoldsToggle, HostsExpectParity};
+ghost use Rattle.hid_stack.specs.Agreement.{AgreeAtNak, AgreeFromAttach, AgreeIfNakIsReceived, ComeToRest, RestFromAttach, StartsUnpolled};
 ghost use Rattle.hid_stack.specs.Headline.{DeliversChanges, DevicesFollowHistories, KeepsToRounds};
 ghost use Rattle.hid_stack.specs.Members.{Member, MemberStep, begin_refusal_at, member_after_all};
 ghost use Rattle.hid_stack.specs.PendingClear.{IsPendingUntilDone};
@@ -202,4 +203,29 @@ pub fn devices_leave_transfers()
         → LeavesTransfers false control (host_with_core control (core_at_poll control.requests)) }
     ensures acknowledged { (control : DevControlState CoreState)
         → LeavesTransfers false control (host_with_core control (core_after_ack control.requests)) }
+{}
+
+/// No key is left stuck on any bus. After any steps, a device that has nothing to send and its host agree: what is pressed, each
+/// value, and no motion is left. If a poll returns NAK, they agree, before that poll and after it. Each device is unpolled when it is
+/// attached, ready or cold; so this holds of each device from its attach on, whatever is done to the bus.
+pub fn no_key_is_left_stuck()
+    ensures steps { (before after : List Member) (steps : List BusStep)
+        → after ≡ bus_after_all before steps → AgreeAtNak before steps after }
+    ensures received { (before after : List Member) (steps : List BusStep)
+        → after ≡ bus_after_all before steps → AgreeIfNakIsReceived before steps after }
+    ensures attached { (start : Start) (dev : ℕ) (config : Config) (descriptor : List ℕ) (layout : Contents)
+        → CanAttach dev config descriptor layout
+        → StartsUnpolled (member_at_start start dev config descriptor layout) }
+    ensures since { (acts : List Action) → AgreeFromAttach acts }
+{}
+
+/// Devices come to rest on any bus. A device that is left alone after any steps has nothing more to send after as many polls as
+/// it needs, if none loses anything, and then it agrees with its host. If at most `most_lost` polls in a row lose something,
+/// `most_lost + 1` times as many are enough.
+pub fn devices_come_to_rest()
+    ensures steps { (most_lost : ℕ) (before after : List Member) (earlier later : List BusStep)
+        → after ≡ bus_after_all before (earlier ++ later)
+        → ComeToRest most_lost before earlier later after }
+    ensures since { (most_lost : ℕ) (acts : List Action) (later : List BusStep)
+        → RestFromAttach most_lost acts later }
 {}

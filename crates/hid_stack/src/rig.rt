@@ -1,10 +1,12 @@
 //! The rig: the devices of a bus with their hosts, and the steps that happen to them.
-ghost use Rattle.std.specs.Prelude.{◌≡◌, ◌≢◌, ◌≤◌, ◌+◌, ◌++◌, ◌<◌, List, [], ◌∷◌, Ok, Err, Some, length, map, IfOk, OnOk, IfErr, OnErr, vec_len, vec_capacity};
+ghost use Rattle.std.specs.Prelude.{ℕ, ◌≡◌, ◌≢◌, ◌≤◌, ◌+◌, ◌++◌, ◌<◌, List, [], ◌∷◌, Ok, Err, Some, length, map, IfOk, OnOk, IfErr, OnErr, vec_len, vec_capacity};
 ghost use Rattle.std.specs.List.{All};
 ghost use Rattle.hid_bus.specs.Rounds.{Frame as FrameStep};
+ghost use Rattle.hid_bus.specs.declared.step.Step.{Step as BusStep};
 ghost use Rattle.hid_host.specs.declared.fault.StackFault.{StackFault};
 ghost use Rattle.hid_stack.specs.Attaching.{Attaches, IsAttached, Finds};
 ghost use Rattle.hid_stack.specs.ExpectedToggles.{HostsExpectParity};
+ghost use Rattle.hid_stack.specs.Agreement.{AgreeAtNak, ComeToRest};
 ghost use Rattle.hid_stack.specs.Headline.{DeliversChanges, DevicesFollowHistories, KeepsToRounds};
 ghost use Rattle.hid_stack.specs.Members.{Scheduled, member_after};
 ghost use Rattle.hid_stack.specs.Rig.{AreScheduled, FitsStep, NoneIsRefused, member_at, bus_after, deliveries_of_step, bus_after_all, bus_after_done, deliveries_of_steps, steps_done, refusal, bus_after_refusal, bus_after_stop, IsRefusal, StopsAt, HasRoomAt, HasRoomFor, NeedsNoRoom, max_events_of_step, max_events_of_steps, IsIsolated};
@@ -238,6 +240,12 @@ impl Rig {
         // A halt and a clear end the open round, whose report is due then, and a clear restarts the toggles.
         ensures history { DevicesFollowHistories self.old (steps_done result steps.now)
             (bus_after_done self.old result steps.now) out.old.items out.new.items }
+
+        // No key is left stuck: if a device has nothing to send after the steps, its host has what is pressed. If nothing
+        // but enough polls happens to a device at the end of the steps, it has nothing to send then.
+        ensures agrees { OnOk result (AgreeAtNak self.old steps.now self.new) }
+        ensures rests { OnOk result ((most_lost : ℕ) (earlier later : List BusStep)
+            → steps.now ≡ earlier ++ later → ComeToRest most_lost self.old earlier later self.new) }
 
         // The toggle of each host: while it may poll, also while the endpoint is halted, it expects the parity of the
         // pieces that crossed since the configuration or the last clear.

@@ -1,4 +1,5 @@
 use Rattle.hid_gadget.proofs.ReceiveLemmas.{fresh_in_step, gives_events, gives_rounds, gives_schedule, goes_on_again, is_fresh}
+use Rattle.hid_gadget.proofs.AgreementLemmas.{agrees_after_steps}
 use Rattle.hid_gadget.proofs.laws.receivers_give_events.Goals as goal
 
 pub returns-clause-given : goal.returns-clause-given
@@ -18,3 +19,6 @@ returns-clause-new c = fresh_in_step
 
 pub returns-clause-again : goal.returns-clause-again
 returns-clause-again c = goes_on_again
+
+pub returns-clause-agrees : goal.returns-clause-agrees
+returns-clause-agrees c = agrees_after_steps

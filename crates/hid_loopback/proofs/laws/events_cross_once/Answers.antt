@@ -1,5 +1,5 @@
 use Rattle.hid_loopback.proofs.BringUpLemmas.{fresh_up}
-use Rattle.hid_loopback.proofs.RunLemmas.{cross_by_schedule, cross_once, delivers}
+use Rattle.hid_loopback.proofs.RunLemmas.{agrees_up, cross_by_schedule, cross_once, delivers}
 use Rattle.hid_loopback.proofs.laws.events_cross_once.Goals as goal
 
 pub returns-clause-headline : goal.returns-clause-headline
@@ -13,3 +13,6 @@ returns-clause-fresh c = fresh_up
 
 pub returns-clause-given : goal.returns-clause-given
 returns-clause-given c = delivers
+
+pub returns-clause-agrees : goal.returns-clause-agrees
+returns-clause-agrees c = agrees_up

@@ -10,6 +10,7 @@ use Rattle.hid_stack.proofs.Isolation.{ran_more, told_more, devices_live, headli
 use Rattle.hid_stack.proofs.RoomLemmas.{fits_of, goes_on_more, most_more, not_refused, room_at, room_here, stopped, stops_at}
 use Rattle.hid_stack.proofs.ToggleLemmas.{hosts_expect}
 use Rattle.hid_stack.proofs.SumLemmas.{between_more, sums_stop, sums_up}
+use Rattle.hid_stack.proofs.AgreementLemmas.{agree_at_nak, come_to_rest}
 use Rattle.hid_stack.proofs.rig.Rig.run.Goals as goal
 
 pub loop-at-preserved : goal.loop-at-preserved
@@ -144,3 +145,15 @@ returns-in-Err-clause-room_for_all c scheduled room memory =
     c.step.ensures.room
     (subst (λ (x : Step). HasRoomFor c.loop-at.self x (vec_len c.loop-at.out) (vec_capacity c.loop-at.out)) (sym c.index-steps-at.is)
     (room_at _ _ _ _ _ _ _ _ _ c.loop-at-test.true c.loop-at.invariant.now c.loop-at.invariant.few c.loop-at.invariant.capacity scheduled room)) (c.in-Err.is ∙ ap Err memory)
+
+pub returns-clause-agrees : goal.returns-clause-agrees
+returns-clause-agrees c =
+    let whole : take c.loop-at.at c.args.steps.now ≡ c.args.steps.now = take_all c.loop-at.at c.args.steps.now c.loop-at-test.false in
+    agree_at_nak c.args.self.now c.loop-at.self c.args.steps.now
+    (c.loop-at.invariant.now ∙ ap (bus_after_all c.args.self.now) whole)
+
+pub returns-clause-rests : goal.returns-clause-rests
+returns-clause-rests c = λ most_lost earlier later is.
+    let whole : take c.loop-at.at c.args.steps.now ≡ c.args.steps.now = take_all c.loop-at.at c.args.steps.now c.loop-at-test.false in
+    come_to_rest most_lost c.args.self.now earlier later c.loop-at.self
+    (c.loop-at.invariant.now ∙ ap (bus_after_all c.args.self.now) (whole ∙ is))
