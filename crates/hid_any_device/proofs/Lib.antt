@@ -1,5 +1,6 @@
 pub mod QueueLemmas
 pub mod OnceLemmas
+pub mod ProgressLemmas
 pub mod ReportPieceLemmas
 pub mod TransferLemmas
 pub mod EndpointLemmas

@@ -17,17 +17,17 @@ tidy_next : (queue : List ReportPieces) → IsTidy false [] queue
 tidy_next [] = (refl, refl)
 tidy_next (report ∷ queue) = tt
 
-abbrev history : List ReportPieces → List ℕ → Bool → QueueState
+abbrev pub history : List ReportPieces → List ℕ → Bool → QueueState
 history queue earlier ahead = record { queue = queue; earlier = earlier; crossed = ahead }
 
 abbrev Same : QueueState → PipeStep → Type 0
 Same c x = reports_waiting c ++ report_queued_at x ≡ report_crossing c x ++ reports_waiting (queue_after c x)
 
-still_whole : (earlier : List ℕ) (report : ReportPieces) → report_waiting earlier false report ≡ (earlier ++ bytes_of_pieces report) ∷ []
+pub still_whole : (earlier : List ℕ) (report : ReportPieces) → report_waiting earlier false report ≡ (earlier ++ bytes_of_pieces report) ∷ []
 still_whole earlier (Last bytes) = refl
 still_whole earlier (More bytes rest) = refl
 
-all_wait : (queue : List ReportPieces) → reports_waiting_in [] false queue ≡ map bytes_of_pieces queue
+pub all_wait : (queue : List ReportPieces) → reports_waiting_in [] false queue ≡ map bytes_of_pieces queue
 all_wait [] = refl
 all_wait (Last bytes ∷ queue) = refl
 all_wait (More bytes rest ∷ queue) = refl
@@ -123,7 +123,7 @@ once_each steps steady = all_same queue_at_start steps steady (refl, refl)
 
 -- ---- nothing waits for ever
 
-some_left : (report : ReportPieces) → 0 < piece_count report
+pub some_left : (report : ReportPieces) → 0 < piece_count report
 some_left (Last bytes) = omega arith
 some_left (More bytes rest) = omega arith
 

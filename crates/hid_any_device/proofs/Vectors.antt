@@ -16,7 +16,9 @@ use Rattle.hid_snapshots.specs.ControlStates.{blank}
 use Rattle.hid_usages.specs.Receiving.{ReceiverState, is_whole}
 use Rattle.hid_any_device.specs.Sender.{Sends, Waits, Stalls, Last, More}
 use Rattle.hid_any_device.specs.PipeSteps.{PipeStep, Queues, Polls, Clears, ends_after_all, events_at_step, ends_at_start, poll_result, events_of_steps}
-use Rattle.hid_any_device.specs.SendQueue.{queue_at_start, queue_after_all, crossed_pieces, reports_waiting}
+use Rattle.hid_any_device.specs.SendQueue.{queue_at_start, queue_after_all, crossed_pieces, crossed_reports, reports_waiting}
+use Rattle.hid_bus.specs.Rounds.{closed_count}
+use Rattle.hid_any_device.specs.Progress.{carried_fates}
 use Rattle.hid_any_device.specs.ReportPieces.{pieces_of_report}
 use Rattle.hid_any_device.specs.Transfers.{events_of_transfers, receiver_between}
 
@@ -184,3 +186,11 @@ read_in_one = refl
 read_in_two : events_of_transfers 64 receiver (replicate 64 0 ∷ (0 ∷ 1 ∷ []) ∷ []) ≡ event.Down (control_at 0 0) (usage 9 1) ∷ []
 unfolding items_from spread_usages
 read_in_two = refl
+
+-- two reports wait, and two polls of four carry a piece: both cross, whatever is queued meanwhile
+two_carry : closed_count (carried_fates (Polls Sends AckLost ∷ poll ∷ right ∷ Polls Waits Clean ∷ poll ∷ [])) ≡ 2
+two_carry = refl
+
+two_cross : crossed_reports (queue_after_all queue_at_start (right ∷ right ∷ [])) (Polls Sends AckLost ∷ poll ∷ right ∷ Polls Waits Clean ∷ poll ∷ [])
+    ≡ (1 ∷ 5 ∷ 0 ∷ []) ∷ (1 ∷ 5 ∷ 0 ∷ []) ∷ []
+two_cross = refl

@@ -3,6 +3,7 @@ pub mod Endpoint
 pub mod PipeSteps
 pub mod SendQueue
 pub mod Delivery
+pub mod Progress
 pub mod ReportPieces
 pub mod Transfers
 pub mod Replies

@@ -13,6 +13,7 @@ ghost use Rattle.hid_any_device.specs.Sender.{Readiness, ReportPieces};
 ghost use Rattle.hid_any_device.specs.Endpoint.{ReadsPacketsOf64};
 ghost use Rattle.hid_any_device.specs.PipeSteps.{PipeEnds, PipeStep};
 ghost use Rattle.hid_any_device.specs.Delivery.{AllReportsEnd, CrossOnceInOrder, DeliversReports, NoneWaits, PollReturnsCrossing, ReportsEnd, StepDelivers, StepReportsEnd};
+ghost use Rattle.hid_any_device.specs.Progress.{WaitingCross, WaitingCrossInTime};
 ghost use Rattle.hid_any_device.specs.ReportPieces.{AllHaveRoom, AllQueueShortReports, ByteStep, DeliversGivenReports, HasRoomInPackets, IsSentWhole};
 ghost use Rattle.hid_any_device.specs.Transfers.{DeliversTransfers};
 ghost use Rattle.hid_any_device.specs.PollTransactions.{PollsAreTransactions};
@@ -37,10 +38,15 @@ pub fn hosts_read_packets_of_64()
 {}
 
 /// While no halt is cleared, each report that was queued has crossed, once and in order, or it waits, whatever its bytes and
-/// layout. Where nothing is lost of the polls, each piece crosses at its first.
+/// layout. All that wait cross once as many polls of a device that sends lose nothing as pieces are queued, whatever other polls
+/// lose and whatever is queued meanwhile. If at most `most_lost` polls in a row lose something or meet a device that doesn't send,
+/// `most_lost + 1` polls for each piece are enough.
 pub fn reports_cross_once()
     ensures once { (steps : List PipeStep) → CrossOnceInOrder steps }
     ensures none_waits { (steps : List PipeStep) → NoneWaits steps }
+    ensures waiting { (steps more : List PipeStep) → WaitingCross steps more }
+    ensures in_time { (most_lost : ℕ) (steps more : List PipeStep)
+        → WaitingCrossInTime most_lost steps more }
 {}
 
 /// Reports of less than a full packet end at their host, whatever its layout. A report of any bytes that has room in its packets

@@ -17,7 +17,8 @@
 //!
 //! The promise: whatever such a device sends, and whatever the bus loses, its host delivers the changes between the reports that
 //! crossed, in order, each once: `reports` on [`laws::any_device_is_read`]; and while no halt is cleared, each report that was
-//! queued crosses once, in order, or waits: `once` on [`laws::reports_cross_once`]. [`read_replies`] uses public clauses alone.
+//! queued crosses once, in order, or waits: `once` on [`laws::reports_cross_once`]. None waits for ever: if at most k polls in a row
+//! lose something or meet a device that doesn't send, k + 1 polls for each queued packet bring all across (`in_time`). [`read_replies`] uses public clauses alone.
 #![tactic(auto)]
 
 pub mod laws;
