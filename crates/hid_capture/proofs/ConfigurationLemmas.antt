@@ -8,7 +8,7 @@ use Rattle.hid_capture.specs.declared.configuration.InterruptEndpoint.{Interrupt
 use Rattle.hid_capture.specs.Descriptors.{byte, has_descriptor, interface_after, endpoint_at, endpoints_in}
 
 -- a descriptor comes, and others after it
-next_in : (n : ℕ) (configuration : Configuration) (here : Option ℕ) (rest : List ℕ) → has_descriptor rest ≡ true
+pub next_in : (n : ℕ) (configuration : Configuration) (here : Option ℕ) (rest : List ℕ) → has_descriptor rest ≡ true
     → endpoints_in (suc n) configuration here rest
     ≡ endpoint_at configuration (interface_after here rest) rest ++ endpoints_in n configuration (interface_after here rest) (drop (byte rest 0) rest)
 unfolding endpoints_in

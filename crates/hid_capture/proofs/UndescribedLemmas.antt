@@ -161,7 +161,7 @@ report_no_answer t urb (SetProtocol interface boot) = refl
 report_no_answer t urb HubPort = refl
 report_no_answer t urb Other = refl
 
-report_no_completion : (t : Tracking) (urb : UrbRecord) (found : Option PendingRequest) → is_report (outcome_of_completion t urb found).content ≡ false
+pub report_no_completion : (t : Tracking) (urb : UrbRecord) (found : Option PendingRequest) → is_report (outcome_of_completion t urb found).content ≡ false
 report_no_completion t urb None = refl
 report_no_completion t urb (Some r) = report_no_answer (without_request t urb) urb (request_of r.setup)
 
@@ -190,7 +190,7 @@ report_no_success t urb Interrupt none = report_no_transfer t urb urb.direction 
 report_no_success t urb Isochronous none = refl
 report_no_success t urb Bulk none = refl
 
-report_no_stall : (t : Tracking) (urb : UrbRecord) (transfer : Transfer) → is_report (outcome_of_stall t urb transfer).content ≡ false
+pub report_no_stall : (t : Tracking) (urb : UrbRecord) (transfer : Transfer) → is_report (outcome_of_stall t urb transfer).content ≡ false
 report_no_stall t urb Control = refl
 report_no_stall t urb Interrupt = refl
 report_no_stall t urb Isochronous = refl
@@ -204,7 +204,7 @@ report_no_shutdown : (t : Tracking) (urb : UrbRecord) (from : Option ℕ) → is
 report_no_shutdown t urb None = refl
 report_no_shutdown t urb (Some interface) = report_no_number_lost (position (has_descriptor_of urb.bus urb.device interface) t.interfaces)
 
-report_no_failure : (t : Tracking) (urb : UrbRecord) (status : ℕ) (transfer : Transfer) → is_report (outcome_of_failure t urb status transfer).content ≡ false
+pub report_no_failure : (t : Tracking) (urb : UrbRecord) (status : ℕ) (transfer : Transfer) → is_report (outcome_of_failure t urb status transfer).content ≡ false
 report_no_failure t urb status Control = refl
 report_no_failure t urb status Interrupt = by (is_gone status)
   where
@@ -214,7 +214,7 @@ report_no_failure t urb status Interrupt = by (is_gone status)
 report_no_failure t urb status Isochronous = refl
 report_no_failure t urb status Bulk = refl
 
-report_no_submission : (t : Tracking) (urb : UrbRecord) (setup : Option (List ℕ)) → is_report (outcome_of_submission t urb setup).content ≡ false
+pub report_no_submission : (t : Tracking) (urb : UrbRecord) (setup : Option (List ℕ)) → is_report (outcome_of_submission t urb setup).content ≡ false
 report_no_submission t urb None = refl
 report_no_submission t urb (Some setup) = refl
 

@@ -4,8 +4,9 @@
 --   interface       0 length 9 | 1 type 4 | 2 number | 3 alternate active | 4 endpoints | 5 class, 3 is HID | ..
 --   endpoint        0 length 7 | 1 type 5 | 2 address, bit 7 is IN | 3 attributes, the lowest two bits: 3 is interrupt | ..
 --
--- Each begins with its length. The endpoints of an interface come after it, and before the next.
-use Rattle.std.specs.Prelude.{ℕ, zero, suc, ◌+◌, ◌*◌, ◌%◌, ◌==◌, ◌&&◌, nat_lt, not, if◌then◌else◌, Bool, List, [], ◌∷◌, ◌++◌, length, drop, slice_index, Option, Some, None}
+-- Each begins with its length. One that is shorter than its table has no field after its end: an interface under 9 bytes isn't of the
+-- class HID, and an endpoint under 7 isn't one. The endpoints of an interface come after it, and before the next.
+use Rattle.std.specs.Prelude.{ℕ, zero, suc, ◌+◌, ◌*◌, ◌%◌, ◌==◌, ◌&&◌, nat_lt, nat_le, not, if◌then◌else◌, Bool, List, [], ◌∷◌, ◌++◌, length, drop, slice_index, Option, Some, None}
 use Rattle.hid_capture.specs.declared.configuration.Configuration.{Configuration}
 use Rattle.hid_capture.specs.declared.configuration.InterruptEndpoint.{InterruptEndpoint}
 
@@ -17,14 +18,19 @@ byte bytes at = slice_index bytes at
 abbrev pub total_length : List ℕ → ℕ
 total_length bytes = byte bytes 2 + byte bytes 3 * 256
 
+-- the descriptor of an interface, all 9 bytes of it, that is of the class HID
+abbrev pub is_hid_interface : List ℕ → Bool
+is_hid_interface bytes = (byte bytes 1 == 4) && nat_le 9 (byte bytes 0) && (byte bytes 5 == 3)
+
 -- the HID interface to which the next endpoints belong, if they belong to one
 unfoldable pub interface_after : Option ℕ → List ℕ → Option ℕ
 interface_after here bytes =
-    if byte bytes 1 == 4 then (if byte bytes 5 == 3 then Some (byte bytes 2) else None) else here
+    if byte bytes 1 == 4 then (if is_hid_interface bytes then Some (byte bytes 2) else None) else here
 
--- the descriptor of an interrupt IN endpoint
+-- the descriptor, all 7 bytes of it, of an interrupt IN endpoint
 unfoldable pub is_interrupt_in : List ℕ → Bool
-is_interrupt_in bytes = (byte bytes 1 == 5) && (byte bytes 3 % 4 == 3) && not (nat_lt (byte bytes 2) 128)
+is_interrupt_in bytes =
+    (byte bytes 1 == 5) && nat_le 7 (byte bytes 0) && (byte bytes 3 % 4 == 3) && nat_le 128 (byte bytes 2)
 
 -- the endpoint that a descriptor gives, if it gives one
 unfoldable pub endpoint_at : Configuration → Option ℕ → List ℕ → List InterruptEndpoint

@@ -3,3 +3,5 @@ pub mod Descriptors
 pub mod Undescribed
 pub mod Tracking
 pub mod Laws
+pub mod Reports
+pub mod InterfaceEndpoints

@@ -15,6 +15,12 @@ const ENDPOINT: u8 = 5;
 /// The interface class of HID.
 const HID: u8 = 3;
 
+/// The bytes of an interface descriptor.
+const INTERFACE_LENGTH: u8 = 9;
+
+/// The bytes of an endpoint descriptor.
+const ENDPOINT_LENGTH: u8 = 7;
+
 /// The bytes of a configuration descriptor without what belongs to it.
 const CONFIGURATION_LENGTH: usize = 9;
 
@@ -52,7 +58,7 @@ fn interface_after(here: Option<u16>, bytes: &[u8]) -> Option<u16>
 {
     if byte_at(bytes, 1) != INTERFACE {
         here
-    } else if byte_at(bytes, 5) == HID {
+    } else if byte_at(bytes, 0) >= INTERFACE_LENGTH && byte_at(bytes, 5) == HID {
         Some(u16::from(byte_at(bytes, 2)))
     } else {
         None
@@ -64,7 +70,8 @@ fn interface_after(here: Option<u16>, bytes: &[u8]) -> Option<u16>
 fn is_interrupt_in(bytes: &[u8]) -> bool
     ensures { result ≡ is_interrupt_in bytes.now }
 {
-    byte_at(bytes, 1) == ENDPOINT && byte_at(bytes, 3) % 4 == 3 && byte_at(bytes, 2) >= 128
+    let is_whole = byte_at(bytes, 1) == ENDPOINT && byte_at(bytes, 0) >= ENDPOINT_LENGTH;
+    is_whole && byte_at(bytes, 3) % 4 == 3 && byte_at(bytes, 2) >= 128
 }
 
 /// Whether these bytes begin with a whole descriptor.

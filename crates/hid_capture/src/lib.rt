@@ -24,8 +24,9 @@
 //!
 //! The rule to know: what wasn't completed without an error says nothing, whatever bytes it has.
 //!
-//! The promise: a URB says exactly what the definition says, by `content` on [`Tracker::take`]. So a truncated frame is never
-//! read, and a device at an address that is set anew sends no report before its descriptor: [`laws`].
+//! The promise: a URB says exactly what the definition says, by `content` on [`Tracker::take`]. So the transfers of an interface
+//! are its reports, in order, from its descriptor on; a truncated frame is never read; and a new device at an address sends no
+//! report before its descriptor: [`laws`].
 #![tactic(auto)]
 
 mod configuration;
