@@ -1,11 +1,11 @@
 -- Bytes as they are printed, a sequence at a time.
-use Rattle.std.proofs.Common.{◌≡◌, refl, zero, suc, ℕ, ◌+◌, ◌<◌, ◌≤◌, ◌-◌, ◌^◌, List, [], ◌∷◌, ◌++◌, length, take, drop, sym, ap, ◌∙◌, arith, append_assoc, true, false, ⊎_elim}
-use Rattle.std.specs.Fmt.{digits, padded_integral, format_spec, char_count}
+use Rattle.std.proofs.Common.{◌≡◌, refl, zero, suc, ℕ, ◌+◌, ◌<◌, ◌≤◌, ◌-◌, ◌^◌, List, [], ◌∷◌, ◌++◌, length, take, drop, sym, ap, ◌∙◌, arith, append_assoc, true, false}
+use Rattle.std.proofs.Padding.{padded_integral_zeros}
+use Rattle.std.specs.Fmt.{digits, padded_integral, format_spec}
 use Rattle.std.specs.Str.Lossy.{utf8_valid_len, utf8_invalid_len}
-use Rattle.std.proofs.lemmas.Bool.{cases_lt, cond-false, eqb-true, ne_eqb, le-ltb, le-leb}
-use Rattle.std.proofs.lemmas.Fmt.{hex_byte}
+use Rattle.std.proofs.lemmas.Bool.{cond-false, ne_eqb}
 use Rattle.std.proofs.lemmas.List.{length-append, take_at, drop_at}
-use Rattle.command_words.specs.Names.{is_escaped, number_digits, name_text, bytes_text, shown_within}
+use Rattle.command_words.specs.Names.{number_digits, name_text, bytes_text, shown_within}
 
 -- what is printed of a number of sequences: the text in front, what is none, and what follows
 pub shown_step : (more : ℕ) (bytes valid invalid rest : List ℕ) → bytes ≡ valid ++ (invalid ++ rest) → length rest < length bytes
@@ -37,19 +37,6 @@ shown_nothing zero bytes none = refl
 shown_nothing (suc more) [] none = refl
 shown_nothing (suc more) (b ∷ bs) none = absurd (omega arith)
 
--- the byte order mark's digits
-mark_digits : padded_integral (format_spec 32 0 4 2 (2 ^ 64 - 1)) false [] (digits 16 true 0xFEFF) ≡ number_digits 0xFEFF
-unfolding padded_integral digits char_count
-mark_digits = refl
-
--- a character that is escaped and no byte is the byte order mark
-is_mark : (c : ℕ) → 256 ≤ c → is_escaped c ≡ true → c ≡ 0xFEFF
-is_mark c large escaped = eqb-true c 0xFEFF (rw (le-ltb c 32 (omega arith), le-ltb c 160 (omega arith), le-leb 127 c (omega arith)) at escaped)
-
--- what `{:02X}` writes of a character that is escaped
-pub escaped_digits : (c : ℕ) → is_escaped c ≡ true → padded_integral (format_spec 32 0 4 2 (2 ^ 64 - 1)) false [] (digits 16 true c) ≡ number_digits c
-escaped_digits c escaped = ⊎_elim
-    (λ byte. hex_byte true c byte ∙ sym (cond-false _ _ _ (ne_eqb c 0xFEFF (omega arith))))
-    (λ large. let mark = is_mark c large escaped in
-    ap (λ n. padded_integral (format_spec 32 0 4 2 (2 ^ 64 - 1)) false [] (digits 16 true n)) mark ∙ mark_digits ∙ ap number_digits (sym mark))
-    (cases_lt c 256)
+-- what `{:02X}` writes of a number
+pub escaped_digits : (c : ℕ) → padded_integral (format_spec 32 0 4 2 (2 ^ 64 - 1)) false [] (digits 16 true c) ≡ number_digits c
+escaped_digits c = padded_integral_zeros (format_spec 32 0 4 2 (2 ^ 64 - 1)) (digits 16 true c) refl refl

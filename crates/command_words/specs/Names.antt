@@ -1,22 +1,33 @@
 -- Characters of names as they are printed (our choice: docs/RECORDINGS.md).
-use Rattle.std.specs.Prelude.{ℕ, zero, suc, ◌+◌, ◌/◌, ◌%◌, Bool, true, List, [], ◌∷◌, ◌++◌, length, take, drop, ◌==◌, ◌&&◌, ◌||◌, nat_le, nat_lt, if◌then◌else◌, codes, chars, encode_utf8}
-use Rattle.std.specs.List.{flat_map}
-use Rattle.std.specs.Fmt.{digit_glyph}
+use Rattle.std.specs.Prelude.{ℕ, zero, suc, ◌+◌, ◌-◌, ◌/◌, ◌%◌, Bool, true, List, [], ◌∷◌, ◌++◌, length, take, drop, replicate, ◌==◌, ◌&&◌, nat_le, if◌then◌else◌, codes, chars, encode_utf8}
+use Rattle.std.specs.List.{flat_map, list_any}
+use Rattle.std.specs.Fmt.{digit_glyph, digits}
 use Rattle.std.specs.Str.Lossy.{utf8_valid_len, utf8_invalid_len}
 
--- a control character is printed as its number (Unicode, 23.1), and so is the byte order mark (23.8)
-abbrev pub is_escaped : ℕ → Bool
-is_escaped character = (nat_lt character 0x20 || (nat_le 0x7F character && nat_lt character 0xA0)) || (character == 0xFEFF)
+-- The first and the last of each range of characters that aren't seen by themselves: controls (Cc), format characters (Cf), and the
+-- ends of lines and paragraphs (Zl, Zp) (Unicode 15.1, 4.5).
+abbrev pub unseen : List (ℕ × ℕ)
+unseen =
+    (0x00, 0x1F) ∷ (0x7F, 0x9F) ∷ (0xAD, 0xAD) ∷ (0x600, 0x605) ∷ (0x61C, 0x61C) ∷ (0x6DD, 0x6DD) ∷ (0x70F, 0x70F) ∷ (0x890, 0x891)
+    ∷ (0x8E2, 0x8E2) ∷ (0x180E, 0x180E) ∷ (0x200B, 0x200F) ∷ (0x2028, 0x202E) ∷ (0x2060, 0x2064) ∷ (0x2066, 0x206F) ∷ (0xFEFF, 0xFEFF)
+    ∷ (0xFFF9, 0xFFFB) ∷ (0x110BD, 0x110BD) ∷ (0x110CD, 0x110CD) ∷ (0x13430, 0x1343F) ∷ (0x1BCA0, 0x1BCA3) ∷ (0x1D173, 0x1D17A)
+    ∷ (0xE0001, 0xE0001) ∷ (0xE0020, 0xE007F) ∷ []
+
+-- a number is in a range
+abbrev pub is_between : ℕ × ℕ → ℕ → Bool
+is_between range n = nat_le range.0 n && nat_le n range.1
+
+-- a character that isn't seen by itself is printed as its number
+unfoldable pub is_escaped : ℕ → Bool
+is_escaped character = list_any (λ range. is_between range character) unseen
 
 -- the number of a byte: \x and two digits of upper-case hex
 abbrev pub byte_text : ℕ → List ℕ
 byte_text byte = codes "\\x" ++ digit_glyph true (byte / 16) ∷ digit_glyph true (byte % 16) ∷ []
 
--- the digits of a character that is escaped: two of upper-case hex, and four of the byte order mark
+-- the digits of a character that is escaped: upper-case hex, two at least. Example: 0A, and 202E
 abbrev pub number_digits : ℕ → List ℕ
-number_digits character =
-    if character == 0xFEFF then codes "FEFF"
-    else digit_glyph true (character / 16) ∷ digit_glyph true (character % 16) ∷ []
+number_digits character = replicate (2 - length (digits 16 true character)) 48 ++ digits 16 true character
 
 -- a character as it is printed
 abbrev pub character_text : ℕ → List ℕ

@@ -343,9 +343,10 @@ no_bytes Unended words left others word bytes read first h = let e = h.0 in absu
 
 -- a time, once its bytes are read as text
 pub time_read : {E : Type 0} (word : List ℕ) (r : Result (Bor (List ℕ)) E) (o : Option (Bor (List ℕ))) (P : E → Type 0) → is_time word ≡ true
-    → MatchResult r (λ s. (s.now ≡ word) × IsUtf8 word) (λ e. (IsUtf8 word → ⊥) × P e) → o ≡ result_ok r → option_map (λ t. t.now) o ≡ time_of word
-time_read word (Ok s) o P timed cases is = rw is (ap Some cases.0 ∙ sym (cond-true (is_time word) (Some word) None timed))
-time_read word (Err e) o P timed cases is = absurd (cases.0 (time_is_text word timed))
+    → length word ≤ 32 → MatchResult r (λ s. (s.now ≡ word) × IsUtf8 word) (λ e. (IsUtf8 word → ⊥) × P e) → o ≡ result_ok r → option_map (λ t. t.now) o ≡ time_of word
+time_read word (Ok s) o P timed short cases is =
+    rw is (ap Some cases.0 ∙ sym (rw (timed, le-leb (length word) 32 short) refl))
+time_read word (Err e) o P timed short cases is = absurd (cases.0 (time_is_text word timed))
 
 -- a digit or a point is no blank
 from_point : (b : ℕ) → is_time_byte b ≡ true → 46 ≤ b
@@ -412,10 +413,10 @@ after_time (b ∷ time) rest timed some ended =
 
 -- a text begins with a space and a time
 pub time_first : (text rest time left : List ℕ) (end stop : ℕ) → 1 ≤ length text → get_or text 0 0 ≡ 32 → rest ≡ take (length text - 1) (drop 1 text)
-    → end ≡ unwrap_or (position is_no_time_byte rest) (length rest) → 0 < end → time ≡ take stop rest → stop ≡ end → left ≡ take (length rest - end) (drop end rest) → ends_word left ≡ true
+    → end ≡ unwrap_or (position is_no_time_byte rest) (length rest) → 0 < end → end ≤ 32 → time ≡ take stop rest → stop ≡ end → left ≡ take (length rest - end) (drop end rest) → ends_word left ≡ true
     → BeginsWithTime text time left
-time_first [] rest time left end stop long space is found some stopped same lefts ended = absurd (omega arith)
-time_first (a ∷ text) rest time left end stop long space is found some stopped same lefts ended =
+time_first [] rest time left end stop long space is found some few stopped same lefts ended = absurd (omega arith)
+time_first (a ∷ text) rest time left end stop long space is found some few stopped same lefts ended =
     let at = time_end rest end found in
     let times : time ≡ take end rest = stopped ∙ ap (λ n. take n rest) same in
     let all : rest ≡ text = is ∙ take_all (length (a ∷ text) - 1) text (omega arith) in
@@ -427,7 +428,7 @@ time_first (a ∷ text) rest time left end stop long space is found some stopped
     let whole : a ∷ text ≡ 32 ∷ (time ++ left) = ap (λ b. b ∷ text) space ∙ ap (λ l. 32 ∷ l) joined in (
       ap words_of whole ∙ first_time time left timed long_time ended,
       ap after_word whole ∙ after_time time left timed long_time ended,
-      cond-true (is_time time) (Some time) None timed,
+      rw (timed, le-leb (length time) 32 (omega (arith, ap length times, length-take-le end rest within, few))) refl,
     )
 
 -- a digit is a time too, and a number

@@ -135,9 +135,9 @@ is_no_time_byte b = not (is_time_byte b)
 abbrev pub is_time : Word → Bool
 is_time word = list_all is_time_byte word
 
--- the time that a word encodes, as it stands
+-- the time that a word encodes, as it is: digits and points, 32 at most
 abbrev pub time_of : Word → Option (List ℕ)
-time_of word = if is_time word then Some word else None
+time_of word = if is_time word && nat_le (length word) 32 then Some word else None
 
 -- a text begins with a time, before what is left
 abbrev pub BeginsWithTime : List ℕ → List ℕ → List ℕ → Type 0

@@ -23,7 +23,7 @@ pub enum Refusal {
     Truncated,
     /// R5: the device isn't a number from 0 to 15.
     BadDevice,
-    /// R6: the time isn't digits and points.
+    /// R6: the time isn't digits and points, 32 at most.
     BadTime,
     /// R7: a report, where the device has no descriptor that was accepted.
     NoLayout,

@@ -36,7 +36,7 @@ impl fmt::Display for Refusal {
             }
             Refusal::Truncated => "R4: the frame was cut off when it was captured",
             Refusal::BadDevice => "R5: the device isn't a number from 0 to 15",
-            Refusal::BadTime => "R6: the time isn't digits and points",
+            Refusal::BadTime => "R6: the time isn't digits and points, 32 at most",
             Refusal::NoLayout => "R7: the device has no descriptor",
             Refusal::Unended => "R12: no empty line ends the dump before",
             Refusal::DumpTooLong => "R13: a dump of over 16384 bytes",

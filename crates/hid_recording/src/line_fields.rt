@@ -16,6 +16,9 @@ use std::alloc::{AllocError, Global};
 /// How many devices a recording has room for (our choice).
 pub const MAX_DEVICES: usize = 16;
 
+/// The most bytes of a time (our choice): it is printed in front of each event of its report.
+const MAX_TIME: usize = 32;
+
 /// How many bytes of a word stand before the first that isn't two hex digits, or before its end.
 fn bytes_before(word: &[u8]) -> usize
     ensures value { result ≡ bytes_before word.now }
@@ -234,11 +237,11 @@ fn is_time(word: &[u8]) -> bool
     word.iter().all(|byte| is_time_byte(*byte))
 }
 
-/// The time that a word encodes: digits and points.
+/// The time that a word encodes: digits and points, at most [`MAX_TIME`].
 pub fn read_time(word: &[u8]) -> Option<&str>
     ensures { option_map (λ time. time.now) result ≡ time_of word.now }
 {
-    if !is_time(word) {
+    if word.len() > MAX_TIME || !is_time(word) {
         return None;
     }
     std::str::from_utf8(word).ok()
@@ -260,7 +263,7 @@ pub fn next_time(text: &[u8]) -> Option<(&str, &[u8])>
         return None;
     };
     let end = time_end(rest).unwrap_or(rest.len());
-    if end == 0 || !ends_word(&rest[end..]) {
+    if end == 0 || end > MAX_TIME || !ends_word(&rest[end..]) {
         return None;
     }
     let time = std::str::from_utf8(&rest[..end]).ok()?;

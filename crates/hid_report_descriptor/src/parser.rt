@@ -51,10 +51,11 @@ impl Parser {
         })
     }
 
-    /// Takes a Push (HID 1.11, 6.2.2.7).
+    /// Takes a Push, which saves the globals alone (HID 1.11, 6.2.2.7).
     fn take_push(&mut self) -> Result<(), Cause>
-        ensures { (limits : Limits) (before : List EncodedItem) (item : EncodedItem) → prefix_of item ≡ PUSH
+        ensures step { (limits : Limits) (before : List EncodedItem) (item : EncodedItem) → prefix_of item ≡ PUSH
             → HasStateAfter before self.old → StepGives limits before item result self.new }
+        ensures locals { self.new.locals ≡ self.old.locals }
     {
         if self.globals.saved.len() >= MAX_OPEN_PUSHES {
             return Err(Cause::PushDepth);
@@ -63,10 +64,11 @@ impl Parser {
         Ok(())
     }
 
-    /// Takes a Pop (HID 1.11, 6.2.2.7).
+    /// Takes a Pop, which restores the globals alone (HID 1.11, 6.2.2.7).
     fn take_pop(&mut self) -> Result<(), Cause>
-        ensures { (limits : Limits) (before : List EncodedItem) (item : EncodedItem) → prefix_of item ≡ POP
+        ensures step { (limits : Limits) (before : List EncodedItem) (item : EncodedItem) → prefix_of item ≡ POP
             → HasStateAfter before self.old → StepGives limits before item result self.new }
+        ensures locals { self.new.locals ≡ self.old.locals }
     {
         if self.globals.pop() {
             Ok(())

@@ -134,6 +134,106 @@ fn numbered_name(word: &[u8]) -> Option<(&'static str, u64)> {
     }
 }
 
+/// What keys are called that have other names in the tables, in lower case.
+#[rattlefmt::skip]
+const CALLED: [(&[u8], &str); 16] = [
+    (b"enter", "Return"), (b"ctrl", "LeftControl"), (b"control", "LeftControl"), (b"shift", "LeftShift"), (b"alt", "LeftAlt"),
+    (b"win", "Left_GUI"), (b"gui", "Left_GUI"), (b"esc", "ESCAPE"), (b"backspace", "DELETE"), (b"delete", "Delete_Forward"),
+    (b"del", "Delete_Forward"), (b"space", "Spacebar"), (b"up", "UpArrow"), (b"down", "DownArrow"), (b"left", "LeftArrow"),
+    (b"right", "RightArrow"),
+];
+
+/// The page of keys (HID Usage Tables, 10).
+const KEYBOARD: u16 = 0x07;
+
+/// What each name of a key begins with.
+const KEY: &[u8] = b"Keyboard ";
+
+/// Whether two words are the same, whatever their case.
+fn is_folded(name: &[u8], word: &[u8]) -> bool {
+    name.len() == word.len() && common_start(name, word) == name.len()
+}
+
+/// The first index from one on at which a word has no blank and no `_`; its length where there is none.
+fn next_letter(word: &[u8], from: usize) -> usize {
+    for at in from..word.len() {
+        if !matches!(word[at], b' ' | b'_') {
+            return at;
+        }
+    }
+    word.len()
+}
+
+/// Whether two words have the same characters, blanks and `_` left out, whatever their case.
+fn is_alike(name: &[u8], word: &[u8]) -> bool {
+    let mut next = 0;
+    for byte in name {
+        if matches!(*byte, b' ' | b'_') {
+            continue;
+        }
+        let at = next_letter(word, next);
+        match word.get(at) {
+            Some(other) if fold(*byte) == fold(*other) => next = at.saturating_add(1),
+            _ => return false,
+        }
+    }
+    next_letter(word, next) >= word.len()
+}
+
+/// What a name has in front of ` and ` or ` (`.
+fn short_name(name: &[u8]) -> &[u8] {
+    up_to(up_to(name, b" and "), b" (")
+}
+
+/// Whether a word is the name of a key without `Keyboard`, as `A` and `Left_Control` are.
+fn is_key(name: &[u8], word: &[u8]) -> bool {
+    match short_name(name).strip_prefix(KEY) {
+        Some(key) => is_alike(key, word),
+        None => false,
+    }
+}
+
+/// The name of a key that a word is without `Keyboard`.
+fn key_name(word: &[u8]) -> Option<&'static str> {
+    for id in 0..=0xFF {
+        if let Some(UsageName::Known(name)) = usage_name(KEYBOARD, id) {
+            if is_key(name.as_bytes(), word) {
+                return Some(name);
+            }
+        }
+    }
+    None
+}
+
+/// What follows `Keyboard_` in the name of a key that is called so.
+fn called_key(word: &[u8]) -> Option<&'static str> {
+    for (called, name) in CALLED {
+        if is_folded(called, word) {
+            return Some(name);
+        }
+    }
+    None
+}
+
+/// Whether a name ends in a letter alone, as `Keyboard a`.
+fn ends_in_letter(name: &[u8]) -> bool {
+    matches!(name, [.., b' ', b'a'..=b'z'])
+}
+
+/// Adds a name as a script writes it: up to ` and ` or ` (`, with `_` for each blank, and a letter alone as a capital.
+fn push_name(text: &mut String, name: &str) -> Result<(), AllocError> {
+    let short = short_name(name.as_bytes());
+    for at in 0..short.len() {
+        let byte = match short[at] {
+            b' ' => b'_',
+            letter if at + 1 == short.len() && ends_in_letter(short) => letter.to_ascii_uppercase(),
+            other => other,
+        };
+        text.push(char::from(byte))?;
+    }
+    Ok(())
+}
+
 /// A question for the name that was meant, as a script writes it, if there is one that is near; else nothing.
 ///
 /// # Errors
@@ -142,12 +242,13 @@ pub fn question(alloc: Global, word: &[u8]) -> Result<String, AllocError> {
     if let Some((name, number)) = numbered_name(word) {
         return format!(in alloc; ": is it {name}_{number}?");
     }
+    if let Some(key) = called_key(word) {
+        return format!(in alloc; ": is it Keyboard_{key}?");
+    }
     let mut text = String::new(alloc);
-    if let Some(name) = near_name(word) {
+    if let Some(name) = key_name(word).or(near_name(word)) {
         text.push_str(": is it ")?;
-        for character in name.chars() {
-            text.push(if character == ' ' { '_' } else { character })?;
-        }
+        push_name(&mut text, name)?;
         text.push_str("?")?;
     }
     Ok(text)

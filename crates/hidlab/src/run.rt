@@ -5,21 +5,22 @@ ghost use Rattle.std.specs.Prelude.{◌<◌, vec_len};
 use super::progress::Progress;
 use super::source::{LabSource, name_beside};
 use super::words::{
-    expected_of, hex_words, mark_words, name_words, syntax_words, unmet_words, verb_of, word_shown,
+    expected_of, hex_words, left_words, mark_words, name_words, syntax_words, unmet_words,
+    word_shown,
 };
 use hid_input::{InputCause, InputFault, KnownFile, descriptor_in, known_file};
 use hid_layout::{Layout, Limits};
 use hid_script::{Cause, StepFault};
 use hid_snapshots::ChangeFault;
 use hid_stack::StackFault;
-use lab_lines::{Added, Body, MAX_INCLUDES, MAX_REPEATS, Unread, read_lab_line};
+use lab_lines::{Added, Body, LabLine, MAX_INCLUDES, MAX_REPEATS, Unread, read_lab_line};
 use lab_session::{Bench, LabCause, LabFault, Need, RunEnd, cause_words};
 use std::alloc::{AllocError, Global};
 use std::io::{self, Read, Write};
 use std::{fmt, fs};
 
-/// How many lines a body has at most, and how often a run goes from one source to another.
-const MAX_TURNS: u64 = 1_000_000_000_000;
+/// How many lines a run has at most, those of a body in each round, and a round of a body without lines as one.
+const MAX_LINES: u64 = 100_000_000;
 
 /// The most bytes of a file with a descriptor.
 const LONGEST: usize = 1 << 24;
@@ -133,9 +134,7 @@ fn refusal_words(
     match cause {
         LabCause::Script(Cause::Syntax) => syntax_words(alloc, line),
         LabCause::Unmet => {
-            let came = bench.came();
-            let expected = expected_of(line);
-            let words = unmet_words(alloc, came, verb_of(came, expected), expected)?;
+            let words = unmet_words(alloc, bench.came(), expected_of(line), bench.poll_count())?;
             Ok(Some(words))
         }
         _ if is_no_control(cause) => match name_words(alloc, line)? {
@@ -276,7 +275,7 @@ fn take_body<W: Write>(
     let before = source.last_number();
     let mut body = Body::new(alloc, count);
     let mut line = Vec::new(alloc);
-    for _ in 0..MAX_TURNS {
+    for _ in 0..MAX_LINES {
         match source.next_line(&mut line, writer) {
             Err(fault) => return Err(read_trouble(alloc, source, &fault)),
             Ok(false) => return Err(bare(before, LabCause::Unpaired)),
@@ -460,10 +459,67 @@ fn give<W: Write>(
     }
 }
 
-/// Carries out all lines of the sources. How many lines the last one has, which is the first.
+/// X8: a run has too many lines.
+fn no_end(alloc: Global, line: usize) -> Trouble {
+    let cause = LabCause::Script(Cause::TooManyReads);
+    in_words(
+        alloc,
+        line,
+        cause,
+        "over 100000000 lines, those of a repeat in each round",
+    )
+}
+
+/// How many lines a source counts at its end: a body without lines counts its rounds.
+fn rounds_without_lines(source: &LabSource) -> u64 {
+    if source.taken() == 0 {
+        source.rounds()
+    } else {
+        0
+    }
+}
+
+/// A test that fails at its end, in these words.
+fn end_trouble(line: usize, cause: LabCause, words: Result<String, AllocError>) -> Trouble {
+    match words {
+        Ok(words) => Trouble {
+            line,
+            cause,
+            words: Some(words),
+        },
+        Err(_) => no_memory(line),
+    }
+}
+
+/// That nothing is tested, in words.
+fn untested_words(alloc: Global, source: &LabSource) -> Result<String, AllocError> {
+    let name = source.shown_name();
+    let words = "nothing is tested: no line attaches a device, prints or expects anything";
+    format!(in alloc; "{name}: X13: {words}")
+}
+
+/// What is wrong at the end of a test: that printed lines were not expected, or that nothing was tested.
+fn end_of_test<W: Write>(
+    alloc: Global,
+    source: &LabSource,
+    bench: &mut Bench,
+    lines: usize,
+    writer: &mut W,
+) -> Result<(), Trouble> {
+    let is_test = bench.is_test();
+    match bench.carry_out(&LabLine::ExpectNone, writer) {
+        Err(cause) if is_test => Err(end_trouble(lines, cause, left_words(alloc, bench.came()))),
+        Ok(()) if !is_test && !bench.has_device() => {
+            Err(end_trouble(0, LabCause::Unmet, untested_words(alloc, source)))
+        }
+        Ok(()) | Err(_) => Ok(()),
+    }
+}
+
+/// Carries out all lines of the sources. How many lines the first one has, which is the last that ends.
 ///
 /// # Errors
-/// Why a line is not carried out, which is one of the last source.
+/// Why a line is not carried out, which is one of the last source; or why the test fails at its end.
 pub fn run_all<W: Write, T: Write>(
     rt: &HostRuntime,
     sources: &mut Vec<LabSource>,
@@ -471,22 +527,33 @@ pub fn run_all<W: Write, T: Write>(
     writer: &mut W,
     progress: &mut Progress<T>,
 ) -> Result<usize, Trouble> {
-    let mut lines = 0;
-    for _ in 0..MAX_TURNS {
+    let mut all: u64 = 0;
+    for _ in 0..=MAX_LINES {
         let count = sources.len();
         if count == 0 {
-            return Ok(lines);
+            return Ok(0);
         }
         let last = count - 1;
-        progress.begin(sources[last].taken());
-        match sources[last].run(bench, writer, progress) {
-            Ok(RunEnd::All(summary)) => {
-                lines = summary.lines as usize;
+        let before = sources[last].taken();
+        if all > MAX_LINES {
+            return Err(no_end(rt.alloc(), sources[last].last_number()));
+        }
+        progress.begin(before);
+        let end = sources[last].run(bench, writer, progress);
+        all = all.saturating_add(sources[last].taken().saturating_sub(before) as u64);
+        match end {
+            Ok(RunEnd::All(summary)) if last == 0 => {
+                let lines = summary.lines as usize;
+                end_of_test(rt.alloc(), &sources[0], bench, lines, writer)?;
+                return Ok(lines);
+            }
+            Ok(RunEnd::All(_)) => {
+                all = all.saturating_add(rounds_without_lines(&sources[last]));
                 drop(sources.pop());
             }
             Ok(RunEnd::Asks(need)) => give(rt, sources, bench, last, need, writer)?,
             Err(fault) => return Err(source_trouble(rt.alloc(), bench, sources, &fault)),
         }
     }
-    Err(bare(lines, LabCause::TooDeep))
+    Err(no_end(rt.alloc(), 0))
 }

@@ -2,7 +2,7 @@
 
 ghost use Rattle.std.specs.Prelude.{◌<◌, vec_len};
 
-use super::printing::{is_included, print_last_place, print_place, print_trouble};
+use super::printing::{print_last_place, print_place, print_trouble};
 use super::run::{
     Trouble, bare, hex_trouble, include, last_trouble, long_trouble, no_control, path_of,
     read_descriptor, repeat, unread_trouble,
@@ -13,13 +13,13 @@ use command_words::FileName;
 use hid_requests::Boot;
 use hid_script::Cause;
 use hid_snapshots::ChangeFault;
-use hid_text::LineFault;
+use hid_text::{LineFault, first_word};
 use lab_lines::{LabLine, read_lab_line};
 use lab_serving::{LabScript, Watching};
 use lab_session::LabCause;
 use std::alloc::{AllocError, Global};
 use std::io::Stderr;
-use usbip_script::{FINE, LineCause, OUTSIDE, ServeFault, exit_of, serve};
+use usbip_script::{FINE, LineCause, MAX_SCRIPT, OUTSIDE, REFUSED, ServeFault, exit_of, serve};
 
 /// How many lines are read at most, those of bodies each time: all are read before anything is served.
 const MAX_LINES: usize = 1 << 20;
@@ -27,8 +27,8 @@ const MAX_LINES: usize = 1 << 20;
 /// Where a line stands.
 #[derive(Clone, Copy)]
 struct Place {
-    /// The place of its file's name; none of the script itself.
-    file: Option<usize>,
+    /// The index of its file's name.
+    file: usize,
     line: usize,
 }
 
@@ -39,6 +39,8 @@ enum Refusal {
     Line(Trouble),
     /// For one that only a script has that is served.
     Served(ServeFault),
+    /// E1: the host does it, in words.
+    Unserved(&'static str),
 }
 
 impl From<Trouble> for Refusal {
@@ -71,23 +73,20 @@ impl Reading {
         }
     }
 
-    /// The place of the name of the file in which the last source is, if it is included.
-    fn file(&mut self, sources: &[LabSource]) -> Result<Option<usize>, AllocError> {
+    /// The index of the name of the file in which the last source is.
+    fn file(&mut self, sources: &[LabSource]) -> Result<usize, AllocError> {
         let Some(source) = sources.last() else {
-            return Ok(None);
+            return Ok(0);
         };
-        if !is_included(sources) {
-            return Ok(None);
-        }
         let name = source.name.as_str();
-        let known = self.names.iter().position(|other| other.as_str() == name);
-        if known.is_none() {
-            self.names.push(source.name.clone()?)?;
+        if let Some(known) = self.names.iter().position(|other| other.as_str() == name) {
+            return Ok(known);
         }
-        Ok(known.or(self.names.len().checked_sub(1)))
+        self.names.push(source.name.clone()?)?;
+        Ok(self.names.len().saturating_sub(1))
     }
 
-    /// Keeps where the line stands that was read last. It gives the number of the line.
+    /// Keeps where the line is that was read last. Returns the number of the line.
     fn keep_place(&mut self, sources: &[LabSource]) -> Result<usize, AllocError> {
         let file = self.file(sources)?;
         let line = match sources.last() {
@@ -97,6 +96,20 @@ impl Reading {
         let number = self.places.len();
         self.places.push(Place { file, line })?;
         Ok(number)
+    }
+}
+
+/// Why a line isn't served, in words: the host does what it asks for.
+fn unserved_words(line: &[u8]) -> &'static str {
+    match first_word(line) {
+        Some((b"lose", _)) => {
+            "lose works without --usbip alone: nothing is lost on the way to a real host"
+        }
+        Some((b"expect", _)) => {
+            "events of a real host can't be expected; output and feature can"
+        }
+        Some((b"layout" | b"values", _)) => "layouts and values are printed without --usbip",
+        _ => "not with a real host, which polls and asks by itself",
     }
 }
 
@@ -128,6 +141,7 @@ fn refusal_of(alloc: Global, number: usize, line: &[u8], fault: ServeFault) -> R
         ServeFault::Line(_, LineCause::Text(LineFault::BadHex)) => {
             Refusal::Line(hex_trouble(alloc, number, line))
         }
+        ServeFault::Line(_, LineCause::NotServed) => Refusal::Unserved(unserved_words(line)),
         _ => Refusal::Served(fault),
     }
 }
@@ -214,9 +228,14 @@ fn read_lines(
     reading: &mut Reading,
 ) -> Result<(), Refusal> {
     let mut line = Vec::new(rt.alloc());
+    let mut bytes: usize = 0;
     for _ in 0..MAX_LINES + 1 {
         if !take_line(rt.alloc(), sources, &mut line)? {
             return Ok(());
+        }
+        bytes = bytes.saturating_add(line.len());
+        if bytes > MAX_SCRIPT {
+            return Err(Refusal::Served(ServeFault::TooLong));
         }
         let count = sources.len();
         if count > 0 {
@@ -243,6 +262,15 @@ fn read_script(
 fn print_refusal(rt: &HostRuntime, sources: &[LabSource], refusal: &Refusal) -> u8 {
     match refusal {
         Refusal::Line(trouble) => print_trouble(rt, sources, trouble),
+        Refusal::Unserved(words) => {
+            print_last_place(
+                rt,
+                sources,
+                sources.last().map_or(0, |source| source.last_number()),
+            );
+            let _ = eprintln!(rt; "E1: {words}");
+            REFUSED
+        }
         Refusal::Served(fault) => {
             match (fault, sources.last()) {
                 (ServeFault::Line(_, cause), Some(source)) => {
@@ -263,14 +291,8 @@ fn print_place_of(rt: &HostRuntime, names: &[String], places: &[Place], number: 
     let Some(place) = places.get(number) else {
         return;
     };
-    let name = match place.file {
-        Some(file) => names.get(file),
-        None => None,
-    };
-    match name {
-        Some(name) => print_place(rt, Some(name.as_str()), place.line),
-        None => print_place(rt, None, place.line),
-    }
+    let name = names.get(place.file).map_or("", |name| name.as_str());
+    print_place(rt, name, place.line);
 }
 
 /// Prints that an expectation isn't met: what came in its place, if anything did before the connection ended, and what it is.
@@ -278,7 +300,7 @@ fn print_unmet(rt: &HostRuntime, came: &[u8], expected: &[u8]) {
     let words = if came.is_empty() {
         ended_words(rt.alloc(), expected)
     } else {
-        unmet_words(rt.alloc(), came, "set", expected)
+        unmet_words(rt.alloc(), came, expected, 1)
     };
     match words {
         Ok(words) => {
@@ -287,6 +309,27 @@ fn print_unmet(rt: &HostRuntime, came: &[u8], expected: &[u8]) {
         }
         Err(_) => {
             let _ = eprintln!(rt; "X13");
+        }
+    }
+}
+
+/// Prints that an expectation isn't met, which is on the line with this number. If the connection ended before anything came in its
+/// place, it is that of the next report.
+fn print_left(
+    rt: &HostRuntime,
+    names: &[String],
+    places: &[Place],
+    watching: &Watching<Stderr>,
+    number: usize,
+) {
+    match watching.awaited() {
+        Some(next) if watching.came().is_empty() => {
+            print_place_of(rt, names, places, next.number);
+            print_unmet(rt, b"", next.line.as_slice());
+        }
+        _ => {
+            print_place_of(rt, names, places, number);
+            print_unmet(rt, watching.came(), watching.expected());
         }
     }
 }
@@ -300,13 +343,12 @@ fn print_fault(
     fault: &ServeFault,
 ) -> u8 {
     match fault {
+        ServeFault::Line(number, LineCause::Unmet) => {
+            print_left(rt, names, places, watching, *number);
+        }
         ServeFault::Line(number, cause) => {
             print_place_of(rt, names, places, *number);
-            if matches!(cause, LineCause::Unmet) {
-                print_unmet(rt, watching.came(), watching.expected());
-            } else {
-                let _ = eprintln!(rt; "{cause}");
-            }
+            let _ = eprintln!(rt; "{cause}");
         }
         _ => {
             let _ = eprintln!(rt; "hidlab: {fault}");

@@ -1,5 +1,6 @@
 //! Where lines come from: standard input, files, and the bodies of `repeat`.
 
+use command_words::FileName;
 use hid_script::Sink;
 use lab_lines::Body;
 use lab_session::{Ahead, Bench, Incoming, LabCause, LabFault, RunEnd, Watch, run};
@@ -118,6 +119,20 @@ impl LabSource {
     /// Whether nothing of it was read.
     pub fn is_unread(&self) -> bool {
         self.ahead.lines() == 0 && self.ahead.line_at(1).is_empty()
+    }
+
+    /// How often a body comes; 0 of another source.
+    pub fn rounds(&self) -> u64 {
+        u64::from(self.rounds)
+    }
+
+    /// The name of the file as it is printed.
+    pub fn shown_name(&self) -> FileName<'_> {
+        FileName(if self.name.is_empty() {
+            "standard input"
+        } else {
+            self.name.as_str()
+        })
     }
 
     /// How many lines were taken.

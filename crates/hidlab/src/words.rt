@@ -52,35 +52,14 @@ pub fn mark_words(line: &[u8]) -> Option<&'static str> {
     }
 }
 
-/// Whether a character isn't seen, or not by itself: control characters, marks on other characters, blanks, what has no width, and
-/// those of private use.
-fn is_unseen(character: char) -> bool {
-    is_escaped(character)
-        || matches!(
-            u32::from(character),
-            0xA0 | 0xAD
-                | 0x0300..=0x036F
-                | 0x061C
-                | 0x115F..=0x1160
-                | 0x180B..=0x180E
-                | 0x2000..=0x200F
-                | 0x2028..=0x202F
-                | 0x205F..=0x206F
-                | 0x3000
-                | 0xE000..=0xF8FF
-                | 0xFE00..=0xFE0F
-                | 0xFEFF
-                | 0xE0000..=0x10FFFF
-        )
-}
-
-/// A character between quotes, or by its number where it isn't seen: `"\u{E4}"`, `U+00A0`.
+/// A character between quotes and its number, as in `"\u{E4}" (U+00E4)`; the number alone where it isn't printed as it is.
 fn character_shown(alloc: Global, character: char) -> Result<String, AllocError> {
-    if is_unseen(character) {
-        let code = u32::from(character);
-        return format!(in alloc; "U+{code:04X}");
+    let code = u32::from(character);
+    if is_escaped(character) {
+        format!(in alloc; "U+{code:04X}")
+    } else {
+        format!(in alloc; "\"{character}\" (U+{code:04X})")
     }
-    format!(in alloc; "\"{character}\"")
 }
 
 /// The first character of a text as it is printed; of a text that isn't UTF-8 its first byte.
@@ -112,10 +91,13 @@ fn wrong_word(alloc: Global, word: &[u8], expected: Expected) -> Result<String, 
         return untyped_words(alloc, word);
     }
     if word.is_empty() {
-        return format!(in alloc; "the line ends: expected is {expected}");
+        return format!(in alloc; "expected: {expected}, found: the end of the line");
     }
-    let word = word_shown(alloc, word)?;
-    format!(in alloc; "{word}: expected is {expected}")
+    let shown = word_shown(alloc, word)?;
+    if expected == Expected::Percent && word.ends_with(b"%") {
+        return format!(in alloc; "{shown}: write the percentage without a sign");
+    }
+    format!(in alloc; "expected: {expected}, found: {shown}")
 }
 
 /// Which word of a line is wrong, and what was expected there, in words.
@@ -241,32 +223,40 @@ pub fn expected_of(line: &[u8]) -> &[u8] {
     }
 }
 
-/// What happens to a line: that of a report is set, any other one is printed. Of a line that didn't come, what is expected says it.
-pub fn verb_of(came: &[u8], expected: &[u8]) -> &'static str {
-    if is_output_line(if came == b"nothing".as_slice() {
-        expected
+/// What is said of an event that is expected before any poll: that is where the host sees a change.
+fn poll_hint(polls: u64, expected: &[u8]) -> &'static str {
+    if polls == 0 && !is_output_line(expected) {
+        " (a change is seen at a poll)"
     } else {
-        came
-    }) {
-        "set"
-    } else {
-        "printed"
+        ""
     }
 }
 
-/// What came in place of what is expected, how it came, and what is expected, in words.
+/// What is expected after so many polls, and what came in its place, in words.
 ///
 /// # Errors
 /// Out of memory.
 pub fn unmet_words(
     alloc: Global,
     came: &[u8],
-    how: &str,
     expected: &[u8],
+    polls: u64,
 ) -> Result<String, AllocError> {
+    let hint = poll_hint(polls, expected);
     let came = word_shown(alloc, came)?;
     let expected = word_shown(alloc, without_blanks(expected))?;
-    format!(in alloc; "{came} was {how}: expected is {expected}")
+    format!(in alloc; "expected: {expected}, found: {came}{hint}")
+}
+
+/// That a test ended before all that was printed was expected, in words.
+///
+/// # Errors
+/// Out of memory.
+pub fn left_words(alloc: Global, came: &[u8]) -> Result<String, AllocError> {
+    let came = word_shown(alloc, came)?;
+    format!(in alloc;
+        "expected: the end of the test, found: {came} (expect any says that the rest doesn't matter)"
+    )
 }
 
 /// That a connection ended before what is expected, in words.
@@ -275,5 +265,5 @@ pub fn unmet_words(
 /// Out of memory.
 pub fn ended_words(alloc: Global, expected: &[u8]) -> Result<String, AllocError> {
     let expected = word_shown(alloc, without_blanks(expected))?;
-    format!(in alloc; "the connection ended before: expected is {expected}")
+    format!(in alloc; "expected: {expected}, found: the end of the connection")
 }

@@ -9,12 +9,12 @@ use Rattle.hidplay.specs.declared.fault.Why.{Why}
 use Rattle.hidplay.specs.declared.fault.Why.TheVariants.{Recording, Capture, Descriptor, Other}
 use Rattle.hidplay.specs.FileFault.{place_of_file, why_text}
 
--- a count of refusals, one more if what ended the file is one; it stops at the greatest number of 64 bits
+-- a count of refusals, one more if what ended the file is one, or it can't be read; it stops at the greatest number of 64 bits
 abbrev pub with_cause : Cause → ℕ → ℕ
 with_cause (Refused refusal) count = min (count + 1) (2 ^ 64 - 1)
 with_cause LineTooLong count = min (count + 1) (2 ^ 64 - 1)
 with_cause Unended count = min (count + 1) (2 ^ 64 - 1)
-with_cause Read count = count
+with_cause Read count = min (count + 1) (2 ^ 64 - 1)
 with_cause Write count = count
 with_cause Memory count = count
 with_cause TooManyReads count = count

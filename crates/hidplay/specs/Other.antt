@@ -1,13 +1,14 @@
 -- Files that aren't played, and what they are (our choice: docs/RECORDINGS.md).
-use Rattle.std.specs.Prelude.{ℕ, ◌==◌, Bool, true, false, List, [], ◌∷◌, if◌then◌else◌, codes}
-use Rattle.std.specs.List.{slice_split, list_any}
+use Rattle.std.specs.Prelude.{ℕ, ◌==◌, ◌&&◌, not, Bool, true, false, List, [], ◌∷◌, nat_eq, is_some, if◌then◌else◌, codes}
+use Rattle.std.specs.List.{slice_split, list_any, starts_with}
 use Rattle.std.specs.Str.{bytes_eq}
 use Rattle.hid_input.specs.Known.{known_text}
 use Rattle.hid_input.specs.declared.known.KnownFile.{KnownFile}
 use Rattle.hid_input.specs.declared.known.KnownFile.TheVariants.{Capture, UsbDescriptors, Compressed, Program}
+use Rattle.hid_text.specs.Numbers.{count_of}
 use Rattle.hid_text.specs.Words.{Word, words_of}
 use Rattle.hidplay.specs.declared.other.OtherFile.{OtherFile}
-use Rattle.hidplay.specs.declared.other.OtherFile.TheVariants.{Known, Script, Text, NoRecording}
+use Rattle.hidplay.specs.declared.other.OtherFile.TheVariants.{Known, Script, Text, NoRecording, Umockdev}
 
 -- What a file is that is known by its first bytes, in words: a capture is known so only where a descriptor is wanted.
 abbrev pub other_known_text : KnownFile → List ℕ
@@ -19,9 +20,14 @@ other_known_text Program = known_text Program
 -- what a file is, and which program reads it, in words
 abbrev pub other_text : OtherFile → List ℕ
 other_text (Known file) = other_known_text file
-other_text Script = codes "a script: hidrun and hidlab run it"
+other_text Script = codes "a script: hidlab runs it"
 other_text Text = codes "text, not a descriptor: write it without control characters, as UTF-8"
 other_text NoRecording = codes "neither a recording nor a descriptor: hidplay --help says what is read"
+other_text Umockdev = codes "a recording of umockdev, whose E: lines are properties: hid-recorder writes reports"
+
+-- a text begins as umockdev writes the path of a device
+abbrev pub is_umockdev : List ℕ → Bool
+is_umockdev text = starts_with nat_eq text (codes "P: /devices")
 
 -- the words that lines of scripts begin with (docs/SCRIPT.md and docs/LAB.md)
 abbrev pub keywords : List Word
@@ -44,10 +50,18 @@ abbrev pub says_nothing : List Word → Bool
 says_nothing [] = true
 says_nothing (word ∷ words) = is_comment word
 
--- whether a line of these words begins a script; where it says nothing, what comes later
+-- words are none, or one that is a count
+abbrev pub is_count : List Word → Bool
+is_count [] = true
+is_count (word ∷ []) = is_some (count_of word)
+is_count (word ∷ second ∷ more) = false
+
+-- Whether a line of these words begins a script; where it says nothing, what comes later. After `frame` nothing but a count may
+-- stand: tshark prints such a word too.
 abbrev pub begins_script : List Word → Bool → Bool
 begins_script [] later = later
-begins_script (word ∷ words) later = if is_comment word then later else is_one_of keywords word
+begins_script (word ∷ words) later =
+    if is_comment word then later else (if bytes_eq word (codes "frame") && not (is_count words) then false else is_one_of keywords word)
 
 -- the first of some lines that says something begins with a keyword
 unfoldable pub are_script : List (List ℕ) → Bool

@@ -14,7 +14,7 @@ Refusals are reported in place, with their line, and the rest goes on:
   R4: the count says N, there are M bytes
   R4: the frame was cut off when it was captured
   R5: the device isn't a number from 0 to 15
-  R6: the time isn't digits and points
+  R6: the time isn't digits and points, 32 at most
   R7: the device has no descriptor
   R12: no empty line ends the dump before
   R13: a dump of over 16384 bytes

@@ -11,17 +11,19 @@ use hid_recording::Cause;
 use json::Writer;
 use std::alloc::{AllocError, Global};
 
-/// A count of refusals, one more if the cause is one.
+/// A count of refusals, one more if the cause is one, or the file can't be read.
 fn with_cause(cause: Cause, count: u64) -> u64
     ensures { result ≡ with_cause cause count }
 {
     match cause {
-        Cause::Refused(_) | Cause::LineTooLong | Cause::Unended => count.saturating_add(1),
-        Cause::Read | Cause::Write | Cause::Memory | Cause::TooManyReads => count,
+        Cause::Refused(_) | Cause::LineTooLong | Cause::Unended | Cause::Read => {
+            count.saturating_add(1)
+        }
+        Cause::Write | Cause::Memory | Cause::TooManyReads => count,
     }
 }
 
-/// How many lines and frames were refused, with what ended the file if it is a refusal.
+/// How many lines and frames were refused, with what ended the file if it is a refusal, or it can't be read.
 pub fn refusals_of(fault: &FileFault) -> u64
     ensures { result ≡ refusals_of fault.now }
 {

@@ -20,6 +20,7 @@ mod end_line;
 mod fault;
 mod file_line;
 mod hidraw;
+mod named_lines;
 mod other;
 mod progress;
 mod source;
@@ -39,6 +40,7 @@ use file_line::file_line;
 use hid_capture::UndescribedEndpoint;
 use hid_recording::{Cause, GivenDescriptor, Summary, play_live};
 use hidraw::{ReportFile, descriptor_name, may_have_descriptor, node_of};
+use named_lines::NamedLines;
 use progress::Progress;
 use source::{Kind, Manner, Notes, play_source, read_descriptor};
 use status::{
@@ -210,6 +212,8 @@ fn play_all(rt: &HostRuntime, asked: &CliArgs<'_>, given: Option<GivenDescriptor
         given,
     };
     let Ok(mut out) = BufWriter::new(rt.alloc(), rt.stdout()) else {
+        let cause = Cause::Memory;
+        let _ = eprintln!(rt; "hidplay: {cause}");
         return OUTSIDE;
     };
     let mut total = Total::default();
@@ -289,18 +293,45 @@ fn play_one<W: Write>(
     notes: &mut Notes,
     out: &mut W,
 ) -> Result<Summary, FileFault> {
-    let end = match print_file(rt.alloc(), asked, file.name, out) {
-        Ok(()) => play_named(rt, asked, manner, file, notes, out),
+    let Ok(member) = member_of(rt.alloc(), asked, file.name) else {
+        let end = without_words(before_all(Cause::Memory));
+        print_fault(rt, file.name, &end);
+        return Err(end.fault);
+    };
+    let begun = print_file(rt.alloc(), asked, file.name, out);
+    let mut out = NamedLines::new(out, member.as_slice());
+    let end = match begun {
+        Ok(()) => play_named(rt, asked, manner, file, notes, &mut out),
         Err(cause) => Err(without_words(before_all(cause))),
     };
     match end {
         Ok(summary) => Ok(summary),
         Err(end) => {
-            let end = print_end(rt.alloc(), asked, end, out);
+            let end = print_end(rt.alloc(), asked, end, &mut out);
             print_fault(rt, file.name, &end);
             Err(end.fault)
         }
     }
+}
+
+/// The line of JSON that names a file, as it is printed.
+fn json_name(alloc: Global, name: &str) -> Result<Vec<u8>, AllocError> {
+    let name = FileName(name);
+    let shown = format!(in alloc; "{name}")?;
+    file_line(alloc, shown.as_str())
+}
+
+/// The member that names a file in each line of its JSON, with its comma, if there are several files.
+fn member_of(alloc: Global, asked: &CliArgs<'_>, name: &str) -> Result<Vec<u8>, AllocError> {
+    let mut member = Vec::new(alloc);
+    if asked.options.json && asked.files.len() >= 2 {
+        let line = json_name(alloc, name)?;
+        if let [b'{', inside @ .., b'}', b'\n'] = line.as_slice() {
+            member.extend_from_slice(inside)?;
+            member.push(b',')?;
+        }
+    }
+    Ok(member)
 }
 
 /// With JSON, prints what ended a file too. Where that fails, it is what ended the file.
@@ -342,7 +373,7 @@ fn print_file<W: Write>(
         return Ok(());
     }
     let told = if asked.options.json {
-        let Ok(line) = file_line(alloc, name) else {
+        let Ok(line) = json_name(alloc, name) else {
             return Err(Cause::Memory);
         };
         out.write_all(line.as_slice())

@@ -5,12 +5,12 @@ ghost use Rattle.std.specs.List.{list_any};
 ghost use Rattle.std.specs.Str.{bytes_eq};
 ghost use Rattle.std.specs.Option.{unwrap_or};
 ghost use Rattle.hid_text.specs.Words.{words_of};
-ghost use Rattle.hidplay.specs.Other.{is_comment, begins_script, is_script, says_nothing};
+ghost use Rattle.hidplay.specs.Other.{is_comment, is_count, begins_script, is_script, is_umockdev, says_nothing};
 
 use hid_input::{KnownFile, begins_text, known_file};
 use hid_layout::{Layout, LayoutFault, Limits};
 use hid_report_descriptor::Cause;
-use hid_text::{first_word, split_line};
+use hid_text::{first_word, read_count, split_line};
 use std::alloc::Global;
 use std::fmt;
 
@@ -25,6 +25,8 @@ pub enum OtherFile {
     Text,
     /// Text without a line of a recording and without a descriptor.
     NoRecording,
+    /// A recording of umockdev, whose lines of properties begin as those of reports.
+    Umockdev,
 }
 
 impl fmt::Display for OtherFile {
@@ -39,12 +41,15 @@ impl fmt::Display for OtherFile {
                 f.write_str("a capture, where a descriptor is wanted")
             }
             OtherFile::Known(known) => write!(f, "{known}"),
-            OtherFile::Script => f.write_str("a script: hidrun and hidlab run it"),
+            OtherFile::Script => f.write_str("a script: hidlab runs it"),
             OtherFile::Text => f.write_str(
                 "text, not a descriptor: write it without control characters, as UTF-8",
             ),
             OtherFile::NoRecording => f.write_str(
                 "neither a recording nor a descriptor: hidplay --help says what is read",
+            ),
+            OtherFile::Umockdev => f.write_str(
+                "a recording of umockdev, whose E: lines are properties: hid-recorder writes reports",
             ),
         }
     }
@@ -71,18 +76,35 @@ fn is_comment(word: &[u8]) -> bool
     matches!(word, [b'#', ..])
 }
 
+/// Whether a text is one word alone that is a count, or none.
+fn is_count(text: &[u8]) -> bool
+    ensures { result ≡ is_count (words_of text.now) }
+{
+    match first_word(text) {
+        None => true,
+        Some((word, rest)) => match first_word(rest) {
+            None => read_count(word).is_some(),
+            Some(_) => false,
+        },
+    }
+}
+
 /// Whether a line begins a script; none where it says nothing.
 fn begins_script(line: &[u8]) -> Option<bool>
     ensures { (later : Bool) → unwrap_or result later ≡ begins_script (words_of line.now) later }
 {
-    let (word, _) = first_word(line)?;
+    let (word, rest) = first_word(line)?;
     if is_comment(word) {
         return None;
+    }
+    if word == b"frame".as_slice() && !is_count(rest) {
+        return Some(false);
     }
     Some(is_one_of(&KEYWORDS, word))
 }
 
-/// Whether a text is a script: its first word is one that lines of scripts begin with, comments left out.
+/// Whether a text is a script: its first word is one that lines of scripts begin with, comments left out. After `frame` nothing but a
+/// count may stand: tshark prints such a word too.
 pub fn is_script(text: &[u8]) -> bool
     ensures { result ≡ is_script text.now }
 {
@@ -94,6 +116,13 @@ pub fn is_script(text: &[u8]) -> bool
         rest = behind;
     }
     begins_script(rest).unwrap_or(false)
+}
+
+/// Whether a text begins as umockdev writes the path of a device.
+pub fn is_umockdev(text: &[u8]) -> bool
+    ensures { result ≡ is_umockdev text.now }
+{
+    text.starts_with(b"P: /devices")
 }
 
 /// Whether a line says nothing: it has no word, or is a comment.

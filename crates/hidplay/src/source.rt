@@ -4,7 +4,7 @@ ghost use Rattle.std.specs.Prelude.{◌≡◌, [], IfOk, OnOk, drop};
 ghost use Rattle.hidplay.specs.Source.{ReadsPiece, ReadsUpTo, IsAfterPassed, ReadsBeginning};
 
 use super::fault::{FileFault, before_all, other_file, unread_descriptor};
-use super::other::{OtherFile, is_script, other_of, says_nothing};
+use super::other::{OtherFile, is_script, is_umockdev, other_of, says_nothing};
 use hid_capture::UndescribedEndpoint;
 use hid_input::{InputCause, begins_recording, descriptor_in, is_recording};
 use hid_recording::{
@@ -330,6 +330,9 @@ fn play_detected<R: Read, W: Write, H: Watch>(
     notes.has_own = true;
     skip_mark(reader)?;
     let beginning = read_beginning(alloc, reader)?;
+    if is_umockdev(after_passed(beginning.as_slice())) {
+        return Err(other_file(OtherFile::Umockdev));
+    }
     if begins_recording(beginning.as_slice()) {
         let mut recording = beginning.as_slice().chain(reader);
         Ok(play(alloc, &mut recording, out, manner.options, watch)?)

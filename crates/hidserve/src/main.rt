@@ -16,9 +16,10 @@ mod args;
 
 use args::{CliArgs, parse_args};
 use command_words::{FileName, print_refused_words, print_unread_words, words_of};
+use std::fs;
+use std::io::{self, Read};
 use std::process::ExitCode;
-use std::{fs, io};
-use usbip_script::{FINE, Script, ServeFault, Telling, exit_of, read_script, serve};
+use usbip_script::{FINE, MAX_SCRIPT, Script, ServeFault, Telling, exit_of, read_script, serve};
 
 fn main(rt: HostRuntime) -> ExitCode {
     let alloc = rt.alloc();
@@ -32,9 +33,19 @@ fn main(rt: HostRuntime) -> ExitCode {
     }
 }
 
+/// The bytes of a file, up to one more than a script has.
+fn read_file(rt: &HostRuntime, name: &str) -> io::Result<Vec<u8>> {
+    let mut bytes = Vec::new(rt.alloc());
+    fs::open(rt, name)?
+        .take(MAX_SCRIPT as u64 + 1)
+        .read_to_end(&mut bytes)?;
+    Ok(bytes)
+}
+
 /// The script of a file.
 fn script_of(rt: &HostRuntime, name: &str) -> Result<Script, ServeFault> {
-    match fs::read(rt, name) {
+    match read_file(rt, name) {
+        Ok(bytes) if bytes.len() > MAX_SCRIPT => Err(ServeFault::TooLong),
         Ok(bytes) => read_script(rt.alloc(), bytes.as_slice()),
         Err(error) if error.kind() == io::ErrorKind::OutOfMemory => Err(ServeFault::Memory),
         Err(_) => Err(ServeFault::Script),

@@ -1,6 +1,7 @@
 -- What opening a handle makes of it (our choice).
-use Rattle.std.specs.Prelude.{◌≡◌, ℕ, List, length, Option, Some, None}
+use Rattle.std.specs.Prelude.{◌≡◌, ℕ, ◌<◌, ◌⊎◌, List, length, Option, Some, None}
 use Rattle.hid_report_descriptor.specs.declared.fault.Cause.{Cause}
+use Rattle.hid_report_descriptor.specs.declared.fault.Cause.TheVariants.{Truncated}
 use Rattle.hid_report_descriptor.specs.Real.{Explains}
 use Rattle.hidstack_session.specs.Causes.{cause_number}
 use Rattle.hidstack_session.specs.Elements.{one_of}
@@ -23,15 +24,21 @@ opened_result s = record {
 abbrev pub refused_result : ℕ → ℕ → HidOpened
 refused_result cause at = record { at = at; room = 0; reports = 0; items = 0; cause = cause; numbered = 0 }
 
--- the handle was closed, and has a session of which nothing was read yet
+-- the handle was closed, the descriptor has a byte, and the handle has a session of which nothing was read yet
 abbrev pub Opens : Option SessionState → List ℕ → Option SessionState → HidOpened → Type 0
 Opens before bytes after told =
-    (before ≡ None) × (s : SessionState) × (after ≡ Some s) × IsFirst bytes s × (told ≡ opened_result s)
+    (before ≡ None) × (0 < length bytes) × (s : SessionState) × (after ≡ Some s) × IsFirst bytes s × (told ≡ opened_result s)
 
--- the handle was closed and is so, and this is the one refusal, or memory ran out
+-- A descriptor isn't opened: it has no byte, which is L1 at 0 (our choice: a file that couldn't be read is no device without
+-- controls); or this is its one refusal; or memory ran out.
+abbrev pub IsUnopened : List ℕ → Cause → ℕ → Type 0
+IsUnopened bytes cause at =
+    ((length bytes ≡ 0) × (cause ≡ Truncated) × (at ≡ 0)) ⊎ ((0 < length bytes) × Explains bytes cause at)
+
+-- the handle was closed and is so, and this is why
 abbrev pub Refuses : Option SessionState → List ℕ → Option SessionState → HidOpened → Type 0
 Refuses before bytes after told =
-    (before ≡ None) × (after ≡ None) × (cause : Cause) × (at : ℕ) × Explains bytes cause at
+    (before ≡ None) × (after ≡ None) × (cause : Cause) × (at : ℕ) × IsUnopened bytes cause at
     × (told ≡ refused_result (cause_number cause) at)
 
 -- the handle was open and stays as it was, and so does what was reported

@@ -1,6 +1,7 @@
 -- Texts in the caller's room (our choice).
 use Rattle.std.specs.Prelude.{◌≡◌, ℕ, ◌<◌, ◌≤◌, ◌⊎◌, List, ◌++◌, length, drop, Option, None, Some}
 use Rattle.hid_report_descriptor.specs.declared.fault.Cause.{Cause}
+use Rattle.hid_report_descriptor.specs.declared.fault.Cause.TheVariants.{Truncated}
 use Rattle.hid_report_descriptor.specs.Codes.{code_of}
 use Rattle.hid_report_descriptor.specs.declared.fault.LayoutFault.{LayoutFault}
 use Rattle.hid_report_descriptor.specs.declared.limits.Limits.TheVariants.{Real}
@@ -57,10 +58,21 @@ abbrev pub IsRefusalText : List ℕ → LayoutFault → List ℕ → Type 0
 IsRefusalText bytes fault text =
     (report : Option LongReport) × NamesReport Real bytes fault report × (text ≡ layout_refusal_text fault report)
 
--- the text of the refusal of a descriptor, or memory ran out; or the descriptor is accepted
-abbrev pub RefusalIsReturned : List ℕ → List ℕ → ℕ → List ℕ → ℕ → Type 0
-RefusalIsReturned bytes out status out' told =
+-- the text of the one refusal of a descriptor, or memory ran out; or the descriptor is accepted
+abbrev pub FaultIsReturned : List ℕ → List ℕ → ℕ → List ℕ → ℕ → Type 0
+FaultIsReturned bytes out status out' told =
     ((fault : LayoutFault) × (text : List ℕ) × Refuses bytes fault.cause fault.at × IsRefusalText bytes fault text
     × TextIsReturned text out status out' told)
     ⊎ (Leaves MEMORY out status out' told
     ⊎ (((items : List EncodedItem) × Accepts bytes items) × Leaves NONE out status out' told))
+
+-- the refusal of a descriptor of no byte (our choice): L1 at 0
+abbrev pub no_byte : LayoutFault
+no_byte = record { cause = Truncated; at = 0 }
+
+-- the text of why `hidstack_open` refuses a descriptor: that of no byte, or of its one refusal
+abbrev pub RefusalIsReturned : List ℕ → List ℕ → ℕ → List ℕ → ℕ → Type 0
+RefusalIsReturned bytes out status out' told =
+    ((length bytes ≡ 0)
+    × (TextIsReturned (layout_refusal_text no_byte None) out status out' told ⊎ Leaves MEMORY out status out' told))
+    ⊎ ((0 < length bytes) × FaultIsReturned bytes out status out' told)

@@ -1,14 +1,16 @@
 //! Causes, refusals and usages as text: codes, and words.
 
-ghost use Rattle.std.specs.Prelude.{◌≡◌, ◌≤◌, ◌++◌, length, drop, Option, IfOk, string_bytes};
+ghost use Rattle.std.specs.Prelude.{◌≡◌, ◌≤◌, ◌⊎◌, ◌++◌, length, drop, None, IfOk, string_bytes};
 ghost use Rattle.hid_report_descriptor.specs.Real.{Explains};
 ghost use Rattle.hid_report_descriptor.specs.declared.long_reports.LongReport.{LongReport};
 ghost use Rattle.hid_names.specs.Names.{name_of};
+ghost use Rattle.hid_notation.specs.Causes.{layout_refusal_text};
 ghost use Rattle.hid_notation.specs.Text.{usage_text};
-ghost use Rattle.hidstack.specs.Texts.{TextIsReturned, CauseIsReturned, NameIsReturned, RefusalIsReturned, IsRefusalText, UsageIsReturned, WordsAreReturned};
+ghost use Rattle.hidstack.specs.declared.status.TheConstants as status;
+ghost use Rattle.hidstack.specs.Texts.{TextIsReturned, CauseIsReturned, NameIsReturned, FaultIsReturned, RefusalIsReturned, IsRefusalText, Leaves, UsageIsReturned, WordsAreReturned, no_byte};
 
 use crate::status::{MEMORY, NO_ROOM, NONE, OK};
-use hid_layout::{Layout, LayoutFault, Limits, Usage, long_report};
+use hid_layout::{Cause, Layout, LayoutFault, Limits, Usage, long_report};
 use hid_names::usage_name;
 use hid_notation::{RefusalText, UsageText, layout_words};
 use hidstack_session::cause_with;
@@ -96,15 +98,30 @@ fn refusal_text(alloc: Global, descriptor: &[u8], fault: LayoutFault) -> Result<
     RefusalText { fault, report }.to_string(alloc)
 }
 
-/// Why a descriptor is refused, and where: `L15 at 326: Feature report 68 has 20000 bytes, over 16384`.
-#[unsafe(no_mangle)]
-pub extern "C" fn hidstack_refusal_text(
-    alloc: Global,
-    descriptor: &[u8],
-    out: &mut [u8],
-    len: &mut u64,
-) -> u32
-    ensures { RefusalIsReturned descriptor.now out.old result out.new len.new }
+/// The refusal of a descriptor of no byte, as text.
+fn write_no_byte(alloc: Global, out: &mut [u8], len: &mut u64) -> u32
+    ensures { TextIsReturned (layout_refusal_text no_byte None) out.old result out.new len.new
+        ⊎ Leaves status.MEMORY out.old result out.new len.new }
+{
+    *len = 0;
+    let fault = LayoutFault {
+        cause: Cause::Truncated,
+        at: 0,
+    };
+    match (RefusalText {
+        fault,
+        report: None,
+    })
+    .to_string(alloc)
+    {
+        Ok(text) => write_text(text.as_bytes(), out, len),
+        Err(_) => MEMORY,
+    }
+}
+
+/// The one refusal of a descriptor, as text.
+fn write_fault(alloc: Global, descriptor: &[u8], out: &mut [u8], len: &mut u64) -> u32
+    ensures { FaultIsReturned descriptor.now out.old result out.new len.new }
 {
     *len = 0;
     let Err(fault) = Layout::parse_within(alloc, Limits::Real, descriptor) else {
@@ -117,6 +134,22 @@ pub extern "C" fn hidstack_refusal_text(
         Ok(text) => write_text(text.as_bytes(), out, len),
         Err(_) => MEMORY,
     }
+}
+
+/// Why a descriptor is refused, and where: `L15 at 326: Feature report 68 has 20000 bytes, over 16384`.
+#[unsafe(no_mangle)]
+pub extern "C" fn hidstack_refusal_text(
+    alloc: Global,
+    descriptor: &[u8],
+    out: &mut [u8],
+    len: &mut u64,
+) -> u32
+    ensures { RefusalIsReturned descriptor.now out.old result out.new len.new }
+{
+    if descriptor.is_empty() {
+        return write_no_byte(alloc, out, len);
+    }
+    write_fault(alloc, descriptor, out, len)
 }
 
 /// The name of a usage in the HID Usage Tables: `X`, `Button 1`.

@@ -1,11 +1,10 @@
 //! A handle is opened, fed and closed.
 
-ghost use Rattle.std.specs.Prelude.{◌≡◌, ◌≤◌, Some, None, Ok, Err, IfOk, IfErr};
-ghost use Rattle.hid_report_descriptor.specs.Real.{Explains};
+ghost use Rattle.std.specs.Prelude.{◌≡◌, ◌<◌, ◌≤◌, length, Some, None, Ok, Err, IfOk, IfErr};
 ghost use Rattle.hidstack_session.specs.Causes.{cause_number};
 ghost use Rattle.hidstack_session.specs.declared.session.FeedFault.TheVariants.{Refused};
 ghost use Rattle.hidstack_session.specs.Sessions.{IsFirst};
-ghost use Rattle.hidstack.specs.Opening.{Opens, Refuses, IsBusy, opened_result};
+ghost use Rattle.hidstack.specs.Opening.{Opens, Refuses, IsBusy, IsUnopened, opened_result};
 ghost use Rattle.hidstack.specs.Feeding.{FeedsHandle, status_of};
 ghost use Rattle.hidstack.specs.Writing.{ReleasesHandle};
 ghost use types.Logic.{sem};
@@ -17,7 +16,9 @@ ghost use Rattle.hidstack.specs.declared.handle.Handle.{Handle};
 
 use crate::handle::Handle;
 use crate::status::{BUSY, CLOSED, NO_ROOM, OK, REFUSED, SHORT, UNKNOWN};
-use hidstack_session::{FeedFault, HidEvent, LayoutFault, ReportFault, Session, cause_number};
+use hidstack_session::{
+    Cause, FeedFault, HidEvent, LayoutFault, ReportFault, Session, cause_number,
+};
 use std::alloc::Global;
 
 /// What `hidstack_open` writes beside its status.
@@ -52,11 +53,18 @@ fn nothing_opened() -> HidOpened
     }
 }
 
-/// A session in a block of its own.
+/// A session in a block of its own. A descriptor of no byte has none.
 fn open_box(alloc: Global, descriptor: &[u8]) -> Result<Box<Session>, LayoutFault>
     ensures ok { IfOk result (λ session. IsFirst descriptor.now session.value) }
-    ensures err { IfErr result (λ f. Explains descriptor.now f.cause f.at) }
+    ensures some { IfOk result (λ session. 0 < length descriptor.now) }
+    ensures err { IfErr result (λ f. IsUnopened descriptor.now f.cause f.at) }
 {
+    if descriptor.is_empty() {
+        return Err(LayoutFault {
+            cause: Cause::Truncated,
+            at: 0,
+        });
+    }
     match Box::new(alloc, Session::open(alloc, descriptor)?) {
         Ok(session) => Ok(session),
         Err(_) => Err(LayoutFault::memory()),

@@ -21,9 +21,9 @@ boot_of protocol =
 abbrev pub config_with : HidConfig → Boot → Config
 config_with c b = record { vendor = c.vendor; product = c.product; interval = c.interval; boot = b }
 
--- the configuration of a record, if some boot device has its protocol
+-- the configuration of a record, if some boot device has its protocol, and its spare field is 0
 abbrev pub config_of : HidConfig → Option Config
-config_of c = option_map (config_with c) (boot_of c.boot)
+config_of c = if c.spare == 0 then option_map (config_with c) (boot_of c.boot) else None
 
 -- a device of a configuration that may be there is made, or refused: for V20 where there is no configuration
 abbrev pub MakesOf : Option Config → List ℕ → Result CoreState DeviceFault → Type 0
@@ -31,6 +31,6 @@ MakesOf (Some config) descriptor made = MakesGadget config descriptor made
 MakesOf None descriptor made = made ≡ Err (record { cause = BadConfig; at = 0 })
 
 -- A device of a record and a report descriptor is made, or refused for the first cause; for V20 where no boot device has the
--- record's protocol. Example: protocol 3 is V20
+-- record's protocol, or its spare field isn't 0. Example: protocol 3 is V20
 abbrev pub MakesDevice : HidConfig → List ℕ → Result CoreState DeviceFault → Type 0
 MakesDevice c descriptor made = MakesOf (config_of c) descriptor made

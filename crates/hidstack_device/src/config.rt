@@ -18,7 +18,7 @@ pub struct HidConfig {
     pub interval: u8,
     /// bInterfaceProtocol of a boot device: 1 of a keyboard, 2 of a mouse; else 0.
     pub boot: u8,
-    /// 0; nothing reads it.
+    /// 0. It is kept for a later version.
     pub spare: u16,
 }
 
@@ -34,10 +34,13 @@ fn boot_of(protocol: u8) -> Option<Boot>
     }
 }
 
-/// The configuration of a record; none where no boot device has its protocol.
+/// The configuration of a record; none where no boot device has its protocol, or its spare field isn't 0.
 fn config_of(given: &HidConfig) -> Option<Config>
     ensures { result ≡ config_of given.now }
 {
+    if given.spare != 0 {
+        return None;
+    }
     match boot_of(given.boot) {
         Some(boot) => Some(Config {
             vendor: given.vendor,
@@ -52,7 +55,7 @@ fn config_of(given: &HidConfig) -> Option<Config>
 /// A gadget of a record and a report descriptor. It makes all room that the other calls fill.
 ///
 /// # Errors
-/// V20 where no boot device has the record's protocol, else those of [`Gadget::new`].
+/// V20 where no boot device has the record's protocol, or its spare field isn't 0; else those of [`Gadget::new`].
 pub fn make(alloc: Global, given: &HidConfig, descriptor: &[u8]) -> Result<Gadget, DeviceFault>
     ensures { MakesDevice given.now descriptor.now result }
 {

@@ -1,5 +1,6 @@
 -- When the expectations of a script let it go on (our choice: docs/LAB.md).
-use Rattle.std.specs.Prelude.{◌≡◌, ℕ, suc, codes, ◌+◌, ◌-◌, ◌^◌, ◌||◌, nat_le, Bool, true, false, List, [], ◌∷◌, ◌++◌, slice_get, if◌then◌else◌, Option, Some, None}
+use Rattle.std.specs.Prelude.{◌≡◌, ℕ, suc, codes, ◌+◌, ◌-◌, ◌^◌, ◌||◌, nat_le, Bool, true, false, List, [], ◌∷◌, ◌++◌, slice_get, drop, if◌then◌else◌, Option, Some, None}
+use Rattle.std.specs.List.{find}
 use Rattle.lab_expectations.specs.declared.transcript.Transcript.{Transcript}
 use Rattle.lab_expectations.specs.Expectations.{Answer, Came, Instead, Met, NoLine, TooMuch, answer_at, answer_none, first_required, is_expected_at, is_none_at, last_line, outcome, parts_of, waits}
 use Rattle.lab_serving.specs.declared.expecting.Expecting.{Expecting}
@@ -123,6 +124,16 @@ AdvancesAt old new place now (Some x) =
 unfoldable pub others : Option ℕ → List Expecting → ℕ
 others place [] = 0
 others place (x ∷ more) = if is_of_other place x then suc (others place more) else 0
+
+-- a report is expected
+abbrev pub expects_report : ExpectedKind → Bool
+expects_report Report = true
+expects_report Nothing = false
+expects_report Anything = false
+
+-- the next expectation of a report, if there is one
+abbrev pub awaited_from : Expectations → Option Expecting
+awaited_from e = find (λ x. expects_report x.kind) (drop e.next e.all.items)
 
 -- ---- what came in place of what is expected
 

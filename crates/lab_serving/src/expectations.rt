@@ -1,9 +1,9 @@
 //! When the expectations of a script let it go on.
 
 ghost use Rattle.std.specs.Prelude.{◌≡◌, ◌+◌, [], drop, OnOk, None, false};
-ghost use Rattle.std.specs.Option.{option_map};
+ghost use Rattle.std.specs.Option.{option_copied, option_map};
 ghost use Rattle.lab_expectations.specs.Expectations.{answer_of, waits};
-ghost use Rattle.lab_serving.specs.Advancing.{AdvancesAt, Meets, Takes, advance_of, allowed_by, answer_next, came_of, expected_words, is_next_met, last_set, next_of, others};
+ghost use Rattle.lab_serving.specs.Advancing.{AdvancesAt, Meets, Takes, advance_of, allowed_by, answer_next, awaited_from, came_of, expected_words, expects_report, is_next_met, last_set, next_of, others};
 
 use crate::expecting::{ExpectedKind, Expecting};
 use lab_expectations::{Expectation, Transcript};
@@ -31,6 +31,16 @@ pub struct Expectations {
     /// In milliseconds, since when the next one is waited for.
     since: Option<u64>,
     transcript: Transcript,
+}
+
+/// Whether a report is expected.
+fn expects_report(expecting: &Expecting) -> bool
+    ensures { result ≡ expects_report expecting.now.kind }
+{
+    match expecting.kind {
+        ExpectedKind::Report => true,
+        ExpectedKind::Nothing | ExpectedKind::Anything => false,
+    }
 }
 
 impl Expectations {
@@ -144,6 +154,26 @@ impl Expectations {
             },
             None => b"",
         }
+    }
+
+    /// The expectations from the next one on.
+    fn left(&self) -> &[Expecting]
+        ensures { result.now ≡ drop self.now.next self.now.all.items }
+    {
+        if self.next < self.all.len() {
+            &self.all.as_slice()[self.next..]
+        } else {
+            &[]
+        }
+    }
+
+    /// The next expectation of a report, if there is one.
+    pub fn awaited(&self) -> Option<&Expecting>
+        ensures { option_copied result ≡ awaited_from self.now }
+    {
+        self.left()
+            .iter()
+            .find(|expecting| expects_report(expecting))
     }
 
     /// Whether the next expectation is met, which takes what it expects then.

@@ -1,7 +1,8 @@
 //! What stands by while a script of the bench is served.
 
 ghost use Rattle.std.specs.Prelude.{◌≡◌};
-ghost use Rattle.lab_serving.specs.Advancing.{answer_next, came_of, expected_words, last_set, next_of};
+ghost use Rattle.std.specs.Option.{option_copied};
+ghost use Rattle.lab_serving.specs.Advancing.{answer_next, awaited_from, came_of, expected_words, last_set, next_of};
 
 use crate::expectations::{Advance, Expectations};
 use crate::expecting::Expecting;
@@ -48,6 +49,13 @@ impl<T: Write> Watching<T> {
     {
         self.expectations.expected()
     }
+
+    /// The next expectation of a report, if there is one.
+    pub fn awaited(&self) -> Option<&Expecting>
+        ensures { option_copied result ≡ awaited_from self.now.expectations }
+    {
+        self.expectations.awaited()
+    }
 }
 
 impl<T: Write> Watch for Watching<T> {
@@ -80,7 +88,7 @@ impl<T: Write> Watch for Watching<T> {
 
     fn end(&mut self, place: Option<usize>) -> Result<(), ServeFault> {
         if place.is_none() {
-            return Ok(());
+            return Err(ServeFault::NoHost);
         }
         self.expectations.pass_others(place);
         unmet(self.expectations.number())

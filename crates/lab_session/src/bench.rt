@@ -17,7 +17,7 @@ ghost use Rattle.lab_session.specs.Printed.{IsPlain, is_styled};
 
 use super::answers::{ends_transfer, has_nothing, is_repeated};
 use super::asked::{Asked, asked_of, unread_cause};
-use super::controls::{kind_of, no_control, refused_control};
+use super::controls::{RefusedControl, control_at, no_control, refused_control};
 use super::counts::Counts;
 use super::draws::Draws;
 use super::fault::LabCause;
@@ -25,7 +25,7 @@ use super::options::LabOptions;
 use super::outputs::Outputs;
 use super::printer::{Printer, kept_cause};
 use super::shown::is_styled;
-use hid_layout::{ControlId, ControlKind, Usage};
+use hid_layout::{ControlId, Usage};
 use hid_requests::Boot;
 use hid_script::{Cause, Interpreter, Options, Sink};
 use hid_stack::{StackFault, Start, Step};
@@ -52,7 +52,9 @@ pub struct Bench {
     /// What the interpreter prints of a part.
     text: Vec<u8>,
     /// The control of a change that was refused.
-    control: Option<(Usage, ControlKind)>,
+    control: Option<RefusedControl>,
+    /// Whether a line expected something.
+    pub(super) is_test: bool,
     /// What came in place of a line that was expected.
     pub(super) came: Vec<u8>,
 }
@@ -99,6 +101,7 @@ impl Bench {
             counts: Counts::default(),
             text: Vec::new(alloc),
             control: None,
+            is_test: false,
             came: Vec::new(alloc),
         })
     }
@@ -123,8 +126,18 @@ impl Bench {
     }
 
     /// The control of the last change that was refused, if it is known.
-    pub fn control(&self) -> Option<(Usage, ControlKind)> {
+    pub fn control(&self) -> Option<RefusedControl> {
         self.control
+    }
+
+    /// Whether a line expected something, so that all that is printed has to be expected.
+    pub fn is_test(&self) -> bool {
+        self.is_test
+    }
+
+    /// Whether a device was attached.
+    pub fn has_device(&self) -> bool {
+        self.interpreter.rig().device(1).is_ok()
     }
 
     /// What came in place of the line that was expected last, if another one came; without its end.
@@ -651,7 +664,7 @@ impl Bench {
             .interpreter
             .change_at(dev, control, wanted, &mut self.text)
         {
-            self.control = kind_of(self.interpreter.rig(), dev, control);
+            self.control = control_at(self.interpreter.rig(), dev, control);
             return Err(kept_cause(cause));
         }
         self.printer.print(

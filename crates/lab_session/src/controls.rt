@@ -1,6 +1,6 @@
 //! What a control of a device is, and the refusal of one that isn't there.
 
-use hid_layout::{ControlId, ControlKind, Usage};
+use hid_layout::{ControlId, ControlKind, Controls, Usage};
 use hid_script::{Cause, StepFault};
 use hid_snapshots::ChangeFault;
 use hid_stack::{Rig, StackFault};
@@ -11,27 +11,54 @@ pub fn no_control() -> Cause {
     Cause::Step(StepFault::Stack(StackFault::Refused(ChangeFault::NoSuchControl)))
 }
 
-/// What a control is, if there is such a control.
-pub fn kind_of(rig: &Rig, dev: u8, control: ControlId) -> Option<(Usage, ControlKind)> {
-    let device = rig.device(dev).ok()?;
-    let control = device.layout().control(control)?;
-    Some((control.usage, control.kind))
+/// The control of a change that is refused.
+#[derive(Clone, Copy, Debug, PartialEq, Eq)]
+pub struct RefusedControl {
+    /// What it is for.
+    pub usage: Usage,
+    /// What it reports.
+    pub kind: ControlKind,
+    /// The least and the greatest number that it takes, if it is no key of an array.
+    pub range: Option<(i64, i64)>,
 }
 
-/// What the least control with a usage is, if there is such a control.
-fn kind_of_usage(rig: &Rig, dev: u8, usage: Usage) -> Option<(Usage, ControlKind)> {
+/// The control at an index, if there is such a control.
+pub fn control_at(rig: &Rig, dev: u8, control: ControlId) -> Option<RefusedControl> {
+    let device = rig.device(dev).ok()?;
+    let layout = device.layout();
+    let found = layout.control(control)?;
+    if control.item >= layout.items().len() {
+        return None;
+    }
+    let range = match layout.controls(control.item) {
+        Controls::Elements {
+            least,
+            greatest,
+            ..
+        } => Some((least, greatest)),
+        Controls::None | Controls::Keys { .. } => None,
+    };
+    Some(RefusedControl {
+        usage: found.usage,
+        kind: found.kind,
+        range,
+    })
+}
+
+/// The least control with a usage, if there is such a control.
+fn control_with(rig: &Rig, dev: u8, usage: Usage) -> Option<RefusedControl> {
     let control = rig.find(dev, usage).ok()?;
-    kind_of(rig, dev, control)
+    control_at(rig, dev, control)
 }
 
 /// What the control is that a line changes, if it changes one and there is such a control.
-fn control_of(rig: &Rig, line: &ShortLine) -> Option<(Usage, ControlKind)> {
+fn control_of(rig: &Rig, line: &ShortLine) -> Option<RefusedControl> {
     match *line {
         ShortLine::Press { dev, usage }
         | ShortLine::Release { dev, usage }
         | ShortLine::Null { dev, usage }
         | ShortLine::Set { dev, usage, .. }
-        | ShortLine::Move { dev, usage, .. } => kind_of_usage(rig, dev, usage),
+        | ShortLine::Move { dev, usage, .. } => control_with(rig, dev, usage),
         ShortLine::Frame { .. }
         | ShortLine::Poll { .. }
         | ShortLine::Control { .. }
@@ -45,7 +72,7 @@ pub fn refused_control(
     rig: &Rig,
     line: &ShortLine,
     end: &Result<(), Cause>,
-) -> Option<(Usage, ControlKind)> {
+) -> Option<RefusedControl> {
     match end {
         Ok(()) => None,
         Err(_) => control_of(rig, line),

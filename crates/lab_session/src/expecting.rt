@@ -23,6 +23,7 @@ impl Bench {
             self.new.printer.transcript self.new.came.items result }
         ensures settled { result ≡ Err LabCause.Unsettled → ⊥ }
     {
+        self.is_test = true;
         if self.printer.expect(expected) {
             return Ok(());
         }
@@ -42,6 +43,7 @@ impl Bench {
         ensures result { result ≡ Ok tt }
         ensures expects { IsForgotten self.new.printer.transcript }
     {
+        self.is_test = true;
         self.printer.forget();
         Ok(())
     }
@@ -54,6 +56,7 @@ impl Bench {
             self.new.came.items result }
         ensures settled { result ≡ Err LabCause.Unsettled → ⊥ }
     {
+        self.is_test = true;
         if self.printer.expect_none() {
             return Ok(());
         }

@@ -38,6 +38,7 @@ mod words;
 pub use ahead::Ahead;
 pub use asked::Asked;
 pub use bench::Bench;
+pub use controls::RefusedControl;
 pub use counts::Counts;
 pub use fault::LabCause;
 pub use feed::{Feed, Incoming};

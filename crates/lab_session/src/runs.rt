@@ -26,7 +26,7 @@ use hid_script::{Cause, Sink, Summary};
 use hid_text::{says_nothing, split_line};
 
 /// How many lines a source has at most.
-const MAX_LINES: usize = 1_000_000_000_000;
+const MAX_LINES: usize = 100_000_000;
 
 /// The most bytes of a comment that is known by its first byte.
 const MAX_COMMENT: usize = 1024;

@@ -89,7 +89,7 @@ fn put_object(
 /// Writes a line that is no event as an object.
 fn put_line(json: &mut Writer, line: &str) -> Result<(), AllocError> {
     json.begin_object()?;
-    put_text(json, "line", line)?;
+    put_text(json, "text", line)?;
     json.end_object()
 }
 

@@ -1,7 +1,8 @@
 //! Why a line is refused, in words.
 
+use super::controls::RefusedControl;
 use super::fault::LabCause;
-use hid_layout::{ControlKind, Usage};
+use hid_layout::ControlKind;
 use hid_notation::{UsageText, layout_words};
 use hid_requests::DeviceCause;
 use hid_script::{Cause, StepFault};
@@ -89,39 +90,45 @@ fn script_words(cause: Cause) -> &'static str {
         Cause::Read => "the script can't be read",
         Cause::Write => "standard output can't be written",
         Cause::Memory => "out of memory",
-        Cause::TooManyReads => "the script has no end",
+        Cause::TooManyReads => "the script has no end, or over 100000000 lines",
         Cause::NoLayout => "no layout line came before",
     }
 }
 
-/// Why a line is not carried out, in words. What a control is stands there where it is of another kind.
+/// Why a line is not carried out, in words. For a control of another kind they say which it is, for a number out of range the range.
 #[derive(Clone, Copy)]
 pub struct CauseWords {
     cause: LabCause,
-    control: Option<(Usage, ControlKind)>,
+    control: Option<RefusedControl>,
 }
 
 /// The words of a cause, with the control that the line meant if one is known.
-pub fn cause_words(cause: LabCause, control: Option<(Usage, ControlKind)>) -> CauseWords {
+pub fn cause_words(cause: LabCause, control: Option<RefusedControl>) -> CauseWords {
     CauseWords { cause, control }
 }
 
-/// Whether a control is of another kind.
-fn is_wrong_kind(cause: LabCause) -> bool {
-    matches!(
-        cause,
-        LabCause::Script(Cause::Step(StepFault::Stack(StackFault::Refused(ChangeFault::WrongKind))))
-    )
+/// Why a change is refused, if a change is.
+fn change_fault(cause: LabCause) -> Option<ChangeFault> {
+    match cause {
+        LabCause::Script(Cause::Step(StepFault::Stack(StackFault::Refused(fault)))) => Some(fault),
+        _ => None,
+    }
 }
 
 impl fmt::Display for CauseWords {
     fn fmt<W: fmt::Write>(&self, f: &mut fmt::Formatter<W>) -> fmt::Result {
         let CauseWords { cause, control } = *self;
-        if let Some((usage, kind)) = control {
-            if is_wrong_kind(cause) {
-                let usage = UsageText(usage);
-                let words = kind_words(kind);
-                return write!(f, "{usage} is {words}");
+        if let Some(RefusedControl { usage, kind, range }) = control {
+            let usage = UsageText(usage);
+            match (change_fault(cause), range) {
+                (Some(ChangeFault::WrongKind), _) => {
+                    let words = kind_words(kind);
+                    return write!(f, "{usage} is {words}");
+                }
+                (Some(ChangeFault::OutOfRange), Some((least, greatest))) => {
+                    return write!(f, "{usage} takes {least} to {greatest}");
+                }
+                _ => {}
             }
         }
         f.write_str(match cause {

@@ -4,6 +4,9 @@ use Rattle.std.specs.Fmt.{decimal}
 use Rattle.hid_snapshots.specs.declared.fault.ChangeFault.{ChangeFault}
 use Rattle.hid_snapshots.specs.declared.fault.ChangeFault.TheVariants.{NoSuchControl, WrongKind, OutOfRange, NoNull, NoDirection, MotionFull, ArrayFull}
 use Rattle.hid_snapshots.specs.Faults.{change_code}
+use Rattle.hid_notation.specs.Causes.{layout_words}
+use Rattle.hid_requests.specs.declared.fault.DeviceCause.{DeviceCause}
+use Rattle.hid_requests.specs.declared.fault.DeviceCause.TheVariants as devices
 use Rattle.hid_requests.specs.Fault.{device_fault_text}
 use Rattle.hid_text.specs.declared.fault.LineFault.{LineFault}
 use Rattle.hid_text.specs.declared.fault.LineFault.TheVariants.{Syntax, LineTooLong, BadHex}
@@ -13,6 +16,7 @@ use Rattle.usbip_script.specs.declared.fault.LineCause.{LineCause}
 use Rattle.usbip_script.specs.declared.fault.LineCause.TheVariants.{Text, NoDevice, Change, Device, TooManyDevices, NotServed, TooLong, Unmet}
 use Rattle.usbip_script.specs.declared.fault.ServeFault.{ServeFault}
 use Rattle.usbip_script.specs.declared.fault.ServeFault.TheVariants.{Line, Message, NoDevices, HalfMessage, Script, Memory, Input, Output, Full, Told, Clock}
+use Rattle.usbip_script.specs.declared.fault.ServeFault.TheVariants as faults
 
 -- of a line that is none
 abbrev pub text_words : LineFault → List ℕ
@@ -30,12 +34,20 @@ change_words NoDirection = codes "the control doesn't move that way"
 change_words MotionFull = codes "too much motion isn't reported yet"
 change_words ArrayFull = codes "more keys are pressed than a report has room for"
 
+-- of a device that can't be, after its code
+abbrev pub device_words : DeviceCause → List ℕ
+device_words devices.BadConfig = codes "not the descriptor of a boot device: call it plain"
+device_words (devices.Layout cause) = layout_words cause
+device_words devices.NoEmptyCode = codes "an array that can't say that no key is pressed"
+device_words devices.RelativeWithoutZero = codes "a relative control that can't send 0"
+device_words devices.Memory = codes "out of memory"
+
 -- why a line is refused. Example: X4 S3 U1: the device has no such control
 abbrev pub line_cause_text : LineCause → List ℕ
 line_cause_text (Text fault) = text_words fault
 line_cause_text NoDevice = codes "X4 S1: no device has this number"
 line_cause_text (Change fault) = codes "X4 S3 " ++ change_code fault ++ codes ": " ++ change_words fault
-line_cause_text (Device fault) = codes "X4 S5 " ++ device_fault_text fault.cause fault.at ++ codes ": there can be no such device"
+line_cause_text (Device fault) = codes "X4 S5 " ++ device_fault_text fault.cause fault.at ++ codes ": " ++ device_words fault.cause
 line_cause_text TooManyDevices = codes "X4 S7: there are seven devices already"
 line_cause_text NotServed = codes "E1: not with a real host, which polls and asks by itself"
 line_cause_text TooLong = codes "E11: the script is too long"
@@ -54,3 +66,5 @@ serve_fault_text Output = codes "E7: standard output can't be written"
 serve_fault_text Full = codes "E8: the host took nothing for ten seconds"
 serve_fault_text Told = codes "E9: what the host sets can't be written"
 serve_fault_text Clock = codes "E10: the clock can't be read"
+serve_fault_text faults.TooLong = codes "E11: the script has over 16777216 bytes"
+serve_fault_text faults.NoHost = codes "E12: no host imported a device"

@@ -1,11 +1,12 @@
 //! Why a script isn't served, and why serving ends early.
 
 ghost use Rattle.std.specs.Prelude.{◌≡◌, Some};
-ghost use Rattle.usbip_script.specs.FaultText.{change_words, line_cause_text, serve_fault_text, text_words};
+ghost use Rattle.usbip_script.specs.FaultText.{change_words, device_words, line_cause_text, serve_fault_text, text_words};
 
+use hid_notation::layout_words;
 use hid_text::LineFault;
 use std::fmt;
-use usbip_export::{ChangeFault, DeviceFault, ExportFault};
+use usbip_export::{ChangeFault, DeviceCause, DeviceFault, ExportFault};
 use usbip_serving::export_words;
 
 /// Why a line is refused.
@@ -54,6 +55,10 @@ pub enum ServeFault {
     Told,
     /// E10: the clock can't be read.
     Clock,
+    /// E11: the script has over 16,777,216 bytes.
+    TooLong,
+    /// E12: no host imported a device before the connection ended.
+    NoHost,
 }
 
 /// The words for a line that is none.
@@ -82,6 +87,19 @@ fn change_words(fault: ChangeFault) -> &'static str
     }
 }
 
+/// The words for a device that can't be, after its code: the same as those of `hidlab` without a real host.
+fn device_words(cause: DeviceCause) -> &'static str
+    ensures { result.now ≡ device_words cause }
+{
+    match cause {
+        DeviceCause::BadConfig => "not the descriptor of a boot device: call it plain",
+        DeviceCause::Layout(cause) => layout_words(cause),
+        DeviceCause::NoEmptyCode => "an array that can't say that no key is pressed",
+        DeviceCause::RelativeWithoutZero => "a relative control that can't send 0",
+        DeviceCause::Memory => "out of memory",
+    }
+}
+
 impl fmt::Display for LineCause {
     ghost output = { λ cause. Some (line_cause_text cause) };
 
@@ -93,7 +111,10 @@ impl fmt::Display for LineCause {
                 let words = change_words(*fault);
                 write!(f, "X4 S3 {fault}: {words}")
             }
-            LineCause::Device(fault) => write!(f, "X4 S5 {fault}: there can be no such device"),
+            LineCause::Device(fault) => {
+                let words = device_words(fault.cause);
+                write!(f, "X4 S5 {fault}: {words}")
+            }
             LineCause::TooManyDevices => f.write_str("X4 S7: there are seven devices already"),
             LineCause::NotServed => f.write_str(
                 "E1: not with a real host, which polls and asks by itself",
@@ -123,6 +144,8 @@ impl fmt::Display for ServeFault {
             ServeFault::Full => "E8: the host took nothing for ten seconds",
             ServeFault::Told => "E9: what the host sets can't be written",
             ServeFault::Clock => "E10: the clock can't be read",
+            ServeFault::TooLong => "E11: the script has over 16777216 bytes",
+            ServeFault::NoHost => "E12: no host imported a device",
         };
         f.write_str(words)
     }

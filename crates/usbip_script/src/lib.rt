@@ -22,7 +22,7 @@ mod watch;
 
 pub use fault::{LineCause, ServeFault};
 pub use output_text::print_output;
-pub use script::{Script, place_of, read_script};
+pub use script::{MAX_SCRIPT, Script, place_of, read_script};
 pub use session::serve;
 pub use status::{FINE, OUTSIDE, REFUSED, UNMET, WRONG_USAGE, exit_of};
 pub use watch::{Telling, Watch};

@@ -14,6 +14,9 @@ use usbip_export::{
 };
 use usbip_serving::Action;
 
+/// The most bytes of a script: it is read before anything is served (our choice).
+pub const MAX_SCRIPT: usize = 1 << 24;
+
 /// The devices of a script, and what its other lines do.
 #[derive(Drop)]
 pub struct Script {

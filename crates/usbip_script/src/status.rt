@@ -17,19 +17,20 @@ pub const WRONG_USAGE: u8 = 2;
 /// A file, a stream, the clock or memory failed.
 pub const OUTSIDE: u8 = 3;
 
-/// What is expected of the host wasn't set.
+/// What is expected of the host wasn't set, or no host came.
 pub const UNMET: u8 = 4;
 
 /// The exit status of what ended serving early: 1 where the script or what the host sent is refused, 3 where the cause lies outside
-/// of both, and 4 where what is expected wasn't set.
+/// of both, and 4 where what is expected wasn't set, or no host came.
 pub fn exit_of(fault: &ServeFault) -> u8
     ensures { result ≡ status_of fault.now }
 {
     match fault {
-        ServeFault::Line(_, LineCause::Unmet) => UNMET,
+        ServeFault::Line(_, LineCause::Unmet) | ServeFault::NoHost => UNMET,
         ServeFault::Line(..)
         | ServeFault::Message(_)
         | ServeFault::NoDevices
+        | ServeFault::TooLong
         | ServeFault::HalfMessage => REFUSED,
         ServeFault::Script
         | ServeFault::Memory

@@ -9,4 +9,4 @@ returns-then-is_escaped-clause-writes g c =
     let is = sym c.is_escaped.ensures.escaped ∙ c.if-is_escaped.true in
     λ plain done.
     has_written_of_eq _ _ _ _ _ (sym (cond-true _ _ _ is))
-    ((rw (c.laid_out.ensures, c.in_radix.ensures, c.from-code.ensures, escaped_digits c.args.self.now.0 is) at c.write.ensures.writes) plain done)
+    ((rw (c.laid_out.ensures, c.in_radix.ensures, c.from-code.ensures, escaped_digits c.args.self.now.0) at c.write.ensures.writes) plain done)

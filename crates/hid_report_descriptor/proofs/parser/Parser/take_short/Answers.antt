@@ -25,10 +25,10 @@ pub returns-in-192 : goal.returns-in-192
 returns-in-192 c before s = c.take_end.ensures c.args.limits before _ (sym c.requires.prefix ∙ c.in-192.is) s
 
 pub returns-in-164 : goal.returns-in-164
-returns-in-164 c before s = c.take_push.ensures c.args.limits before _ (sym c.requires.prefix ∙ c.in-164.is) s
+returns-in-164 c before s = c.take_push.ensures.step c.args.limits before _ (sym c.requires.prefix ∙ c.in-164.is) s
 
 pub returns-in-180 : goal.returns-in-180
-returns-in-180 c before s = c.take_pop.ensures c.args.limits before _ (sym c.requires.prefix ∙ c.in-180.is) s
+returns-in-180 c before s = c.take_pop.ensures.step c.args.limits before _ (sym c.requires.prefix ∙ c.in-180.is) s
 
 pub returns-in-132 : goal.returns-in-132
 returns-in-132 c = c.take_report_id.ensures c.args.limits

@@ -4,7 +4,7 @@ use Rattle.hid_report_descriptor.specs.declared.fault.Cause.TheVariants as whys
 use Rattle.hid_report_descriptor.specs.Faults.{is_memory}
 use Rattle.hid_report_descriptor.specs.Real.{Explains, Refuses}
 use Rattle.hidstack.specs.Texts.{IsRefusalText}
-use Rattle.hidstack.proofs.names.hidstack_refusal_text.Goals as goal
+use Rattle.hidstack.proofs.names.write_fault.Goals as goal
 
 refuses : (why : layouts.Cause) (bytes : List ℕ) (at : ℕ) → is_memory why ≡ false → Explains bytes why at → Refuses bytes why at
 refuses whys.Memory bytes at other h = absurd (cc)
