@@ -29,7 +29,7 @@ MAJOR := $(firstword $(subst ., ,$(LIBRARY_VERSION)))
 .PHONY: run test try hidrun hidplay hidmap hidlab hidserve hidattach bench examples library library-test library-check library-cost linux-cost scale play-cost install deb deb-test documents tour format memory refusals mutants descriptors readers compare-linux help clean
 
 # The first line of each recipe that starts the toolchain: without `rt`, make ends with one line.
-NEEDS_RT = $(if $(shell command -v rt),,$(error rt is missing: it is in the bin folder of the Rattle kit, rattle-kit-13 (logic dac8208d650f15bf), which belongs on the PATH))
+NEEDS_RT = $(if $(shell command -v rt),,$(error rt is missing: put the folder bin of the Rattle kit on the PATH (README.md has its name)))
 
 # Runs the mouse example on the proved program.
 run: $(HIDRUN)  ## proves and builds hidrun, and runs the mouse example
@@ -47,7 +47,9 @@ test:  ## proves and tests everything from nothing, and runs all examples
 # Runs a script without a proof: make try SCRIPT=FILE ARGS=--trace
 try:  ## runs a script without a proof: SCRIPT=FILE ARGS=--trace
 	$(NEEDS_RT)
-	cd crates/hidrun && rt try $(if $(ARGS),-- $(ARGS)) < $(abspath $(SCRIPT))
+	@echo 'make try: compiling hidrun without proofs, which takes about two minutes' >&2
+	@now=0; while sleep 10; do now=$$((now + 10)); echo "$$now seconds" >&2; done & clock=$$!; trap 'kill $$clock' EXIT; \
+	  cd crates/hidrun && rt try $(if $(ARGS),-- $(ARGS)) < $(abspath $(SCRIPT))
 
 hidrun: $(HIDRUN)  ## bin/hidrun, which runs scripts
 hidplay: $(HIDPLAY)  ## bin/hidplay, which plays recordings
@@ -128,22 +130,22 @@ SHARED := $(DESTDIR)$(PREFIX)/share
 DOCUMENTS := $(SHARED)/doc/rulohevian
 
 install: $(HIDRUN) $(HIDPLAY) $(HIDMAP) $(HIDLAB) $(HIDSERVE) $(HIDATTACH) library  ## installs programs, library and documents: PREFIX=/usr/local DESTDIR=
-	install -Dm755 -t $(DESTDIR)$(PREFIX)/bin $(HIDRUN) $(HIDPLAY) $(HIDMAP) $(HIDLAB) $(HIDSERVE) $(HIDATTACH) tools/user/play-into tools/user/join-results
-	install -Dm755 -t $(DESTDIR)$(PREFIX)/libexec/rulohevian $(PLAYER) $(MAPPER)
-	install -Dm644 -t $(DESTDIR)$(LIBDIR) bin/lib/libhidstack.a
-	install -Dm755 -t $(DESTDIR)$(LIBDIR) bin/lib/libhidstack.so.$(LIBRARY_VERSION)
-	cp -P bin/lib/libhidstack.so bin/lib/libhidstack.so.$(MAJOR) $(DESTDIR)$(LIBDIR)
-	install -Dm644 -t $(DESTDIR)$(PREFIX)/include include/hidstack.h
-	install -d $(DESTDIR)$(LIBDIR)/pkgconfig $(SHARED)/man/man3
-	sed 's|@PREFIX@|$(PREFIX)|; s|@LIBDIR@|$(LIBDIR)|; s|@VERSION@|$(LIBRARY_VERSION)|' packaging/hidstack.pc.in > $(DESTDIR)$(LIBDIR)/pkgconfig/hidstack.pc
-	chmod 644 $(DESTDIR)$(LIBDIR)/pkgconfig/hidstack.pc
-	install -Dm644 -t $(SHARED)/man/man1 packaging/*.1
-	tools/package/manual $(SHARED)/man/man3
-	chmod 644 $(SHARED)/man/man3/hidstack*.3
-	install -Dm644 -t $(SHARED)/bash-completion/completions packaging/completion/*
-	install -Dm644 -t $(DOCUMENTS) README.md CHANGELOG.md LICENSE
-	install -Dm644 -t $(DOCUMENTS)/docs docs/*.md
-	install -Dm644 -t $(DOCUMENTS)/docs/pictures docs/pictures/*.svg
+	install -Dm755 -t "$(DESTDIR)$(PREFIX)/bin" $(HIDRUN) $(HIDPLAY) $(HIDMAP) $(HIDLAB) $(HIDSERVE) $(HIDATTACH) tools/user/play-into tools/user/join-results
+	install -Dm755 -t "$(DESTDIR)$(PREFIX)/libexec/rulohevian" $(PLAYER) $(MAPPER)
+	install -Dm644 -t "$(DESTDIR)$(LIBDIR)" bin/lib/libhidstack.a
+	install -Dm755 -t "$(DESTDIR)$(LIBDIR)" bin/lib/libhidstack.so.$(LIBRARY_VERSION)
+	cp -P bin/lib/libhidstack.so bin/lib/libhidstack.so.$(MAJOR) "$(DESTDIR)$(LIBDIR)"
+	install -Dm644 -t "$(DESTDIR)$(PREFIX)/include" include/hidstack.h
+	install -d "$(DESTDIR)$(LIBDIR)/pkgconfig" "$(SHARED)/man/man3"
+	sed 's|@PREFIX@|$(PREFIX)|; s|@LIBDIR@|$(LIBDIR)|; s|@VERSION@|$(LIBRARY_VERSION)|' packaging/hidstack.pc.in > "$(DESTDIR)$(LIBDIR)/pkgconfig/hidstack.pc"
+	chmod 644 "$(DESTDIR)$(LIBDIR)/pkgconfig/hidstack.pc"
+	install -Dm644 -t "$(SHARED)/man/man1" packaging/*.1
+	tools/package/manual "$(SHARED)/man/man3"
+	chmod 644 "$(SHARED)/man/man3"/hidstack*.3
+	install -Dm644 -t "$(SHARED)/bash-completion/completions" packaging/completion/*
+	install -Dm644 -t "$(DOCUMENTS)" README.md CHANGELOG.md LICENSE
+	install -Dm644 -t "$(DOCUMENTS)/docs" docs/*.md
+	install -Dm644 -t "$(DOCUMENTS)/docs/pictures" docs/pictures/*.svg
 	find examples -name __pycache__ -prune -o -type f -exec sh -c 'for it; do install -Dm644 "$$it" "$(DOCUMENTS)/$$it" || exit 1; done' - {} +
 
 # Debian packages of all that `install` installs: bin/rulohevian_$(VERSION)-1_ARCHITECTURE.deb, and libhidstack$(MAJOR) and
@@ -228,8 +230,8 @@ compare-linux: $(PLAYER) $(HIDSERVE) $(HIDATTACH) $(HIDLAB)  ## compares hidplay
 # Runs each example script on the proved program, and each test of calls that take memory, with each of its allocations
 # refused in turn: half a minute. It needs a C compiler, and the test programs that `rt ci` or `rt test` made from the current
 # sources; it says what it leaves out without them.
-memory: $(HIDRUN) $(HIDLAB)  ## runs examples and tests with each allocation refused
-	tools/check/memory $(HIDRUN) --lab $(HIDLAB) --tests crates
+memory: $(HIDRUN) $(HIDLAB) $(PLAYER)  ## runs examples and tests with each allocation refused
+	tools/check/memory $(HIDRUN) --lab $(HIDLAB) --play $(PLAYER) --tests crates
 
 # Lists the goal and the clause at which each wrong body is refused: make refusals CRATES="usb_packet hid_items" (none: all)
 refusals:  ## lists how wrong bodies are refused: CRATES="usb_packet hid_items" (none: all)

@@ -222,7 +222,7 @@ struct hidstack_config {
     uint8_t interval; /* bInterval: how often it is polled, in frames of 1 ms, from 1 */
     uint8_t boot;     /* enum hidstack_boot of a device with the boot protocol, whose report descriptor is then that of
                          hidstack_boot_descriptor; else 0 */
-    uint16_t spare;   /* 0; nothing reads it */
+    uint16_t spare;   /* 0; any other number is refused */
 };
 
 /* The result of hidstack_device_open. */
@@ -352,7 +352,8 @@ struct hidstack_host_result {
 /* Reads a report descriptor of `length` bytes into a closed handle. It takes memory, which hidstack_close gives back.
  *   OK       the handle is open, and `opened` has its counts. Nothing is held. An absolute control has no value where
  *            it has a null state; else its value is 0 where 0 is in range, and else the least one
- *   REFUSED  the handle is closed still; `opened` has cause and place. Cause 17 at 0: out of memory
+ *   REFUSED  the handle is closed still; `opened` has cause and place. Cause 17 at 0: out of memory. A descriptor of no byte is
+ *            refused too, with cause 1 at 0
  *   BUSY     the handle was open; it stays as it was, and so does `opened` */
 uint32_t hidstack_open(const uint8_t *descriptor, size_t length, struct hidstack *handle, struct hidstack_opened *opened);
 
@@ -419,8 +420,8 @@ uint32_t hidstack_blank(struct hidstack *handle, uint32_t kind, uint8_t id, uint
  *   OK       the handle is open, and `opened` is all 0
  *   REFUSED  the handle is closed still; `opened` has cause and place. 1 to 17: the report descriptor has that cause of
  *            hidstack_cause_words. 18: an array can't send that no key is pressed. 19: a relative control can't send 0. 20:
- *            the interval is 0, or `boot` is over 2, or the report descriptor isn't hidstack_boot_descriptor's of `boot`. 21:
- *            out of memory, as 17 is
+ *            the interval is 0, or `boot` is over 2, or `spare` isn't 0, or the report descriptor isn't that of
+ *            hidstack_boot_descriptor for `boot`. 21: out of memory, as 17 is
  *   BUSY     the handle was open; it stays as it was, and so does `opened` */
 uint32_t hidstack_device_open(const struct hidstack_config *config, const uint8_t *descriptor, size_t length, struct hidstack_device *device, struct hidstack_device_opened *opened);
 
@@ -664,7 +665,8 @@ uint32_t hidstack_cause_text(uint32_t cause, uint8_t *out, size_t room, uint64_t
 uint32_t hidstack_cause_words(uint32_t cause, uint8_t *out, size_t room, uint64_t *length);
 
 /* Why a descriptor is refused, and where: `L3 at 0: a Pop without a Push`; a report that is too long is named, as in `L15 at
- * 326: Feature report 68 has 20000 bytes, over 16384`. NONE where the descriptor is accepted; else as hidstack_cause_text. */
+ * 326: Feature report 68 has 20000 bytes, over 16384`. NONE where the descriptor is accepted; else
+ * as hidstack_cause_text. */
 uint32_t hidstack_refusal_text(const uint8_t *descriptor, size_t length, uint8_t *out, size_t room, uint64_t *written);
 
 /* A usage as page and ID in hex, `01:30`, of 5 to 9 bytes; else as hidstack_cause_text. */

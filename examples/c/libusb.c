@@ -5,6 +5,7 @@
  *
  * Meanwhile the system doesn't have the device: don't take the keyboard on which you type. It ends with 0; with 1 where the device
  * can't be read, or three transfers in a row fail; and with 2 where there is none, or memory runs out. */
+#define _POSIX_C_SOURCE 200809L /* for sigaction, also with -std=c99 */
 #include <hidstack.h>
 #include <inttypes.h>
 #include <libusb.h>

@@ -85,7 +85,8 @@ static void refusals(void)
     want("at 0", opened.at, 0);
     want("still closed", device.gadget == NULL, 1);
     config.boot = HIDSTACK_BOOT_MOUSE;
-    config.spare = 0xFFFF;
+    for (config.spare = 1; config.spare != 0; config.spare <<= 1)
+        want("what is spare isn't 0", hidstack_device_open(&config, mouse, 50, &device, &opened) == HIDSTACK_REFUSED && opened.cause == 20 && opened.at == 0, 1);
     want("a boot mouse", hidstack_device_open(&config, mouse, 50, &device, &opened) == HIDSTACK_OK && opened.cause == 0, 1);
     opened.at = 5;
     want("busy", hidstack_device_open(&config, mouse, 50, &device, &opened) == HIDSTACK_BUSY && opened.at == 5, 1);

@@ -125,8 +125,12 @@ static void lengths(void)
         hidstack_close(&device);
         free(front);
     }
-    want("no descriptor at null", hidstack_open(NULL, 0, &device, &opened), HIDSTACK_OK);
-    want("nothing in it", opened.room + opened.items + opened.reports, 0);
+    want("no descriptor at null", hidstack_open(NULL, 0, &device, &opened), HIDSTACK_REFUSED);
+    want("ends in its first item", opened.cause == 1 && opened.at + opened.room + opened.items + opened.reports == 0, 1);
+    want("is closed still", device.session == NULL, 1);
+    want("no descriptor at a place", hidstack_open(mouse, 0, &device, &opened) == HIDSTACK_REFUSED && opened.cause == 1, 1);
+    want("a byte of a descriptor", hidstack_open(mouse, 1, &device, &opened) == HIDSTACK_REFUSED && opened.cause == 1, 1);
+    want("an item", hidstack_open(mouse, 2, &device, &opened) == HIDSTACK_OK && opened.room + opened.items + opened.reports == 0, 1);
     want("nothing to feed", hidstack_feed(&device, mouse, 3, NULL, 0, &count), HIDSTACK_UNKNOWN);
     hidstack_close(&device);
 }
@@ -372,7 +376,9 @@ static void refusals(void)
     want("by its name", told == sizeof longest - 1 && memcmp(text, longest, sizeof longest - 1) == 0, 1);
     want("one byte too few", hidstack_refusal_text(feature, sizeof feature, text, sizeof longest - 2, &told), HIDSTACK_NO_ROOM);
     want("its length is reported", told, sizeof longest - 1);
-    want("nothing is refused", hidstack_refusal_text(NULL, 0, text, sizeof text, &told), HIDSTACK_NONE);
+    want("no byte", hidstack_refusal_text(NULL, 0, text, sizeof text, &told), HIDSTACK_OK);
+    want("in words", told == sizeof truncated - 1 && memcmp(text, truncated, sizeof truncated - 1) == 0, 1);
+    want("nothing is refused", hidstack_refusal_text(feature, 3, text, sizeof text, &told), HIDSTACK_NONE);
     want("nothing is reported", told, 0);
 }
 

@@ -12,7 +12,7 @@ ROOT = os.path.abspath(f"{__file__}/../../..")
 def look_for_rt():
     """Ends with one line where there is no `rt`."""
     if not shutil.which("rt"):
-        sys.exit("rt is missing: it is in the bin folder of the Rattle kit, rattle-kit-13 (logic dac8208d650f15bf), which belongs on the PATH")
+        sys.exit("rt is missing: put the folder bin of the Rattle kit on the PATH (README.md has its name)")
 
 
 def kit():

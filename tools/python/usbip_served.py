@@ -431,7 +431,7 @@ def unmet(bench):
         it.attach()
         it.expect("KEY_A 1, KEY_A 0")
         it.wait_gone()
-        it.expect_lines("line 5: X13: 1 output 0 00 was set: expected is 1 output 0 1F", "status 4")
+        it.expect_lines("%s:5: X13: expected: 1 output 0 1F, found: 1 output 0 00" % it.script, "status 4")
     finally:
         it.guest.ran("usbip detach -p 00")
         it.end()
