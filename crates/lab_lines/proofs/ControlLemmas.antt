@@ -90,6 +90,18 @@ count_same (Keys elements rolls keys) = refl
 control_same : (items : List Item) (item index : ℕ) → control_of items (id_at item index) ≡ control_in (form_at items item) index
 control_same items item index = elim (slice_get items item) as (λ o. control_of_item index o ≡ control_in (form_of_item o) index) [ None ↦ refl | Some x ↦ refl ]
 
+-- a place where none is found doesn't count
+pub found_step : (sought : Sought) (form : Form) (item index n m : ℕ) → n ≡ suc m → is_found sought (control_in form index) ≡ false
+    → found_from sought form item index n ≡ found_from sought form item (index + 1) m
+found_step sought form item index n m is none =
+    ap (λ l. filter (λ c. sought_by sought c.1) l) (one_place form item index n m is)
+    ∙ onto_passed sought (id_at item index) (control_in form index) (controls_from form item (index + 1) m) none
+
+-- at no place none is found
+pub found_end : (sought : Sought) (form : Form) (item index n : ℕ) → n ≡ 0 → found_from sought form item index n ≡ []
+found_end sought form item index n none =
+    ap (λ k. found_from sought form item index k) none ∙ ap (λ l. filter (λ c. sought_by sought c.1) l) (no_place form item index)
+
 -- what is still looked for: of all that are looked for, the one after so many is the one after so many of those left
 abbrev pub IsLeft : List (ControlId × Usage) → ℕ → List (ControlId × Usage) → ℕ → Type 0
 IsLeft all before rest left = (slice_get all before ≡ slice_get rest left) × (before + length rest ≡ left + length all)

@@ -1,8 +1,9 @@
 -- How a line names a control, and which control that is (our choice: docs/LAB.md).
-use Rattle.std.specs.Prelude.{ℕ, zero, suc, ◌+◌, ◌-◌, ◌==◌, ◌&&◌, ◌||◌, nat_le, nat_lt, Bool, false, List, [], ◌∷◌, ◌++◌, length, take, drop, if◌then◌else◌, Option, None, Some, position, slice_index, slice_get}
+use Rattle.std.specs.Prelude.{◌≡◌, ◌<◌, ◌≤◌, ℕ, zero, suc, ◌+◌, ◌-◌, ◌==◌, ◌&&◌, ◌||◌, nat_le, nat_lt, Bool, true, false, List, [], ◌∷◌, ◌++◌, length, take, drop, if◌then◌else◌, Option, None, Some, position, slice_index, slice_get}
 use Rattle.std.specs.List.{filter}
 use Rattle.std.specs.Option.{option_map}
 use Rattle.hid_report_descriptor.specs.declared.usage.Usage.{Usage}
+use Rattle.hid_report_descriptor.specs.Usages.{Entry, entry_count}
 use Rattle.hid_layout.specs.declared.control.ControlId.{ControlId}
 use Rattle.hid_layout.specs.declared.control.Control.{Control}
 use Rattle.hid_layout.specs.Layout.{Contents}
@@ -134,6 +135,30 @@ same_usage a b = (a.page == b.page) && (a.id == b.id)
 abbrev pub sought_by : Sought → Usage → Bool
 sought_by (sought.This this) usage = same_usage usage this
 sought_by (sought.Named name) usage = names usage name.now
+
+-- the usage at a place of a range isn't looked for
+abbrev pub IsAnother : (Usage → Bool) → Entry → ℕ → Type 0
+IsAnother sought entry j = sought (record { page = entry.0.page; id = entry.0.id + j }) ≡ false
+
+-- the places of a range from one up to another, where no usage is that is looked for
+abbrev pub AreOthers : (Usage → Bool) → Entry → ℕ → ℕ → Type 0
+AreOthers sought entry from to = (j : ℕ) → from ≤ j → j < to → IsAnother sought entry j
+
+-- the first place of a range, from one on, whose usage is looked for, if there is one
+abbrev pub IsFirstPlace : (Usage → Bool) → Entry → ℕ → Option ℕ → Type 0
+IsFirstPlace sought entry from (Some place) =
+    (from ≤ place) × (place < entry_count entry) × AreOthers sought entry from place
+    × (sought (record { page = entry.0.page; id = entry.0.id + place }) ≡ true)
+IsFirstPlace sought entry from None = AreOthers sought entry from (entry_count entry)
+
+-- a place of a usage list, if it is one, has a usage that is looked for
+abbrev pub IsSought : (Usage → Bool) → List Usage → ℕ → Type 0
+IsSought sought usages j = (u : Usage) → slice_get usages j ≡ Some u → sought u ≡ true
+
+-- the places of a usage list from one up to another, where no usage is that is looked for
+abbrev pub ArePassed : (Usage → Bool) → List Usage → ℕ → ℕ → Type 0
+ArePassed sought usages from to =
+    (j : ℕ) → from ≤ j → j < to → (u : Usage) × (slice_get usages j ≡ Some u) × (sought u ≡ false)
 
 -- a control that is looked for stands there
 abbrev pub is_found : Sought → Option Control → Bool

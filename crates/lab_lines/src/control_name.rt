@@ -8,6 +8,7 @@ ghost use Rattle.lab_lines.specs.Names.{names};
 ghost use Rattle.lab_lines.specs.ControlNames.{named_of, mark_after, last_mark, split_number, index_of, is_point, place_of_word, is_letter, control_name_of, item_controls, controls_of_layout, sought_by, is_found, places_of, control_named};
 
 use super::names::is_name_of;
+use super::ranges::next_place;
 use hid_layout::{ControlId, Controls, Layout, Usage};
 use hid_text::{read_count, read_number, read_usage};
 
@@ -186,16 +187,20 @@ fn control_in_item(
         MatchResult result (λ id. option_map (λ c. c.0) (slice_get found before) ≡ Some id)
         (λ left. before ≡ length found + left) }
 {
+    let count = place_count(layout.controls(item));
+    let entries = layout.entries(item);
+    let starts = layout.starts(item);
     let mut left = before;
-    for index in 0..place_count(layout.controls(item)) {
+    let mut index = next_place(entries, starts, 0, sought);
+    while index < count {
         let id = ControlId { item, index };
-        if !is_found(layout, id, sought) {
-            continue;
+        if is_found(layout, id, sought) {
+            if left == 0 {
+                return Ok(id);
+            }
+            left -= 1;
         }
-        if left == 0 {
-            return Ok(id);
-        }
-        left -= 1;
+        index = next_place(entries, starts, index + 1, sought);
     }
     Err(left)
 }

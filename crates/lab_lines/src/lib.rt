@@ -27,6 +27,7 @@ mod keys;
 mod lab_line;
 mod losses;
 mod names;
+mod ranges;
 mod typing;
 
 pub use body::{Added, Body, MAX_BODY};
