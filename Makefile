@@ -48,7 +48,7 @@ test:  ## proves and tests everything from nothing, and runs all examples
 try:  ## runs a script without a proof: SCRIPT=FILE ARGS=--trace
 	$(NEEDS_RT)
 	@echo 'make try: compiling hidrun without proofs, which takes about two minutes' >&2
-	@now=0; while sleep 10; do now=$$((now + 10)); echo "$$now seconds" >&2; done & clock=$$!; trap 'kill $$clock' EXIT; \
+	@now=0; while sleep 10 > /dev/null 2>&1; do now=$$((now + 10)); echo "$$now seconds" >&2; done & clock=$$!; trap 'kill $$clock' EXIT; \
 	  cd crates/hidrun && rt try $(if $(ARGS),-- $(ARGS)) < $(abspath $(SCRIPT))
 
 hidrun: $(HIDRUN)  ## bin/hidrun, which runs scripts
