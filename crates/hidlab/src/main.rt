@@ -92,7 +92,7 @@ fn serve_file(rt: &HostRuntime, asked: &CliArgs<'_>) -> u8 {
         return WRONG_USAGE;
     }
     match open_source(rt, asked.file) {
-        Some(source) => serve_source(rt, source, asked.options.trace),
+        Some(source) => serve_source(rt, asked.file, source, asked.options.trace),
         None => OUTSIDE,
     }
 }

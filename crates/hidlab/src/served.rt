@@ -258,8 +258,14 @@ fn read_script(
     Ok(())
 }
 
+/// Prints what is wrong with the script as a whole, or with the connection.
+fn print_whole(rt: &HostRuntime, file: &str, fault: &ServeFault) {
+    let file = FileName(file);
+    let _ = eprintln!(rt; "hidlab: {file}: {fault}");
+}
+
 /// Prints why nothing is served.
-fn print_refusal(rt: &HostRuntime, sources: &[LabSource], refusal: &Refusal) -> u8 {
+fn print_refusal(rt: &HostRuntime, file: &str, sources: &[LabSource], refusal: &Refusal) -> u8 {
     match refusal {
         Refusal::Line(trouble) => print_trouble(rt, sources, trouble),
         Refusal::Unserved(words) => {
@@ -277,9 +283,7 @@ fn print_refusal(rt: &HostRuntime, sources: &[LabSource], refusal: &Refusal) -> 
                     print_last_place(rt, sources, source.last_number());
                     let _ = eprintln!(rt; "{cause}");
                 }
-                _ => {
-                    let _ = eprintln!(rt; "hidlab: {fault}");
-                }
+                _ => print_whole(rt, file, fault),
             }
             exit_of(fault)
         }
@@ -337,6 +341,7 @@ fn print_left(
 /// Prints why serving ended early: at the line that has to do with it, if one has.
 fn print_fault(
     rt: &HostRuntime,
+    file: &str,
     names: &[String],
     places: &[Place],
     watching: &Watching<Stderr>,
@@ -350,15 +355,13 @@ fn print_fault(
             print_place_of(rt, names, places, *number);
             let _ = eprintln!(rt; "{cause}");
         }
-        _ => {
-            let _ = eprintln!(rt; "hidlab: {fault}");
-        }
+        _ => print_whole(rt, file, fault),
     }
     exit_of(fault)
 }
 
-/// Serves a script that was read.
-fn serve_reading(rt: &HostRuntime, reading: Reading, told: Option<Stderr>) -> u8 {
+/// Serves a script that was read from a file.
+fn serve_reading(rt: &HostRuntime, file: &str, reading: Reading, told: Option<Stderr>) -> u8 {
     let Reading {
         script,
         names,
@@ -379,19 +382,34 @@ fn serve_reading(rt: &HostRuntime, reading: Reading, told: Option<Stderr>) -> u8
     drop(script);
     match end {
         Ok(()) => FINE,
-        Err(fault) => print_fault(rt, names.as_slice(), places.as_slice(), &watching, &fault),
+        Err(fault) => {
+            print_fault(
+                rt,
+                file,
+                names.as_slice(),
+                places.as_slice(),
+                &watching,
+                &fault,
+            )
+        }
     }
 }
 
-/// Serves the devices of a script until the connection ends. What the host sets is printed to standard error where that is asked for.
-pub fn serve_source(rt: &HostRuntime, source: LabSource, is_told: bool) -> u8 {
+/// Serves the devices of a script, which is in this file, until the connection ends. What the host sets is printed to standard error
+/// where that is asked for.
+pub fn serve_source(rt: &HostRuntime, file: &str, source: LabSource, is_told: bool) -> u8 {
     let mut sources = Vec::new(rt.alloc());
     if sources.push(source).is_err() {
         return OUTSIDE;
     }
     let mut reading = Reading::new(rt.alloc());
     match read_script(rt, &mut sources, &mut reading) {
-        Ok(()) => serve_reading(rt, reading, if is_told { Some(rt.stderr()) } else { None }),
-        Err(refusal) => print_refusal(rt, sources.as_slice(), &refusal),
+        Ok(()) => serve_reading(
+            rt,
+            file,
+            reading,
+            if is_told { Some(rt.stderr()) } else { None },
+        ),
+        Err(refusal) => print_refusal(rt, file, sources.as_slice(), &refusal),
     }
 }

@@ -14,7 +14,7 @@ use usb_control::ControlFault;
 /// What a control is, and how it changes.
 fn kind_words(kind: ControlKind) -> &'static str {
     match kind {
-        ControlKind::Switch => "a key or a button: press or release it",
+        ControlKind::Switch => "on or off: press or release it",
         ControlKind::Value => "a value: set it",
         ControlKind::NullValue => "a value: set it, or null it",
         ControlKind::Relative => "a motion: move it",
