@@ -334,22 +334,28 @@ fn member_of(alloc: Global, asked: &CliArgs<'_>, name: &str) -> Result<Vec<u8>, 
     Ok(member)
 }
 
+/// The line of JSON of what ended a file.
+fn json_end(alloc: Global, end: &FileEnd) -> Result<Vec<u8>, AllocError> {
+    let system = system_words(alloc, end.system)?;
+    end_line(alloc, &end.fault, system.as_str())
+}
+
 /// With JSON, prints what ended a file too. Where that fails, it is what ended the file.
 fn print_end<W: Write>(alloc: Global, asked: &CliArgs<'_>, end: FileEnd, out: &mut W) -> FileEnd {
     if !asked.options.json || matches!(end.fault.why, Why::Recording(Cause::Write)) {
         return end;
     }
-    let Ok(system) = system_words(alloc, end.system) else {
-        return end;
+    let cause = match json_end(alloc, &end) {
+        Ok(line) => {
+            if out.write_all(line.as_slice()).is_ok() && out.flush().is_ok() {
+                return end;
+            }
+            Cause::Write
+        }
+        Err(_) => Cause::Memory,
     };
-    let Ok(line) = end_line(alloc, &end.fault, system.as_str()) else {
-        return end;
-    };
-    if out.write_all(line.as_slice()).is_ok() && out.flush().is_ok() {
-        return end;
-    }
     without_words(FileFault {
-        why: Why::Recording(Cause::Write),
+        why: Why::Recording(cause),
         ..end.fault
     })
 }
