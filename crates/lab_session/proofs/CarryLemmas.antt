@@ -115,9 +115,9 @@ asks_behind all left more before n m said a b c u v w h k = record {
   lines = k.lines;
 }
 
-pub stops_behind : (all left : List (List ℕ)) (before n : ℕ) (fault : LabFault) (a b c : Bench) (u v : Option (List ℕ)) → CarriedUpTo all before left n a b u v → StopsAfter left n fault b c v
-    → StopsAfter all before fault a c u
-stops_behind all left before n fault a b c u v h k = record {
+pub stops_behind : (all left : List (List ℕ)) (before n : ℕ) (fault : LabFault) (a b c : Bench) (u v w : Option (List ℕ)) → CarriedUpTo all before left n a b u v → StopsAfter left n fault b c v w
+    → StopsAfter all before fault a c u w
+stops_behind all left before n fault a b c u v w h k = record {
   left = k.left;
   at = k.at;
   middle = k.middle;
@@ -136,15 +136,15 @@ asks_next all left line before n m said a b c u v w h k same =
     record { line = line; at = n; middle = b; between = v; carried = h; asks = k; lines = same }
 
 -- a line is refused
-pub refused_next : (all left : List (List ℕ)) (line : List ℕ) (before n : ℕ) (fault : LabFault) (a b c : Bench) (u v : Option (List ℕ)) → CarriedUpTo all before (line ∷ left) n a b u v
-    → fault.line ≡ n + 1 → RefusesLine line fault.cause b c → StopsAfter all before fault a c u
-refused_next all left line before n fault a b c u v h at k =
+pub refused_next : (all left : List (List ℕ)) (line : List ℕ) (before n : ℕ) (fault : LabFault) (a b c : Bench) (u v w : Option (List ℕ)) → CarriedUpTo all before (line ∷ left) n a b u v
+    → fault.line ≡ n + 1 → RefusesLine line fault.cause b c v w → StopsAfter all before fault a c u w
+refused_next all left line before n fault a b c u v w h at k =
     record { left = line ∷ left; at = n; middle = b; between = v; carried = h; line = at; ends = inl (line, left, refl, k) }
 
 -- memory, the reader or the writer ended the run
-pub outside_next : (all left : List (List ℕ)) (before n : ℕ) (cause : Cause) (fault : LabFault) (a b c : Bench) (u v : Option (List ℕ)) → CarriedUpTo all before left n a b u v
-    → fault.line ≡ n + 1 → fault.cause ≡ Script cause → IsOutside cause → StopsAfter all before fault a c u
-outside_next all left before n cause fault a b c u v h at is out =
+pub outside_next : (all left : List (List ℕ)) (before n : ℕ) (cause : Cause) (fault : LabFault) (a b c : Bench) (u v w : Option (List ℕ)) → CarriedUpTo all before left n a b u v
+    → fault.line ≡ n + 1 → fault.cause ≡ Script cause → IsOutside cause → StopsAfter all before fault a c u w
+outside_next all left before n cause fault a b c u v w h at is out =
     record { left = left; at = n; middle = b; between = v; carried = h; line = at; ends = inr (cause, is, out) }
 
 -- ---- lines that are too long
@@ -153,22 +153,23 @@ long_meaning : (line : List ℕ) → 16384 < length line → lab_meaning line �
 unfolding lab_meaning
 long_meaning line long = cond-true (nat_lt 16384 (length line)) _ _ (lt-ltb 16384 (length line) long)
 
--- a line that is too long is refused for that
-long_refused : (line : List ℕ) (cause : LabCause) (a : Bench) → 16384 < length line → cause ≡ Script causes.LineTooLong → RefusesLine line cause a a
-long_refused line cause a long is = record {
+-- a line that is too long is refused for that, and is none of hidrun's
+long_refused : (line : List ℕ) (cause : LabCause) (a : Bench) (u v : Option (List ℕ)) → 16384 < length line → cause ≡ Script causes.LineTooLong → RefusesLine line cause a a u v
+long_refused line cause a u v long is = record {
   expects = subst (λ m. ReadExpects m a.printer.transcript a.printer.transcript a.came.items (Err cause)) (sym (long_meaning line long)) tt;
   unsettled = λ e. absurd (cc);
+  prints = λ plain undrawn old. absurd (let room = old.room in omega (arith, long, room));
 }
 
 -- the line that has begun is too long, whatever comes then; or memory, the reader or the writer ended the run before it
-pub read_stops : (rest more : List ℕ) (n : ℕ) (cause : Cause) (fault : LabFault) (a : Bench) (u : Option (List ℕ)) → IsUnbroken rest
-    → IsOutside cause ⊎ ((cause ≡ causes.LineTooLong) × (16385 < length rest)) → fault.line ≡ n + 1 → fault.cause ≡ Script cause → StopsAfter (lines (rest ++ more)) n fault a a u
-read_stops rest more n cause fault a u whole (inl out) at is =
-    outside_next (lines (rest ++ more)) (lines (rest ++ more)) n n cause fault a a a u u (carried_first (lines (rest ++ more)) n a u) at is out
-read_stops rest more n cause fault a u whole (inr long) at is =
+pub read_stops : (rest more : List ℕ) (n : ℕ) (cause : Cause) (fault : LabFault) (a : Bench) (u v : Option (List ℕ)) → IsUnbroken rest
+    → IsOutside cause ⊎ ((cause ≡ causes.LineTooLong) × (16385 < length rest)) → fault.line ≡ n + 1 → fault.cause ≡ Script cause → StopsAfter (lines (rest ++ more)) n fault a a u v
+read_stops rest more n cause fault a u v whole (inl out) at is =
+    outside_next (lines (rest ++ more)) (lines (rest ++ more)) n n cause fault a a a u u v (carried_first (lines (rest ++ more)) n a u) at is out
+read_stops rest more n cause fault a u v whole (inr long) at is =
     let first = long_line 16384 [] rest more (All-nil (λ b. nat_eq b 10 ≡ false)) whole (omega (arith, long.1)) in
     let start = subst (λ l. CarriedUpTo (lines (rest ++ more)) n l n a a u u) first.2 (carried_first (lines (rest ++ more)) n a u) in
-    refused_next (lines (rest ++ more)) first.1 first.0 n n fault a a a u u start at (long_refused first.0 fault.cause a first.3 (is ∙ ap (λ c. Script c) long.0))
+    refused_next (lines (rest ++ more)) first.1 first.0 n n fault a a a u u v start at (long_refused first.0 fault.cause a u v first.3 (is ∙ ap (λ c. Script c) long.0))
 
 -- ---- pieces
 
@@ -190,12 +191,12 @@ asks_as all others left rest before n m said other a b u v same too at is h = re
   lines = sym at ∙ h.lines;
 }
 
-pub stops_as : (all others : List (List ℕ)) (before : ℕ) (fault : LabFault) (a b : Bench) (u : Option (List ℕ)) → all ≡ others → StopsAfter all before fault a b u → StopsAfter others before fault a b u
-stops_as all others before fault a b u same h = subst (λ l. StopsAfter l before fault a b u) same h
+pub stops_as : (all others : List (List ℕ)) (before : ℕ) (fault : LabFault) (a b : Bench) (u v : Option (List ℕ)) → all ≡ others → StopsAfter all before fault a b u v → StopsAfter others before fault a b u v
+stops_as all others before fault a b u v same h = subst (λ l. StopsAfter l before fault a b u v) same h
 
 -- memory ran out for what a line asks for
 pub asks_fail : (all left : List (List ℕ)) (before n : ℕ) (said : Said) (fault : LabFault) (a b : Bench) (u v : Option (List ℕ)) → AsksAfter all before said left n a b u v
-    → fault.line ≡ n → fault.cause ≡ Script causes.Memory → StopsAfter all before fault a b u
+    → fault.line ≡ n → fault.cause ≡ Script causes.Memory → StopsAfter all before fault a b u v
 asks_fail all left before n said fault a b u v h at is = record {
   left = h.line ∷ left;
   at = h.at;
@@ -211,7 +212,7 @@ pub ran_behind : (all left : List (List ℕ)) (before n : ℕ) (result : Result 
     → RanLines left n b c v w result → RanLines all before a c u w result
 ran_behind all left before n (Ok (ran.All summary)) a b c u v w h k = (carried_both all left [] before n summary.lines a b c u v w h k.0, k.1)
 ran_behind all left before n (Ok (ran.Asks asked line rest)) a b c u v w h k = asks_behind all left (lines rest.now) before n line _ a b c u v w h k
-ran_behind all left before n (Err fault) a b c u v w h k = stops_behind all left before n fault a b c u v h k
+ran_behind all left before n (Err fault) a b c u v w h k = stops_behind all left before n fault a b c u v w h k
 
 -- the lines that were carried out of what was read so far, whatever comes
 abbrev pub HasCarried : Bench → Option (List ℕ) → List ℕ → ℕ → List ℕ → Bench → Option (List ℕ) → List ℕ → ℕ → Type 0
@@ -238,12 +239,12 @@ carry_read first now u v w ahead read given left next before count n keeps is sa
 -- a run that ended here, whatever comes
 pub carry_fails : (first now next : Bench) (u v w : Option (List ℕ)) (a b rest : Option (List ℕ)) (ahead read left : List ℕ) (before count : ℕ) (after : Ahead) (fault : LabFault)
     (result : Result RunEnd LabFault) → Consumes a b read → HasCarried first u ahead before read now v left count
-    → ((more : List ℕ) → StopsAfter (lines (left ++ more)) count fault now next v) → result ≡ Err fault
+    → ((more : List ℕ) → StopsAfter (lines (left ++ more)) count fault now next v w) → result ≡ Err fault
     → IfSome a (λ more. FedLines (lines (ahead ++ more)) before after rest first next u w result)
 carry_fails first now next u v w a b rest ahead read left before count after fault result from h k is =
     known_rest a b read (λ more. FedLines (lines (ahead ++ more)) before after rest first next u w result) from (λ more.
     subst (λ r. FedLines (lines (ahead ++ (read ++ more))) before after rest first next u w r) (sym is)
-    (stops_behind (lines (ahead ++ (read ++ more))) (lines (left ++ more)) before count fault first now next u v (h more) (k more)))
+    (stops_behind (lines (ahead ++ (read ++ more))) (lines (left ++ more)) before count fault first now next u v w (h more) (k more)))
 
 -- a run up to a line that asks for something
 pub carry_asks : (first now next : Bench) (u v w : Option (List ℕ)) (a b : Option (List ℕ)) (ahead read : List ℕ) (before : ℕ) (old new : Ahead) (need : Need) → Consumes a b read
@@ -263,7 +264,7 @@ fed_behind : (all left : List (List ℕ)) (before n : ℕ) (after : Ahead) (rest
 fed_behind all left before n after rest (Ok (ended.All summary)) a b c u v w h k = (carried_both all left [] before n summary.lines a b c u v w h k.0, k.1)
 fed_behind all left before n after rest (Ok (ended.Asks need)) a b c u v w h k =
     (k.0, k.1, asks_behind all left (lines (unread after ++ k.0)) before n after.lines (need_said need) a b c u v w h k.2)
-fed_behind all left before n after rest (Err fault) a b c u v w h k = stops_behind all left before n fault a b c u v h k
+fed_behind all left before n after rest (Err fault) a b c u v w h k = stops_behind all left before n fault a b c u v w h k
 
 -- a run to its end
 pub carry_ends : (first now next : Bench) (u v w : Option (List ℕ)) (a b : Option (List ℕ)) (ahead read left : List ℕ) (before count : ℕ) (after : Ahead) (result : Result RunEnd LabFault)
@@ -295,10 +296,10 @@ ahead_asks ahead next text rest more before count said other a b u v same at lef
     (asks_as (lines (text ++ more)) (lines (unread ahead ++ more)) (lines (rest ++ more)) (lines (unread next ++ more)) before count next.lines said other a b u v
     (ap (λ t. lines (t ++ more)) same) (ap (λ t. lines (t ++ more)) (sym left)) (sym n) (sym is) h)
 
-pub ahead_stops : (ahead : Ahead) (text more : List ℕ) (before : ℕ) (fault : LabFault) (a b : Bench) (u : Option (List ℕ)) → text ≡ unread ahead → before ≡ ahead.lines
-    → StopsAfter (lines (text ++ more)) before fault a b u → StopsAfter (lines (unread ahead ++ more)) ahead.lines fault a b u
-ahead_stops ahead text more before fault a b u same at h =
-    subst (λ m. StopsAfter (lines (unread ahead ++ more)) m fault a b u) at (stops_as (lines (text ++ more)) (lines (unread ahead ++ more)) before fault a b u (ap (λ t. lines (t ++ more)) same) h)
+pub ahead_stops : (ahead : Ahead) (text more : List ℕ) (before : ℕ) (fault : LabFault) (a b : Bench) (u v : Option (List ℕ)) → text ≡ unread ahead → before ≡ ahead.lines
+    → StopsAfter (lines (text ++ more)) before fault a b u v → StopsAfter (lines (unread ahead ++ more)) ahead.lines fault a b u v
+ahead_stops ahead text more before fault a b u v same at h =
+    subst (λ m. StopsAfter (lines (unread ahead ++ more)) m fault a b u v) at (stops_as (lines (text ++ more)) (lines (unread ahead ++ more)) before fault a b u v (ap (λ t. lines (t ++ more)) same) h)
 
 -- the bytes that were not taken, as a text
 pub rest_as : (ahead : Ahead) (text : List ℕ) (before : ℕ) (left : List (List ℕ)) (count : ℕ) (said : Said) (a b : Bench) (u v : Option (List ℕ)) → text ≡ unread ahead → before ≡ ahead.lines

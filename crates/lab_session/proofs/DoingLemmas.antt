@@ -39,9 +39,10 @@ use Rattle.lab_session.specs.Scripts.{IsUndrawn, script_said}
 use Rattle.lab_session.specs.Parts.{Part, PartPrints, Says}
 use Rattle.lab_session.specs.Chances.{Chance, chance_at, chance_after, fate_by}
 use Rattle.lab_session.specs.Expecting.{Keeps}
-use Rattle.lab_session.specs.Waiting.{KeepsText}
+use Rattle.lab_session.specs.Outputs.{awaited_at}
+use Rattle.lab_session.specs.Waiting.{KeepsText, LeavesAwaited}
 use Rattle.lab_session.proofs.PrintedLemmas.{part_done}
-use Rattle.lab_session.proofs.WaitLemmas.{keeps_none, keeps_shown, keeps_then}
+use Rattle.lab_session.proofs.WaitLemmas.{keeps_none, keeps_shown, keeps_then, leaves_awaited}
 use Rattle.lab_session.specs.Printed.{IsPlain, PrintsPart, WritesText, is_styled}
 
 -- one thing and then another
@@ -64,7 +65,7 @@ does_then First Next a b c u v w h k = record {
   options = k.options ∙ h.options;
   written = λ plain. Appends-trans u v w h.text k.text (h.written plain)
       (k.written (subst IsPlain (sym h.options) plain));
-  waits = keeps_then a b c h.text k.text h.options h.waits k.waits;
+  waits = keeps_then a b c h.parts k.parts h.text k.text h.options h.waits k.waits;
 }
 
 -- nothing was done
@@ -75,7 +76,7 @@ does_nothing a u = record {
   done = (refl, refl, refl, λ dev. refl);
   options = refl;
   written = λ plain. Appends-nil u;
-  waits = keeps_none a a refl;
+  waits = keeps_none a a refl (λ dev. refl);
 }
 
 -- a poll is a line that polls once
@@ -106,17 +107,17 @@ pub did_part : (part : Part) (a b : Bench) (kept text shown written : List ℕ) 
     → kept ≡ [] → Appends (Some kept) (Some text) written → shown ≡ text
     → PartPrints part (session_of a.interpreter) (success written (session_of b.interpreter))
     → (is_styled a.options ≡ false → WritesText u v shown r)
-    → ((dev : ℕ) → chance_at b.draws dev ≡ chance_at a.draws dev) → b.options ≡ a.options
+    → ((dev : ℕ) → chance_at b.draws dev ≡ chance_at a.draws dev) → b.options ≡ a.options → LeavesAwaited part (awaited_at a.outputs) (awaited_at b.outputs)
     → OnOk r (Keeps a.printer.transcript b.printer.transcript shown)
     → OnOk r (Does (DoesPart part) a b u v)
-did_part part a b kept text shown written u v (Err e) none h same prints k stays options waits = tt
-did_part part a b kept text shown written u v (Ok x) none h same prints k stays options waits = record {
+did_part part a b kept text shown written u v (Err e) none h same prints k stays options leaves waits = tt
+did_part part a b kept text shown written u v (Ok x) none h same prints k stays options leaves waits = record {
   parts = part ∷ [];
   text = written;
   done = (refl, prints, stays);
   options = options;
   written = λ plain. subst (Appends u v) (same ∙ kept_text kept text written none h) (k plain.style);
-  waits = keeps_shown a.options.trace a.printer.transcript b.printer.transcript shown written (same ∙ kept_text kept text written none h) waits;
+  waits = keeps_shown a.options.trace a.printer.transcript b.printer.transcript (awaited_at a.outputs) (awaited_at b.outputs) part shown written (same ∙ kept_text kept text written none h) leaves waits;
 }
 
 -- a line of a script was carried out, and its text was printed
@@ -124,12 +125,12 @@ pub did_line : (said : Line) (Begun : List ℕ → Type 0) (a b : Bench) (kept t
     → kept ≡ [] → shown ≡ text
     → AppendsOutput (Some kept) (Some text) (CarriesOut (session_of a.interpreter) said) Begun part (session_of b.interpreter)
     → (is_styled a.options ≡ false → PrintsPart u v shown part r) → OnOk r (part ≡ Ok tt)
-    → ((dev : ℕ) → chance_at b.draws dev ≡ chance_at a.draws dev) → b.options ≡ a.options
+    → ((dev : ℕ) → chance_at b.draws dev ≡ chance_at a.draws dev) → b.options ≡ a.options → LeavesAwaited (Says said) (awaited_at a.outputs) (awaited_at b.outputs)
     → OnOk r (Keeps a.printer.transcript b.printer.transcript shown)
     → OnOk r (Does (DoesPart (Says said)) a b u v)
 unfolding PartPrints
-did_line said Begun a b kept text shown u v part (Err e) none same h k is stays options waits = tt
-did_line said Begun a b kept text shown u v part (Ok x) none same h k is stays options waits =
+did_line said Begun a b kept text shown u v part (Err e) none same h k is stays options leaves waits = tt
+did_line said Begun a b kept text shown u v part (Ok x) none same h k is stays options leaves waits =
     let told = subst (λ p. AppendsOutput (Some kept) (Some text) (CarriesOut (session_of a.interpreter) said) Begun p (session_of b.interpreter)) is h in
     record {
       parts = Says said ∷ [];
@@ -137,7 +138,7 @@ did_line said Begun a b kept text shown u v part (Ok x) none same h k is stays o
       done = (refl, told.2, stays);
       options = options;
       written = λ plain. subst (Appends u v) (same ∙ kept_text kept text told.0 none told.1) (part_done u v shown part is (k plain.style));
-      waits = keeps_shown a.options.trace a.printer.transcript b.printer.transcript shown told.0 (same ∙ kept_text kept text told.0 none told.1) waits;
+      waits = keeps_shown a.options.trace a.printer.transcript b.printer.transcript (awaited_at a.outputs) (awaited_at b.outputs) (Says said) shown told.0 (same ∙ kept_text kept text told.0 none told.1) leaves waits;
     }
 
 -- a device was polled once, and what that printed was printed
@@ -149,9 +150,10 @@ pub did_poll : (dev : ℕ) (said fate : Fate) (idle : Bool) (told : Told) (a b :
     → (is_styled a.options ≡ false → Appends u v shown)
     → chance_at b.draws dev ≡ chance_after (chance_at a.draws dev) said
     → ((other : ℕ) → other ≢ dev → chance_at b.draws other ≡ chance_at a.draws other) → b.options ≡ a.options
+    → ((other : ℕ) → awaited_at b.outputs other ≡ awaited_at a.outputs other)
     → Keeps a.printer.transcript b.printer.transcript shown
     → Does (PollsOnce dev said idle) a b u v
-did_poll dev said fate idle told a b kept text shown written u v is none h same prints returns answers k its others options waits =
+did_poll dev said fate idle told a b kept text shown written u v is none h same prints returns answers k its others options stays waits =
     let drawn = fate_by (chance_at a.draws dev) said in
     record {
       parts = Says (line.Step (short.Poll dev drawn 1)) ∷ [];
@@ -165,7 +167,8 @@ did_poll dev said fate idle told a b kept text shown written u v is none h same 
       };
       options = options;
       written = λ plain. subst (Appends u v) (same ∙ kept_text kept text written none h) (k plain.style);
-      waits = keeps_shown a.options.trace a.printer.transcript b.printer.transcript shown written (same ∙ kept_text kept text written none h) waits;
+      waits = keeps_shown a.options.trace a.printer.transcript b.printer.transcript (awaited_at a.outputs) (awaited_at b.outputs) (Says (line.Step (short.Poll dev drawn 1))) shown written (same ∙ kept_text kept text written none h)
+          (leaves_awaited (Says (line.Step (short.Poll dev drawn 1))) (awaited_at a.outputs) (awaited_at b.outputs) (λ other request e. absurd (cc)) stays) waits;
     }
 
 -- a try was made, and what that printed was printed
@@ -176,7 +179,7 @@ pub did_try : (dev : ℕ) (said fate : Fate) (a b : Bench) (kept text shown writ
     → (IsPlain a.options → Appends u v shown)
     → chance_at b.draws dev ≡ chance_after (chance_at a.draws dev) said
     → ((other : ℕ) → other ≢ dev → chance_at b.draws other ≡ chance_at a.draws other) → b.options ≡ a.options
-    → KeepsText a b shown
+    → KeepsText a b (Says (line.Step (short.Control dev (fate_by (chance_at a.draws dev) said) 1)) ∷ []) shown
     → Does (Tries dev said) a b u v
 did_try dev said fate a b kept text shown written u v is none h same prints k its others options waits =
     let drawn = fate_by (chance_at a.draws dev) said in
@@ -191,7 +194,7 @@ did_try dev said fate a b kept text shown written u v is none h same prints k it
       };
       options = options;
       written = λ plain. subst (Appends u v) (same ∙ kept_text kept text written none h) (k plain);
-      waits = subst (KeepsText a b) (same ∙ kept_text kept text written none h) waits;
+      waits = subst (KeepsText a b (Says (line.Step (short.Control dev drawn 1)) ∷ [])) (same ∙ kept_text kept text written none h) waits;
     }
 
 -- one thing once more
@@ -248,11 +251,11 @@ pub did_once : (what : Part) (a b : Bench) (kept text shown : List ℕ) (u v : O
     → kept ≡ [] → shown ≡ text
     → AppendsOnce (Some kept) (Some text) (PartPrints what (session_of a.interpreter)) part (session_of b.interpreter)
     → (is_styled a.options ≡ false → PrintsPart u v shown part r) → OnOk r (part ≡ Ok tt)
-    → ((dev : ℕ) → chance_at b.draws dev ≡ chance_at a.draws dev) → b.options ≡ a.options
+    → ((dev : ℕ) → chance_at b.draws dev ≡ chance_at a.draws dev) → b.options ≡ a.options → LeavesAwaited what (awaited_at a.outputs) (awaited_at b.outputs)
     → OnOk r (Keeps a.printer.transcript b.printer.transcript shown)
     → OnOk r (Does (DoesPart what) a b u v)
-did_once what a b kept text shown u v part (Err e) none same h k is stays options waits = tt
-did_once what a b kept text shown u v part (Ok x) none same h k is stays options waits =
+did_once what a b kept text shown u v part (Err e) none same h k is stays options leaves waits = tt
+did_once what a b kept text shown u v part (Ok x) none same h k is stays options leaves waits =
     let told = subst (λ p. AppendsOnce (Some kept) (Some text) (PartPrints what (session_of a.interpreter)) p (session_of b.interpreter)) is h in
     record {
       parts = what ∷ [];
@@ -260,7 +263,7 @@ did_once what a b kept text shown u v part (Ok x) none same h k is stays options
       done = (refl, told.2, stays);
       options = options;
       written = λ plain. subst (Appends u v) (same ∙ kept_text kept text told.0 none told.1) (part_done u v shown part is (k plain.style));
-      waits = keeps_shown a.options.trace a.printer.transcript b.printer.transcript shown told.0 (same ∙ kept_text kept text told.0 none told.1) waits;
+      waits = keeps_shown a.options.trace a.printer.transcript b.printer.transcript (awaited_at a.outputs) (awaited_at b.outputs) what shown told.0 (same ∙ kept_text kept text told.0 none told.1) leaves waits;
     }
 
 -- a line that was carried out says something
@@ -269,28 +272,6 @@ pub said_of_meaning : (session next : Session) (text bytes : List ℕ) (meaning 
     → (said : Line) × (meaning_of bytes ≡ Ok said) × CarriesOut session said (success text next)
 said_of_meaning session next text bytes (Ok said) is h = (said, is, h)
 said_of_meaning session next text bytes (Err fault) is h = let ends = ap (λ (o : Outcome). o.end) h in absurd (cc)
-
--- a line of a script was carried out, and its text was printed
-pub did_script : (bytes : List ℕ) (a b : Bench) (kept text shown : List ℕ) (u v : Option (List ℕ)) (part r : Result (Unit {0}) Cause)
-    → kept ≡ [] → shown ≡ text
-    → AppendsOutput (Some kept) (Some text) (LinePrints (session_of a.interpreter) bytes) (LineBegins (session_of a.interpreter) bytes) part (session_of b.interpreter)
-    → (is_styled a.options ≡ false → PrintsPart u v shown part r) → OnOk r (part ≡ Ok tt)
-    → ((dev : ℕ) → chance_at b.draws dev ≡ chance_at a.draws dev) → b.options ≡ a.options
-    → OnOk r (Keeps a.printer.transcript b.printer.transcript shown)
-    → OnOk r (Does (ScriptLineDoes bytes) a b u v)
-unfolding LinePrints PartPrints
-did_script bytes a b kept text shown u v part (Err e) none same h k is stays options waits = tt
-did_script bytes a b kept text shown u v part (Ok x) none same h k is stays options waits =
-    let told = subst (λ p. AppendsOutput (Some kept) (Some text) (LinePrints (session_of a.interpreter) bytes) (LineBegins (session_of a.interpreter) bytes) p (session_of b.interpreter)) is h in
-    let line = said_of_meaning (session_of a.interpreter) (session_of b.interpreter) told.0 bytes (meaning_of bytes) refl told.2 in
-    record {
-      parts = Says line.0 ∷ [];
-      text = told.0;
-      done = (line.0, line.1, (refl, line.2, stays));
-      options = options;
-      written = λ plain. subst (Appends u v) (same ∙ kept_text kept text told.0 none told.1) (part_done u v shown part is (k plain.style));
-      waits = keeps_shown a.options.trace a.printer.transcript b.printer.transcript shown told.0 (same ∙ kept_text kept text told.0 none told.1) waits;
-    }
 
 -- ---- typed keys
 

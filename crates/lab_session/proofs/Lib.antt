@@ -1,3 +1,4 @@
+pub mod CallLemmas
 pub mod CarryLemmas
 pub mod DoingLemmas
 pub mod ExpectingLemmas

@@ -27,7 +27,7 @@ use Rattle.lab_session.specs.Parts.{PartPrints, Says}
 use Rattle.lab_session.specs.Scripts.{PrintsAs, script_said}
 use Rattle.lab_session.proofs.DoingLemmas.{does_nothing, nothing_said}
 use Rattle.lab_session.proofs.ScriptLineLemmas.{refused_there, script_old, script_read}
-use Rattle.lab_session.proofs.WaitLemmas.{keeps_none}
+use Rattle.lab_session.proofs.WaitLemmas.{keeps_quiet}
 
 -- whatever the bench reads in such a line, it does nothing
 nothing_as : (bytes : List ℕ) (a : Bench) (u : Option (List ℕ)) (said : Said) → meaning_of bytes ≡ Ok line.Nothing → lab_meaning bytes ≡ Ok said
@@ -45,7 +45,7 @@ nothing_as bytes a u (lab.Script text) is read same = let means : meaning_of tex
         done = (line.Nothing, means, (refl, nothing_said (session_of a.interpreter), λ dev. refl));
         options = refl;
         written = λ plain. Appends-nil u;
-        waits = keeps_none a a refl;
+        waits = keeps_quiet a (Says line.Nothing) (λ dev request e. absurd (cc));
       };
     }
 nothing_as bytes a u said is read same = absurd (cc)

@@ -27,10 +27,12 @@ use Rattle.lab_session.specs.Bench.{Does, DoesLine, EndsPart, answer_of_end, mom
 use Rattle.lab_session.specs.Chances.{chance_at}
 use Rattle.lab_session.specs.Expecting.{Keeps, ReadExpects}
 use Rattle.lab_session.specs.Lines.{DoesPart, IsOnePart, LineDoes, Moment, ShortLineDoes}
+use Rattle.lab_session.specs.Outputs.{awaited_at}
 use Rattle.lab_session.specs.Parts.{Part, Says}
 use Rattle.lab_session.specs.Printed.{IsPlain, PrintsPart, is_styled}
 use Rattle.lab_session.specs.Scripts.{PrintsAs, end_of, lab_end}
 use Rattle.lab_session.proofs.DoingLemmas.{did_line, ok_does_so}
+use Rattle.lab_session.proofs.WaitLemmas.{leaves_awaited}
 use Rattle.lab_session.proofs.PrintedLemmas.{kept_printed}
 use Rattle.lab_session.proofs.ScriptLineLemmas.{short_read}
 
@@ -55,6 +57,7 @@ quiet_end a u part is none = record {
   waits = keeps_nothing a.printer.transcript a.text.items none;
   session = refl;
   draws = refl;
+  outputs = refl;
   options = refl;
 }
 
@@ -84,8 +87,8 @@ line_done bytes said a b u v (Err cause) is h = tt
 pub short_ends : {bytes : List ℕ} {said : ShortLine} {a m b : Bench} {kept : List ℕ} {u v : Option (List ℕ)} {part : Result (Unit {0}) Cause} {r : Result (Option Asked) LabCause}
     → EndsPart m b u v part r → meaning_of bytes ≡ Ok (line.Step said) → IsOnePart (moment_of a) said → kept ≡ []
     → AppendsOutput (Some kept) (Some m.text.items) (MeaningPrints (session_of a.interpreter) (Ok (line.Step said))) (BeginsMeant (session_of a.interpreter) (Ok (line.Step said))) part (session_of m.interpreter)
-    → m.draws ≡ a.draws → m.options ≡ a.options → m.printer.transcript ≡ a.printer.transcript → ShortEnds bytes a b u v r
-short_ends {bytes} {said} {a} {m} {b} {kept} {u} {v} {part} {r} k is one none h draws options same =
+    → m.draws ≡ a.draws → m.options ≡ a.options → m.printer.transcript ≡ a.printer.transcript → m.outputs ≡ a.outputs → ShortEnds bytes a b u v r
+short_ends {bytes} {said} {a} {m} {b} {kept} {u} {v} {part} {r} k is one none h draws options same outputs =
     let short : short_of (meaning_of bytes) ≡ Some said = ap short_of is in
     let Prints = MeaningPrints (session_of a.interpreter) (Ok (line.Step said)) in
     let Begins = BeginsMeant (session_of a.interpreter) (Ok (line.Step said)) in
@@ -94,7 +97,8 @@ short_ends {bytes} {said} {a} {m} {b} {kept} {u} {v} {part} {r} k is one none h 
     let waits : OnOk k.end (Keeps a.printer.transcript b.printer.transcript m.text.items) =
     subst (λ t. OnOk k.end (Keeps t b.printer.transcript m.text.items)) same k.waits in
     let done = did_line (line.Step said) Begins a b kept m.text.items m.text.items u v part k.end none refl told
-    (λ plain. k.written (ap is_styled options ∙ plain)) k.whole (λ dev. ap (λ d. chance_at d dev) (k.draws ∙ draws)) (k.options ∙ options) waits in
+    (λ plain. k.written (ap is_styled options ∙ plain)) k.whole (λ dev. ap (λ d. chance_at d dev) (k.draws ∙ draws)) (k.options ∙ options)
+    (leaves_awaited (Says (line.Step said)) (awaited_at a.outputs) (awaited_at b.outputs) (λ dev request e. absurd (cc)) (λ dev. ap (λ o. awaited_at o dev) (k.outputs ∙ outputs))) waits in
     record {
       does = subst (λ x. IfOk x (λ asked. DoesLine bytes (option_map asked_said asked) a b u v)) (sym k.answer)
           (line_done bytes said a b u v k.end short (ok_does_so k.end (DoesPart (Says (line.Step said))) (ShortLineDoes said) a b u v

@@ -37,10 +37,11 @@ pub record EndsPart (old new : Bench) (before after : Option (List ℕ)) (part :
   pub waits : OnOk end (Keeps old.printer.transcript new.printer.transcript old.text.items)
   pub session : session_of new.interpreter ≡ session_of old.interpreter
   pub draws : new.draws ≡ old.draws
+  pub outputs : new.outputs ≡ old.outputs
   pub options : new.options ≡ old.options
 
 -- What a bench did, whatever is printed otherwise; where nothing is, known bytes of the writer grew by the text of the parts. That
--- text waits to be expected.
+-- text waits to be expected, and so do the lines of the Output reports that took effect by these parts.
 pub record Does (Doing : Moment → List Part → List ℕ → Moment → Type 0) (old new : Bench) (before after : Option (List ℕ))
     : Type 0 where
   pub parts : List Part
@@ -48,7 +49,7 @@ pub record Does (Doing : Moment → List Part → List ℕ → Moment → Type 0
   pub done : Doing (moment_of old) parts text (moment_of new)
   pub options : new.options ≡ old.options
   pub written : IsPlain old.options → Appends before after text
-  pub waits : KeepsText old new text
+  pub waits : KeepsText old new parts text
 
 -- What an expectation does: the bus and what is drawn stay, and nothing is printed.
 pub record Stays (old new : Bench) (before after : Option (List ℕ)) : Type 0 where

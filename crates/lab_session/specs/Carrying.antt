@@ -5,6 +5,7 @@ use Rattle.std.specs.Io.KnownBytes.{Keeps}
 use Rattle.std.specs.Str.Lines.{lines}
 use Rattle.hid_script.specs.declared.fault.Cause.{Cause}
 use Rattle.hid_script.specs.Interpreter.{session_of}
+use Rattle.hid_text.specs.Line.{meaning_of}
 use Rattle.lab_lines.specs.LabLines.{Said, lab_meaning}
 use Rattle.lab_session.specs.declared.ahead.Ahead.{Ahead}
 use Rattle.lab_session.specs.declared.bench.Bench.{Bench}
@@ -24,6 +25,8 @@ use Rattle.lab_session.specs.Bench.{DoesLine, moment_of}
 use Rattle.lab_session.specs.Expecting.{ReadExpects}
 use Rattle.lab_session.specs.Feeds.{IsOutside, need_said}
 use Rattle.lab_session.specs.Lines.{StaysUnsettled}
+use Rattle.lab_session.specs.Printed.{IsPlain}
+use Rattle.lab_session.specs.Scripts.{IsScripts, IsUndrawn, PrintsAs}
 
 -- ---- a line
 
@@ -33,10 +36,13 @@ pub record CarriesLine (bytes : List ℕ) (asked : Option Said) (old new : Bench
   pub expects : ReadExpects (lab_meaning bytes) old.printer.transcript new.printer.transcript new.came.items (Ok tt)
 
 -- A line is refused for this cause: what it expects isn't the line that came, a device was polled a hundred times and had
--- something to send each time, or for another one.
-pub record RefusesLine (bytes : List ℕ) (cause : LabCause) (old new : Bench) : Type 0 where
+-- something to send each time, or for another one. A line of hidrun is refused as hidrun refuses it, with the same text before
+-- it, if no fates are drawn; lines before it may be new.
+pub record RefusesLine (bytes : List ℕ) (cause : LabCause) (old new : Bench) (before after : Option (List ℕ)) : Type 0 where
   pub expects : ReadExpects (lab_meaning bytes) old.printer.transcript new.printer.transcript new.came.items (Err cause)
   pub unsettled : cause ≡ Unsettled → (dev : ℕ) × StaysUnsettled dev (moment_of new)
+  pub prints : IsPlain old.options → IsUndrawn (moment_of old) → IsScripts bytes
+      → PrintsAs before after (meaning_of bytes) (session_of old.interpreter) (Err cause) (session_of new.interpreter)
 
 -- ---- lines in turn
 
@@ -67,20 +73,20 @@ pub record AsksAfter (all : List (List ℕ)) (before : ℕ) (said : Said) (left 
   pub lines : count ≡ at + 1
 
 -- the line that comes next is refused; or memory, the reader or the writer ended the run before it or at it
-abbrev pub EndsAt : List (List ℕ) → LabCause → Bench → Bench → Type 0
-EndsAt left cause old new =
-    ((line : List ℕ) × (more : List (List ℕ)) × (left ≡ line ∷ more) × RefusesLine line cause old new)
+abbrev pub EndsAt : List (List ℕ) → LabCause → Bench → Bench → Option (List ℕ) → Option (List ℕ) → Type 0
+EndsAt left cause old new before after =
+    ((line : List ℕ) × (more : List (List ℕ)) × (left ≡ line ∷ more) × RefusesLine line cause old new before after)
     ⊎ ((outside : Cause) × (cause ≡ Script outside) × IsOutside outside)
 
 -- the line after those that were carried out ended the run
-pub record StopsAfter (all : List (List ℕ)) (before : ℕ) (fault : LabFault) (old new : Bench) (u : Option (List ℕ)) : Type 0 where
+pub record StopsAfter (all : List (List ℕ)) (before : ℕ) (fault : LabFault) (old new : Bench) (u v : Option (List ℕ)) : Type 0 where
   pub left : List (List ℕ)
   pub at : ℕ
   pub middle : Bench
   pub between : Option (List ℕ)
   pub carried : CarriedUpTo all before left at old middle u between
   pub line : fault.line ≡ at + 1
-  pub ends : EndsAt left fault.cause middle new
+  pub ends : EndsAt left fault.cause middle new between v
 
 -- ---- a run
 
@@ -90,7 +96,7 @@ abbrev pub RanLines : List (List ℕ) → ℕ → Bench → Bench → Option (Li
 RanLines all before old new u v (Ok (ran.All summary)) =
     CarriedUpTo all before [] summary.lines old new u v × (summary.events ≡ (session_of new.interpreter).events)
 RanLines all before old new u v (Ok (ran.Asks asked line rest)) = AsksAfter all before (asked_said asked) (lines rest.now) line old new u v
-RanLines all before old new u v (Err fault) = StopsAfter all before fault old new u
+RanLines all before old new u v (Err fault) = StopsAfter all before fault old new u v
 
 -- the line that asks for something is the one after so many, and nothing stands after it
 abbrev pub AsksLast : ℕ → Result Ran LabFault → Type 0
@@ -104,7 +110,7 @@ CameLines text before more old new u v (Ok (done.Lines count rest)) =
     CarriedUpTo (lines (text ++ more)) before (lines (rest.now ++ more)) count old new u v
 CameLines text before more old new u v (Ok (done.Asks asked count rest)) =
     AsksAfter (lines (text ++ more)) before (asked_said asked) (lines (rest.now ++ more)) count old new u v
-CameLines text before more old new u v (Err fault) = StopsAfter (lines (text ++ more)) before fault old new u
+CameLines text before more old new u v (Err fault) = StopsAfter (lines (text ++ more)) before fault old new u v
 
 -- as `CameLines`, of the bytes that were read
 abbrev pub AheadLines : Ahead → Ahead → List ℕ → Bench → Bench → Option (List ℕ) → Option (List ℕ) → Result (Option Need) LabFault → Type 0
@@ -112,7 +118,7 @@ AheadLines before after more old new u v (Ok None) =
     CarriedUpTo (lines (unread before ++ more)) before.lines (lines (unread after ++ more)) after.lines old new u v
 AheadLines before after more old new u v (Ok (Some need)) =
     AsksAfter (lines (unread before ++ more)) before.lines (need_said need) (lines (unread after ++ more)) after.lines old new u v
-AheadLines before after more old new u v (Err fault) = StopsAfter (lines (unread before ++ more)) before.lines fault old new u
+AheadLines before after more old new u v (Err fault) = StopsAfter (lines (unread before ++ more)) before.lines fault old new u v
 
 -- As `RanLines`, of a run whose lines come in pieces. Where a line asks for something, those are left that were read and not taken,
 -- and those that are still to come.
@@ -122,4 +128,4 @@ FedLines all before after left old new u v (Ok (ended.All summary)) =
 FedLines all before after left old new u v (Ok (ended.Asks need)) =
     (more : List ℕ) × (left ≡ Some more)
     × AsksAfter all before (need_said need) (lines (unread after ++ more)) after.lines old new u v
-FedLines all before after left old new u v (Err fault) = StopsAfter all before fault old new u
+FedLines all before after left old new u v (Err fault) = StopsAfter all before fault old new u v

@@ -2,6 +2,7 @@ pub mod Acts
 pub mod Ahead
 pub mod Asking
 pub mod Bench
+pub mod Calls
 pub mod Carrying
 pub mod Chances
 pub mod Expecting

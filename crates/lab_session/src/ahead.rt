@@ -3,6 +3,7 @@
 ghost use Rattle.std.specs.Prelude.{◌≡◌, ◌⊎◌, ◌+◌, ◌-◌, ◌^◌, ◌<◌, ◌≤◌, ◌++◌, [], true, Ok, length, drop, vec_len, IfOk, OnOk, IfErr, IfSome};
 ghost use Rattle.std.specs.Io.KnownBytes.{Keeps};
 ghost use Rattle.hid_text.specs.Lines.{IsUnbroken};
+ghost use Rattle.lab_session.specs.Calls.{EndsRead, EndsStep, FeedAnswers};
 ghost use Rattle.lab_session.specs.Feeds.{EndsReading, EndsTaking, Feeds, IsOutside, TakesLine, TakesWholeLine, lines_after};
 
 use super::fault::LabCause;
@@ -116,6 +117,7 @@ impl Ahead {
         ensures lines { self.new.lines ≡ self.old.lines }
         ensures err { IfErr result (λ cause. IsOutside cause
             ⊎ ((cause ≡ Cause.LineTooLong) × (16385 < length (unread self.old)))) }
+        ensures answer { FeedAnswers F.feeds feed.old feed.new result }
     {
         if self.unread().len() > MAX_BEGUN {
             return Err(Cause::LineTooLong);
@@ -130,8 +132,12 @@ impl Ahead {
     fn hand_on<W: Sink>(&self, writer: &mut W) -> Result<(), Cause>
         ensures kept { Keeps (W.contents writer.old) (W.contents writer.new) }
         ensures cause { IfErr result (λ cause. cause ≡ Cause.Write) }
+        ensures calls { EndsStep W.calls writer.old writer.new result }
     {
-        if self.waits && writer.flush().is_err() {
+        if !self.waits {
+            return Ok(());
+        }
+        if writer.flush().is_err() {
             return Err(Cause::Write);
         }
         Ok(())
@@ -153,6 +159,7 @@ impl Ahead {
         ensures err { IfErr result (λ fault. StopsHere (W.contents writer.old)
             (W.contents writer.new) (unread self.old) self.old.lines fault) }
         ensures ends { IfErr result (λ fault. EndsReading (unread self.old) self.old.lines fault) }
+        ensures calls { EndsRead F.feeds W.calls feed.old feed.new writer.old writer.new result }
     {
         if let Err(cause) = self.hand_on(writer) {
             return Err(self.fault(cause));

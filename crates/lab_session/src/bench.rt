@@ -66,6 +66,7 @@ impl Bench {
     ghost use Rattle.hid_text.specs.Line.{meaning_of, short_of};
     ghost use Rattle.lab_session.specs.Bench.{Does, DoesLine, DoesSaid, EndsPart, moment_of};
     ghost use Rattle.lab_session.specs.Scripts.{IsScripts, IsUndrawn, PrintsAs, PrintsSaid, end_of};
+    ghost use Rattle.lab_session.specs.Calls.{EndsLab, EndsStep, IsOfLine, LabNeedsNoCall, NeedsNoCall};
     ghost use Rattle.lab_session.specs.Chances.{chance_at};
     ghost use Rattle.lab_session.specs.Outputs.{SetsNoOutput, awaited_at};
     ghost use Rattle.hid_stack.specs.Attaching.{Finds};
@@ -165,6 +166,7 @@ impl Bench {
             self.new.printer.transcript self.new.came.items (end_of result) }
         ensures unsettled { end_of result ≡ Err LabCause.Unsettled
             → (dev : ℕ) × StaysUnsettled dev (moment_of self.new) }
+        ensures calls { EndsLab W.calls writer.old writer.new result }
     {
         let Some(short) = read_short(line) else {
             return self.longer_line(line, writer);
@@ -214,6 +216,7 @@ impl Bench {
             → PrintsSaid (W.contents writer.old) (W.contents writer.new) (Short short.now)
             (session_of self.old.interpreter) (end_of result) (session_of self.new.interpreter) }
         ensures settled { end_of result ≡ Err LabCause.Unsettled → ⊥ }
+        ensures calls { EndsLab W.calls writer.old writer.new result }
     {
         self.short_line(short, writer)?;
         Ok(None)
@@ -227,7 +230,8 @@ impl Bench {
         part: Result<(), Cause>,
         writer: &mut W,
     ) -> Result<Option<Asked<'a>>, LabCause>
-        ensures { EndsPart self.old self.new (W.contents writer.old) (W.contents writer.new) part result }
+        ensures ends { EndsPart self.old self.new (W.contents writer.old) (W.contents writer.new) part result }
+        ensures calls { IfErr part IsOfLine → EndsLab W.calls writer.old writer.new result }
     {
         self.control = refused_control(self.interpreter.rig(), short, &part);
         self.printer.print_part(
@@ -257,6 +261,7 @@ impl Bench {
             self.new.printer.transcript self.new.came.items (end_of result) }
         ensures unsettled { end_of result ≡ Err LabCause.Unsettled
             → (dev : ℕ) × StaysUnsettled dev (moment_of self.new) }
+        ensures calls { EndsLab W.calls writer.old writer.new result }
     {
         match read_longer(line) {
             Ok(said) => {
@@ -281,6 +286,7 @@ impl Bench {
         ensures expects { LineExpects line.now self.old.printer.transcript
             self.new.printer.transcript self.new.came.items result }
         ensures unsettled { LineUnsettled (said_of line.now) result (moment_of self.new) }
+        ensures calls { EndsLab W.calls writer.old writer.new result }
     {
         match *line {
             LabLine::Nothing
@@ -322,6 +328,7 @@ impl Bench {
             (session_of self.new.interpreter) }
         ensures does { OnOk result (Does (ScriptLineDoes line.now) self.old self.new
             (W.contents writer.old) (W.contents writer.new)) }
+        ensures calls { EndsStep W.calls writer.old writer.new result }
     {
         match &read_line(line) {
             Ok(said) => self.said_line(said, writer),
@@ -337,6 +344,7 @@ impl Bench {
             result (session_of self.new.interpreter) }
         ensures does { OnOk result (Does (DoesPart (Says said.now)) self.old self.new
             (W.contents writer.old) (W.contents writer.new)) }
+        ensures calls { EndsStep W.calls writer.old writer.new result }
     {
         self.text.clear();
         let part = self.interpreter.carry_out(said, &mut self.text);
@@ -354,6 +362,7 @@ impl Bench {
             (session_of self.old.interpreter)) result (session_of self.new.interpreter) }
         ensures does { OnOk result (Does (DoesPart (Says (Lines.Step short.now))) self.old self.new
             (W.contents writer.old) (W.contents writer.new)) }
+        ensures calls { EndsStep W.calls writer.old writer.new result }
     {
         self.text.clear();
         let part = self.interpreter.repeat(short, &mut self.text);
@@ -370,6 +379,7 @@ impl Bench {
     fn lay_out_hex<W: Sink>(&mut self, hex: &[u8], writer: &mut W) -> Result<(), Cause>
         ensures does { OnOk result (Does (DoesBytes LaysOut (words_of hex.now)) self.old self.new
             (W.contents writer.old) (W.contents writer.new)) }
+        ensures calls { EndsStep W.calls writer.old writer.new result }
     {
         match read_hex(self.alloc, hex)? {
             Some(bytes) => self.lay_out(bytes.as_slice(), writer),
@@ -381,6 +391,7 @@ impl Bench {
     fn lay_out<W: Sink>(&mut self, descriptor: &[u8], writer: &mut W) -> Result<(), Cause>
         ensures does { OnOk result (Does (DoesPart (LaysOut descriptor.now)) self.old self.new
             (W.contents writer.old) (W.contents writer.new)) }
+        ensures calls { EndsStep W.calls writer.old writer.new result }
     {
         self.text.clear();
         let part = self.interpreter.lay_out(descriptor, &mut self.text);
@@ -392,6 +403,7 @@ impl Bench {
     fn print_values_hex<W: Sink>(&mut self, hex: &[u8], writer: &mut W) -> Result<(), Cause>
         ensures does { OnOk result (Does (DoesBytes ShowsValues (words_of hex.now)) self.old
             self.new (W.contents writer.old) (W.contents writer.new)) }
+        ensures calls { EndsStep W.calls writer.old writer.new result }
     {
         match read_hex(self.alloc, hex)? {
             Some(bytes) => self.print_values(bytes.as_slice(), writer),
@@ -403,6 +415,7 @@ impl Bench {
     fn print_values<W: Sink>(&mut self, report: &[u8], writer: &mut W) -> Result<(), Cause>
         ensures does { OnOk result (Does (DoesPart (ShowsValues report.now)) self.old self.new
             (W.contents writer.old) (W.contents writer.new)) }
+        ensures calls { EndsStep W.calls writer.old writer.new result }
     {
         self.text.clear();
         let part = self.interpreter.print_values_of(report, &mut self.text);
@@ -420,6 +433,7 @@ impl Bench {
     ) -> Result<(), Cause>
         ensures does { OnOk result (Does (DoesBytes (Attaches start boot) (words_of hex.now)) self.old
             self.new (W.contents writer.old) (W.contents writer.new)) }
+        ensures calls { EndsStep W.calls writer.old writer.new result }
     {
         match read_hex(self.alloc, hex)? {
             Some(bytes) => self.attach_device(start, boot, bytes.as_slice(), writer),
@@ -437,6 +451,7 @@ impl Bench {
     ) -> Result<(), Cause>
         ensures does { OnOk result (Does (DoesPart (Attaches start boot descriptor.now)) self.old self.new
             (W.contents writer.old) (W.contents writer.new)) }
+        ensures calls { EndsStep W.calls writer.old writer.new result }
     {
         self.text.clear();
         let part = self
@@ -459,6 +474,7 @@ impl Bench {
     ) -> Result<(), LabCause>
         ensures does { OnOk result (Does (DoesPart (Attaches start boot descriptor.now)) self.old self.new
             (W.contents writer.old) (W.contents writer.new)) }
+        ensures calls { EndsLab W.calls writer.old writer.new result }
     {
         Ok(self.attach_device(start, boot, descriptor, writer)?)
     }
@@ -473,6 +489,7 @@ impl Bench {
             (session_of self.old.interpreter)) result (session_of self.new.interpreter) }
         ensures does { OnOk result (Does (ShortLineDoes short.now) self.old self.new
             (W.contents writer.old) (W.contents writer.new)) }
+        ensures calls { EndsStep W.calls writer.old writer.new result }
     {
         match *short {
             ShortLine::Poll { dev, fate, count } => self.poll_line(dev, fate, count, writer),
@@ -525,6 +542,7 @@ impl Bench {
             (session_of self.old.interpreter)) result (session_of self.new.interpreter) }
         ensures does { OnOk result (Does (PollLineDoes dev fate count) self.old self.new
             (W.contents writer.old) (W.contents writer.new)) }
+        ensures calls { EndsStep W.calls writer.old writer.new result }
     {
         if self.polls_singly(dev) {
             return self.polls(dev, fate, count, writer);
@@ -544,6 +562,7 @@ impl Bench {
     ) -> Result<(), Cause>
         ensures does { OnOk result (Does (Often count (Polls dev fate)) self.old self.new
             (W.contents writer.old) (W.contents writer.new)) }
+        ensures calls { EndsStep W.calls writer.old writer.new result }
     {
         for _ in 0..count {
             let _is_idle = self.poll(dev, fate, writer)?;
@@ -556,6 +575,7 @@ impl Bench {
     fn poll<W: Sink>(&mut self, dev: u8, said: Fate, writer: &mut W) -> Result<bool, Cause>
         ensures does { IfOk result (λ idle. Does (PollsOnce dev said idle) self.old self.new
             (W.contents writer.old) (W.contents writer.new)) }
+        ensures calls { EndsStep W.calls writer.old writer.new result }
     {
         let fate = self.draws.next_fate(dev, said);
         self.text.clear();
@@ -590,6 +610,7 @@ impl Bench {
             result (session_of self.new.interpreter) }
         ensures does { OnOk result (Does (Often count (Tries dev fate)) self.old self.new
             (W.contents writer.old) (W.contents writer.new)) }
+        ensures calls { EndsStep W.calls writer.old writer.new result }
     {
         for _ in 0..count {
             self.try_once(dev, fate, writer)?;
@@ -605,6 +626,7 @@ impl Bench {
             (session_of self.new.interpreter) }
         ensures does { OnOk result (Does (Tries dev said) self.old self.new
             (W.contents writer.old) (W.contents writer.new)) }
+        ensures calls { EndsStep W.calls writer.old writer.new result }
     {
         let fate = self.draws.next_fate(dev, said);
         self.text.clear();
@@ -635,8 +657,9 @@ impl Bench {
 
     /// The control of a device that is named.
     fn find(&self, dev: u8, name: &ControlName<'_>) -> Result<ControlId, Cause>
-        ensures { IfOk result (NamesControl (session_of self.now.interpreter).members dev
+        ensures found { IfOk result (NamesControl (session_of self.now.interpreter).members dev
             (named_of name.now)) }
+        ensures err { IfErr result NeedsNoCall }
     {
         let device = match self.interpreter.rig().device(dev) {
             Ok(device) => device,
@@ -658,6 +681,7 @@ impl Bench {
     ) -> Result<(), Cause>
         ensures does { OnOk result (Does (DoesPart (Changes dev control wanted)) self.old self.new
             (W.contents writer.old) (W.contents writer.new)) }
+        ensures calls { EndsStep W.calls writer.old writer.new result }
     {
         self.text.clear();
         if let Err(cause) = self
@@ -680,6 +704,7 @@ impl Bench {
         ensures does { OnOk result (Does (Settles dev) self.old self.new
             (W.contents writer.old) (W.contents writer.new)) }
         ensures unsettled { result ≡ Err LabCause.Unsettled → StaysUnsettled dev (moment_of self.new) }
+        ensures calls { EndsLab W.calls writer.old writer.new result }
     {
         for _ in 0..MOST_POLLS {
             if self.poll(dev, Fate::Clean, writer)? {
@@ -700,6 +725,7 @@ impl Bench {
         ensures does { OnOk result (Does (SettlesChange dev control wanted) self.old self.new
             (W.contents writer.old) (W.contents writer.new)) }
         ensures unsettled { result ≡ Err LabCause.Unsettled → StaysUnsettled dev (moment_of self.new) }
+        ensures calls { EndsLab W.calls writer.old writer.new result }
     {
         self.change(dev, control, wanted, writer)?;
         self.settle(dev, writer)
@@ -715,6 +741,7 @@ impl Bench {
         ensures does { OnOk result (Does (Clicks dev control) self.old self.new
             (W.contents writer.old) (W.contents writer.new)) }
         ensures unsettled { result ≡ Err LabCause.Unsettled → StaysUnsettled dev (moment_of self.new) }
+        ensures calls { EndsLab W.calls writer.old writer.new result }
     {
         self.settle_change(dev, control, ChangeKind::Press, writer)?;
         self.settle_change(dev, control, ChangeKind::Release, writer)
@@ -725,6 +752,7 @@ impl Bench {
         ensures found { IfOk result
             (λ control. Finds (session_of self.now.interpreter).members dev usage (Ok control)) }
         ensures err { result ≡ Err LabCause.Unsettled → ⊥ }
+        ensures quiet { IfErr result LabNeedsNoCall }
     {
         match self.interpreter.rig().find(dev, usage) {
             Ok(control) => Ok(control),
@@ -743,6 +771,7 @@ impl Bench {
         ensures does { OnOk result (Does (ClicksShifted dev shift control) self.old self.new
             (W.contents writer.old) (W.contents writer.new)) }
         ensures unsettled { result ≡ Err LabCause.Unsettled → StaysUnsettled dev (moment_of self.new) }
+        ensures calls { EndsLab W.calls writer.old writer.new result }
     {
         self.settle_change(dev, shift, ChangeKind::Press, writer)?;
         self.click(dev, control, writer)?;
@@ -754,6 +783,7 @@ impl Bench {
         ensures does { OnOk result (Does (ClicksKey dev key) self.old self.new
             (W.contents writer.old) (W.contents writer.new)) }
         ensures unsettled { result ≡ Err LabCause.Unsettled → StaysUnsettled dev (moment_of self.new) }
+        ensures calls { EndsLab W.calls writer.old writer.new result }
     {
         let control = self.find_usage(dev, key.usage)?;
         if key.is_shifted {
@@ -774,6 +804,7 @@ impl Bench {
         ensures does { OnOk result (Does (Types dev text.entry.rest.now) self.old self.new
             (W.contents writer.old) (W.contents writer.new)) }
         ensures unsettled { result ≡ Err LabCause.Unsettled → StaysUnsettled dev (moment_of self.new) }
+        ensures calls { EndsLab W.calls writer.old writer.new result }
     {
         let mut text = text;
         while let Some(character) = text.next_character() {

@@ -1,5 +1,7 @@
 //! What a control of a device is, and the refusal of one that isn't there.
 
+ghost use Rattle.lab_session.specs.Calls.{NeedsNoCall};
+
 use hid_layout::{ControlId, ControlKind, Controls, Usage};
 use hid_script::{Cause, StepFault};
 use hid_snapshots::ChangeFault;
@@ -7,7 +9,9 @@ use hid_stack::{Rig, StackFault};
 use hid_text::ShortLine;
 
 /// The refusal of a control that isn't there.
-pub fn no_control() -> Cause {
+pub fn no_control() -> Cause
+    ensures { NeedsNoCall result }
+{
     Cause::Step(StepFault::Stack(StackFault::Refused(ChangeFault::NoSuchControl)))
 }
 

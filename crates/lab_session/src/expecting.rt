@@ -1,6 +1,6 @@
 //! What a line expects of the lines that were printed.
 
-ghost use Rattle.std.specs.Prelude.{◌≡◌, Ok, Err, OnOk};
+ghost use Rattle.std.specs.Prelude.{◌≡◌, Ok, Err, IfErr, OnOk};
 ghost use Rattle.lab_expectations.specs.Expectations.{answer_of};
 ghost use Rattle.lab_session.specs.Expecting.{came_words};
 
@@ -13,6 +13,7 @@ use std::alloc::AllocError;
 
 impl Bench {
     ghost use Rattle.lab_session.specs.Bench.{moment_of};
+    ghost use Rattle.lab_session.specs.Calls.{LabNeedsNoCall};
     ghost use Rattle.lab_session.specs.Expecting.{Expects, ExpectsNone, IsForgotten};
 
     /// Whether the next line that was printed is this one. The name of no usage is refused as in other lines.
@@ -22,6 +23,7 @@ impl Bench {
         ensures expects { Expects expected.now self.old.printer.transcript
             self.new.printer.transcript self.new.came.items result }
         ensures settled { result ≡ Err LabCause.Unsettled → ⊥ }
+        ensures quiet { IfErr result LabNeedsNoCall }
     {
         self.is_test = true;
         if self.printer.expect(expected) {
@@ -55,6 +57,7 @@ impl Bench {
         ensures expects { ExpectsNone self.old.printer.transcript self.new.printer.transcript
             self.new.came.items result }
         ensures settled { result ≡ Err LabCause.Unsettled → ⊥ }
+        ensures quiet { IfErr result LabNeedsNoCall }
     {
         self.is_test = true;
         if self.printer.expect_none() {

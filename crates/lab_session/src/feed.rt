@@ -1,6 +1,7 @@
 //! Who gives the bytes of lines: a reader, or the body of a `repeat`.
 
 ghost use Rattle.std.specs.Prelude.{◌≡◌, ℕ, List, Option, None, Some, IfOk, IfErr};
+ghost use Rattle.lab_session.specs.Calls.{Fed, FedConsumes, FeedAnswers, NeverFails};
 ghost use Rattle.lab_session.specs.Feeds.{Feeds, IsOutside};
 ghost use Rattle.lab_lines.specs.Bodies.{text_to_come};
 
@@ -17,6 +18,9 @@ pub trait Feed {
     // The bytes that will be given from here on, where they are known.
     ghost remaining: { Self → Option (List ℕ) } = { λ _. None };
 
+    // A feed in one state may answer so, and leave another state.
+    ghost feeds: { Self → Fed → Self → Type 0 };
+
     /// Adds the bytes that come next after those of a room. Whether more may come: at the end none do.
     ///
     /// # Errors
@@ -24,7 +28,8 @@ pub trait Feed {
     fn feed(&mut self, room: &mut Vec<u8>) -> Result<bool, Cause>
         ensures fed { IfOk result (λ more. Feeds (remaining self.old) (remaining self.new)
             room.old.items room.new.items more) }
-        ensures outside { IfErr result (λ cause. IsOutside cause) };
+        ensures outside { IfErr result (λ cause. IsOutside cause) }
+        ensures answer { FeedAnswers feeds self.old self.new result };
 }
 
 /// A reader, and what the system said where a read of it failed.
@@ -55,6 +60,8 @@ impl<R> Incoming<R> {
 impl<R: Read> Feed for Incoming<R> {
     ghost remaining = { λ incoming. R.remaining incoming.reader };
 
+    ghost feeds = { λ before fed after. FedConsumes (R.remaining before.reader) fed (R.remaining after.reader) };
+
     fn feed(&mut self, room: &mut Vec<u8>) -> Result<bool, Cause> {
         if self.piece.is_empty() {
             self.piece.resize(PIECE, 0)?;
@@ -76,6 +83,8 @@ impl<R: Read> Feed for Incoming<R> {
 
 impl Feed for Body {
     ghost remaining = { λ body. Some (text_to_come body) };
+
+    ghost feeds = { λ before fed after. NeverFails (Some (text_to_come before)) fed (Some (text_to_come after)) };
 
     fn feed(&mut self, room: &mut Vec<u8>) -> Result<bool, Cause> {
         match self.give(room) {

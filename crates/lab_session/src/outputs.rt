@@ -1,6 +1,6 @@
 //! Output reports that a host sets, as they take effect.
 
-ghost use Rattle.std.specs.Prelude.{◌≡◌, ◌≢◌, ◌<◌, ℕ, None, Some, IfOk, IfSome, is_some};
+ghost use Rattle.std.specs.Prelude.{◌≡◌, ◌≢◌, ◌<◌, ℕ, None, Some, IfNone, IfOk, IfSome, is_some};
 ghost use Rattle.lab_session.specs.Outputs.{IsAwaited, after_id, output_of_pending, output_set_by, output_text};
 
 use arrayvec::ArrayVec;
@@ -174,6 +174,7 @@ impl Outputs {
         ensures its { IfOk result (λ told. IfSome told
             (λ text. IsAwaited (awaited_at self.old dev) dev (string_bytes text))) }
         ensures once { IfOk result (λ told. IfSome told (λ _. awaited_at self.new dev ≡ None)) }
+        ensures none { IfOk result (λ told. IfNone told (self.new ≡ self.old)) }
         ensures others { (other : ℕ) → other ≢ dev
             → awaited_at self.new other ≡ awaited_at self.old other }
     {

@@ -2,6 +2,7 @@
 
 ghost use Rattle.std.specs.Prelude.{◌≡◌, ◌∷◌, Ok, OnOk, IfErr, [], true, false};
 ghost use Rattle.std.specs.Io.KnownBytes.{Appends};
+ghost use Rattle.lab_session.specs.Calls.{EndsStep, IsOfLine};
 ghost use Rattle.lab_session.specs.Printed.{is_styled, IsPlain, WritesText, PrintsPart, kept_cause};
 
 use super::options::LabOptions;
@@ -59,6 +60,7 @@ impl Printer {
         ensures written { is_styled options.now ≡ false
             → WritesText (W.contents writer.old) (W.contents writer.new) text.now result }
         ensures kept { OnOk result (Keeps self.old.transcript self.new.transcript text.now) }
+        ensures calls { EndsStep W.calls writer.old writer.new result }
     {
         if text.is_empty() {
             return Ok(());
@@ -78,6 +80,7 @@ impl Printer {
         ensures written { is_styled options.now ≡ false
             → WritesText (W.contents writer.old) (W.contents writer.new) text.now result }
         ensures kept { OnOk result (Keeps self.old.transcript self.new.transcript text.now) }
+        ensures calls { EndsStep W.calls writer.old writer.new result }
     {
         if self.transcript.add(text).is_err() {
             return Err(Cause::Memory);
@@ -109,6 +112,7 @@ impl Printer {
             → PrintsPart (W.contents writer.old) (W.contents writer.new) text.now part result }
         ensures ok { OnOk result (part ≡ Ok tt) }
         ensures kept { OnOk result (Keeps self.old.transcript self.new.transcript text.now) }
+        ensures calls { IfErr part IsOfLine → EndsStep W.calls writer.old writer.new result }
     {
         match part {
             Ok(()) => self.print(options, text, events, writer),
@@ -138,6 +142,7 @@ impl Printer {
             → Keeps self.old.transcript self.new.transcript text.now) }
         ensures optional { OnOk result (options.now.trace ≡ false
             → Keeps self.old.transcript self.new.transcript (43 ∷ text.now)) }
+        ensures calls { EndsStep W.calls writer.old writer.new result }
     {
         if options.trace {
             return self.print(options, text, &[], writer);

@@ -12,6 +12,7 @@ ghost use Rattle.lab_session.specs.Printed.{IsPlain};
 ghost use Rattle.lab_session.specs.Ahead.{unread};
 ghost use Rattle.lab_session.specs.Scripts.{AheadRan, IsScripts, IsUndrawn, Leaves, LineRan, LinesRan, RunsAsScript, RunsFed};
 ghost use Rattle.lab_session.specs.Asking.{asked_said};
+ghost use Rattle.lab_session.specs.Calls.{EndsAhead, EndsLines, EndsRun};
 ghost use Rattle.lab_session.specs.Carrying.{AheadLines, AsksLast, CameLines, CarriesLine, FedLines, RanLines, RefusesLine};
 ghost use Rattle.lab_session.specs.Feeds.{need_said};
 
@@ -26,13 +27,13 @@ use hid_script::{Cause, Sink, Summary};
 use hid_text::{says_nothing, split_line};
 
 /// How many lines a source has at most.
-const MAX_LINES: usize = 100_000_000;
+pub const MAX_LINES: usize = 100_000_000;
 
 /// The most bytes of a comment that is known by its first byte.
 const MAX_COMMENT: usize = 1024;
 
 /// How many reads a run makes at most.
-const MAX_READS: u64 = 1 << 40;
+pub const MAX_READS: u64 = 1 << 40;
 
 /// Why a text is not carried out to its end.
 #[derive(Clone, Copy, Debug, PartialEq, Eq)]
@@ -124,7 +125,9 @@ fn run_line<'a, W: Sink>(
     ensures carries { IfOk result (λ asked. CarriesLine line.now (option_map asked_said asked) bench.old
         bench.new (W.contents writer.old) (W.contents writer.new)) }
     ensures refused { IfErr result (λ fault. (fault.line ≡ before + 1)
-        × RefusesLine line.now fault.cause bench.old bench.new) }
+        × RefusesLine line.now fault.cause bench.old bench.new (W.contents writer.old)
+        (W.contents writer.new)) }
+    ensures calls { EndsLines W.calls writer.old writer.new result }
 {
     if says_nothing(line) {
         return Ok(None);
@@ -155,7 +158,9 @@ fn run_whole_line<'a, W: Sink>(
         (option_map asked_said asked) bench.old bench.new (W.contents writer.old)
         (W.contents writer.new)) }
     ensures refused { IfErr result (λ fault. (fault.line ≡ before + 1)
-        × RefusesLine (strip_carriage_return line.now) fault.cause bench.old bench.new) }
+        × RefusesLine (strip_carriage_return line.now) fault.cause bench.old bench.new
+        (W.contents writer.old) (W.contents writer.new)) }
+    ensures calls { EndsLines W.calls writer.old writer.new result }
 {
     if is_comment(line) {
         return Ok(None);
@@ -189,6 +194,7 @@ fn run_last<'a, W: Sink>(
     ensures carries { RanLines (lines line.now) before bench.old bench.new (W.contents writer.old)
         (W.contents writer.new) result }
     ensures last { AsksLast before result }
+    ensures calls { EndsLines W.calls writer.old writer.new result }
 {
     if line.is_empty() {
         return Ok(whole(bench, before));
@@ -218,6 +224,7 @@ fn run_lines<'a, W: Sink>(
     ensures carries { (more : List ℕ) → CameLines text.now before more bench.old bench.new
         (W.contents writer.old) (W.contents writer.new) result }
     ensures rest { IfOk result (λ done. Leaves text.now before done) }
+    ensures calls { EndsLines W.calls writer.old writer.new result }
 {
     let mut rest = text;
     let mut count = before;
@@ -257,6 +264,8 @@ pub fn run_text<'a, W: Sink>(
     // Each line of any text is carried out in turn, up to one that asks for something or ends the run.
     ensures carries { RanLines (lines text.now) 0 bench.old bench.new (W.contents writer.old)
         (W.contents writer.new) result }
+    // It ends by X6 exactly if a call of the writer failed, and never by X5 or X8, which are of reads.
+    ensures calls { EndsLines W.calls writer.old writer.new result }
 {
     match run_lines(bench, 0, text, writer)? {
         Done::Lines { lines, rest } => run_last(bench, lines, rest, writer),
@@ -297,6 +306,7 @@ fn run_ahead<W: Sink>(
         (W.contents writer.old) (W.contents writer.new) result }
     ensures unbroken { IfOk result (λ need. IfNone need (IsUnbroken (unread ahead.new))) }
     ensures few { IfOk result (λ need. IfNone need (ahead.new.lines < 2 ^ 64 - 2)) }
+    ensures calls { EndsAhead W.calls writer.old writer.new ahead.new.lines result }
 {
     if ahead.lines() > MAX_LINES {
         return Err(ahead.fault(Cause::TooManyReads));
@@ -330,6 +340,7 @@ fn run_rest<W: Sink>(
         (session_of bench.old.interpreter) (lines (unread ahead.old)) ahead.old.lines result }
     ensures carries { FedLines (lines (unread ahead.old)) ahead.old.lines ahead.new (Some []) bench.old
         bench.new (W.contents writer.old) (W.contents writer.new) result }
+    ensures calls { EndsLines W.calls writer.old writer.new result }
 {
     match run_last(bench, ahead.lines(), ahead.unread(), writer)? {
         Ran::All(summary) => Ok(RunEnd::All(summary)),
@@ -365,6 +376,8 @@ pub fn run<F: Feed, W: Sink, T: Watch>(
     ensures carries { IfSome (F.remaining feed.old) (λ more. FedLines (lines (unread ahead.old ++ more))
         ahead.old.lines ahead.new (F.remaining feed.new) bench.old bench.new (W.contents writer.old)
         (W.contents writer.new) result) }
+    // It ends by X5 only if a read failed, by X6 exactly if a call of the writer failed, and by X8 only after so many reads or lines.
+    ensures calls { EndsRun F.feeds W.calls feed.old feed.new writer.old writer.new ahead.new.lines result }
 {
     for _ in 0..MAX_READS {
         if let Some(need) = run_ahead(bench, ahead, writer)? {

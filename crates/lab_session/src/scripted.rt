@@ -17,6 +17,7 @@ use lab_lines::begins_line_of_hidrun;
 
 impl Bench {
     ghost use Rattle.lab_session.specs.Bench.{DoesLine, moment_of};
+    ghost use Rattle.lab_session.specs.Calls.{EndsLab};
     ghost use Rattle.lab_session.specs.Scripts.{IsScripts, IsUndrawn, PrintsAs, end_of};
     ghost use Rattle.lab_session.specs.Lines.{StaysUnsettled};
 
@@ -37,6 +38,7 @@ impl Bench {
             self.new.printer.transcript self.new.came.items (end_of result) }
         ensures unsettled { end_of result ≡ Err LabCause.Unsettled
             → (dev : ℕ) × StaysUnsettled dev (moment_of self.new) }
+        ensures calls { EndsLab W.calls writer.old writer.new result }
     {
         if !begins_line_of_hidrun(line) {
             return self.long_line(line, writer);

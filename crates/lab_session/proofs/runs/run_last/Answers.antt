@@ -6,7 +6,9 @@ use Rattle.lab_session.proofs.CarryLemmas.{asks_next, carried_as, carried_first,
 use Rattle.std.specs.Str.Lines.{lines}
 use Rattle.hid_script.specs.Interpreter.{session_of}
 use Rattle.lab_session.specs.Scripts.{RunsAsScript}
+use Rattle.lab_session.proofs.CallLemmas.{lines_by}
 use Rattle.lab_session.proofs.DoingLemmas.{err_is}
+use Rattle.hid_script.proofs.StreamLemmas.{no_calls}
 use Rattle.lab_session.proofs.RunLemmas.{empty_lines, lab_finishes, last_old, last_on, last_out, one_line, some_bytes}
 use Rattle.lab_session.proofs.runs.run_last.Goals as goal
 
@@ -54,7 +56,7 @@ returns-in_err-asked-clause-carries g c =
     let one = one_line c.args.line.now c.requires.unbroken (some_bytes c.args.line.now (sym c.is_empty.ensures ∙ c.if-is_empty.false)) in
     let start = subst (λ l. CarriedUpTo (lines c.args.line.now) c.args.before l c.args.before c.args.bench.now c.args.bench.now U U) one (carried_first (lines c.args.line.now) c.args.before c.args.bench.now U) in
     subst (λ r. RanLines (lines c.args.line.now) c.args.before c.args.bench.now c.run_line.new.bench U (g.W.Sink.contents c.run_line.new.writer) r) (sym (err_is c.from_residual.result _ c.from_residual.ensures.1))
-    (refused_next (lines c.args.line.now) [] c.args.line.now c.args.before c.args.before c.in_err-asked.field-0.0 c.args.bench.now c.args.bench.now c.run_line.new.bench U U start c.in_err-asked.ensures.refused.0 c.in_err-asked.ensures.refused.1)
+    (refused_next (lines c.args.line.now) [] c.args.line.now c.args.before c.args.before c.in_err-asked.field-0.0 c.args.bench.now c.args.bench.now c.run_line.new.bench U U (g.W.Sink.contents c.run_line.new.writer) start c.in_err-asked.ensures.refused.0 c.in_err-asked.ensures.refused.1)
 
 pub returns-in-Some-clause-carries : goal.returns-in-Some-clause-carries
 returns-in-Some-clause-carries g c =
@@ -73,3 +75,9 @@ returns-in-None-clause-carries g c =
     let carried = subst (λ o. CarriesLine c.args.line.now (option_map asked_said o) c.args.bench.now c.run_line.new.bench U V) c.in-None.is c.in_ok-asked.ensures.carries in
     subst (λ r. RanLines (lines c.args.line.now) c.args.before c.args.bench.now c.run_line.new.bench U V (Ok r)) (sym c.whole-in-None.ensures)
     (carried_as (c.args.line.now ∷ []) (lines c.args.line.now) [] [] c.args.before (c.args.before + 1) (c.args.before + 1) c.args.bench.now c.run_line.new.bench U V (sym one) refl refl (carried_one c.args.line.now [] c.args.before c.args.bench.now c.run_line.new.bench U V carried), refl)
+
+pub returns-then-is_empty-clause-calls : goal.returns-then-is_empty-clause-calls
+returns-then-is_empty-clause-calls g c = no_calls g.W.Sink.calls c.args.writer.now
+
+pub returns-in_err-asked-clause-calls : goal.returns-in_err-asked-clause-calls
+returns-in_err-asked-clause-calls g c = lines_by g.W.Sink.calls c.args.writer.now c.run_line.new.writer c.in_err-asked.field-0.0 c.from_residual.result c.in_err-asked.ensures.calls c.from_residual.ensures.1

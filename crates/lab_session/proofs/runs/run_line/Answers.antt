@@ -1,5 +1,6 @@
 use Rattle.std.proofs.Common.{◌+◌, refl, ap, None, Ok, Err}
 use Rattle.hid_script.specs.Interpreter.{session_of}
+use Rattle.hid_script.proofs.StreamLemmas.{no_calls}
 use Rattle.lab_session.proofs.NothingLemmas.{nothing_done, nothing_expects, nothing_prints}
 use Rattle.lab_session.proofs.RunLemmas.{ran_on, ran_out}
 use Rattle.lab_session.proofs.runs.run_line.Goals as goal
@@ -27,4 +28,14 @@ pub returns-in-Err-clause-script : goal.returns-in-Err-clause-script
 returns-in-Err-clause-script g c = λ plain undrawn old. ran_out c.args.bench.now c.line.new.self _ _ c.args.line.now c.args.before (c.args.before + 1) c.in-Err.cause refl (c.in-Err.ensures.prints plain undrawn old)
 
 pub returns-in-Err-clause-refused : goal.returns-in-Err-clause-refused
-returns-in-Err-clause-refused g c = (refl, record { expects = c.in-Err.ensures.expects; unsettled = λ e. c.in-Err.ensures.unsettled (ap (λ x. Err x) e) })
+returns-in-Err-clause-refused g c = (
+  refl,
+  record {
+    expects = c.in-Err.ensures.expects;
+    unsettled = λ e. c.in-Err.ensures.unsettled (ap (λ x. Err x) e);
+    prints = c.in-Err.ensures.prints;
+  },
+)
+
+pub returns-then-says_nothing-clause-calls : goal.returns-then-says_nothing-clause-calls
+returns-then-says_nothing-clause-calls g c = no_calls g.W.Sink.calls c.args.writer.now

@@ -5,6 +5,8 @@ use Rattle.std.specs.Str.Lines.{lines, strip_carriage_return}
 use Rattle.lab_session.specs.Asking.{asked_said}
 use Rattle.lab_session.specs.Carrying.{CarriesLine}
 use Rattle.lab_session.proofs.CarryLemmas.{asks_next, carried_as, carried_first, carried_next, refused_next}
+use Rattle.hid_script.proofs.StreamLemmas.{all_succeed, no_calls}
+use Rattle.lab_session.proofs.CallLemmas.{from_lab_behind}
 use Rattle.lab_session.proofs.RunLemmas.{behind_more, goes_on, goes_out, goes_start, lines_split, next_old}
 use Rattle.lab_session.proofs.runs.run_lines.Goals as goal
 
@@ -60,6 +62,7 @@ loop-last-preserved g c =
           let carried = subst (λ o. CarriesLine (strip_carriage_return c.in-Some.last.now) (option_map asked_said o) c.loop-last.bench c.run_whole_line.new.bench V W) none c.in-Ok-None.ensures.carries in
           carried_next (lines (c.args.text.now ++ more)) (lines (c.loop-last.rest.now ++ more)) (lines (c.in-Some.behind.now ++ more)) (strip_carriage_return c.in-Some.last.now) c.args.before c.loop-last.count
           c.args.bench.now c.loop-last.bench c.run_whole_line.new.bench (g.W.Sink.contents c.args.writer.now) V W (c.loop-last.invariant.3 more) is carried,
+      all_succeed g.W.Sink.calls c.args.writer.now c.loop-last.writer c.run_whole_line.new.writer c.loop-last.invariant.4 c.in-Ok-None.ensures.calls,
     )
 
 pub loop-last-init : goal.loop-last-init
@@ -68,6 +71,7 @@ loop-last-init g c = (
   ([], refl),
   λ plain undrawn more old. goes_start c.args.bench.now (g.W.Sink.contents c.args.writer.now) (c.args.text.now ++ more) c.args.before plain undrawn old,
   λ more. carried_first (lines (c.args.text.now ++ more)) c.args.before c.args.bench.now (g.W.Sink.contents c.args.writer.now),
+  no_calls g.W.Sink.calls c.args.writer.now,
 )
 
 pub returns-in-Err-clause-carries : goal.returns-in-Err-clause-carries
@@ -79,7 +83,7 @@ returns-in-Err-clause-carries g c = λ more.
     let here = carried_as (lines (c.args.text.now ++ more)) (lines (c.args.text.now ++ more)) (lines (c.loop-last.rest.now ++ more)) (strip_carriage_return c.in-Some.last.now ∷ lines (c.in-Some.behind.now ++ more))
     c.args.before c.loop-last.count c.loop-last.count c.args.bench.now c.loop-last.bench U V refl is refl (c.loop-last.invariant.3 more) in
     (refused_next (lines (c.args.text.now ++ more)) (lines (c.in-Some.behind.now ++ more)) (strip_carriage_return c.in-Some.last.now) c.args.before c.loop-last.count c.in-Err.fault
-    c.args.bench.now c.loop-last.bench c.run_whole_line.new.bench U V here c.in-Err.ensures.refused.0 c.in-Err.ensures.refused.1)
+    c.args.bench.now c.loop-last.bench c.run_whole_line.new.bench U V W here c.in-Err.ensures.refused.0 c.in-Err.ensures.refused.1)
 
 pub returns-in-Ok-Some-clause-carries : goal.returns-in-Ok-Some-clause-carries
 returns-in-Ok-Some-clause-carries g c = λ more.
@@ -94,3 +98,9 @@ returns-in-Ok-Some-clause-carries g c = λ more.
     let asked = subst (λ o. CarriesLine (strip_carriage_return c.in-Some.last.now) (option_map asked_said o) c.loop-last.bench c.run_whole_line.new.bench V W) some c.in-Ok-Some.ensures.carries in
     asks_next (lines (c.args.text.now ++ more)) (lines (c.in-Some.behind.now ++ more)) (strip_carriage_return c.in-Some.last.now) c.args.before c.loop-last.count (c.loop-last.count + 1)
     (asked_said c.in-Ok-Some.asked) c.args.bench.now c.loop-last.bench c.run_whole_line.new.bench U V W here asked refl
+
+pub returns-in-Err-clause-calls : goal.returns-in-Err-clause-calls
+returns-in-Err-clause-calls g c = from_lab_behind g.W.Sink.calls c.args.writer.now c.loop-last.writer c.run_whole_line.new.writer c.in-Err.fault.cause c.loop-last.invariant.4 c.in-Err.ensures.calls
+
+pub returns-in-Ok-Some-clause-calls : goal.returns-in-Ok-Some-clause-calls
+returns-in-Ok-Some-clause-calls g c = all_succeed g.W.Sink.calls c.args.writer.now c.loop-last.writer c.run_whole_line.new.writer c.loop-last.invariant.4 c.in-Ok-Some.ensures.calls

@@ -1,6 +1,7 @@
 use Rattle.std.proofs.Common.{◌≡◌, ◌+◌, ◌≤◌, ◌++◌, List, ℕ, length}
 use Rattle.std.specs.List.{All}
 use Rattle.std.specs.Str.Lines.{lines}
+use Rattle.hid_script.specs.Streams.{AllSucceed}
 use Rattle.lab_session.specs.Bench.{moment_of}
 use Rattle.lab_session.specs.Carrying.{CarriedUpTo}
 use Rattle.lab_session.specs.Printed.{IsPlain}
@@ -15,6 +16,7 @@ invariant-loop-last g l =
     × (IsPlain l.fn.bench.options → IsUndrawn (moment_of l.fn.bench) → (more : List ℕ) → All IsScripts (lines (l.fn.text ++ more))
     → GoesOn l.fn.bench (g.W.Sink.contents l.fn.writer) (l.fn.text ++ more) l.fn.before l.bench (g.W.Sink.contents l.writer) (l.rest ++ more) l.count)
     × ((more : List ℕ) → CarriedUpTo (lines (l.fn.text ++ more)) l.fn.before (lines (l.rest ++ more)) l.count l.fn.bench l.bench (g.W.Sink.contents l.fn.writer) (g.W.Sink.contents l.writer))
+    × AllSucceed g.W.Sink.calls l.fn.writer l.writer
 
 abbrev pub decreases-loop-last : goal.decreases-loop-last
 decreases-loop-last g l = length l.rest

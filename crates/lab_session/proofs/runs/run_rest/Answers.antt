@@ -4,6 +4,7 @@ use Rattle.lab_session.specs.Ahead.{unread}
 use Rattle.lab_session.specs.Asking.{asked_said}
 use Rattle.lab_session.specs.Carrying.{AsksLast, FedLines, RanLines}
 use Rattle.lab_session.proofs.CarryLemmas.{asks_as, asks_fail, rest_as}
+use Rattle.lab_session.proofs.CallLemmas.{lines_by, memory_fails}
 use Rattle.lab_session.proofs.DoingLemmas.{err_is}
 use Rattle.lab_session.proofs.RunLemmas.{left_is}
 use Rattle.lab_session.proofs.runs.run_rest.Goals as goal
@@ -33,3 +34,12 @@ returns-in_ok-need-in-Asks-clause-carries g c =
           (last.0 ∙ ap (λ n. n + 1) (c.lines.ensures ∙ sym c.lines-line.ensures) ∙ sym c.advance.ensures.lines) (sym c.in_ok-need-in-Asks.ensures.need)
           (rest_as c.args.ahead.now c.unread.result.now c.lines.result (lines c.in-Asks.rest.now) c.in-Asks.line (asked_said c.in-Asks.asked) c.args.bench.now c.run_last.new.bench U V c.unread.ensures c.lines.ensures ran),
     )
+
+pub returns-in_err-summary-clause-calls : goal.returns-in_err-summary-clause-calls
+returns-in_err-summary-clause-calls g c = lines_by g.W.Sink.calls c.args.writer.now c.run_last.new.writer c.in_err-summary.field-0.0 c.from_residual.result c.in_err-summary.ensures.calls c.from_residual.ensures.1
+
+pub returns-in_err-need-in-Asks-clause-calls : goal.returns-in_err-need-in-Asks-clause-calls
+returns-in_err-need-in-Asks-clause-calls g c =
+    lines_by g.W.Sink.calls c.args.writer.now c.run_last.new.writer c.in_err-need-in-Asks.field-0.0 c.from_residual-in_err-need-in-Asks.result
+    (memory_fails g.W.Sink.calls c.args.writer.now c.run_last.new.writer c.in_err-need-in-Asks.field-0.0 c.in_err-need-in-Asks.ensures.err.1 c.in_ok-summary.ensures.calls)
+    c.from_residual-in_err-need-in-Asks.ensures.1

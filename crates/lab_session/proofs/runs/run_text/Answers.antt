@@ -3,6 +3,7 @@ use Rattle.std.specs.List.{All}
 use Rattle.std.specs.Str.Lines.{lines}
 use Rattle.hid_script.specs.Interpreter.{session_of}
 use Rattle.lab_session.specs.Scripts.{Fails, GoesOn, IsScripts, LinesRan, RunsAsScript}
+use Rattle.lab_session.proofs.CallLemmas.{lines_behind, lines_by}
 use Rattle.lab_session.proofs.DoingLemmas.{err_is}
 use Rattle.lab_session.specs.Asking.{asked_said}
 use Rattle.lab_session.specs.Carrying.{CameLines, RanLines}
@@ -40,7 +41,7 @@ pub returns-in_err-lines-clause-carries : goal.returns-in_err-lines-clause-carri
 returns-in_err-lines-clause-carries g c =
     let U = g.W.Sink.contents c.args.writer.now in
     subst (λ r. RanLines (lines c.args.text.now) 0 c.args.bench.now c.run_lines.new.bench U (g.W.Sink.contents c.run_lines.new.writer) r) (sym (err_is c.from_residual.result _ c.from_residual.ensures.1))
-    (stops_as (lines (c.args.text.now ++ [])) (lines c.args.text.now) 0 c.in_err-lines.field-0.0 c.args.bench.now c.run_lines.new.bench U (ap lines (append-nil c.args.text.now)) (c.in_err-lines.ensures.carries []))
+    (stops_as (lines (c.args.text.now ++ [])) (lines c.args.text.now) 0 c.in_err-lines.field-0.0 c.args.bench.now c.run_lines.new.bench U (g.W.Sink.contents c.run_lines.new.writer) (ap lines (append-nil c.args.text.now)) (c.in_err-lines.ensures.carries []))
 
 pub returns-in-Lines-clause-carries : goal.returns-in-Lines-clause-carries
 returns-in-Lines-clause-carries g c =
@@ -58,3 +59,9 @@ returns-in-Asks-clause-carries g c =
     let came = subst (λ d. CameLines c.args.text.now 0 [] c.args.bench.now c.run_lines.new.bench U V (Ok d)) c.in-Asks.is (c.in_ok-lines.ensures.carries []) in
     asks_as (lines (c.args.text.now ++ [])) (lines c.args.text.now) (lines (c.in-Asks.rest.now ++ [])) (lines c.in-Asks.rest.now) 0 c.in-Asks.lines c.in-Asks.lines (asked_said c.in-Asks.asked) (asked_said c.in-Asks.asked)
     c.args.bench.now c.run_lines.new.bench U V (ap lines (append-nil c.args.text.now)) (ap lines (append-nil c.in-Asks.rest.now)) refl refl came
+
+pub returns-in_err-lines-clause-calls : goal.returns-in_err-lines-clause-calls
+returns-in_err-lines-clause-calls g c = lines_by g.W.Sink.calls c.args.writer.now c.run_lines.new.writer c.in_err-lines.field-0.0 c.from_residual.result c.in_err-lines.ensures.calls c.from_residual.ensures.1
+
+pub returns-in-Lines-clause-calls : goal.returns-in-Lines-clause-calls
+returns-in-Lines-clause-calls g c = lines_behind g.W.Sink.calls c.args.writer.now c.run_lines.new.writer c.run_last.new.writer c.run_last.result c.in_ok-lines.ensures.calls c.run_last.ensures.calls

@@ -1,6 +1,7 @@
 use Rattle.std.proofs.Common.{refl, None, Ok}
 use Rattle.std.specs.Str.Lines.{strip_carriage_return}
 use Rattle.hid_script.specs.Interpreter.{session_of}
+use Rattle.hid_script.proofs.StreamLemmas.{no_calls}
 use Rattle.lab_session.proofs.NothingLemmas.{nothing_done, nothing_expects, nothing_prints}
 use Rattle.lab_session.proofs.RunLemmas.{ran_on}
 use Rattle.lab_session.proofs.runs.run_whole_line.Goals as goal
@@ -22,3 +23,6 @@ returns-then-is_comment-clause-carries g c =
       does = nothing_done line c.args.bench.now (g.W.Sink.contents c.args.writer.now) is;
       expects = nothing_expects line same same c.args.bench.now.came.items (Ok tt) is;
     }
+
+pub returns-then-is_comment-clause-calls : goal.returns-then-is_comment-clause-calls
+returns-then-is_comment-clause-calls g c = no_calls g.W.Sink.calls c.args.writer.now

@@ -12,6 +12,11 @@ use Rattle.lab_lines.specs.LabLines.{said_of}
 use Rattle.lab_session.specs.Bench.{DoesSaid, moment_of}
 use Rattle.lab_session.specs.Lines.{LineDoes, LineUnsettled}
 use Rattle.lab_session.specs.Scripts.{PrintsSaid}
+use Rattle.hid_host.specs.declared.fault.StackFault.TheVariants.{NoDevice}
+use Rattle.hid_script.proofs.StreamLemmas.{no_calls}
+use Rattle.lab_session.specs.declared.fault.LabCause.TheVariants as cause
+use Rattle.lab_session.specs.Calls.{EndsLab, NeedsNoCall}
+use Rattle.lab_session.proofs.CallLemmas.{lab_by, lab_quiet, none_fails, stack_needs_none}
 use Rattle.lab_session.proofs.DoingLemmas.{does_nothing, err_is, however, nothing_said, stays_there}
 use Rattle.lab_session.proofs.bench.Bench.carry_out.Goals as goal
 
@@ -75,3 +80,35 @@ pub returns-in-ExpectAny-clause-does : goal.returns-in-ExpectAny-clause-does
 returns-in-ExpectAny-clause-does g c =
     subst (λ l. OnOk c.expect_any.result (DoesSaid (said_of l) c.args.self.now c.expect_any.new.self (g.W.Sink.contents c.args.writer.now) (g.W.Sink.contents c.args.writer.now)))
     (sym c.in-ExpectAny.is) (however c.expect_any.result _ (stays_there c.args.self.now c.expect_any.new.self (g.W.Sink.contents c.args.writer.now) c.expect_any.ensures.moment c.expect_any.ensures.options))
+
+pub returns-in_err-control-in-Change-clause-calls : goal.returns-in_err-control-in-Change-clause-calls
+returns-in_err-control-in-Change-clause-calls g c =
+    lab_by g.W.Sink.calls c.args.writer.now c.args.writer.now (cause.Script c.in_err-control-in-Change.field-0.0) c.from_residual-in_err-control-in-Change.result
+    (none_fails g.W.Sink.calls c.args.writer.now c.args.writer.now c.in_err-control-in-Change.field-0.0 c.in_err-control-in-Change.ensures.err (no_calls g.W.Sink.calls c.args.writer.now)) c.from_residual-in_err-control-in-Change.ensures.1
+
+pub returns-in_err-control-in-Click-clause-calls : goal.returns-in_err-control-in-Click-clause-calls
+returns-in_err-control-in-Click-clause-calls g c =
+    lab_by g.W.Sink.calls c.args.writer.now c.args.writer.now (cause.Script c.in_err-control-in-Click.field-0.0) c.from_residual-in_err-control-in-Click.result
+    (none_fails g.W.Sink.calls c.args.writer.now c.args.writer.now c.in_err-control-in-Click.field-0.0 c.in_err-control-in-Click.ensures.err (no_calls g.W.Sink.calls c.args.writer.now)) c.from_residual-in_err-control-in-Click.ensures.1
+
+pub returns-in_err-lose-in-Lose-clause-calls : goal.returns-in_err-lose-in-Lose-clause-calls
+returns-in_err-lose-in-Lose-clause-calls g c =
+    lab_by g.W.Sink.calls c.args.writer.now c.args.writer.now (cause.Script c.in_err-lose-in-Lose.field-0.0) c.from_residual-in_err-lose-in-Lose.result
+    (none_fails g.W.Sink.calls c.args.writer.now c.args.writer.now c.in_err-lose-in-Lose.field-0.0 (subst NeedsNoCall (sym c.in_err-lose-in-Lose.ensures.err.0) (stack_needs_none NoDevice)) (no_calls g.W.Sink.calls c.args.writer.now))
+    c.from_residual-in_err-lose-in-Lose.ensures.1
+
+pub returns-in-Nothing-clause-calls : goal.returns-in-Nothing-clause-calls
+returns-in-Nothing-clause-calls g c = no_calls g.W.Sink.calls c.args.writer.now
+
+pub returns-in_ok-lose-in-Lose-clause-calls : goal.returns-in_ok-lose-in-Lose-clause-calls
+returns-in_ok-lose-in-Lose-clause-calls g c = no_calls g.W.Sink.calls c.args.writer.now
+
+pub returns-in-Expect-clause-calls : goal.returns-in-Expect-clause-calls
+returns-in-Expect-clause-calls g c = lab_quiet g.W.Sink.calls c.args.writer.now c.args.writer.now c.expect.result c.expect.ensures.quiet (no_calls g.W.Sink.calls c.args.writer.now)
+
+pub returns-in-ExpectNone-clause-calls : goal.returns-in-ExpectNone-clause-calls
+returns-in-ExpectNone-clause-calls g c = lab_quiet g.W.Sink.calls c.args.writer.now c.args.writer.now c.expect_none.result c.expect_none.ensures.quiet (no_calls g.W.Sink.calls c.args.writer.now)
+
+pub returns-in-ExpectAny-clause-calls : goal.returns-in-ExpectAny-clause-calls
+returns-in-ExpectAny-clause-calls g c =
+    subst (EndsLab g.W.Sink.calls c.args.writer.now c.args.writer.now) (sym c.expect_any.ensures.result) (no_calls g.W.Sink.calls c.args.writer.now)

@@ -6,6 +6,9 @@ use Rattle.lab_lines.specs.LabLines.{lab_meaning, said_of, refusal_of}
 use Rattle.lab_session.specs.declared.fault.LabCause.TheVariants.{Script}
 use Rattle.lab_session.specs.Expecting.{ReadExpects}
 use Rattle.lab_session.specs.Scripts.{PrintsAs, end_of}
+use Rattle.hid_script.proofs.StreamLemmas.{no_calls}
+use Rattle.lab_session.specs.Calls.{NeedsNoCall}
+use Rattle.lab_session.proofs.CallLemmas.{none_fails, unread_needs_none}
 use Rattle.lab_session.proofs.DoingLemmas.{err_is, line_unsettled}
 use Rattle.lab_session.proofs.ExpectingLemmas.{expects_said}
 use Rattle.lab_session.proofs.ScriptLineLemmas.{as_script, unread_refused}
@@ -46,3 +49,7 @@ pub returns-in-Err-clause-expects : goal.returns-in-Err-clause-expects
 returns-in-Err-clause-expects g c =
     subst (λ m. ReadExpects m c.args.self.now.printer.transcript c.args.self.now.printer.transcript c.args.self.now.came.items (Err (Script c.unread_cause.result)))
     (c.in-Err.ensures.exact c.requires) tt
+
+pub returns-in-Err-clause-calls : goal.returns-in-Err-clause-calls
+returns-in-Err-clause-calls g c =
+    none_fails g.W.Sink.calls c.args.writer.now c.args.writer.now c.unread_cause.result (subst NeedsNoCall (sym c.unread_cause.ensures) (unread_needs_none (refusal_of c.in-Err.unread))) (no_calls g.W.Sink.calls c.args.writer.now)

@@ -1,10 +1,14 @@
 use Rattle.std.proofs.Common.{refl}
 use Rattle.lab_session.specs.Parts.{ShowsValues, PartPrints}
+use Rattle.lab_session.proofs.CallLemmas.{of_text}
 use Rattle.lab_session.proofs.DoingLemmas.{did_once}
+use Rattle.lab_session.proofs.WaitLemmas.{leaves_awaited}
 use Rattle.lab_session.proofs.bench.Bench.print_values.Goals as goal
 
 pub returns : goal.returns
 unfolding PartPrints
 returns g c = record {
-  does = did_once (ShowsValues c.args.report.now) c.args.self.now _ c.clear.new.self.items c.print_values_of-part.new.writer.items c.as_slice.result.now _ _ c.print_values_of-part.result c.print_part.result c.clear.ensures.items c.as_slice.ensures.value c.print_values_of-part.ensures.prints c.print_part.ensures.written c.print_part.ensures.ok (λ dev. refl) refl c.print_part.ensures.kept;
+  does = did_once (ShowsValues c.args.report.now) c.args.self.now _ c.clear.new.self.items c.print_values_of-part.new.writer.items c.as_slice.result.now _ _ c.print_values_of-part.result c.print_part.result c.clear.ensures.items c.as_slice.ensures.value c.print_values_of-part.ensures.prints c.print_part.ensures.written c.print_part.ensures.ok (λ dev. refl) refl
+      (leaves_awaited (ShowsValues c.args.report.now) _ _ (λ dev request e. absurd (cc)) (λ dev. refl)) c.print_part.ensures.kept;
+  calls = c.print_part.ensures.calls (of_text _ c.clear.new.self c.print_values_of-part.new.writer c.print_values_of-part.result c.print_values_of-part.ensures.outside);
 }

@@ -4,6 +4,8 @@ use Rattle.hid_script.specs.Interpreter.{session_of}
 use Rattle.hid_script.proofs.SessionLemmas.{line_written, line_refused}
 use Rattle.lab_session.specs.Lines.{DoesPart, ScriptLineDoes}
 use Rattle.lab_session.specs.Parts.{Says}
+use Rattle.hid_script.proofs.StreamLemmas.{from_line, no_calls}
+use Rattle.lab_session.proofs.CallLemmas.{step_by}
 use Rattle.lab_session.proofs.DoingLemmas.{ok_does_so}
 use Rattle.lab_session.proofs.bench.Bench.script_line.Goals as goal
 
@@ -22,3 +24,7 @@ returns-in-Ok-clause-does g c =
     let is : c.read_line.result ≡ Ok c.in-Ok.said = cc in
     let says : meaning_of c.args.line.now ≡ Ok c.in-Ok.said = sym c.read_line.ensures.exact ∙ is in
     ok_does_so c.said_line.result (DoesPart (Says c.in-Ok.said)) (ScriptLineDoes c.args.line.now) _ _ _ _ (λ parts text k. (c.in-Ok.said, says, k)) c.said_line.ensures.does
+
+pub returns-in-Err-clause-calls : goal.returns-in-Err-clause-calls
+returns-in-Err-clause-calls g c =
+    step_by {A = Unit {0}} g.W.Sink.calls c.args.writer.now c.args.writer.now _ (Err c.from.result) (from_line g.W.Sink.calls c.args.writer.now c.args.writer.now c.in-Err.fault (no_calls g.W.Sink.calls c.args.writer.now)) c.from.ensures

@@ -4,6 +4,7 @@ use Rattle.hid_bus.specs.declared.step.Step.TheVariants.{Control}
 use Rattle.hid_script.specs.Interpreter.{session_of}
 use Rattle.hid_script.specs.Session.{Repeats, success}
 use Rattle.hid_script.specs.Steps.{StepPrints}
+use Rattle.hid_script.specs.Streams.{AllSucceed}
 use Rattle.lab_session.specs.Bench.{Does}
 use Rattle.lab_session.specs.Chances.{chance_at}
 use Rattle.lab_session.specs.Lines.{Often, Tries}
@@ -18,3 +19,4 @@ invariant-loop g l =
     → (chance_at l.self.draws l.dev ≡ None)
     × (written : List ℕ) × Appends (g.W.Sink.contents l.fn.writer) (g.W.Sink.contents l.writer) written
     × Repeats l.counter (StepPrints (Control l.dev l.fate)) (session_of l.fn.self.interpreter) (success written (session_of l.self.interpreter)))
+    × AllSucceed g.W.Sink.calls l.fn.writer l.writer
