@@ -76,6 +76,7 @@ impl Flags {
     }
 
     /// Presses or releases the one at an index.
+    #[inline(always)]
     pub fn set(&mut self, index: usize, pressed: bool)
         requires { index < length self.old }
         ensures { self.new ≡ slice_set self.old index pressed }
@@ -177,6 +178,7 @@ impl Flags {
     }
 
     /// The first place from one on that is pressed here and not in the other; a number is left after it.
+    #[inline(always)]
     pub fn next_alone(&self, other: &Flags, from: usize) -> Option<usize>
         ensures first { FindsFirst (is_alone self.now other.now) from (length self.now) result }
         ensures behind { IfSome result (λ place. place + 1 < 2 ^ 64) }

@@ -1,11 +1,12 @@
 //! An item whose changes are events, with the usages of its elements: those of one range are found out once for all of its events.
 
-ghost use Rattle.std.specs.Prelude.{◌≡◌, ℕ, ◌<◌, ◌+◌, ◌^◌, length, slice_get, Some};
+ghost use Rattle.std.specs.Prelude.{◌≡◌, ℕ, ◌<◌, ◌≤◌, ◌+◌, ◌^◌, length, slice_get, Some, IfSome};
+ghost use Rattle.std.specs.Bool.{OnTrue};
 ghost use Rattle.hid_report_descriptor.specs.declared.usage.Usage.{Usage as UsageValue};
 ghost use Rattle.hid_layout.specs.Layout.{Contents};
 ghost use Rattle.hid_snapshots.specs.Events.{control_at, switch_event, motion_event};
 ghost use Rattle.hid_usages.specs.Appending.{HasSpace, Appends};
-ghost use Rattle.hid_usages.specs.EventSources.{AreUsages, IsSource, number_event, null_event, usage_in_range, usages_of_source};
+ghost use Rattle.hid_usages.specs.EventSources.{AreUsages, Follows, IsRun, IsSource, number_event, null_event, usage_in_range, usages_of_source};
 
 use crate::view_changes::{motion_event, switch_event, usage_by_ranges};
 use hid_layout::{ControlId, Layout, Usage};
@@ -25,6 +26,13 @@ pub(crate) struct ItemUsages {
     pub(crate) end: u32,
 }
 
+/// Ranges of an item, from the first one on, and how many usages they give.
+#[derive(Clone, Copy)]
+struct UsageRun {
+    ranges: usize,
+    count: usize,
+}
+
 /// An item of a layout, at its place there, whose changes are events.
 #[derive(Clone, Copy)]
 pub(crate) struct EventSource<'a> {
@@ -33,8 +41,31 @@ pub(crate) struct EventSource<'a> {
     pub(crate) usages: &'a ItemUsages,
 }
 
-/// The usages that the first range of an item gives. Where there is no other one, it gives those of all elements.
-#[inline(always)]
+/// Whether the usages of a range follow so many from a first one on, on the same page.
+fn follows(entry: &(Usage, Usage), first: Usage, count: usize) -> bool
+    requires { count ≤ 2 ^ 16 }
+    ensures { OnTrue result (Follows entry.now first count) }
+{
+    entry.0.page == first.page && usize::from(entry.0.id) == usize::from(first.id) + count
+}
+
+/// The first ranges of an item whose usages follow each other.
+fn first_run(entries: &[(Usage, Usage)], first: Usage) -> UsageRun
+    requires some { 0 < length entries.now }
+    requires first { IfSome (slice_get entries.now 0) (λ entry. entry.0 ≡ first) }
+    ensures { IsRun entries.now first result }
+{
+    let mut count = entry_count(&entries[0]);
+    let mut ranges = 1;
+    while ranges < entries.len() && follows(&entries[ranges], first, count) {
+        count += entry_count(&entries[ranges]);
+        ranges += 1;
+    }
+    UsageRun { ranges, count }
+}
+
+/// The usages that the first ranges of an item give, as long as they follow each other. Where there is no other range, they are
+/// those of all elements.
 pub(crate) fn item_usages(layout: &Layout, item: usize) -> ItemUsages
     requires { item < length layout.now.items }
     ensures { AreUsages layout.now item result }
@@ -47,11 +78,11 @@ pub(crate) fn item_usages(layout: &Layout, item: usize) -> ItemUsages
         return no_usages();
     }
     let (first, _) = entries[0];
-    let count = entry_count(&entries[0]);
+    let UsageRun { ranges, count } = first_run(entries, first);
     if count == 0 {
         return no_usages();
     }
-    let end = if entries.len() == 1 {
+    let end = if ranges == entries.len() {
         u32::MAX
     } else {
         count as u32

@@ -38,9 +38,9 @@ fn usage_place(item: &MainItem, entries: &[(Usage, Usage)], index: usize) -> usi
 /// How many ranges of usages are few: going over them takes less than a search.
 const FEW_RANGES: usize = 4;
 
-/// The usage at a place of an item's usage list: a few ranges are gone over, and more are searched by bisection.
-#[inline(always)]
-pub(crate) fn listed_usage(
+/// The usage at a place of an item's usage list, by all ranges: a few are gone over, and more are searched by bisection.
+#[inline(never)]
+fn usage_listed(
     layout: &Layout,
     item: usize,
     entries: &[(Usage, Usage)],
@@ -54,6 +54,24 @@ pub(crate) fn listed_usage(
         usage_in(entries, place)
     } else {
         layout.usage(item, place)
+    }
+}
+
+/// The usage at a place of an item's usage list: the first range is asked before the others.
+#[inline(always)]
+pub(crate) fn listed_usage(
+    layout: &Layout,
+    item: usize,
+    entries: &[(Usage, Usage)],
+    place: usize,
+) -> Option<Usage>
+    requires listed { item < length layout.now.items }
+    requires entries { slice_get layout.now.entries item ≡ Some entries.now }
+    ensures { result ≡ slice_get (usage_list entries.now) place }
+{
+    match first_usage(entries, place) {
+        Some(usage) => Some(usage),
+        None => usage_listed(layout, item, entries, place),
     }
 }
 
@@ -71,6 +89,7 @@ fn usage_past(layout: &Layout, item: usize, index: usize) -> Usage
 }
 
 /// The usage at a place of the first range; none where it has fewer.
+#[inline(always)]
 fn first_usage(entries: &[(Usage, Usage)], place: usize) -> Option<Usage>
     ensures { IfSome result (λ usage. slice_get (usage_list entries.now) place ≡ Some usage) }
 {
@@ -94,7 +113,7 @@ pub(crate) fn usage_by_ranges(layout: &Layout, item: usize, index: usize) -> Usa
     requires { index < length (usages_at layout.now item) }
     ensures { slice_get (usages_at layout.now item) index ≡ Some result }
 {
-    match listed_usage(layout, item, layout.entries(item), index) {
+    match usage_listed(layout, item, layout.entries(item), index) {
         Some(usage) => usage,
         None => usage_past(layout, item, index),
     }
