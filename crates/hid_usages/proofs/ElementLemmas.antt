@@ -143,6 +143,10 @@ pub record IsReading {A : Type 0} {Z : Type 0} (read : A × ℤ → A) (tell : �
   pub within : i ≤ length start
   pub same_room : vec_capacity out ≡ vec_capacity before
 
+-- the element that comes next
+pub found_here : {A : Type 0} (read : A × ℤ → A) (held : List A) (numbers : List ℤ) (k : ℕ) → k < length held → FindsKept read held numbers k (length held) (Some k)
+found_here read held numbers k within = (omega arith, within, λ j x v low high. absurd (omega arith))
+
 -- up to an element that is found, those before it are read
 found_next : {A : Type 0} {Z : Type 0} (read : A × ℤ → A) (tell : ℕ → Usage → A × A → List Event) (us : List Usage) (start : List A) (numbers : List ℤ) → AreReadable read tell us start numbers
     → (before : Vec Event Z) (all : List Event) (now : List A) (out : Vec Event Z) (i k : ℕ) → FindsKept read now numbers i (length now) (Some k)
@@ -267,56 +271,3 @@ same_option None None h = refl
 same_option None (Some b) h = absurd (cc)
 same_option (Some a) None h = absurd (cc)
 same_option (Some a) (Some b) h = ap (λ (n : ℤ). Some n) (same_numbers a b h)
-
--- a switch stays where it is the bit of its number
-pub bit_kept : (held : List Bool) (numbers : List ℤ) (index word b j : ℕ) (x : Bool) (v : ℤ) → IsWordOf numbers index word → 64 * index + b ≡ j → b < 64 → slice_get held j ≡ Some x → slice_get numbers j ≡ Some v
-    → is_unlike held index word b ≡ false → read_switch x v ≡ x
-bit_kept held numbers index word b j x v is place low here number stays =
-    let within : 64 * index + b < length numbers = omega (arith, slice_get_within numbers j v number) in
-    let there : Some v ≡ Some (pos (bit_at word b)) = sym number ∙ ap (λ (n : ℕ). slice_get numbers n) (sym place) ∙ is.bits b low within in
-    let bit : v ≡ pos (bit_at word b) = cc in
-    let on : is_on held (64 * index + b) ≡ x = ap (λ (n : ℕ). is_on held n) place ∙ ap (λ (o : Option Bool). unwrap_or o false) here in
-    ap (λ (w : ℤ). read_switch x w) bit ∙ sym (switch_of x (bit_at word b) (bit_at-lt word b))
-    ∙ sym (same_flag (is_on held (64 * index + b)) (bit_at word b == 1) stays) ∙ on
-
-same_as_itself : (x : Bool) → not (beq x x) ≡ false
-same_as_itself true = refl
-same_as_itself false = refl
-
--- a switch doesn't stay where it isn't the bit of its number
-pub bit_changed : (held : List Bool) (numbers : List ℤ) (index word b j : ℕ) (x : Bool) (v : ℤ) → IsWordOf numbers index word → 64 * index + b ≡ j → b < 64 → slice_get held j ≡ Some x → slice_get numbers j ≡ Some v
-    → is_unlike held index word b ≡ true → read_switch x v ≢ x
-bit_changed held numbers index word b j x v is place low here number hit = λ stays.
-    let within : 64 * index + b < length numbers = omega (arith, slice_get_within numbers j v number) in
-    let there : Some v ≡ Some (pos (bit_at word b)) = sym number ∙ ap (λ (n : ℕ). slice_get numbers n) (sym place) ∙ is.bits b low within in
-    let bit : v ≡ pos (bit_at word b) = cc in
-    let on : is_on held (64 * index + b) ≡ x = ap (λ (n : ℕ). is_on held n) place ∙ ap (λ (o : Option Bool). unwrap_or o false) here in
-    let read : (bit_at word b == 1) ≡ x = switch_of x (bit_at word b) (bit_at-lt word b) ∙ ap (λ (w : ℤ). read_switch x w) (sym bit) ∙ stays in
-    let no : is_unlike held index word b ≡ false = ap (λ (o : Bool). not (beq o (bit_at word b == 1))) on ∙ ap (λ (o : Bool). not (beq x o)) read ∙ same_as_itself x in
-    absurd (cc)
-
--- a switch that doesn't stay turns
-pub turned_by : (x y : Bool) → y ≢ x → y ≡ not x
-turned_by true true h = absurd (h refl)
-turned_by false false h = absurd (h refl)
-turned_by true false h = refl
-turned_by false true h = refl
-
-pub other_flag : (a b : Bool) → not (beq a b) ≡ true → a ≢ b
-other_flag true true h = absurd (cc)
-other_flag false false h = absurd (cc)
-other_flag true false h = λ e. absurd (cc)
-other_flag false true h = λ e. absurd (cc)
-
--- a bit that isn't the same as a switch is one of a number
-pub unlike_within : (held : List Bool) (numbers : List ℤ) (index word b : ℕ) → IsWordOf numbers index word → length numbers ≡ length held → is_unlike held index word b ≡ true → 64 * index + b < length held
-unlike_within held numbers index word b is same hit = elim (cases_Bool (is_on held (64 * index + b))) [
-  | inl on ↦ on_within held (64 * index + b) on
-  | inr off ↦ elim (cases_lt (64 * index + b) (length held)) [
-    | inl within ↦ within
-    | inr past ↦
-        let none : bit_at word b ≡ 0 = is.behind b (omega arith) in
-        let no : is_unlike held index word b ≡ false = ap (λ (o : Bool). not (beq o (bit_at word b == 1))) off ∙ ap (λ (n : ℕ). not (beq false (n == 1))) none in
-        absurd (cc)
-  ]
-]

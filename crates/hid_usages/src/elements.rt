@@ -1,13 +1,12 @@
 //! The elements of a variable item, which the numbers of a report set one by one, and their events.
 
-ghost use Rattle.std.specs.Prelude.{◌≡◌, ◌≢◌, ◌+◌, ◌*◌, ◌^◌, ◌<◌, ◌≤◌, min, not, List, ℤ, Some, length, slice_get, IfSome};
+ghost use Rattle.std.specs.Prelude.{◌≡◌, ◌≢◌, ◌+◌, ◌^◌, ◌<◌, ◌≤◌, Some, length, slice_get, IfSome};
 ghost use Rattle.std.specs.Bool.{OnTrue, OnFalse};
 ghost use Rattle.hid_snapshots.specs.Events.{control_at, switch_event, value_event};
-ghost use Rattle.hid_snapshots.specs.Numbers.{IsWordOf};
 ghost use Rattle.hid_usages.specs.Appending.{HasSpace, Appends};
 ghost use Rattle.hid_usages.specs.Elements.{switch_by_number, value_by_number, read_all, switch_events_read, value_events_read, OfElement, BecomesAt};
 ghost use Rattle.hid_usages.specs.EventSources.{IsSource, usages_of_source};
-ghost use Rattle.hid_usages.specs.Keeping.{AreKept, FindsKept, FindsNumber, IsChanged, KeepsOthers};
+ghost use Rattle.hid_usages.specs.Keeping.{AreKept, FindsNumber, IsChanged, KeepsOthers};
 ghost use Rattle.hid_usages.specs.Reading.{is_in, read_switch};
 
 use crate::event_source::{EventSource, push_null, push_number, push_switch};
@@ -46,120 +45,32 @@ fn read_switch(before: bool, number: &i64) -> bool
     }
 }
 
-/// The first switch from one on, of the 64 at an index, that isn't a bit of this word.
-fn next_by_word(held: &Flags, index: usize, word: u64, from: usize) -> Option<usize>
-    requires low { 64 * index ≤ from }
-    requires high { from < 64 * index + 64 }
-    requires within { 64 * index < length held.now }
-    ensures found { (numbers : List ℤ) → IsWordOf numbers index word
-        → length numbers ≡ length held.now → FindsKept switch_by_number held.now numbers from
-        (min (64 * index + 64) (length held.now)) result }
-    ensures changed { (numbers : List ℤ) → IsWordOf numbers index word
-        → length numbers ≡ length held.now
-        → IfSome result (IsChanged switch_by_number held.now numbers) }
-{
-    match held.first_unlike(index, word, from - 64 * index) {
-        Some(bit) => Some(64 * index + bit),
-        None => None,
-    }
-}
-
-/// The first switch from one on, before an end, that its number changes.
+/// Sets the switch at an index by an element's number, and appends its event, if it changes.
 #[inline(always)]
-fn next_by_number<C: FieldCodec>(
-    held: &Flags,
-    numbers: &FieldRun<'_>,
-    from: usize,
-    end: usize,
-) -> Option<usize>
-    requires numbers { length numbers.now ≡ length held.now }
-    requires end { end ≤ length held.now }
-    ensures found { FindsKept switch_by_number held.now numbers.now from end result }
-    ensures changed { IfSome result (IsChanged switch_by_number held.now numbers.now) }
-{
-    for index in from..end {
-        let number = numbers.number::<C>(index);
-        let before = held.get(index);
-        if read_switch(before, &number) != before {
-            return Some(index);
-        }
-    }
-    None
-}
-
-/// The first switch from one on, of the 64 at an index, that its number changes: bits are compared at once.
-#[inline(always)]
-fn next_of_64<C: FieldCodec>(
-    held: &Flags,
-    numbers: &FieldRun<'_>,
+fn take_switch(
+    source: &EventSource<'_>,
     index: usize,
-    from: usize,
-) -> Option<usize>
-    requires numbers { length numbers.now ≡ length held.now }
-    requires low { 64 * index ≤ from }
-    requires high { from < 64 * index + 64 }
-    requires within { 64 * index < length held.now }
-    ensures found { FindsKept switch_by_number held.now numbers.now from
-        (min (64 * index + 64) (length held.now)) result }
-    ensures changed { IfSome result (IsChanged switch_by_number held.now numbers.now) }
-{
-    match numbers.word::<C>(index) {
-        Some(word) => next_by_word(held, index, word, from),
-        None => {
-            let rest = held.len() - 64 * index;
-            next_by_number::<C>(held, numbers, from, 64 * index + rest.min(64))
-        }
-    }
-}
-
-/// The first switch from one on that its number changes. Those from an end on are left by theirs.
-#[inline(always)]
-fn next_switch<C: FieldCodec>(
-    held: &Flags,
-    numbers: &FieldRun<'_>,
-    from: usize,
-    end: usize,
-) -> Option<usize>
-    requires numbers { length numbers.now ≡ length held.now }
-    requires end { end ≤ length held.now }
-    requires after { AreKept switch_by_number held.now numbers.now end (length held.now) }
-    ensures found { FindsKept switch_by_number held.now numbers.now from
-        (length held.now) result }
-    ensures changed { IfSome result (IsChanged switch_by_number held.now numbers.now) }
-    ensures bound { IfSome result (λ place. place + 1 < 2 ^ 64) }
-{
-    // For the prover: how many switches there are at most.
-    let _ = held.len();
-
-    if end <= from {
-        return None;
-    }
-    for k in from / 64..end.div_ceil(64) {
-        match next_of_64::<C>(held, numbers, k, from.max(64 * k)) {
-            Some(index) => return Some(index),
-            None => {}
-        }
-    }
-    None
-}
-
-/// Turns the switch at an index, and appends its event.
-#[inline(always)]
-fn take_switch(source: &EventSource<'_>, index: usize, held: &mut Flags, out: &mut Vec<Event>)
+    number: &i64,
+    held: &mut Flags,
+    out: &mut Vec<Event>,
+)
     requires source { IsSource source.now }
     requires index { index < length (usages_of_source source.now) }
     requires held { length held.old ≡ length (usages_of_source source.now) }
     requires room { OfElement source.now.layout.now source.now.item index held.old
-        (λ usage before. HasSpace out.old
-        (switch_event (control_at source.now.item index) usage before (not before))) }
-    ensures held { BecomesAt index not held.old held.new }
+        (λ usage before. HasSpace out.old (switch_event (control_at source.now.item index) usage
+        before (read_switch before number.now))) }
+    ensures held { BecomesAt index (λ before. read_switch before number.now) held.old held.new }
     ensures appends { OfElement source.now.layout.now source.now.item index held.old
-        (λ usage before. Appends out.old
-        (switch_event (control_at source.now.item index) usage before (not before)) out.new) }
+        (λ usage before. Appends out.old (switch_event (control_at source.now.item index) usage
+        before (read_switch before number.now)) out.new) }
 {
     let before = held.get(index);
-    push_switch(source, index, before, !before, out);
-    held.set(index, !before);
+    let after = read_switch(before, number);
+    if before != after {
+        push_switch(source, index, before, after, out);
+        held.set(index, after);
+    }
 }
 
 /// Sets switches by these numbers, and appends their events. Those outside of a range are left by theirs.
@@ -182,10 +93,9 @@ pub(crate) fn take_switches<C: FieldCodec>(
     ensures appends { Appends out.old
         (switch_events_read source.now.layout.now source.now.item held.old numbers.now) out.new }
 {
-    let mut from = range.first;
-    while let Some(index) = next_switch::<C>(held, numbers, from, range.end) {
-        take_switch(source, index, held, out);
-        from = index + 1;
+    for index in range.first..range.end {
+        let number = numbers.number::<C>(index);
+        take_switch(source, index, &number, held, out);
     }
 }
 

@@ -1,4 +1,4 @@
-use Rattle.std.proofs.Common.{◌-◌, length}
+use Rattle.std.proofs.Common.{length}
 use Rattle.hid_snapshots.specs.Events.{usages_at, control_at, switch_event}
 use Rattle.hid_usages.specs.Elements.{switch_by_number, switch_events_read}
 use Rattle.hid_usages.specs.Keeping.{AreKept}
@@ -10,9 +10,6 @@ invariant-loop-index g l =
     record {
       reading : IsReading switch_by_number (λ j u p. switch_event (control_at l.source.item j) u p.0 p.1)
           (usages_at l.source.layout.now l.source.item) l.fn.held l.numbers l.fn.out
-          (switch_events_read l.source.layout.now l.source.item l.fn.held l.numbers) l.held l.out l.from;
-      after : AreKept switch_by_number l.held l.numbers l.range.end (length l.held);
+          (switch_events_read l.source.layout.now l.source.item l.fn.held l.numbers) l.held l.out l.index;
+      after : AreKept switch_by_number l.held l.numbers l.fn.range.end (length l.held);
     }
-
-abbrev pub decreases-loop-index : goal.decreases-loop-index
-decreases-loop-index g l = length (usages_at l.source.layout.now l.source.item) - l.from
