@@ -1,16 +1,14 @@
 -- What leads from a view back to the initial one.
-use Rattle.std.proofs.Common.{◌≡◌, ℕ, zero, suc, ◌+◌, ◌<◌, ◌≤◌, ℤ, Bool, true, false, List, [], ◌∷◌, ◌++◌, length, replicate, Option, Some, append-nil, refl, sym, ap, ◌∙◌, arith}
+use Rattle.std.proofs.Common.{◌≡◌, ℕ, zero, suc, ◌+◌, ◌<◌, ◌≤◌, Bool, true, false, List, [], ◌∷◌, ◌++◌, length, replicate, Some, append-nil, refl, sym, ap, ◌∙◌, arith}
 use Rattle.std.specs.List.{slice_get, zip}
 use Rattle.hid_report_descriptor.specs.declared.usage.Usage.{Usage}
-use Rattle.hid_layout.specs.declared.control.Controls.TheVariants as head
-use Rattle.hid_layout.specs.declared.control.ControlKind.{ControlKind}
 use Rattle.hid_layout.specs.declared.control.ControlKind.TheVariants.{Switch, Value, NullValue, Relative}
 use Rattle.hid_layout.specs.Controls.{Form, NoControls, Elements, Keys, Item, form_at, controls_of_form, max_events}
 use Rattle.hid_snapshots.specs.declared.control_state.ControlState.{ControlState}
-use Rattle.hid_snapshots.specs.declared.control_state.ControlState.TheVariants.{Absent, Switches, Values, Motions, RollOver}
+use Rattle.hid_snapshots.specs.declared.control_state.ControlState.TheVariants.{Switches}
 use Rattle.hid_snapshots.specs.declared.event.Event.{Event}
-use Rattle.hid_snapshots.specs.ControlStates.{blank, blank_state, first_value, FitsShown, FitsView, HasRoom, InView}
-use Rattle.hid_snapshots.specs.Events.{control_at, element_list_events, switch_event, up_event, down_event, ups, usages_of, key_usages, element_events, change_events}
+use Rattle.hid_snapshots.specs.ControlStates.{blank, blank_state, FitsShown, FitsView, HasRoom, InView}
+use Rattle.hid_snapshots.specs.Events.{control_at, element_list_events, switch_event, up_event, down_event, ups, usages_of, key_usages, change_events}
 use Rattle.hid_snapshots.specs.Views.{changes_between}
 use Rattle.hid_snapshots.proofs.BlankLemmas.{blank_in_view, blank_room, suits_all}
 use Rattle.hid_snapshots.proofs.ItemLemmas.{got, form_at-is}
@@ -64,43 +62,6 @@ pressed_back i (Keys elements rolls keys) bs named room none within =
     ap (λ (es : List Event). ups i (key_usages keys) bs (replicate (length keys) false) ++ es) (downs_none i 0 (key_usages keys) bs (length keys))
     ∙ append-nil (ups i (key_usages keys) bs (replicate (length keys) false))
     ∙ ups_none i (key_usages keys) bs named (length keys) none within room
-
--- values become the first one
-pub holding_back : (i : ℕ) (form : Form) (bs : List (Option ℤ)) → HasRoom (controls_of_form form) (Values bs)
-    → change_events i form (Values bs) (blank_state (controls_of_form form))
-    ≡ element_events i (usages_of form) (Values bs) (blank_state (controls_of_form form))
-holding_back i NoControls bs room = absurd room
-holding_back i (Elements kind least greatest us) bs room = refl
-holding_back i (Keys elements rolls keys) bs room = absurd room
-
-pub values_blank : (kind : ControlKind) (least greatest : ℤ) (n : ℕ) (bs : List (Option ℤ))
-    → HasRoom (head.Elements kind least greatest n) (Values bs)
-    → blank_state (head.Elements kind least greatest n)
-    ≡ Values (replicate (length bs) (first_value kind least greatest))
-values_blank Switch least greatest n bs room = absurd room
-values_blank Value least greatest n bs room =
-    ap (λ (k : ℕ). Values (replicate k (first_value Value least greatest))) (sym room)
-values_blank NullValue least greatest n bs room =
-    ap (λ (k : ℕ). Values (replicate k (first_value NullValue least greatest))) (sym room)
-values_blank Relative least greatest n bs room = absurd room
-
--- nothing else tells something
-pub vacant_back : (i : ℕ) (form : Form) (after : ControlState) → change_events i form Absent after ≡ []
-vacant_back i NoControls after = refl
-vacant_back i (Elements kind least greatest us) after = refl
-vacant_back i (Keys elements rolls keys) after = refl
-
-pub moved_back : (i : ℕ) (form : Form) (ms : List ℤ) (after : ControlState)
-    → change_events i form (Motions ms) after ≡ []
-moved_back i NoControls ms after = refl
-moved_back i (Elements kind least greatest us) ms after = refl
-moved_back i (Keys elements rolls keys) ms after = refl
-
-pub rolled_back : (i : ℕ) (form : Form) (ps : List Bool) (after : ControlState)
-    → change_events i form (RollOver ps) after ≡ []
-rolled_back i NoControls ps after = refl
-rolled_back i (Elements kind least greatest us) ps after = refl
-rolled_back i (Keys elements rolls keys) ps after = refl
 
 pub blank_there : (items : List Item) (i : ℕ) → i < length items
     → slice_get (blank items) i ≡ Some (blank_state (controls_of_form (form_at items i)))

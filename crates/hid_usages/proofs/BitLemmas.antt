@@ -21,7 +21,7 @@ use Rattle.hid_snapshots.proofs.ItemLemmas.{got}
 use Rattle.hid_report_descriptor.specs.declared.usage.Usage.{Usage}
 use Rattle.hid_snapshots.specs.declared.event.Event.{Event}
 use Rattle.hid_snapshots.specs.declared.event.Event.TheVariants as event
-use Rattle.hid_snapshots.specs.Events.{control_at, switch_event, switch_events, usages_of, usages_at, element_events, change_events}
+use Rattle.hid_snapshots.specs.Events.{control_at, switch_event, usages_of, usages_at, element_events, change_events}
 use Rattle.hid_usages.specs.Reading.{read_switch, read_state, motion_state, item_numbers}
 use Rattle.hid_usages.specs.Bits.{is_variable, are_bits, read_bits}
 use Rattle.hid_layout.specs.ControlKinds.{is_switch}
@@ -256,35 +256,3 @@ reads_as_bits layout bytes i m state laid listed form bits room =
           ∙ ap (λ (f : Form). change_events i f state after
           ++ form_motions i f (motion_state f (item_numbers layout bytes m))) (sym is);
     }
-
--- A pattern of one bit is that of one switch.
-pub bit_alone : (n pattern : ℕ) → n ≡ 1 → pattern < 2 → bits_in n pattern ≡ (pattern == 1) ∷ []
-unfolding bits_in
-bit_alone zero pattern one fits = absurd (omega (arith, one))
-bit_alone (suc zero) zero one fits = refl
-bit_alone (suc zero) (suc zero) one fits = refl
-bit_alone (suc zero) (suc (suc pattern)) one fits = absurd (omega (arith, fits))
-bit_alone (suc (suc n)) pattern one fits = absurd (omega (arith, one))
-
--- the one place of a list
-pub place_alone : {A : Type 0} (xs : List A) (x : A) → length xs ≡ 1 → slice_get xs 0 ≡ Some x → xs ≡ x ∷ []
-place_alone [] x one here = absurd (omega (arith, one))
-place_alone (y ∷ []) x one here = let is : Some y ≡ Some x = here in cc
-place_alone (y ∷ (z ∷ xs)) x one here = absurd (omega (arith, one))
-
--- Of one switch the event is that of its bit.
-pub told_alone : (i : ℕ) (us : List Usage) (bs : List Bool) (pattern : ℕ) (u : Usage) (b : Bool) → length bs ≡ length us → length bs ≡ 1 → pattern < 2
-    → slice_get us 0 ≡ Some u → slice_get bs 0 ≡ Some b → switch_events i us bs (bits_in (length bs) pattern) ≡ switch_event (control_at i 0) u b (pattern == 1)
-told_alone i us bs pattern u b long one fits usage before =
-    let target = bit_alone (length bs) pattern one fits in
-    let same = place_alone us u (sym long ∙ one) usage in
-    let held = place_alone bs b one before in
-    ap (switch_events i us bs) target
-    ∙ ap (λ (l : List Usage). switch_events i l bs ((pattern == 1) ∷ [])) same
-    ∙ ap (λ (l : List Bool). switch_events i (u ∷ []) l ((pattern == 1) ∷ [])) held
-    ∙ append-nil (switch_event (control_at i 0) u b (pattern == 1))
-
--- A switch that has its bit tells nothing.
-pub told_nothing : (control : ControlId) (u : Usage) (b : Bool) → switch_event control u b b ≡ []
-told_nothing control u true = refl
-told_nothing control u false = refl

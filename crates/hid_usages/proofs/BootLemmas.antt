@@ -408,9 +408,6 @@ motions_told bytes ms bs long =
     (one_motion (get_or bytes 2 0) (byte_there bytes 2 bs (omega arith)))
     ∙ ap (λ (es : List Event). motion_event (control_at 2 0) (usage 0x01 0x30) (mouse_of bytes).x ++ es) (append-nil (motion_event (control_at 2 1) (usage 0x01 0x31) (mouse_of bytes).y))
 
-padding_told : (bytes : List ℕ) (state : ControlState) → events_of_report_at mouse_layout 0 bytes 1 state ≡ []
-padding_told bytes state = refl
-
 named_mouse : (bytes : List ℕ) → 3 ≤ length bytes → report_named mouse_layout bytes ≡ Ok 0
 named_mouse bytes h =
     let long : nat_lt (length bytes) 3 ≡ false = grind (arith, nat_tests) in

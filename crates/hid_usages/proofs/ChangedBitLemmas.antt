@@ -178,17 +178,6 @@ same_eight last bytes first a b was now same = λ n low high.
     ap (bit_of last) (sym at) ∙ sym (bit_at-pattern_of last (8 * first) 64 (n - 8 * first) small)
     ∙ ap (λ (w : ℕ). bit_at w (n - 8 * first)) (sym was ∙ same ∙ now) ∙ bit_at-pattern_of bytes (8 * first) 64 (n - 8 * first) small ∙ ap (bit_of bytes) at
 
--- bits up to one, and from one on that isn't beyond it
-pub same_on : (last bytes : List ℕ) (a b c d : ℕ) → SameFrom last bytes a b → SameFrom last bytes c d → c ≤ b → SameFrom last bytes a d
-same_on last bytes a b c d one two meet = λ n low high. elim (cases_lt n b) [
-  | inl before ↦ one n low before
-  | inr from ↦ two n (omega (arith, from, meet)) high
-]
-
--- bits that are the same before an end at or after the last byte are all of them
-pub same_all : (last bytes : List ℕ) (end : ℕ) → SameFrom last bytes 0 end → 8 * length bytes ≤ end → HoldBits last bytes
-same_all last bytes end same all = λ n within. same n (omega arith) (omega (arith, within, all))
-
 -- up to eight bytes that are the same as a word
 pub same_one : (last bytes : List ℕ) (a b : ℕ) → a ≡ pattern_of last 0 64 → b ≡ pattern_of bytes 0 (8 * length bytes) → a ≡ b → length bytes ≤ 8 → HoldBits last bytes
 same_one last bytes a b was now same few = λ n within.

@@ -1,5 +1,5 @@
 -- The elements of a variable item are read in place, one after another, and each tells its change.
-use Rattle.std.proofs.Common.{Vec, vec_len, vec_capacity, ◌≡◌, ◌≢◌, ℕ, zero, suc, ◌+◌, ◌-◌, ◌*◌, ◌<◌, ◌≤◌, ◌==◌, ◌⊎◌, inl, inr, not, Bool, true, false, Option, unwrap_or, ℤ, pos, List, [], ◌++◌, length, take, drop, Some, None, refl, sym, ap, ◌∙◌, subst, arith}
+use Rattle.std.proofs.Common.{Vec, vec_len, vec_capacity, ◌≡◌, ℕ, zero, suc, ◌+◌, ◌-◌, ◌<◌, ◌≤◌, inl, inr, not, Bool, true, false, Option, ℤ, List, [], ◌++◌, length, take, drop, Some, None, refl, sym, ap, ◌∙◌, subst, arith}
 use Rattle.std.specs.List.{slice_get, slice_set, zip}
 use Rattle.hid_report_descriptor.specs.declared.usage.Usage.{Usage}
 use Rattle.hid_snapshots.specs.declared.event.Event.{Event}
@@ -13,17 +13,9 @@ use Rattle.hid_snapshots.proofs.ItemLemmas.{got, set_here, set_same, set_there}
 use Rattle.hid_usages.specs.declared.elements.Carriable.{Carriable}
 use Rattle.hid_usages.specs.Elements.{switch_by_number, value_by_number, read_all}
 use Rattle.hid_usages.specs.Keeping.{AreKept, FindsKept}
-use Rattle.hid_usages.specs.Reading.{read_switch}
-use Rattle.hid_usages.proofs.BitLemmas.{switch_of}
-use Rattle.hid_snapshots.specs.Numbers.{IsWordOf}
-use Rattle.hid_snapshots.specs.Words.{is_on, is_unlike}
-use Rattle.hid_snapshots.proofs.WordLemmas.{on_within}
 use Rattle.std.specs.Bool.{beq}
 use Rattle.std.specs.Option.{option_eq}
-use Rattle.std.specs.Int.{bit_at}
-use Rattle.std.proofs.lemmas.Nat.Bits.{bit_at-lt}
 use Rattle.std.proofs.lemmas.Bool.{cases_Bool, cases_lt}
-use Rattle.std.proofs.lemmas.Option.{slice_get_within}
 use Rattle.hid_usages.proofs.EventLemmas.{all_appended, each_end, element_list_events-from, no_switch, nothing_appended, room_for, room_left, told, zip_at}
 
 -- what is left to be told from an element on
@@ -242,16 +234,6 @@ kept_next read held numbers from i b w kept here number stays = λ j x v low hig
           let same : x ≡ b = cc in
           let same' : v ≡ w = cc in
           rw (same, same') stays
-    ]
-
--- those up to one, and those from it on, stay
-pub kept_on : {A : Type 0} (read : A × ℤ → A) (held : List A) (numbers : List ℤ) (from mid from' end end' : ℕ) → AreKept read held numbers from mid → AreKept read held numbers from' end → from' ≤ from ⊎ from' ≤ mid → ((j : ℕ) → j < length held → j < end' → j < end)
-    → AreKept read held numbers from end'
-kept_on read held numbers from mid from' end end' before after joined within = λ j x v low high h k.
-    let there = slice_get_within held j x h in
-    elim (cases_lt j mid) [
-      | inl lt ↦ before j x v low lt h k
-      | inr ge ↦ after j x v (elim joined [ inl a ↦ omega arith | inr b ↦ omega arith ]) (within j there high) h k
     ]
 
 pub same_flag : (a b : Bool) → not (beq a b) ≡ false → a ≡ b

@@ -1,5 +1,5 @@
 -- The events of the elements of one item.
-use Rattle.std.proofs.Common.{Vec, vec_capacity, ◌≡◌, ℕ, zero, suc, ◌+◌, ◌-◌, ◌<◌, ◌≤◌, ◌&&◌, not, Bool, true, false, ℤ, List, [], ◌∷◌, ◌++◌, append_assoc, length, length-append, append-nil, drop, Some, refl, sym, ap, ◌∙◌, arith}
+use Rattle.std.proofs.Common.{Vec, vec_capacity, ◌≡◌, ℕ, zero, suc, ◌+◌, ◌-◌, ◌<◌, ◌≤◌, ◌&&◌, not, Bool, true, false, List, [], ◌∷◌, ◌++◌, append_assoc, length, length-append, append-nil, drop, Some, refl, sym, ap, ◌∙◌, arith}
 use Rattle.std.specs.List.{slice_get, zip}
 use Rattle.hid_report_descriptor.specs.declared.usage.Usage.{Usage}
 use Rattle.hid_layout.specs.declared.control.ControlId.{ControlId}
@@ -8,8 +8,6 @@ use Rattle.hid_snapshots.specs.declared.event.Event.TheVariants as event
 use Rattle.hid_snapshots.specs.Words.{is_on, is_alone, IsFirst}
 use Rattle.hid_snapshots.proofs.ItemLemmas.{got}
 use Rattle.std.proofs.lemmas.List.{length-map, drop_all}
-use Rattle.hid_layout.specs.declared.control.Controls.TheVariants as head
-use Rattle.hid_layout.specs.declared.control.ControlKind.{ControlKind}
 use Rattle.hid_layout.specs.declared.control.ControlKind.TheVariants.{Switch, Value, NullValue, Relative}
 use Rattle.hid_layout.specs.Controls.{Form, NoControls, Elements, Keys, controls_of_form}
 use Rattle.hid_snapshots.specs.declared.control_state.ControlState.{ControlState}
@@ -17,7 +15,7 @@ use Rattle.hid_snapshots.specs.declared.control_state.ControlState.TheVariants.{
 use Rattle.hid_snapshots.specs.ControlStates.{HasRoom}
 pub use Rattle.hid_snapshots.proofs.ListLemmas.{drop_at, zip_at}
 use Rattle.hid_usages.specs.Appending.{HasSpace, Appends}
-use Rattle.hid_snapshots.specs.Events.{control_at, switch_event, up_event, down_event, element_list_events, usages_of, element_events, key_events, change_events, HasPlaces}
+use Rattle.hid_snapshots.specs.Events.{control_at, switch_event, up_event, down_event, element_list_events, usages_of, HasPlaces}
 
 -- the events from one element on
 pub element_list_events-from : {C : Type 0} (f : ℕ → Usage → C → List Event) (us : List Usage) (cs : List C) (j : ℕ)
@@ -101,27 +99,6 @@ has_places (Keys elements rolls keys) (Values ps) room = absurd room
 has_places (Keys elements rolls keys) (Motions ps) room = absurd room
 
 pub ruleset item_places = (has_places)
-
--- what changes, by what the item's controls are
-pub events_of_none : (i : ℕ) (form : Form) (b a : ControlState) → head.None ≡ controls_of_form form
-    → change_events i form b a ≡ []
-events_of_none i NoControls b a h = refl
-events_of_none i (Elements kind least greatest us) b a h = absurd (cc)
-events_of_none i (Keys elements rolls keys) b a h = absurd (cc)
-
-pub events_of_elements : (i : ℕ) (form : Form) (kind : ControlKind) (least greatest : ℤ) (n : ℕ) (b a : ControlState)
-    → head.Elements kind least greatest n ≡ controls_of_form form
-    → change_events i form b a ≡ element_events i (usages_of form) b a
-events_of_elements i NoControls kind least greatest n b a h = absurd (cc)
-events_of_elements i (Elements k l g us) kind least greatest n b a h = refl
-events_of_elements i (Keys elements rolls keys) kind least greatest n b a h = absurd (cc)
-
-pub events_of_keys : (i : ℕ) (form : Form) (elements : ℕ) (rolls : Bool) (n : ℕ) (b a : ControlState)
-    → head.Keys elements rolls n ≡ controls_of_form form
-    → change_events i form b a ≡ key_events i (usages_of form) b a
-events_of_keys i NoControls elements rolls n b a h = absurd (cc)
-events_of_keys i (Elements k l g us) elements rolls n b a h = absurd (cc)
-events_of_keys i (Keys e r keys) elements rolls n b a h = refl
 
 -- Where the elements from one index up to another tell nothing, they are passed over.
 pub each_quiet : {C : Type 0} (f : ℕ → Usage → C → List Event) (us : List Usage) (cs : List C) (from n : ℕ) → from + n ≤ length us → from + n ≤ length cs
@@ -219,9 +196,6 @@ each_done f test bs xs told_at us from tells long long' within none =
     ∙ ap (λ (k : ℕ). element_list_events f k (drop k us) (drop k (zip bs xs))) e
     ∙ ap (λ (vs : List Usage). element_list_events f (length us) vs (drop (length us) (zip bs xs)))
     (drop_all (length us) us (omega arith))
-
-pub same_usage : (us : List Usage) (j : ℕ) (u v : Usage) → slice_get us j ≡ Some u → slice_get us j ≡ Some v → u ≡ v
-same_usage us j u v h k = (cc)
 
 -- what stays tells nothing
 pub no_switch : (c : ControlId) (u : Usage) (b a : Bool) → b ≡ a → switch_event c u b a ≡ []

@@ -20,7 +20,7 @@ use Rattle.hid_usages.specs.Taking.{list_at, state_after_report_at, events_of_re
 use Rattle.hid_layout.specs.Reports.{report_bytes}
 use Rattle.hid_usages.specs.declared.changed_bits.BitSpan.{BitSpan}
 use Rattle.hid_usages.specs.declared.take.ListedItem.{ListedItem}
-use Rattle.hid_usages.specs.Known.{KnowsPlace, LeavesListed}
+use Rattle.hid_usages.specs.Known.{KnowsPlace}
 use Rattle.hid_usages.specs.Ranges.{KnowsListed}
 use Rattle.hid_snapshots.proofs.CodeLemmas.{both_true}
 use Rattle.hid_usages.proofs.BitLemmas.{same_number}
@@ -222,21 +222,14 @@ data_read layout r bytes i m state listed is data_ =
     number_is a c e = grind (arith, nat_tests)
 
 -- what is known of the item at a place is known of it as a listed one
-pub listed_left : (layout : Contents) (r : ℕ) (bytes last : List ℕ) (span : BitSpan) (listed : ListedItem) (state : ControlState) → listed.layout.now ≡ layout → slice_get layout.items listed.place ≡ Some listed.item.now → listed.item.now.report ≡ r → is_padding listed.item.now.shape ≡ false
-    → KnowsPlace layout r bytes last span listed.place state → LeavesListed listed last state
-listed_left layout r bytes last span listed state laid there is data_ known =
-    let room : report_bytes layout r ≡ report_bytes listed.layout.now listed.item.now.report = ap (report_bytes layout) (sym is) ∙ ap (λ (l : Contents). report_bytes l listed.item.now.report) (sym laid) in
-    record {
-      whole = omega (arith, known.whole, room);
-      left = ap (λ (l : Contents). state_after_numbers_at l listed.place listed.item.now state (item_numbers l last listed.item.now)) laid
-          ∙ sym (data_read layout r last listed.place listed.item.now state there is data_).0 ∙ known.left;
-    }
-
 pub listed_known : (layout : Contents) (r : ℕ) (bytes last : List ℕ) (span : BitSpan) (listed : ListedItem) (state : ControlState) → listed.layout.now ≡ layout → slice_get layout.items listed.place ≡ Some listed.item.now → listed.item.now.report ≡ r → is_padding listed.item.now.shape ≡ false
     → KnowsPlace layout r bytes last span listed.place state → KnowsListed listed bytes span state
-listed_known layout r bytes last span listed state laid there is data_ known = record {
-  last = last;
-  whole = known.whole ∙ ap (report_bytes layout) (sym is) ∙ ap (λ (l : Contents). report_bytes l listed.item.now.report) (sym laid);
-  same = known.same;
-  left = (listed_left layout r bytes last span listed state laid there is data_ known).left;
-}
+listed_known layout r bytes last span listed state laid there is data_ known =
+    let room : report_bytes listed.layout.now listed.item.now.report ≡ report_bytes layout r = ap (λ (l : Contents). report_bytes l listed.item.now.report) laid ∙ ap (report_bytes layout) is in
+    record {
+      last = last;
+      same = λ n low outside. known.same n (omega (arith, low, room)) outside;
+      left = λ n low outside.
+          ap (λ (l : Contents). state_after_numbers_at l listed.place listed.item.now state (item_numbers l last listed.item.now)) laid
+          ∙ sym (data_read layout r last listed.place listed.item.now state there is data_).0 ∙ known.left n (omega (arith, low, room)) outside;
+    }

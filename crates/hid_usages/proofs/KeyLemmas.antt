@@ -2,18 +2,14 @@
 use Rattle.std.proofs.Common.{◌≡◌, ◌≢◌, ℕ, zero, suc, ◌+◌, ◌<◌, ◌≤◌, ◌⊎◌, inl, inr, ◌&&◌, ◌||◌, Bool, true, false, cond, List, [], ◌∷◌, ◌++◌, length, map, replicate, take, Option, Some, None, ℤ, pos, negsuc, ◌+ℤ◌, ◌-ℤ◌, ◌≤ℤ◌, refl, sym, ap, ◌∙◌, subst, arith}
 use Rattle.std.proofs.lemmas.Bool.{cases_Bool}
 use Rattle.std.specs.List.{slice_get, slice_set}
-use Rattle.std.specs.Option.{is_some}
 use Rattle.std.specs.Ordering.{int_eq}
 use Rattle.std.proofs.lemmas.Int.{ints}
 use Rattle.std.proofs.lemmas.List.Folds.{list_any-append}
 use Rattle.std.proofs.lemmas.Bool.Decides.{Decides-int_eq}
 use Rattle.std.proofs.lemmas.Option.{slice_get_within}
 use Rattle.hid_layout.specs.declared.main_item.MainItem.{MainItem}
-use Rattle.hid_layout.specs.declared.control.Control.{Control}
-use Rattle.hid_layout.specs.declared.control.ControlKind.TheVariants.{Switch}
-use Rattle.hid_layout.specs.Layout.{Contents}
-use Rattle.hid_layout.specs.Controls.{Form, NoControls, Elements, Keys, Key, Item, items_of, control_in, control_of}
-use Rattle.hid_usages.specs.Reading.{at_zero, is_rollover_at, names_rollover, names_key, named_keys_from, keys_of, keys_at}
+use Rattle.hid_layout.specs.Controls.{Key}
+use Rattle.hid_usages.specs.Reading.{at_zero, is_rollover_at, names_rollover, names_key, named_keys_from}
 use Rattle.hid_snapshots.proofs.CodeLemmas.{test_true, true_test, both_true}
 use Rattle.std.specs.Int.Signed.{le_z}
 use Rattle.hid_report_descriptor.specs.declared.usage.Usage.{Usage}
@@ -115,35 +111,6 @@ named_again item vs v i (key ∷ keys) =
     twice true e = refl
     twice false true = refl
     twice false false = refl
-
--- whether a place is a control
-pub is_key_at : (layout : Contents) (i j : ℕ) (result : Bool) → j < length (keys_at layout i) → result ≡ is_some (control_of (items_of layout) (record { item = i; index = j })) → slice_get (map (λ (key : Key). key.is_switch) (keys_at layout i)) j ≡ Some result
-is_key_at layout i j result h is = by_item (slice_get (items_of layout) i) refl h is
-  where
-    of_key : (keys : List Key) (o : Option Key) → slice_get keys j ≡ o → j < length keys → result ≡ is_some (elim o as (λ _. Option Control) [ None ↦ None | Some key ↦ cond key.is_switch (Some (record { kind = Switch; usage = key.usage })) None ])
-        → slice_get (map (λ (key : Key). key.is_switch) keys) j ≡ Some result
-    of_key keys None e k r = absurd (none keys j k e)
-      where
-        none : (keys : List Key) (j : ℕ) → j < length keys → slice_get keys j ≡ None → ⊥
-        none [] j k e = absurd (omega arith)
-        none (x ∷ keys) zero k e = cc
-        none (x ∷ keys) (suc j) k e = none keys j (omega arith) e
-    of_key keys (Some key) e k r = map_at (λ (key : Key). key.is_switch) keys j key e ∙ ap Some (by_switch key.is_switch ∙ sym r)
-      where
-        by_switch : (b : Bool) → b ≡ is_some (cond b (let c : Option Control = Some (record { kind = Switch; usage = key.usage }) in c) None)
-        by_switch true = refl
-        by_switch false = refl
-
-    of_form : (form : Form) → j < length (keys_of form) → result ≡ is_some (control_in form j) → slice_get (map (λ (key : Key). key.is_switch) (keys_of form)) j ≡ Some result
-    of_form NoControls k r = absurd (omega arith)
-    of_form (Elements kind least greatest us) k r = absurd (omega arith)
-    of_form (Keys elements rolls keys) k r = of_key keys (slice_get keys j) refl k r
-
-    by_item : (o : Option Item) → slice_get (items_of layout) i ≡ o → j < length (keys_of (elim o as (λ _. Form) [ None ↦ NoControls | Some item ↦ item.form ]))
-        → result ≡ is_some (elim o as (λ _. Option Control) [ None ↦ None | Some item ↦ control_in item.form j ])
-        → slice_get (map (λ (key : Key). key.is_switch) (keys_of (elim o as (λ _. Form) [ None ↦ NoControls | Some item ↦ item.form ]))) j ≡ Some result
-    by_item None e k r = absurd (omega arith)
-    by_item (Some item) e k r = of_form item.form k r
 
 switch_is : (keys : List Key) (p : ℕ) (b : Bool) (key : Key) → slice_get (map (λ (k : Key). k.is_switch) keys) p ≡ Some b → slice_get keys p ≡ Some key → key.is_switch ≡ b
 switch_is keys p b key h k = let e = map_at (λ (x : Key). x.is_switch) keys p key k in cc

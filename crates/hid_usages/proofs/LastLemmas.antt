@@ -24,10 +24,10 @@ use Rattle.hid_usages.specs.declared.changed_bits.BitSpan.{BitSpan}
 use Rattle.hid_usages.specs.declared.plan.ReportPlan.{ReportPlan}
 use Rattle.hid_usages.specs.declared.planned_report.PlannedReport.{PlannedReport}
 use Rattle.hid_usages.specs.declared.report_plans.ReportPlans.{ReportPlans}
-use Rattle.hid_usages.specs.ChangedBits.{SameOutside}
-use Rattle.hid_usages.specs.Known.{Leaves, Knows}
+use Rattle.hid_usages.specs.ChangedBits.{HoldBits}
+use Rattle.hid_usages.specs.Known.{Knows}
 use Rattle.hid_usages.specs.Plans.{IsPlan}
-use Rattle.hid_usages.specs.PlannedReports.{KeepsBytes, last_bytes, HasPlan, IsPlannedAnew, ArePlannedAnew, Keeps, IsPlannedReport, IsIndex, ArePlanned, without_last}
+use Rattle.hid_usages.specs.PlannedReports.{last_bytes, HasPlan, IsPlannedAnew, ArePlannedAnew, Keeps, IsPlannedReport, IsIndex, ArePlanned, KnowsOutside, without_last}
 use Rattle.hid_usages.specs.Reading.{item_numbers, is_data_in, first_byte, is_input_with, whole_report, report_named, report_begun}
 use Rattle.hid_usages.specs.Taking.{state_after_report_at, events_of_report_at, state_after_numbers_at, events_of_numbers_at, view_from_item, events_from_item, read_view, read_events}
 use Rattle.hid_snapshots.specs.Parts.{IsInput}
@@ -93,11 +93,6 @@ from_agree layout r whole bytes i (c ∷ states) laid agree =
 pub view_agree : (layout : Contents) (r : ℕ) (whole bytes : List ℕ) (view : List ControlState) → IsLayout layout → AgreeIn layout r whole bytes
     → (read_view layout r whole view ≡ read_view layout r bytes view) × (read_events layout r whole view ≡ read_events layout r bytes view)
 view_agree layout r whole bytes view laid agree = from_agree layout r whole bytes 0 view laid agree
-
--- The bytes behind a report change nothing of what is read.
-pub view_whole : (layout : Contents) (r : ℕ) (bytes : List ℕ) (view : List ControlState) → IsLayout layout
-    → (read_view layout r (take (report_bytes layout r) bytes) view ≡ read_view layout r bytes view) × (read_events layout r (take (report_bytes layout r) bytes) view ≡ read_events layout r bytes view)
-view_whole layout r bytes view laid = view_agree layout r (take (report_bytes layout r) bytes) bytes view laid (λ k within. bit_of_take bytes (report_bytes layout r) k within)
 
 -- what another report leaves of the items of a report tells the same
 pub told_other : (layout : Contents) (r s : ℕ) (bytes others : List ℕ) (i : ℕ) (states : List ControlState) → r ≢ s → events_from_item layout r bytes i (view_from_item layout s others i states) ≡ events_from_item layout r bytes i states
@@ -192,51 +187,26 @@ begun_input layout bytes r h = by_numbered layout.numbered h
     by_numbered true k = of_byte (first_byte bytes) k
     by_numbered false k = found_input 0 layout r k
 
--- bytes that name a report begin it
-pub named_begun : (layout : Contents) (bytes : List ℕ) (r : ℕ) → report_named layout bytes ≡ Ok r → report_begun layout bytes ≡ Some r
-named_begun layout bytes r h = by_numbered layout.numbered h
-  where
-    of_size : (n : ℕ) (b : Bool) → (let a : Result ℕ ReportFault = Err Short in cond b a (Ok n)) ≡ Ok r → n ≡ r
-    of_size n true e = absurd (cc)
-    of_size n false e = cc
-
-    of_found : (o : Option ℕ) → whole_report layout bytes o ≡ Ok r → o ≡ Some r
-    of_found None k = absurd (cc)
-    of_found (Some n) k = ap Some (of_size n (nat_lt (length bytes) (report_bytes layout n)) k)
-
-    of_byte : (o : Option ℕ) → elim o as (λ _. Result ℕ ReportFault) [ None ↦ Err Short | Some id ↦ whole_report layout bytes (position (is_input_with id) layout.reports) ] ≡ Ok r
-        → option_and_then (λ id. position (is_input_with id) layout.reports) o ≡ Some r
-    of_byte None k = absurd (cc)
-    of_byte (Some id) k = of_found (position (is_input_with id) layout.reports) k
-
-    by_numbered : (b : Bool) → cond b (elim (first_byte bytes) as (λ _. Result ℕ ReportFault) [ None ↦ Err Short | Some id ↦ whole_report layout bytes (position (is_input_with id) layout.reports) ]) (whole_report layout bytes (position (is_input_with 0) layout.reports)) ≡ Ok r
-        → cond b (option_and_then (λ id. position (is_input_with id) layout.reports) (first_byte bytes)) (position (is_input_with 0) layout.reports) ≡ Some r
-    by_numbered true k = of_byte (first_byte bytes) k
-    by_numbered false k = of_found (position (is_input_with 0) layout.reports) k
-
--- the bytes that are kept fill the report
-last_length : (planned : PlannedReport) → KeepsBytes planned → length (last_bytes planned) ≡ planned.room
-last_length planned kept = length-take-le planned.room planned.last.items (omega (arith, kept))
-
 -- outside of the bits that changed, those of a report are those of the last one
-pub known_by_last : (layout : Contents) (r : ℕ) (view : List ControlState) (planned : PlannedReport) (bytes : List ℕ) (span : BitSpan) → HasPlan layout r planned → planned.room ≤ length bytes → Leaves layout r (last_bytes planned) view
-    → SameOutside planned.last.items (take planned.room bytes) span → Knows layout r bytes (last_bytes planned) span view
-known_by_last layout r view planned bytes span plan long left agrees = record {
-  whole = last_length planned plan.kept ∙ plan.room;
-  same = λ n within outside.
-      let low : n < 8 * planned.room = omega (arith, within, last_length planned plan.kept) in
-      sym (bit_of_take bytes planned.room n low) ∙ sym (agrees n (omega (arith, low, length-take-le planned.room bytes long)) outside) ∙ sym (bit_of_take planned.last.items planned.room n low);
-  left = left;
-}
+pub known_by_last : (layout : Contents) (r : ℕ) (view : List ControlState) (planned : PlannedReport) (bytes : List ℕ) (span : BitSpan) → IsLayout layout → IsPlannedReport layout r view planned → planned.room ≤ length bytes
+    → KnowsOutside planned (take planned.room bytes) span → Knows layout r bytes planned.last.items span view
+known_by_last layout r view planned bytes span laid is long agrees =
+    let within : (n : ℕ) → n < 8 * report_bytes layout r → n < 8 * length (take planned.room bytes) = λ n low. omega (arith, low, is.plan.room, length-take-le planned.room bytes long) in
+    record {
+      same = λ n low outside. sym (bit_of_take bytes planned.room n (omega (arith, low, is.plan.room))) ∙ sym (agrees n (within n low) outside).1;
+      left = λ n low outside.
+          (view_agree layout r planned.last.items (last_bytes planned) view laid (λ k inside. sym (bit_of_take planned.last.items planned.room k (omega (arith, inside, is.plan.room))))).0
+          ∙ is.left (agrees n (within n low) outside).0;
+    }
 
 -- a report with the bits of the last one
-pub same_bits : (layout : Contents) (r : ℕ) (view : List ControlState) (planned : PlannedReport) (bytes : List ℕ) (span : BitSpan) → IsLayout layout → IsPlannedReport layout r view planned → planned.is_known ≡ true → planned.room ≤ length bytes
-    → SameOutside planned.last.items (take planned.room bytes) span → span.end ≡ 0
+pub same_bits : (layout : Contents) (r : ℕ) (view : List ControlState) (planned : PlannedReport) (bytes : List ℕ) → IsLayout layout → IsPlannedReport layout r view planned → planned.is_known ≡ true → planned.room ≤ length bytes
+    → HoldBits planned.last.items (take planned.room bytes)
     → (read_view layout r bytes view ≡ view) × (planned.is_silent ≡ true → read_events layout r bytes view ≡ [])
-unfolding known_by_last
-same_bits layout r view planned bytes span laid is known long agrees none =
-    let knows = known_by_last layout r view planned bytes span is.plan long (is.left known) agrees in
-    let same = view_agree layout r bytes (last_bytes planned) view laid (λ n within. knows.same n (omega (arith, within, knows.whole)) (inr (omega (arith, none)))) in
+same_bits layout r view planned bytes laid is known long agrees =
+    let same = view_agree layout r bytes (last_bytes planned) view laid (λ n low.
+    let here : n < 8 * planned.room = omega (arith, low, is.plan.room) in
+    sym (bit_of_take bytes planned.room n here) ∙ sym (agrees n (omega (arith, here, length-take-le planned.room bytes long))) ∙ sym (bit_of_take planned.last.items planned.room n here)) in
     (same.0 ∙ is.left known, λ e. same.1 ∙ is.silent known e)
 
 -- a report that is read is the last one then

@@ -1,10 +1,14 @@
 -- Items of a plan: as what they are read, and those that are passed over.
-use Rattle.std.proofs.Common.{All, ◌≡◌, ◌≢◌, ℕ, ◌+◌, ◌*◌, ◌<◌, inl, inr, Bool, true, false, cond, List, [], ◌∷◌, ◌++◌, length, map, drop, Some, refl, sym, ap, ◌∙◌, subst, arith, get_or, zero, suc}
+use Rattle.std.proofs.Common.{All, ◌≡◌, ◌≢◌, ℕ, ◌+◌, ◌*◌, ◌<◌, ◌≤◌, inl, inr, Bool, true, false, cond, List, [], ◌∷◌, ◌++◌, length, map, drop, Some, refl, sym, ap, ◌∙◌, subst, arith, get_or, zero, suc}
 use Rattle.std.specs.List.{slice_get}
 use Rattle.std.specs.Bool.{OnTrue}
+use Rattle.std.proofs.Math.Nat.{mul-le-mul_left}
+use Rattle.std.proofs.lemmas.Bool.{cases_Bool}
 use Rattle.std.proofs.lemmas.List.Elements.{All-push}
 use Rattle.std.proofs.lemmas.Option.{slice_get_within, slice_get-get_or}
+use Rattle.hid_fields.specs.Field.{bit_of}
 use Rattle.hid_fields.specs.Value.{is_negative}
+use Rattle.hid_report_descriptor.specs.Fields.{is_padding}
 use Rattle.hid_report_descriptor.specs.declared.usage.Usage.{Usage}
 use Rattle.hid_report_descriptor.specs.declared.shape.Shape.{Shape}
 use Rattle.hid_report_descriptor.specs.declared.shape.Shape.TheVariants.{Padding, Variable, Array}
@@ -25,14 +29,14 @@ use Rattle.hid_usages.specs.declared.plan.PlannedItem.{PlannedItem}
 use Rattle.hid_usages.specs.declared.plan.PlannedKind.TheVariants as kind
 use Rattle.hid_usages.specs.Bits.{are_bits}
 use Rattle.hid_usages.specs.declared.plan.ReportPlan.{ReportPlan}
-use Rattle.hid_usages.specs.ChangedBits.{SameOutside}
+use Rattle.hid_usages.specs.ChangedBits.{IsOutsideSpan}
 use Rattle.hid_usages.specs.Plans.{kind_of_controls, kind_of_shape, planned_kind, place_of, IsPlannedItem, IsPassed, IsPlan}
 use Rattle.hid_usages.specs.Known.{Knows, KnowsPlace}
 use Rattle.hid_usages.specs.Reading.{item_numbers}
 use Rattle.hid_usages.specs.Taking.{list_at, state_after_report_at, events_of_report_at}
 use Rattle.hid_usages.proofs.BitLemmas.{has_bits}
 use Rattle.hid_usages.proofs.TakeLemmas.{form_of_item, read_view-at}
-use Rattle.hid_usages.proofs.FixedLemmas.{TellsNoMotion, left_by_bits, silent_by_bits}
+use Rattle.hid_usages.proofs.FixedLemmas.{TellsNoMotion, left_by_bits, silent_by_bits, padding_stays}
 
 same_kind_of : (a b : ControlKind) → kind_of_controls a ≡ kind_of_controls b → a ≡ b
 same_kind_of Switch Switch h = refl
@@ -139,13 +143,24 @@ planned_as layout planned m p listed =
     (planned_is layout planned m p listed) (p.first, p.end, p.kind)
 
 -- an item that is passed over has the same numbers
-passed_numbers : (layout : Contents) (r : ℕ) (planned : PlannedItem) (m : MainItem) (span : BitSpan) (now last : List ℕ) → IsLayout layout → IsPlannedItem layout planned → slice_get layout.items planned.place ≡ Some m → m.report ≡ r → length last ≡ report_bytes layout r
-    → IsPassed planned span → SameOutside now last span → item_numbers layout now m ≡ item_numbers layout last m
-passed_numbers layout r planned m span now last laid p listed is whole passed same =
+passed_numbers : (layout : Contents) (r : ℕ) (planned : PlannedItem) (m : MainItem) (span : BitSpan) (now last : List ℕ) → IsLayout layout → IsPlannedItem layout planned → slice_get layout.items planned.place ≡ Some m → m.report ≡ r
+    → IsPassed planned span → ((n : ℕ) → n < 8 * report_bytes layout r → IsOutsideSpan span n → bit_of now n ≡ bit_of last n) → item_numbers layout now m ≡ item_numbers layout last m
+passed_numbers layout r planned m span now last laid p listed is passed same =
     let as_planned = planned_as layout planned m p listed in
     numbers_in-agree now last (first_bit layout + m.offset) m.size (is_negative m.min) m.count
-    (λ k low high. same k (omega (arith, laid.inside planned.place m listed, ap (report_bytes layout) is, whole))
+    (λ k low high. same k (omega (arith, laid.inside planned.place m listed, ap (report_bytes layout) is))
     (elim passed.outside [ inl before ↦ inl (omega (arith, before, as_planned.0, as_planned.1)) | inr behind ↦ inr (omega (arith, behind, as_planned.0)) ]))
+
+-- of an item with data that is passed over, the first bit lies outside of the span: the last report left it
+passed_left : (layout : Contents) (r : ℕ) (bytes last : List ℕ) (span : BitSpan) (planned : PlannedItem) (m : MainItem) (state : ControlState) → IsLayout layout → IsPlannedItem layout planned → slice_get layout.items planned.place ≡ Some m → m.report ≡ r → is_padding m.shape ≡ false
+    → IsPassed planned span → KnowsPlace layout r bytes last span planned.place state → state_after_report_at layout r last planned.place state ≡ state
+passed_left layout r bytes last span planned m state laid p listed is data_ passed known =
+    let as_planned = planned_as layout planned m p listed in
+    let elements = laid.elements planned.place m listed data_ in
+    let more : m.size * 1 ≤ m.size * m.count = mul-le-mul_left m.size elements.some in
+    let some : planned.first < planned.end = omega (arith, elements.some_bits, more, as_planned.1) in
+    known.left planned.first (omega (arith, as_planned.0, as_planned.1, some, laid.inside planned.place m listed, ap (report_bytes layout) is))
+    (elim passed.outside [ inl before ↦ inl (omega (arith, before, some)) | inr behind ↦ inr behind ])
 
 no_motion_kind : (b : Bool) (k : ControlKind) → cond b kind.Bits (kind_of_controls k) ≢ kind.Motions → (b ≡ true → k ≡ Switch) → k ≡ Relative → ⊥
 no_motion_kind true k h bits e = let s = bits refl in cc
@@ -159,25 +174,31 @@ absolute_shape m us Variable h = no_motion_kind (are_bits m) (element_kind m) h 
 -- An item that is passed over stays, and gives no event.
 pub passed_stays : (layout : Contents) (r : ℕ) (bytes last : List ℕ) (span : BitSpan) (planned : PlannedItem) (m : MainItem) (state : ControlState) → IsLayout layout → IsPlannedItem layout planned → slice_get layout.items planned.place ≡ Some m → m.report ≡ r
     → IsPassed planned span → KnowsPlace layout r bytes last span planned.place state → state_after_report_at layout r bytes planned.place state ≡ state
-passed_stays layout r bytes last span planned m state laid p listed is passed known =
-    left_by_bits layout r last bytes planned.place m state listed (passed_numbers layout r planned m span bytes last laid p listed is known.whole passed known.same) known.left
+passed_stays layout r bytes last span planned m state laid p listed is passed known = elim (cases_Bool (is_padding m.shape)) [
+  | inl padding ↦ (padding_stays layout r bytes planned.place m state listed padding).0
+  | inr data_ ↦
+      left_by_bits layout r last bytes planned.place m state listed (passed_numbers layout r planned m span bytes last laid p listed is passed known.same)
+      (passed_left layout r bytes last span planned m state laid p listed is data_ passed known)
+]
 
 pub passed_silent : (layout : Contents) (r : ℕ) (bytes last : List ℕ) (span : BitSpan) (planned : PlannedItem) (m : MainItem) (state : ControlState) → IsLayout layout → IsInput layout r → IsPlannedItem layout planned → slice_get layout.items planned.place ≡ Some m → m.report ≡ r
     → IsPassed planned span → KnowsPlace layout r bytes last span planned.place state → events_of_report_at layout r bytes planned.place state ≡ []
-passed_silent layout r bytes last span planned m state laid input p listed is passed known =
-    let as_planned = planned_as layout planned m p listed in
-    silent_by_bits layout r last bytes planned.place m state listed (passed_numbers layout r planned m span bytes last laid p listed is known.whole passed known.same)
-    (λ e. subst TellsNoMotion (sym (form_of_item layout r planned.place m laid input (data_if layout r planned.place m listed e)))
-    (absolute_shape m (list_at layout planned.place) m.shape (λ k. passed.absolute (as_planned.2 ∙ k))))
-    known.left
+passed_silent layout r bytes last span planned m state laid input p listed is passed known = elim (cases_Bool (is_padding m.shape)) [
+  | inl padding ↦ (padding_stays layout r bytes planned.place m state listed padding).1
+  | inr data_ ↦
+      let as_planned = planned_as layout planned m p listed in
+      silent_by_bits layout r last bytes planned.place m state listed (passed_numbers layout r planned m span bytes last laid p listed is passed known.same)
+      (λ e. subst TellsNoMotion (sym (form_of_item layout r planned.place m laid input (data_if layout r planned.place m listed e)))
+      (absolute_shape m (list_at layout planned.place) m.shape (λ k. passed.absolute (as_planned.2 ∙ k))))
+      (passed_left layout r bytes last span planned m state laid p listed is data_ passed known)
+]
 
 -- what is known of a view is known of each of its control states
 pub place_known : (layout : Contents) (r : ℕ) (bytes last : List ℕ) (span : BitSpan) (view : List ControlState) (i : ℕ) (state : ControlState) → Knows layout r bytes last span view → slice_get view i ≡ Some state → KnowsPlace layout r bytes last span i state
 place_known layout r bytes last span view i state known h = record {
-  whole = known.whole;
   same = known.same;
-  left =
-      let e : Some (state_after_report_at layout r last i state) ≡ Some state = sym (read_view-at layout r last view i state h) ∙ ap (λ (cs : List ControlState). slice_get cs i) known.left ∙ h in
+  left = λ n low outside.
+      let e : Some (state_after_report_at layout r last i state) ≡ Some state = sym (read_view-at layout r last view i state h) ∙ ap (λ (cs : List ControlState). slice_get cs i) (known.left n low outside) ∙ h in
       cc;
 }
 

@@ -9,9 +9,7 @@ use Rattle.std.proofs.lemmas.List.{length-map}
 use Rattle.std.proofs.lemmas.Bool.Decides.{nat_tests}
 use Rattle.hid_layout.specs.declared.main_item.MainItem.{MainItem}
 use Rattle.hid_report_descriptor.specs.declared.usage.Usage.{Usage}
-use Rattle.hid_report_descriptor.specs.declared.shape.Shape.{Shape}
-use Rattle.hid_report_descriptor.specs.declared.shape.Shape.TheVariants.{Padding, Variable, Array}
-use Rattle.hid_layout.specs.declared.control.Controls.TheVariants as head
+use Rattle.hid_report_descriptor.specs.declared.shape.Shape.TheVariants.{Array}
 use Rattle.hid_report_descriptor.specs.Usages.{Entry, usage_list, is_rollover, is_keyboard_error}
 use Rattle.hid_usages.specs.Taking.{list_at, IsFormOf, state_after_numbers_at, events_of_numbers_at}
 use Rattle.hid_usages.proofs.TakeLemmas.{list_at-is}
@@ -90,21 +88,6 @@ is_not true r h k = absurd (cc)
 pub is_so : (b r : Bool) → r ≡ not b → r ≡ false → b ≡ true
 is_so true r h k = refl
 is_so false r h k = absurd (cc)
-
--- the keys of a listed array are those of its usages
-pub keys_are : (layout : Contents) (i : ℕ) (m : MainItem) (es : List Entry) (elements : ℕ) (rolls : Bool) (n : ℕ)
-    → IsFormOf layout i m → slice_get layout.entries i ≡ Some es
-    → head.Keys elements rolls n ≡ controls_of_form (form_at (items_of layout) i)
-    → keys_at layout i ≡ array_keys m (usage_list es)
-keys_are layout i m es elements rolls n form there heads =
-    ap keys_of form ∙ of_shape (list_at layout i) m.shape (heads ∙ ap controls_of_form form)
-    ∙ ap (array_keys m) (list_at-is layout i es there)
-  where
-    of_shape : (us : List Usage) (shape : Shape) → head.Keys elements rolls n ≡ controls_of_form (form_of m us shape)
-        → keys_of (form_of m us shape) ≡ array_keys m us
-    of_shape us Padding h = absurd (cc)
-    of_shape us Variable h = absurd (cc)
-    of_shape us Array h = refl
 
 -- a number that names a place and fits its field is one that an element can carry if it is no greater than the greatest
 pub place_encodable : (m : MainItem) (v : ℤ) (p : ℕ) → FitsFields m v → v ≡ m.min +ℤ pos p → is_encodable m (m.min +ℤ pos p) ≡ int_le v m.max

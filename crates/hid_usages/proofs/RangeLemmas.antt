@@ -36,7 +36,7 @@ fixed_at read (y ∷ xs) (w ∷ vs) (suc j) x v fixed h g =
     fixed_at read xs vs j x v rest h g
 
 -- an element whose own bits stayed is kept, whatever became of its neighbours
-pub kept_by_bits : {A : Type 0} (read : A × ℤ → A) (held : List A) (now last : List ℕ) (at width : ℕ) (signed : Bool) (count from end : ℕ) → end ≤ count → map read (zip held (numbers_in last at width signed count)) ≡ held
+pub kept_by_bits : {A : Type 0} (read : A × ℤ → A) (held : List A) (now last : List ℕ) (at width : ℕ) (signed : Bool) (count from end : ℕ) → end ≤ count → ((j : ℕ) → from ≤ j → j < end → map read (zip held (numbers_in last at width signed count)) ≡ held)
     → ((j n : ℕ) → from ≤ j → j < end → at + width * j ≤ n → n < at + width * j + width → bit_of now n ≡ bit_of last n) → AreKept read held (numbers_in now at width signed count) from end
 kept_by_bits read held now last at width signed count from end within fixed same = λ j x v low high h g.
     let here : j < count = omega arith in
@@ -44,21 +44,24 @@ kept_by_bits read held now last at width signed count from end within fixed same
     ap (λ (p : ℕ). value_of p width signed) (pattern_of-agree now last (at + width * j) width (λ n a b. same j n low high a b)) in
     let one : Some v ≡ Some (number_at now (at + width * j) width signed) = sym g ∙ numbers_in-at now at width signed count j here in
     let is : v ≡ number_at last (at + width * j) width signed = (let e : v ≡ number_at now (at + width * j) width signed = cc in e ∙ bits) in
-    fixed_at read held (numbers_in last at width signed count) j x v fixed h (numbers_in-at last at width signed count j here ∙ ap (λ (n : ℤ). Some n) (sym is))
+    fixed_at read held (numbers_in last at width signed count) j x v (fixed j low high) h (numbers_in-at last at width signed count j here ∙ ap (λ (n : ℤ). Some n) (sym is))
 
 -- an element's field ends within those of all elements
 field_within : (width j count : ℕ) → j < count → width * j + width ≤ width * count
 field_within width j count h = omega (arith, mul-le-mul_left width h)
 
 -- elements outside of a range that has the bits of a span are left, if the bits outside of the span stayed
-pub others_kept : {A : Type 0} (read : A × ℤ → A) (held : List A) (now last : List ℕ) (at width : ℕ) (signed : Bool) (count : ℕ) (span : BitSpan) (range : ElementRange) → length held ≡ count → map read (zip held (numbers_in last at width signed count)) ≡ held
+pub others_kept : {A : Type 0} (read : A × ℤ → A) (held : List A) (now last : List ℕ) (at width : ℕ) (signed : Bool) (count : ℕ) (span : BitSpan) (range : ElementRange) → 0 < width → length held ≡ count
+    → ((n : ℕ) → n < at + width * count → IsOutsideSpan span n → map read (zip held (numbers_in last at width signed count)) ≡ held)
     → HoldsSpan at width count span range → ((n : ℕ) → n < at + width * count → IsOutsideSpan span n → bit_of now n ≡ bit_of last n)
     → KeepsOthers read held (numbers_in now at width signed count) range
-others_kept read held now last at width signed count span range long fixed holds same = record {
-  before = kept_by_bits read held now last at width signed count 0 range.first holds.first fixed
+others_kept read held now last at width signed count span range some long fixed holds same = record {
+  before = kept_by_bits read held now last at width signed count 0 range.first holds.first
+      (λ j low high. fixed (at + width * j) (omega (arith, some, field_within width j count (omega (arith, holds.first)))) (inl (omega (arith, some, holds.before j high))))
       (λ j n low high a b. same n (omega (arith, field_within width j count (omega (arith, holds.first)))) (inl (omega (arith, holds.before j high))));
   after = subst (AreKept read held (numbers_in now at width signed count) range.end) (sym long)
-      (kept_by_bits read held now last at width signed count range.end count (omega arith) fixed
+      (kept_by_bits read held now last at width signed count range.end count (omega arith)
+      (λ j low high. fixed (at + width * j) (omega (arith, some, field_within width j count high)) (inr (holds.after j low high)))
       (λ j n low high a b. same n (omega (arith, field_within width j count high)) (inr (omega (arith, holds.after j low high)))));
   first = omega (arith, holds.first);
   end = omega (arith, holds.end);
@@ -78,33 +81,16 @@ values_room NullValue least greatest n vs h = h
 values_room Relative least greatest n vs h = absurd h
 
 -- of an item whose bits stayed outside of a span
-pub others_left : (kind : ControlKind) (bounds : Bounds) (now last : List ℕ) (at width : ℕ) (signed : Bool) (count : ℕ) (span : BitSpan) (range : ElementRange) (least greatest : ℤ) (state : ControlState) → HasRoom (head.Elements kind least greatest count) state
-    → read_elements kind bounds.least bounds.greatest state (numbers_in last at width signed count) ≡ state → HoldsSpan at width count span range
+pub others_left : (kind : ControlKind) (bounds : Bounds) (now last : List ℕ) (at width : ℕ) (signed : Bool) (count : ℕ) (span : BitSpan) (range : ElementRange) (least greatest : ℤ) (state : ControlState) → 0 < width → HasRoom (head.Elements kind least greatest count) state
+    → ((n : ℕ) → n < at + width * count → IsOutsideSpan span n → read_elements kind bounds.least bounds.greatest state (numbers_in last at width signed count) ≡ state) → HoldsSpan at width count span range
     → ((n : ℕ) → n < at + width * count → IsOutsideSpan span n → bit_of now n ≡ bit_of last n) → LeaveOthers kind bounds (numbers_in now at width signed count) range state
-others_left kind bounds now last at width signed count span range least greatest Absent room fixed holds same = tt
-others_left kind bounds now last at width signed count span range least greatest (Motions ms) room fixed holds same = tt
-others_left kind bounds now last at width signed count span range least greatest (RollOver bs) room fixed holds same = tt
-others_left kind bounds now last at width signed count span range least greatest (Switches bs) room fixed holds same =
-    others_kept switch_by_number bs now last at width signed count span range (switches_room kind least greatest count bs room) (cc) holds same
-others_left kind bounds now last at width signed count span range least greatest (Values vs) room fixed holds same =
-    others_kept (value_by_number (carriable_of kind bounds)) vs now last at width signed count span range (values_room kind least greatest count vs room) (cc) holds same
-
--- the range of all elements leaves none out
-none_kept : {A : Type 0} (read : A × ℤ → A) (held : List A) (numbers : List ℤ) → length held ≡ length numbers → KeepsOthers read held numbers (record { first = 0; end = length numbers })
-none_kept read held numbers long = record {
-  before = λ j x v low high h g. absurd (omega arith);
-  after = λ j x v low high h g. absurd (omega arith);
-  first = omega arith;
-  end = omega arith;
-}
-
-pub all_read : (kind : ControlKind) (bounds : Bounds) (numbers : List ℤ) (least greatest : ℤ) (n : ℕ) (state : ControlState) → HasRoom (head.Elements kind least greatest n) state → length numbers ≡ n
-    → LeaveOthers kind bounds numbers (record { first = 0; end = length numbers }) state
-all_read kind bounds numbers least greatest n Absent room long = tt
-all_read kind bounds numbers least greatest n (Motions ms) room long = tt
-all_read kind bounds numbers least greatest n (RollOver bs) room long = tt
-all_read kind bounds numbers least greatest n (Switches bs) room long = none_kept switch_by_number bs numbers (switches_room kind least greatest n bs room ∙ sym long)
-all_read kind bounds numbers least greatest n (Values vs) room long = none_kept (value_by_number (carriable_of kind bounds)) vs numbers (values_room kind least greatest n vs room ∙ sym long)
+others_left kind bounds now last at width signed count span range least greatest Absent some room fixed holds same = tt
+others_left kind bounds now last at width signed count span range least greatest (Motions ms) some room fixed holds same = tt
+others_left kind bounds now last at width signed count span range least greatest (RollOver bs) some room fixed holds same = tt
+others_left kind bounds now last at width signed count span range least greatest (Switches bs) some room fixed holds same =
+    others_kept switch_by_number bs now last at width signed count span range some (switches_room kind least greatest count bs room) (λ n low outside. let e = fixed n low outside in cc) holds same
+others_left kind bounds now last at width signed count span range least greatest (Values vs) some room fixed holds same =
+    others_kept (value_by_number (carriable_of kind bounds)) vs now last at width signed count span range some (values_room kind least greatest count vs room) (λ n low outside. let e = fixed n low outside in cc) holds same
 
 -- an element before the first one of a span ends before the span, and one from its end on begins behind it
 before_first : (at width first q j : ℕ) → 0 < width → q ≡ (first - at) / width → j < q → at + width * j + width ≤ first

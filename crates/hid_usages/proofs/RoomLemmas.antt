@@ -1,7 +1,7 @@
 -- The room for the keys that a report names: as many flags as the longest array has keys, or more.
 use Rattle.std.proofs.Common.{◌≡◌, ◌≢◌, ℕ, zero, suc, ◌+◌, ◌<◌, ◌≤◌, ◌&&◌, not, inl, inr, Bool, true, false, List, [], ◌∷◌, ◌++◌, length, take, replicate, Some, refl, sym, ap, ◌∙◌, subst, arith}
 use Rattle.std.specs.List.{slice_get, slice_set, zip}
-use Rattle.std.proofs.lemmas.List.{get_or-set_other, length-replicate}
+use Rattle.std.proofs.lemmas.List.{get_or-set_other}
 use Rattle.std.proofs.lemmas.Option.{unwrap_or-slice_get, slice_get_within}
 use Rattle.std.proofs.lemmas.Bool.{cases_lt, cases_eq}
 use Rattle.hid_report_descriptor.specs.declared.usage.Usage.{Usage}
@@ -123,16 +123,6 @@ names_stay items states new named named' fits fits' names same = subst (NoFlagSe
         names.each i old.0 old.1,
       );
 })
-
-pub names_none : (states : List ControlState) (named : List Bool) (n : ℕ) → named ≡ replicate n false
-    → ((i : ℕ) (state : ControlState) → slice_get states i ≡ Some state → flag_places state ≤ n)
-    → NoFlagSet states named
-names_none states named n is most =
-    let long : length named ≡ n = ap length is ∙ length-replicate n false in
-    record {
-      none = is ∙ ap (λ (k : ℕ). replicate k false) (sym long);
-      each = λ i state h. omega (arith, most i state h, long);
-    }
 
 -- the first control states want n flags at most
 abbrev pub AreWithin : List ControlState → ℕ → ℕ → Type 0

@@ -21,10 +21,6 @@ pub some_listed : {A : Type 0} (xs : List A) → false ≡ (length xs == 0) → 
 some_listed [] h = absurd (cc)
 some_listed (x ∷ xs) h = omega arith
 
--- no element is before the end
-pub no_usages_known : (layout : Contents) (i : ℕ) (usages : ItemUsages) → usages.end ≡ 0 → usages.id + usages.more < 2 ^ 16 → AreUsages layout i usages
-no_usages_known layout i usages none fits = record { fits = fits; each = λ j low within. absurd (omega arith) }
-
 -- a place of a list, of whatever shape the item is
 capped : (shape : Shape) (us : List Usage) (j : ℕ) → usage_place shape us j < length us → usage_place shape us j ≡ min j (length us - 1)
 capped Variable us j h = refl

@@ -13,10 +13,10 @@ use Rattle.hid_report_descriptor.specs.declared.usage.Usage.{Usage}
 use Rattle.hid_report_descriptor.specs.Usages.{Entry, usage_list}
 use Rattle.hid_report_descriptor.specs.Fields.{is_padding}
 use Rattle.hid_layout.specs.Layout.{Contents}
-use Rattle.hid_layout.specs.Reports.{IsLayout, HasElements, first_bit, report_bytes}
+use Rattle.hid_layout.specs.Reports.{IsLayout, first_bit, report_bytes}
 use Rattle.hid_layout.specs.Controls.{Form, NoControls, Elements, Keys, Item, items_of, item_of, form_of, form_at, controls_of_form, array_keys, max_events, Key, has_place, rollover_from, element_kind, least_of, greatest_of, events_in, is_input_report}
 use Rattle.hid_snapshots.specs.Events.{usages_of, usages_at, element_events, key_events, key_usages, change_events}
-use Rattle.hid_usages.specs.Reading.{keys_of, keys_at, read_motion, names_rollover, named_keys_from, read_elements, read_named, read_keys, read_state, motion_elements, motion_state, is_data_in, item_numbers, first_byte, is_input_with, whole_report, report_named}
+use Rattle.hid_usages.specs.Reading.{read_motion, names_rollover, named_keys_from, read_elements, read_named, read_keys, read_state, motion_elements, motion_state, is_data_in, item_numbers, first_byte, is_input_with, whole_report, report_named}
 use Rattle.hid_usages.specs.Taking.{list_at, IsFormOf, state_after_report_at, events_of_report_at, view_from_item, events_from_item, read_view, read_events, state_after_numbers_at, events_of_numbers_at}
 use Rattle.hid_snapshots.proofs.PlanLemmas.{Skips}
 use Rattle.hid_snapshots.specs.declared.control_state.ControlState.{ControlState}
@@ -43,7 +43,7 @@ use Rattle.hid_snapshots.proofs.CodeLemmas.{both_true}
 use Rattle.hid_snapshots.specs.Encoding.{IsData}
 use Rattle.hid_snapshots.proofs.ItemLemmas.{items_of-length, set_same, got, items_from-at, form_at-is}
 use Rattle.hid_snapshots.proofs.ReportLemmas.{form_in_input}
-use Rattle.hid_snapshots.proofs.SendLemmas.{spread_usages-length, places_few}
+use Rattle.hid_snapshots.proofs.SendLemmas.{spread_usages-length}
 
 pub list_at-is : (layout : Contents) (i : ℕ) (es : List Entry) → slice_get layout.entries i ≡ Some es → list_at layout i ≡ usage_list es
 list_at-is layout i es h = ap (λ (o : Option (List Entry)). elim o as (λ _. List Usage) [ None ↦ [] | Some fs ↦ usage_list fs ]) h
@@ -66,9 +66,6 @@ usages_count layout i m kind least greatest n laid listed data_ form heads =
     ap (λ (f : Form). length (usages_of f)) form
     ∙ form_usages m (list_at layout i) m.shape kind least greatest n some (heads ∙ ap controls_of_form form)
 
-pub variable_elements : (layout : Contents) (i : ℕ) (m : MainItem) → IsLayout layout → slice_get layout.items i ≡ Some m → m.shape ≡ Variable → HasElements m
-variable_elements layout i m laid listed shape = laid.elements i m listed (ap is_padding shape)
-
 -- the controls of a variable item
 pub variable_controls : (layout : Contents) (i : ℕ) (m : MainItem) → IsLayout layout → slice_get layout.items i ≡ Some m → IsFormOf layout i m → m.shape ≡ Variable
     → head.Elements (element_kind m) (least_of m) (greatest_of m) m.count
@@ -82,14 +79,6 @@ variable_controls layout i m laid listed form shape =
     sym (ap controls_of_form is
     ∙ ap (λ (n : ℕ). head.Elements (element_kind m) (least_of m) (greatest_of m) n)
     (spread_usages-length m.count (list_at layout i) some))
-
-form_keys : (m : MainItem) (us : List Usage) (shape : Shape) → length (keys_of (form_of m us shape)) ≤ 65536
-form_keys m us Padding = omega arith
-form_keys m us Variable = omega arith
-form_keys m us Array = places_few m us
-
-pub keys_few : (layout : Contents) (i : ℕ) (m : MainItem) → IsFormOf layout i m → length (keys_at layout i) ≤ 65536
-keys_few layout i m form = omega (arith, ap (λ (f : Form). length (keys_of f)) form, form_keys m (list_at layout i) m.shape)
 
 -- an item of an Input report has the controls of its form
 pub form_of_item : (layout : Contents) (r i : ℕ) (m : MainItem) → IsLayout layout → IsInput layout r → IsData layout r i m → IsFormOf layout i m

@@ -1,16 +1,18 @@
 -- The plans of a layout's Input reports, and the bytes of the last one of each number (our choice).
-use Rattle.std.specs.Prelude.{◌≡◌, ℕ, ◌<◌, ◌≤◌, Bool, true, false, List, [], length, map, position, take, Some, slice_get}
+use Rattle.std.specs.Prelude.{◌≡◌, ℕ, ◌*◌, ◌<◌, ◌≤◌, Bool, true, false, List, [], length, map, position, take, Some, slice_get}
 use Rattle.hid_layout.specs.Controls.{items_of}
 use Rattle.hid_layout.specs.Layout.{Contents}
 use Rattle.hid_layout.specs.Reports.{report_bytes}
 use Rattle.hid_snapshots.specs.ControlStates.{FitsView}
 use Rattle.hid_snapshots.specs.declared.control_state.ControlState.{ControlState}
 use Rattle.hid_snapshots.specs.Parts.{IsInput}
+use Rattle.hid_fields.specs.Field.{bit_of}
+use Rattle.hid_usages.specs.declared.changed_bits.BitSpan.{BitSpan}
 use Rattle.hid_usages.specs.declared.planned_report.PlannedReport.{PlannedReport}
 use Rattle.hid_usages.specs.declared.report_index.TheConstants.{NO_REPORT}
 use Rattle.hid_usages.specs.declared.report_plans.ReportPlans.{ReportPlans}
 use Rattle.hid_usages.specs.declared.report_plans.PlannedView.{PlannedView}
-use Rattle.hid_usages.specs.ChangedBits.{kept_bytes, HoldBits}
+use Rattle.hid_usages.specs.ChangedBits.{kept_bytes, HoldBits, IsOutsideSpan}
 use Rattle.hid_usages.specs.Known.{Leaves}
 use Rattle.hid_usages.specs.Plans.{IsPlan}
 use Rattle.hid_usages.specs.Reading.{is_input_with, report_begun}
@@ -41,7 +43,14 @@ pub record Keeps (before : PlannedReport) (bytes : List ℕ) (silent : Bool) (af
   pub room : after.room ≡ before.room
   pub kept : KeepsBytes after
   pub bits : HoldBits after.last.items (take before.room bytes)
+  pub known : after.is_known ≡ true
   pub quiet : after.is_silent ≡ silent
+
+-- outside of the span, the bits of a report are known to be those of the last one
+abbrev pub KnowsOutside : PlannedReport → List ℕ → BitSpan → Type 0
+KnowsOutside planned bytes span =
+    (n : ℕ) → n < 8 * length bytes → IsOutsideSpan span n
+    → (planned.is_known ≡ true) × (bit_of planned.last.items n ≡ bit_of bytes n)
 
 -- A report has its plan, and the last one of its number leaves the view, without an event if it is silent.
 pub record IsPlannedReport (layout : Contents) (r : ℕ) (view : List ControlState) (planned : PlannedReport) : Type 0 where

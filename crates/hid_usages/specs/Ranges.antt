@@ -1,5 +1,6 @@
 -- Elements of an item that numbers leave as they are, so that they needn't be read (our choice).
-use Rattle.std.specs.Prelude.{◌≡◌, ℕ, ◌+◌, ◌*◌, ◌<◌, ◌≤◌, List, ℤ, length}
+use Rattle.std.specs.Prelude.{◌≡◌, ℕ, ◌+◌, ◌*◌, ◌<◌, ◌≤◌, List, ℤ}
+use Rattle.hid_fields.specs.Field.{bit_of}
 use Rattle.hid_layout.specs.declared.control.ControlKind.{ControlKind}
 use Rattle.hid_snapshots.specs.declared.control_state.ControlState.{ControlState}
 use Rattle.hid_snapshots.specs.declared.control_state.ControlState.TheVariants.{Absent, Switches, Values, Motions, RollOver}
@@ -12,7 +13,7 @@ use Rattle.hid_usages.specs.declared.changed_bits.BitSpan.{BitSpan}
 use Rattle.hid_usages.specs.declared.take.ListedItem.{ListedItem}
 use Rattle.hid_usages.specs.Elements.{switch_by_number, value_by_number}
 use Rattle.hid_usages.specs.Keeping.{KeepsOthers}
-use Rattle.hid_usages.specs.ChangedBits.{SameOutside}
+use Rattle.hid_usages.specs.ChangedBits.{IsOutsideSpan}
 use Rattle.hid_usages.specs.Taking.{state_after_bytes}
 
 -- how values of controls of a kind are read
@@ -38,6 +39,7 @@ pub record HoldsSpan (at width count : ℕ) (span : BitSpan) (range : ElementRan
 -- outside of the span, the bits of a listed item's report are those of bytes that leave what is kept of the item
 pub record KnowsListed (listed : ListedItem) (bytes : List ℕ) (span : BitSpan) (state : ControlState) : Type 0 where
   pub last : List ℕ
-  pub whole : length last ≡ report_bytes listed.layout.now listed.item.now.report
-  pub same : SameOutside bytes last span
-  pub left : state_after_bytes listed state last ≡ state
+  pub same : (n : ℕ) → n < 8 * report_bytes listed.layout.now listed.item.now.report → IsOutsideSpan span n
+      → bit_of bytes n ≡ bit_of last n
+  pub left : (n : ℕ) → n < 8 * report_bytes listed.layout.now listed.item.now.report → IsOutsideSpan span n
+      → state_after_bytes listed state last ≡ state

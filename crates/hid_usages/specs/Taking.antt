@@ -4,7 +4,6 @@ use Rattle.std.specs.Prelude.{◌≡◌, ℕ, ◌+◌, ◌<◌, ◌≤◌, All, 
 use Rattle.hid_snapshots.specs.declared.fault.ReportFault.{ReportFault}
 use Rattle.hid_layout.specs.declared.main_item.MainItem.{MainItem}
 use Rattle.hid_report_descriptor.specs.declared.usage.Usage.{Usage}
-use Rattle.hid_report_descriptor.specs.Fields.{is_padding}
 use Rattle.hid_report_descriptor.specs.Usages.{Entry, usage_list}
 use Rattle.hid_layout.specs.ArrayCodes.{plan_of}
 use Rattle.hid_layout.specs.Reports.{IsLayout, report_bytes}
@@ -186,13 +185,6 @@ events_by_numbers listed state vs = events_of_numbers listed state (state_after_
 -- the events of a report's bytes for a listed item, by what is kept of the item before
 abbrev pub events_by_bytes : ListedItem → ControlState → List ℕ → List Event
 events_by_bytes listed state bytes = events_by_numbers listed state (numbers_of_bytes listed bytes)
-
--- a listed item has data, and its controls are those of its form
-pub record HasData (listed : ListedItem) : Type 0 where
-  pub layout : IsLayout listed.layout.now
-  pub there : slice_get listed.layout.now.items listed.place ≡ Some listed.item.now
-  pub input : IsFormOf listed.layout.now listed.place listed.item.now
-  pub no_padding : is_padding listed.item.now.shape ≡ false
 
 -- a listed item has data in its report, which these bytes fill, and its controls are those of its form
 pub record IsFilled (listed : ListedItem) (bytes : List ℕ) : Type 0 where

@@ -1,9 +1,9 @@
 //! Which bits of a report aren't those of the one before. Its bytes are kept, and compared by words of 64 bits (our choice).
 
-ghost use Rattle.std.specs.Prelude.{◌≡◌, ◌<◌, ◌≤◌, ◌+◌, ◌-◌, ◌*◌, ◌^◌, length, IfSome};
+ghost use Rattle.std.specs.Prelude.{◌≡◌, ◌<◌, ◌≤◌, ◌+◌, ◌-◌, ◌*◌, ◌^◌, ℕ, length, IfSome};
 ghost use Rattle.std.specs.Bool.{OnTrue};
 ghost use Rattle.hid_fields.specs.Field.{pattern_of};
-ghost use Rattle.hid_usages.specs.ChangedBits.{kept_bytes, IsOneWord, SameFrom, SameOutside, HoldBits, Grows};
+ghost use Rattle.hid_usages.specs.ChangedBits.{kept_bytes, IsOneWord, IsOutsideSpan, SameFrom, SameOutside, HoldBits, Grows};
 ghost use Rattle.hid_usages.specs.SameWords.{FindsUnlike};
 
 /// Bits of a report: from a first one up to an end, which is 0 where there are none.
@@ -11,6 +11,16 @@ ghost use Rattle.hid_usages.specs.SameWords.{FindsUnlike};
 pub(crate) struct BitSpan {
     pub(crate) first: usize,
     pub(crate) end: usize,
+}
+
+/// The span of all bits.
+pub(crate) fn every_bit() -> BitSpan
+    ensures { (n : ℕ) → n + 1 < 2 ^ 64 → IsOutsideSpan result n → ⊥ }
+{
+    BitSpan {
+        first: 0,
+        end: usize::MAX,
+    }
 }
 
 /// Up to eight bytes as a word, the first one lowest.

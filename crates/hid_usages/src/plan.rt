@@ -80,7 +80,7 @@ fn planned_kind(item: &MainItem) -> PlannedKind
 }
 
 /// What reading needs of the item at a place.
-fn planned_item(layout: &Layout, place: usize) -> PlannedItem
+pub(crate) fn planned_item(layout: &Layout, place: usize) -> PlannedItem
     requires { place < length layout.now.items }
     ensures place { result.place ≡ place }
     ensures item { IsPlannedItem layout.now result }

@@ -1,11 +1,11 @@
 //! An Input report with its plan, and what is kept of the last one of its number.
 
-ghost use Rattle.std.specs.Prelude.{◌≡◌, ◌<◌, ◌≤◌, true, length, take, IfOk};
+ghost use Rattle.std.specs.Prelude.{◌≡◌, ◌<◌, ◌≤◌, ◌^◌, length, take, IfOk};
 ghost use Rattle.std.specs.Bool.{OnTrue, OnFalse};
-ghost use Rattle.hid_usages.specs.ChangedBits.{IsOneWord};
-ghost use Rattle.hid_usages.specs.PlannedReports.{IsPlannedAnew, IsStill, Keeps, KeepsBytes, without_last};
+ghost use Rattle.hid_usages.specs.ChangedBits.{kept_bytes, IsOneWord};
+ghost use Rattle.hid_usages.specs.PlannedReports.{IsPlannedAnew, IsStill, Keeps, KeepsBytes, KnowsOutside, without_last};
 
-use crate::changed_bits::{are_same_bits, keep_bytes};
+use crate::changed_bits::{BitSpan, are_same_bits, changed_bits, every_bit, keep_bytes};
 use crate::plan::{ReportPlan, plan_items};
 use hid_layout::Layout;
 use hid_snapshots::full_of;
@@ -35,20 +35,24 @@ impl PlannedReport {
         ensures { Keeps self.old bytes.now is_silent self.new }
     {
         keep_bytes(&mut self.last, &bytes[..self.room], word);
+        self.is_known = true;
         self.is_silent = is_silent;
     }
 
-    /// Keeps the bytes of the first report of its number, as [`keep`](PlannedReport::keep) does.
+    /// The span of the bits of a report that aren't known to be those of the last one. The word is that of
+    /// [`one_word`](crate::changed_bits::one_word).
     #[inline(always)]
-    pub(crate) fn keep_first(&mut self, bytes: &[u8], word: u64, is_silent: bool)
-        requires room { self.old.room ≤ length bytes.now }
-        requires kept { KeepsBytes self.old }
-        requires word { IsOneWord (take self.old.room bytes.now) word }
-        ensures kept { Keeps self.old bytes.now is_silent self.new }
-        ensures known { self.new.is_known ≡ true }
+    pub(crate) fn changed(&self, bytes: &[u8], word: u64) -> BitSpan
+        requires kept { kept_bytes (length bytes.now) ≤ length self.now.last.items }
+        requires short { length bytes.now < 2 ^ 50 }
+        requires word { IsOneWord bytes.now word }
+        ensures { KnowsOutside self.now bytes.now result }
     {
-        self.keep(bytes, word, is_silent);
-        self.is_known = true;
+        if self.is_known {
+            changed_bits(&self.last, bytes, word)
+        } else {
+            every_bit()
+        }
     }
 
     /// Whether these are fewer bytes than the report has.

@@ -1,16 +1,15 @@
 //! The Input reports of one device, read one after the other.
 
-ghost use Rattle.std.specs.Prelude.{◌≡◌, ◌≤◌, ◌+◌, ◌++◌, true, length, vec_len, vec_capacity};
+ghost use Rattle.std.specs.Prelude.{◌≡◌, ◌≤◌, ◌+◌, ◌++◌, vec_len, vec_capacity};
 ghost use Rattle.hid_layout.specs.Controls.{items_of, max_events};
-ghost use Rattle.hid_layout.specs.Reports.{IsLayout, report_bytes};
+ghost use Rattle.hid_layout.specs.Reports.{IsLayout};
 ghost use Rattle.hid_snapshots.specs.ControlStates.{FitsView, blank};
-ghost use Rattle.hid_snapshots.specs.Parts.{IsInput};
 ghost use Rattle.hid_snapshots.specs.Views.{changes_between};
 ghost use Rattle.hid_usages.specs.Appending.{Appends};
-ghost use Rattle.hid_usages.specs.PlannedReports.{HasPlan, IsPlaceOf, IsPlannedReport, IsPlannedView};
-ghost use Rattle.hid_usages.specs.Taking.{IsReceived, TakesReport, read_view, read_events, view_received, events_received};
+ghost use Rattle.hid_usages.specs.PlannedReports.{IsPlaceOf, IsPlannedReport, IsPlannedView};
+ghost use Rattle.hid_usages.specs.Taking.{IsReceived, TakesReport, view_received, events_received};
 
-use crate::changed_bits::{changed_bits, one_word};
+use crate::changed_bits::one_word;
 use crate::planned_report::PlannedReport;
 use crate::report_index::{NO_REPORT, begun_report, place_by_index};
 use crate::report_plans::{PlannedView, ReportPlans, forget_last};
@@ -44,80 +43,8 @@ impl Model for Reader {
     ghost invariant = { λ r. IsReader r.layout r.view r.max_events r.plans };
 }
 
-/// Reads a report of which no last one is known, and keeps its bytes.
-#[inline(never)]
-fn read_first<C: FieldCodec>(
-    layout: &Layout,
-    report: usize,
-    bytes: &[u8],
-    planned: &mut PlannedReport,
-    view: &mut View,
-    out: &mut Vec<Event>,
-)
-    requires input { IsInput layout.now report }
-    requires whole { report_bytes layout.now report ≤ length bytes.now }
-    requires plan { HasPlan layout.now report planned.old }
-    requires fits { FitsView (items_of layout.now) view.old }
-    requires room { vec_len out.old + max_events (items_of layout.now) ≤ vec_capacity out.old }
-    ensures planned { IsPlannedReport layout.now report view.new planned.new }
-    ensures view { view.new ≡ read_view layout.now report bytes.now view.old }
-    ensures appends { Appends out.old (read_events layout.now report bytes.now view.old) out.new }
-    ensures fits { FitsView (items_of layout.now) view.new }
-    ensures few { vec_len out.new ≤ vec_len out.old + max_events (items_of layout.now) }
-{
-    // For the prover: what holds of every layout.
-    let _ = layout.items();
-
-    let received = ReportBytes {
-        layout,
-        report,
-        bytes,
-    };
-    let before = out.len();
-    view.take_named::<C>(&received, out);
-    let word = one_word(&bytes[..planned.room]);
-    planned.keep_first(bytes, word, out.len() == before);
-}
-
 /// Reads a report by its plan, and keeps its bytes.
 #[inline(always)]
-fn take_next<C: FieldCodec>(
-    received: &ReportBytes<'_>,
-    planned: &mut PlannedReport,
-    view: &mut View,
-    out: &mut Vec<Event>,
-)
-    requires received { IsReceived received.now }
-    requires known { planned.old.is_known ≡ true }
-    requires planned { IsPlannedReport received.now.layout.now received.now.report view.old
-        planned.old }
-    requires fits { FitsView (items_of received.now.layout.now) view.old }
-    requires room { vec_len out.old + max_events (items_of received.now.layout.now)
-        ≤ vec_capacity out.old }
-    ensures planned { IsPlannedReport received.now.layout.now received.now.report view.new
-        planned.new }
-    ensures view { view.new ≡ view_received received.now view.old }
-    ensures appends { Appends out.old (events_received received.now view.old) out.new }
-    ensures fits { FitsView (items_of received.now.layout.now) view.new }
-    ensures few { vec_len out.new ≤ vec_len out.old + max_events (items_of received.now.layout.now) }
-{
-    // For the prover: what holds of every layout.
-    let _ = received.layout.items();
-
-    let room = planned.room;
-    let bytes = &received.bytes[..room];
-    let word = one_word(bytes);
-    let changed = changed_bits(&planned.last, bytes, word);
-    let before = out.len();
-    let last = LastReport {
-        bytes: &planned.last[..room],
-        changed,
-    };
-    view.take_planned::<C>(received, &planned.plan, &last, out);
-    planned.keep(received.bytes, word, out.len() == before);
-}
-
-/// Reads a report, and keeps its bytes.
 fn take_one<C: FieldCodec>(
     received: &ReportBytes<'_>,
     planned: &mut PlannedReport,
@@ -137,16 +64,19 @@ fn take_one<C: FieldCodec>(
     ensures fits { FitsView (items_of received.now.layout.now) view.new }
     ensures few { vec_len out.new ≤ vec_len out.old + max_events (items_of received.now.layout.now) }
 {
-    if planned.is_known {
-        take_next::<C>(received, planned, view, out);
-    } else {
-        let ReportBytes {
-            layout,
-            report,
-            bytes,
-        } = *received;
-        read_first::<C>(layout, report, bytes, planned, view, out);
-    }
+    // For the prover: what holds of every layout.
+    let _ = received.layout.items();
+
+    let bytes = &received.bytes[..planned.room];
+    let word = one_word(bytes);
+    let changed = planned.changed(bytes, word);
+    let before = out.len();
+    let last = LastReport {
+        bytes: &planned.last,
+        changed,
+    };
+    view.take_planned::<C>(received, &planned.plan, &last, out);
+    planned.keep(received.bytes, word, out.len() == before);
 }
 
 impl Reader {

@@ -14,22 +14,24 @@ ghost use Rattle.hid_usages.specs.KeyArrays.{HasUsages, NoneSetFrom, flag_events
 ghost use Rattle.hid_usages.specs.Reading.{FitsFields, keys_at};
 ghost use Rattle.hid_usages.specs.Taking.{IsInReport, HasEventRoomAt, NoFlagSet, NoFlagSetFor, usages_in, keys_in, form_in, state_after_numbers, events_of_numbers, state_after_carried, motion_carried};
 ghost use Rattle.hid_usages.specs.Taking.{IsReceived, ArePlacesOf, view_received, events_received, state_received, item_events_received};
-ghost use Rattle.hid_usages.specs.Taking.{HasData, IsFilled, numbers_of_bytes, state_after_bytes, events_by_numbers, events_by_bytes};
+ghost use Rattle.hid_usages.specs.Taking.{IsFilled, numbers_of_bytes, state_after_bytes, events_by_numbers, events_by_bytes};
 ghost use Rattle.hid_usages.specs.Taking.{IsArrayAt, keys_by_entries, key_events_in};
 ghost use Rattle.hid_layout.specs.Controls.{element_kind};
 ghost use Rattle.hid_layout.specs.Reports.{first_bit};
 ghost use Rattle.hid_usages.specs.Ranges.{LeaveOthers};
 
-use crate::bits::{are_bits, take_bits};
-use crate::changed_bits::BitSpan;
-use crate::elements::{Carriable, ElementRange, every_element, take_switches, take_values};
-use crate::event_source::{EventSource, ItemUsages, no_usages};
+use crate::bits::take_bits;
+use crate::changed_bits::{BitSpan, every_bit};
+use crate::elements::{Carriable, ElementRange, take_switches, take_values};
+use crate::event_source::{EventSource, ItemUsages};
 use crate::key_array::{KeyArray, read_keys};
+use crate::plan::planned_item;
+use crate::take_plan::take_planned_item;
 use crate::value_range::Bounds;
 use crate::view_changes::{flag_changes, motions};
 use hid_fields::FieldCodec;
-use hid_layout::{ControlKind, Layout, MainItem, Shape, Usage};
-use hid_snapshots::{ControlState, Event, FieldRun, Flags, first_bit, item_at};
+use hid_layout::{ControlKind, Layout, MainItem, Usage};
+use hid_snapshots::{ControlState, Event, FieldRun, Flags};
 
 /// The bytes of an Input report, with its layout and its number there.
 #[derive(Clone, Copy)]
@@ -44,7 +46,7 @@ pub(crate) struct ReportBytes<'a> {
 pub(crate) struct LastReport<'a> {
     /// Its bytes: to read them again leaves the view.
     pub(crate) bytes: &'a [u8],
-    /// The bits of the next report that aren't its own.
+    /// The bits of the next report that aren't its own; all, where none is known.
     pub(crate) changed: BitSpan,
 }
 
@@ -85,70 +87,17 @@ pub(crate) fn take_items<C: FieldCodec>(
     ensures named { named.new ≡ named.old }
     ensures appends { Appends out.old (events_received received.now states.old) out.new }
 {
+    // For the prover: what holds of every layout.
+    let _ = received.layout.items();
+
+    let last = LastReport {
+        bytes: received.bytes,
+        changed: every_bit(),
+    };
     for place in places {
-        let i = *place;
-        take_item::<C>(received, i, &mut states[i], named, out);
-    }
-}
-
-/// Reads the bytes of a report into what is kept of an item of it, and appends the events.
-fn take_item<C: FieldCodec>(
-    received: &ReportBytes<'_>,
-    place: usize,
-    state: &mut ControlState,
-    named: &mut Flags,
-    out: &mut Vec<Event>,
-)
-    requires received { IsReceived received.now }
-    requires listed { place < length received.now.layout.now.items }
-    requires in_report { IsInReport received.now.layout.now received.now.report place }
-    requires held { HasEventRoomAt received.now.layout.now place state.old }
-    requires named { NoFlagSetFor state.old named.old }
-    requires room { HasSpace out.old (item_events_received received.now place state.old) }
-    ensures state { state.new ≡ state_received received.now place state.old }
-    ensures named { named.new ≡ named.old }
-    ensures appends { Appends out.old (item_events_received received.now place state.old) out.new }
-{
-    let layout = received.layout;
-    let item = item_at(layout, place);
-    match item.shape {
-        Shape::Padding => {}
-        Shape::Variable | Shape::Array => {
-            let listed = ListedItem {
-                layout,
-                place,
-                item,
-            };
-            take_fields::<C>(&listed, received.bytes, state, named, out);
-        }
-    }
-}
-
-/// Reads the bytes of a report into what is kept of an item with data, and appends the events.
-fn take_fields<C: FieldCodec>(
-    listed: &ListedItem<'_>,
-    bytes: &[u8],
-    state: &mut ControlState,
-    named: &mut Flags,
-    out: &mut Vec<Event>,
-)
-    requires listed { IsFilled listed.now bytes.now }
-    requires held { HasRoom (controls_of_form (form_in listed.now)) state.old }
-    requires named { NoFlagSetFor state.old named.old }
-    requires room { HasSpace out.old (events_by_bytes listed.now state.old bytes.now) }
-    ensures state { state.new ≡ state_after_bytes listed.now state.old bytes.now }
-    ensures named { named.new ≡ named.old }
-    ensures appends { Appends out.old (events_of_numbers listed.now state.old state.new
-        (numbers_of_bytes listed.now bytes.now)) out.new }
-{
-    let item = listed.item;
-    let at = first_bit(listed.layout) + item.offset;
-    if are_bits(item) {
-        let usages = no_usages();
-        take_pattern(listed, &usages, C::get(bytes, at, item.count), state, out);
-    } else {
-        let numbers = FieldRun::new(bytes, at, item.size, item.min < 0, item.count as usize);
-        take_numbers::<C>(listed, &numbers, state, named, out);
+        let planned = planned_item(received.layout, *place);
+        let i = planned.place;
+        take_planned_item::<C>(received, &planned, &last, &mut states[i], named, out);
     }
 }
 
@@ -180,57 +129,6 @@ pub(crate) fn take_pattern(
         };
         take_bits(&source, pattern, held, out);
     }
-}
-
-/// Reads the numbers of an item's elements into what is kept of it, and appends the events. The numbers are compared with the
-/// logical range: of the numbers that fit the fields, it has those that an element can carry.
-fn take_numbers<C: FieldCodec>(
-    listed: &ListedItem<'_>,
-    numbers: &FieldRun<'_>,
-    state: &mut ControlState,
-    named: &mut Flags,
-    out: &mut Vec<Event>,
-)
-    requires listed { HasData listed.now }
-    requires numbers { length numbers.now ≡ listed.now.item.now.count }
-    requires fits { All (FitsFields listed.now.item.now) numbers.now }
-    requires held { HasRoom (controls_of_form (form_in listed.now)) state.old }
-    requires named { NoFlagSetFor state.old named.old }
-    requires room { HasSpace out.old (events_by_numbers listed.now state.old numbers.now) }
-    ensures state { state.new ≡ state_after_numbers listed.now state.old numbers.now }
-    ensures named { named.new ≡ named.old }
-    ensures appends { Appends out.old
-        (events_of_numbers listed.now state.old state.new numbers.now) out.new }
-{
-    match listed.item.shape {
-        Shape::Padding => {}
-        Shape::Variable => {
-            let usages = no_usages();
-            let carried = ElementNumbers {
-                kind: listed.item.element_kind(),
-                usages: &usages,
-                bounds: Bounds {
-                    least: listed.item.min,
-                    greatest: listed.item.max,
-                },
-                range: all_elements(numbers),
-                numbers,
-            };
-            take_elements::<C>(listed, &carried, state, out);
-        }
-        Shape::Array => {
-            let entries = listed.layout.entries(listed.place);
-            take_array::<C>(listed, entries, numbers, state, named, out);
-        }
-    }
-}
-
-/// The range of all elements that numbers are of.
-#[inline(always)]
-fn all_elements(numbers: &FieldRun<'_>) -> ElementRange
-    ensures { result ≡ record { first = 0; end = length numbers.now } }
-{
-    every_element(numbers.len())
 }
 
 /// Sets the elements of a variable item by these numbers, and appends their events.

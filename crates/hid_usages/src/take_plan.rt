@@ -75,7 +75,7 @@ pub(crate) fn planned_at(plan: &ReportPlan, k: usize) -> &PlannedItem
 
 /// Reads the bytes of a report into what is kept of a planned item of it, and appends the events.
 #[inline(always)]
-fn take_planned_item<C: FieldCodec>(
+pub(crate) fn take_planned_item<C: FieldCodec>(
     received: &ReportBytes<'_>,
     planned: &PlannedItem,
     last: &LastReport<'_>,

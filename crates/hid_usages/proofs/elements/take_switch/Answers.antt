@@ -1,5 +1,5 @@
-use Rattle.std.proofs.Common.{◌≡◌, ◌∙◌, Bool, List, sym, subst, ap}
-use Rattle.std.specs.List.{slice_get, slice_set}
+use Rattle.std.proofs.Common.{◌≡◌, ◌∙◌, Bool, sym, subst, ap}
+use Rattle.std.specs.List.{slice_set}
 use Rattle.hid_snapshots.specs.Events.{control_at, switch_event}
 use Rattle.hid_snapshots.proofs.ItemLemmas.{set_same}
 use Rattle.hid_usages.specs.Appending.{Appends}

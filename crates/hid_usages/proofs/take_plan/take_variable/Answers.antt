@@ -61,8 +61,8 @@ take_elements-requires-clause-others g c =
     (subst (λ (controls : Controls). HasRoom controls c.args.state.now) (sym heads) c.requires.held) in
     let holds = subst (λ (n : ℕ). HoldsSpan n item.size item.count c.args.changed c.elements_read.result) c.requires.at c.elements_read.ensures in
     subst (λ (ns : List ℤ). LeaveOthers c.args.kind (record { least = least; greatest = greatest }) ns c.elements_read.result c.args.state.now) (sym numbers)
-    (others_left c.args.kind (record { least = least; greatest = greatest }) c.args.bytes.now known.last (first_bit layout + item.offset) item.size (is_negative item.min) item.count c.args.changed c.elements_read.result (least_of item) (greatest_of item) c.args.state.now room (reads.read ∙ known.left) holds
-    (λ n low outside. known.same n (omega (arith, low, known.whole, c.requires.listed.layout.inside place item c.requires.listed.with_data.listed)) outside))
+    (others_left c.args.kind (record { least = least; greatest = greatest }) c.args.bytes.now known.last (first_bit layout + item.offset) item.size (is_negative item.min) item.count c.args.changed c.elements_read.result (least_of item) (greatest_of item) c.args.state.now elements.some_bits room (λ n low outside. reads.read ∙ known.left n (omega (arith, low, c.requires.listed.layout.inside place item c.requires.listed.with_data.listed)) outside) holds
+    (λ n low outside. known.same n (omega (arith, low, c.requires.listed.layout.inside place item c.requires.listed.with_data.listed)) outside))
 
 pub take_elements-requires-clause-room : goal.take_elements-requires-clause-room
 take_elements-requires-clause-room g c =

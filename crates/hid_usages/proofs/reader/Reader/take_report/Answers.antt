@@ -37,6 +37,6 @@ returns-then-is_still-clause-taken g c =
     let is = c.self.invariant.planned.each place c.index.result.now here in
     let still = holds_on c.is_still.result c.is_still.ensures c.if-is_still.true in
     let named = begun_named layout bytes place begun (omega (arith, is.plan.room, still.whole)) in
-    let same = same_bits layout place view c.index.result.now bytes (record { first = 0; end = 0 }) c.self.invariant.laid is still.known still.whole (λ n within outside. still.bits n within) (omega arith) in
+    let same = same_bits layout place view c.index.result.now bytes c.self.invariant.laid is still.known still.whole still.bits in
     let taken : TakesReport layout bytes view out (Ok tt) view out = (place, named, sym same.0, sym (append-nil out) ∙ ap (λ (es : List Event). out ++ es) (sym (same.1 still.silent))) in
     subst (λ (seen : ReaderState). TakesReport seen.layout bytes seen.view out (Ok tt) seen.view out) c.self.view_is taken
