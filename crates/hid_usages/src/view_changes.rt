@@ -135,7 +135,7 @@ fn usage_at_place(layout: &Layout, item: usize, index: usize) -> Usage
 }
 
 /// The usage of an element, or of a place of an array's usage list.
-#[inline(never)]
+#[inline(always)]
 pub(crate) fn usage_at(layout: &Layout, item: usize, index: usize) -> Usage
     requires { index < length (usages_at layout.now item) }
     ensures { slice_get (usages_at layout.now item) index ≡ Some result }
