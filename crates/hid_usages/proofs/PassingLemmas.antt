@@ -33,7 +33,8 @@ use Rattle.hid_usages.specs.ChangedBits.{IsOutsideSpan}
 use Rattle.hid_usages.specs.Plans.{kind_of_controls, kind_of_shape, planned_kind, place_of, IsPlannedItem, IsPassed, IsPlan}
 use Rattle.hid_usages.specs.Known.{Knows, KnowsPlace}
 use Rattle.hid_usages.specs.Reading.{item_numbers}
-use Rattle.hid_usages.specs.Taking.{list_at, state_after_report_at, events_of_report_at}
+use Rattle.hid_usages.specs.declared.take.ListedItem.{ListedItem}
+use Rattle.hid_usages.specs.Taking.{IsFilled, list_at, state_after_report_at, events_of_report_at}
 use Rattle.hid_usages.proofs.BitLemmas.{has_bits}
 use Rattle.hid_usages.proofs.TakeLemmas.{form_of_item, read_view-at}
 use Rattle.hid_usages.proofs.FixedLemmas.{TellsNoMotion, left_by_bits, silent_by_bits, padding_stays}
@@ -259,3 +260,13 @@ planned_there layout plan k planned all there =
     let both : Some (get_or plan k planned) ≡ Some planned = sym (slice_get-get_or plan k planned within) ∙ there in
     let is : get_or plan k planned ≡ planned = cc in
     subst (IsPlannedItem layout) is (all k planned within)
+
+-- a listed item with data of a report that the bytes fill
+pub is_filled : (listed : ListedItem) (r : ℕ) (bytes : List ℕ) → IsLayout listed.layout.now → IsInput listed.layout.now r → slice_get listed.layout.now.items listed.place ≡ Some listed.item.now → listed.item.now.report ≡ r → is_padding listed.item.now.shape ≡ false
+    → report_bytes listed.layout.now r ≤ length bytes → IsFilled listed bytes
+is_filled listed r bytes laid input there is data_ whole = record {
+  layout = laid;
+  input = form_of_item listed.layout.now r listed.place listed.item.now laid input (record { listed = there; in_report = is; no_padding = data_ });
+  with_data = record { listed = there; in_report = refl; no_padding = data_ };
+  whole = omega (arith, ap (report_bytes listed.layout.now) is, whole);
+}

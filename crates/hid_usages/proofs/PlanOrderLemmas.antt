@@ -14,8 +14,9 @@ use Rattle.hid_snapshots.proofs.ItemLemmas.{got, set_same}
 use Rattle.hid_snapshots.proofs.PlanLemmas.{IsAlong, along_start, along_step}
 use Rattle.hid_usages.specs.declared.changed_bits.BitSpan.{BitSpan}
 use Rattle.hid_usages.specs.declared.plan.PlannedItem.{PlannedItem}
+use Rattle.hid_usages.specs.declared.plan.ReportPlan.{ReportPlan}
 use Rattle.hid_usages.specs.declared.plan.PlannedKind.TheVariants as kind
-use Rattle.hid_usages.specs.Plans.{place_of, IsPlannedItem, IsInOrder, IsPassed, ArePassed}
+use Rattle.hid_usages.specs.Plans.{place_of, IsPlan, IsPlannedItem, IsInOrder, IsPassed, ArePassed}
 use Rattle.hid_usages.specs.Known.{Knows}
 use Rattle.hid_usages.specs.Taking.{state_after_report_at, events_of_report_at, events_from_item, read_events}
 use Rattle.hid_usages.proofs.BitLemmas.{same_number}
@@ -99,6 +100,11 @@ pub record IsKnownPlan (layout : Contents) (r : ℕ) (bytes last : List ℕ) (sp
   pub known : Knows layout r bytes last span start
   pub all : length start ≡ length layout.items
   pub same : length now ≡ length start
+
+pub known_plan : (layout : Contents) (r : ℕ) (bytes last : List ℕ) (span : BitSpan) (plan : ReportPlan) (start now : List ControlState) → IsLayout layout → IsInput layout r → IsPlan layout r plan → Knows layout r bytes last span start
+    → length start ≡ length layout.items → length now ≡ length start → IsKnownPlan layout r bytes last span plan.items.items start now
+known_plan layout r bytes last span plan start now laid input is known all same =
+    record { laid = laid; input = input; places = is.places; each = is.each; known = known; all = all; same = same }
 
 -- an item that is passed over, or padding, is read so
 passed_step : (layout : Contents) (r : ℕ) (bytes last : List ℕ) (span : BitSpan) (plan : List PlannedItem) (start now : List ControlState) (before told : List Event) (len room k : ℕ) (item : PlannedItem)

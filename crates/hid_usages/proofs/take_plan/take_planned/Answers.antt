@@ -12,7 +12,7 @@ use Rattle.hid_usages.specs.Taking.{read_view}
 use Rattle.hid_usages.proofs.BitLemmas.{same_number}
 use Rattle.hid_usages.proofs.EventLemmas.{appends, room_for, room_left, told}
 use Rattle.hid_usages.proofs.PassingLemmas.{next_planned, place_known, places_length, planned_there}
-use Rattle.hid_usages.proofs.PlanOrderLemmas.{IsKnownPlan, passed_over, passed_to, none_taken}
+use Rattle.hid_usages.proofs.PlanOrderLemmas.{IsKnownPlan, known_plan, passed_over, passed_to, none_taken}
 use Rattle.hid_usages.proofs.TakeLemmas.{HasTaken, read_start, read_next, events_from_item-next, view_from_item-length, taking_skips, all_told}
 use Rattle.hid_usages.proofs.ViewLemmas.{room_at}
 use Rattle.hid_usages.proofs.take_plan.take_planned.Goals as goal
@@ -37,15 +37,7 @@ loop-k-init g c =
     let plan = c.args.plan.now.items.items in
     let range = c.items_of_span-range.result in
     let held = c.items_of_span-range.ensures in
-    let known : IsKnownPlan layout r bytes c.args.last.now.bytes.now c.args.last.now.changed plan c.args.states.now c.args.states.now = record {
-      laid = c.items.ensures.layout;
-      input = c.requires.received.input;
-      places = c.requires.plan.places;
-      each = c.requires.plan.each;
-      known = c.requires.known;
-      all = c.requires.fits.one_each ∙ c.requires.places.all;
-      same = refl;
-    } in
+    let known : IsKnownPlan layout r bytes c.args.last.now.bytes.now c.args.last.now.changed plan c.args.states.now c.args.states.now = known_plan _ _ _ _ _ c.args.plan.now _ _ c.items.ensures.layout c.requires.received.input c.requires.plan c.requires.known (c.requires.fits.one_each ∙ c.requires.places.all) refl in
     let start = none_taken layout r bytes c.args.states.now c.args.out.now.items (vec_len c.args.out.now) (vec_capacity c.args.out.now) c.requires.room in
     let along = passed_over layout r bytes c.args.last.now.bytes.now c.args.last.now.changed plan c.args.states.now c.args.states.now c.args.out.now.items c.args.out.now.items (vec_len c.args.out.now) (vec_capacity c.args.out.now) range.first 0 known (omega (arith, held.order, held.within))
     (λ j item there low high. inl (held.passed j item there (inl (omega (arith, high))))) start in
@@ -59,15 +51,7 @@ loop-k-init g c =
 pub take_planned_item-requires-clause-held : goal.take_planned_item-requires-clause-held
 take_planned_item-requires-clause-held g c =
     let skips = taking_skips c.args.received.now.layout.now c.args.received.now.report c.args.received.now.bytes.now c.args.states.now c.loop-k.states c.args.out.now.items c.loop-k.out.items (vec_len c.loop-k.out) (vec_capacity c.loop-k.out) (c.requires.fits.one_each ∙ c.requires.places.all) c.loop-k.auto.states in
-    let known : IsKnownPlan c.args.received.now.layout.now c.args.received.now.report c.args.received.now.bytes.now c.args.last.now.bytes.now c.args.last.now.changed c.args.plan.now.items.items c.args.states.now c.loop-k.states = record {
-      laid = c.items.ensures.layout;
-      input = c.requires.received.input;
-      places = c.requires.plan.places;
-      each = c.requires.plan.each;
-      known = c.requires.known;
-      all = c.requires.fits.one_each ∙ c.requires.places.all;
-      same = c.loop-k.auto.states;
-    } in
+    let known : IsKnownPlan c.args.received.now.layout.now c.args.received.now.report c.args.received.now.bytes.now c.args.last.now.bytes.now c.args.last.now.changed c.args.plan.now.items.items c.args.states.now c.loop-k.states = known_plan _ _ _ _ _ c.args.plan.now _ _ c.items.ensures.layout c.requires.received.input c.requires.plan c.requires.known (c.requires.fits.one_each ∙ c.requires.places.all) c.loop-k.auto.states in
     let along = passed_to c.args.received.now.layout.now c.args.received.now.report c.args.received.now.bytes.now c.args.last.now.bytes.now c.args.last.now.changed c.args.plan.now.items.items c.args.states.now c.loop-k.states c.args.out.now.items c.loop-k.out.items (vec_len c.loop-k.out) (vec_capacity c.loop-k.out) c.loop-k.from c.in-Some.k known c.in-Some.ensures.0 (omega (arith, c.items_of_span-range.ensures.within, c.in-Some.ensures.1)) (subst (λ (items : List PlannedItem). ArePassed items c.args.last.now.changed c.loop-k.from c.in-Some.k) c.deref.ensures.value c.in-Some.ensures.2) c.loop-k.invariant.along in
     let next = next_planned c.args.received.now.layout.now c.args.received.now.report c.in-Some.k c.args.plan.now.items.items _ c.planned_at-planned.result.now skips c.requires.places.plan c.planned_at-planned.ensures along in
     let here : c.planned_at-planned.result.now.place < length c.args.received.now.layout.now.items = slice_get_within c.args.received.now.layout.now.items c.planned_at-planned.result.now.place next.item next.listed in
@@ -82,15 +66,7 @@ take_planned_item-requires-clause-planned g c =
 pub take_planned_item-requires-clause-in_report : goal.take_planned_item-requires-clause-in_report
 take_planned_item-requires-clause-in_report g c = λ m listed.
     let skips = taking_skips c.args.received.now.layout.now c.args.received.now.report c.args.received.now.bytes.now c.args.states.now c.loop-k.states c.args.out.now.items c.loop-k.out.items (vec_len c.loop-k.out) (vec_capacity c.loop-k.out) (c.requires.fits.one_each ∙ c.requires.places.all) c.loop-k.auto.states in
-    let known : IsKnownPlan c.args.received.now.layout.now c.args.received.now.report c.args.received.now.bytes.now c.args.last.now.bytes.now c.args.last.now.changed c.args.plan.now.items.items c.args.states.now c.loop-k.states = record {
-      laid = c.items.ensures.layout;
-      input = c.requires.received.input;
-      places = c.requires.plan.places;
-      each = c.requires.plan.each;
-      known = c.requires.known;
-      all = c.requires.fits.one_each ∙ c.requires.places.all;
-      same = c.loop-k.auto.states;
-    } in
+    let known : IsKnownPlan c.args.received.now.layout.now c.args.received.now.report c.args.received.now.bytes.now c.args.last.now.bytes.now c.args.last.now.changed c.args.plan.now.items.items c.args.states.now c.loop-k.states = known_plan _ _ _ _ _ c.args.plan.now _ _ c.items.ensures.layout c.requires.received.input c.requires.plan c.requires.known (c.requires.fits.one_each ∙ c.requires.places.all) c.loop-k.auto.states in
     let along = passed_to c.args.received.now.layout.now c.args.received.now.report c.args.received.now.bytes.now c.args.last.now.bytes.now c.args.last.now.changed c.args.plan.now.items.items c.args.states.now c.loop-k.states c.args.out.now.items c.loop-k.out.items (vec_len c.loop-k.out) (vec_capacity c.loop-k.out) c.loop-k.from c.in-Some.k known c.in-Some.ensures.0 (omega (arith, c.items_of_span-range.ensures.within, c.in-Some.ensures.1)) (subst (λ (items : List PlannedItem). ArePassed items c.args.last.now.changed c.loop-k.from c.in-Some.k) c.deref.ensures.value c.in-Some.ensures.2) c.loop-k.invariant.along in
     let next = next_planned c.args.received.now.layout.now c.args.received.now.report c.in-Some.k c.args.plan.now.items.items _ c.planned_at-planned.result.now skips c.requires.places.plan c.planned_at-planned.ensures along in
     let same : Some next.item ≡ Some m = sym next.listed ∙ listed in
@@ -100,15 +76,7 @@ take_planned_item-requires-clause-in_report g c = λ m listed.
 pub take_planned_item-requires-clause-known : goal.take_planned_item-requires-clause-known
 take_planned_item-requires-clause-known g c =
     let skips = taking_skips c.args.received.now.layout.now c.args.received.now.report c.args.received.now.bytes.now c.args.states.now c.loop-k.states c.args.out.now.items c.loop-k.out.items (vec_len c.loop-k.out) (vec_capacity c.loop-k.out) (c.requires.fits.one_each ∙ c.requires.places.all) c.loop-k.auto.states in
-    let known : IsKnownPlan c.args.received.now.layout.now c.args.received.now.report c.args.received.now.bytes.now c.args.last.now.bytes.now c.args.last.now.changed c.args.plan.now.items.items c.args.states.now c.loop-k.states = record {
-      laid = c.items.ensures.layout;
-      input = c.requires.received.input;
-      places = c.requires.plan.places;
-      each = c.requires.plan.each;
-      known = c.requires.known;
-      all = c.requires.fits.one_each ∙ c.requires.places.all;
-      same = c.loop-k.auto.states;
-    } in
+    let known : IsKnownPlan c.args.received.now.layout.now c.args.received.now.report c.args.received.now.bytes.now c.args.last.now.bytes.now c.args.last.now.changed c.args.plan.now.items.items c.args.states.now c.loop-k.states = known_plan _ _ _ _ _ c.args.plan.now _ _ c.items.ensures.layout c.requires.received.input c.requires.plan c.requires.known (c.requires.fits.one_each ∙ c.requires.places.all) c.loop-k.auto.states in
     let along = passed_to c.args.received.now.layout.now c.args.received.now.report c.args.received.now.bytes.now c.args.last.now.bytes.now c.args.last.now.changed c.args.plan.now.items.items c.args.states.now c.loop-k.states c.args.out.now.items c.loop-k.out.items (vec_len c.loop-k.out) (vec_capacity c.loop-k.out) c.loop-k.from c.in-Some.k known c.in-Some.ensures.0 (omega (arith, c.items_of_span-range.ensures.within, c.in-Some.ensures.1)) (subst (λ (items : List PlannedItem). ArePassed items c.args.last.now.changed c.loop-k.from c.in-Some.k) c.deref.ensures.value c.in-Some.ensures.2) c.loop-k.invariant.along in
     let next = next_planned c.args.received.now.layout.now c.args.received.now.report c.in-Some.k c.args.plan.now.items.items _ c.planned_at-planned.result.now skips c.requires.places.plan c.planned_at-planned.ensures along in
     let here : c.planned_at-planned.result.now.place < length c.args.received.now.layout.now.items = slice_get_within c.args.received.now.layout.now.items c.planned_at-planned.result.now.place next.item next.listed in
@@ -119,15 +87,7 @@ take_planned_item-requires-clause-known g c =
 pub take_planned_item-requires-clause-named : goal.take_planned_item-requires-clause-named
 take_planned_item-requires-clause-named g c =
     let skips = taking_skips c.args.received.now.layout.now c.args.received.now.report c.args.received.now.bytes.now c.args.states.now c.loop-k.states c.args.out.now.items c.loop-k.out.items (vec_len c.loop-k.out) (vec_capacity c.loop-k.out) (c.requires.fits.one_each ∙ c.requires.places.all) c.loop-k.auto.states in
-    let known : IsKnownPlan c.args.received.now.layout.now c.args.received.now.report c.args.received.now.bytes.now c.args.last.now.bytes.now c.args.last.now.changed c.args.plan.now.items.items c.args.states.now c.loop-k.states = record {
-      laid = c.items.ensures.layout;
-      input = c.requires.received.input;
-      places = c.requires.plan.places;
-      each = c.requires.plan.each;
-      known = c.requires.known;
-      all = c.requires.fits.one_each ∙ c.requires.places.all;
-      same = c.loop-k.auto.states;
-    } in
+    let known : IsKnownPlan c.args.received.now.layout.now c.args.received.now.report c.args.received.now.bytes.now c.args.last.now.bytes.now c.args.last.now.changed c.args.plan.now.items.items c.args.states.now c.loop-k.states = known_plan _ _ _ _ _ c.args.plan.now _ _ c.items.ensures.layout c.requires.received.input c.requires.plan c.requires.known (c.requires.fits.one_each ∙ c.requires.places.all) c.loop-k.auto.states in
     let along = passed_to c.args.received.now.layout.now c.args.received.now.report c.args.received.now.bytes.now c.args.last.now.bytes.now c.args.last.now.changed c.args.plan.now.items.items c.args.states.now c.loop-k.states c.args.out.now.items c.loop-k.out.items (vec_len c.loop-k.out) (vec_capacity c.loop-k.out) c.loop-k.from c.in-Some.k known c.in-Some.ensures.0 (omega (arith, c.items_of_span-range.ensures.within, c.in-Some.ensures.1)) (subst (λ (items : List PlannedItem). ArePassed items c.args.last.now.changed c.loop-k.from c.in-Some.k) c.deref.ensures.value c.in-Some.ensures.2) c.loop-k.invariant.along in
     let next = next_planned c.args.received.now.layout.now c.args.received.now.report c.in-Some.k c.args.plan.now.items.items _ c.planned_at-planned.result.now skips c.requires.places.plan c.planned_at-planned.ensures along in
     let here : c.planned_at-planned.result.now.place < length c.args.received.now.layout.now.items = slice_get_within c.args.received.now.layout.now.items c.planned_at-planned.result.now.place next.item next.listed in
@@ -141,15 +101,7 @@ take_planned_item-requires-clause-named g c =
 pub take_planned_item-requires-clause-room : goal.take_planned_item-requires-clause-room
 take_planned_item-requires-clause-room g c =
     let skips = taking_skips c.args.received.now.layout.now c.args.received.now.report c.args.received.now.bytes.now c.args.states.now c.loop-k.states c.args.out.now.items c.loop-k.out.items (vec_len c.loop-k.out) (vec_capacity c.loop-k.out) (c.requires.fits.one_each ∙ c.requires.places.all) c.loop-k.auto.states in
-    let known : IsKnownPlan c.args.received.now.layout.now c.args.received.now.report c.args.received.now.bytes.now c.args.last.now.bytes.now c.args.last.now.changed c.args.plan.now.items.items c.args.states.now c.loop-k.states = record {
-      laid = c.items.ensures.layout;
-      input = c.requires.received.input;
-      places = c.requires.plan.places;
-      each = c.requires.plan.each;
-      known = c.requires.known;
-      all = c.requires.fits.one_each ∙ c.requires.places.all;
-      same = c.loop-k.auto.states;
-    } in
+    let known : IsKnownPlan c.args.received.now.layout.now c.args.received.now.report c.args.received.now.bytes.now c.args.last.now.bytes.now c.args.last.now.changed c.args.plan.now.items.items c.args.states.now c.loop-k.states = known_plan _ _ _ _ _ c.args.plan.now _ _ c.items.ensures.layout c.requires.received.input c.requires.plan c.requires.known (c.requires.fits.one_each ∙ c.requires.places.all) c.loop-k.auto.states in
     let along = passed_to c.args.received.now.layout.now c.args.received.now.report c.args.received.now.bytes.now c.args.last.now.bytes.now c.args.last.now.changed c.args.plan.now.items.items c.args.states.now c.loop-k.states c.args.out.now.items c.loop-k.out.items (vec_len c.loop-k.out) (vec_capacity c.loop-k.out) c.loop-k.from c.in-Some.k known c.in-Some.ensures.0 (omega (arith, c.items_of_span-range.ensures.within, c.in-Some.ensures.1)) (subst (λ (items : List PlannedItem). ArePassed items c.args.last.now.changed c.loop-k.from c.in-Some.k) c.deref.ensures.value c.in-Some.ensures.2) c.loop-k.invariant.along in
     let next = next_planned c.args.received.now.layout.now c.args.received.now.report c.in-Some.k c.args.plan.now.items.items _ c.planned_at-planned.result.now skips c.requires.places.plan c.planned_at-planned.ensures along in
     let here : c.planned_at-planned.result.now.place < length c.args.received.now.layout.now.items = slice_get_within c.args.received.now.layout.now.items c.planned_at-planned.result.now.place next.item next.listed in
@@ -162,15 +114,7 @@ take_planned_item-requires-clause-room g c =
 pub loop-k-preserved : goal.loop-k-preserved
 loop-k-preserved g c =
     let skips = taking_skips c.args.received.now.layout.now c.args.received.now.report c.args.received.now.bytes.now c.args.states.now c.loop-k.states c.args.out.now.items c.loop-k.out.items (vec_len c.loop-k.out) (vec_capacity c.loop-k.out) (c.requires.fits.one_each ∙ c.requires.places.all) c.loop-k.auto.states in
-    let known : IsKnownPlan c.args.received.now.layout.now c.args.received.now.report c.args.received.now.bytes.now c.args.last.now.bytes.now c.args.last.now.changed c.args.plan.now.items.items c.args.states.now c.loop-k.states = record {
-      laid = c.items.ensures.layout;
-      input = c.requires.received.input;
-      places = c.requires.plan.places;
-      each = c.requires.plan.each;
-      known = c.requires.known;
-      all = c.requires.fits.one_each ∙ c.requires.places.all;
-      same = c.loop-k.auto.states;
-    } in
+    let known : IsKnownPlan c.args.received.now.layout.now c.args.received.now.report c.args.received.now.bytes.now c.args.last.now.bytes.now c.args.last.now.changed c.args.plan.now.items.items c.args.states.now c.loop-k.states = known_plan _ _ _ _ _ c.args.plan.now _ _ c.items.ensures.layout c.requires.received.input c.requires.plan c.requires.known (c.requires.fits.one_each ∙ c.requires.places.all) c.loop-k.auto.states in
     let along = passed_to c.args.received.now.layout.now c.args.received.now.report c.args.received.now.bytes.now c.args.last.now.bytes.now c.args.last.now.changed c.args.plan.now.items.items c.args.states.now c.loop-k.states c.args.out.now.items c.loop-k.out.items (vec_len c.loop-k.out) (vec_capacity c.loop-k.out) c.loop-k.from c.in-Some.k known c.in-Some.ensures.0 (omega (arith, c.items_of_span-range.ensures.within, c.in-Some.ensures.1)) (subst (λ (items : List PlannedItem). ArePassed items c.args.last.now.changed c.loop-k.from c.in-Some.k) c.deref.ensures.value c.in-Some.ensures.2) c.loop-k.invariant.along in
     let next = next_planned c.args.received.now.layout.now c.args.received.now.report c.in-Some.k c.args.plan.now.items.items _ c.planned_at-planned.result.now skips c.requires.places.plan c.planned_at-planned.ensures along in
     let here : c.planned_at-planned.result.now.place < length c.args.received.now.layout.now.items = slice_get_within c.args.received.now.layout.now.items c.planned_at-planned.result.now.place next.item next.listed in
@@ -200,15 +144,7 @@ returns-clause-view g c =
     let plan = c.args.plan.now.items.items in
     let range = c.items_of_span-range.result in
     let held = c.items_of_span-range.ensures in
-    let known : IsKnownPlan layout r bytes c.args.last.now.bytes.now c.args.last.now.changed plan c.args.states.now c.loop-k.states = record {
-      laid = c.items.ensures.layout;
-      input = c.requires.received.input;
-      places = c.requires.plan.places;
-      each = c.requires.plan.each;
-      known = c.requires.known;
-      all = c.requires.fits.one_each ∙ c.requires.places.all;
-      same = c.loop-k.auto.states;
-    } in
+    let known : IsKnownPlan layout r bytes c.args.last.now.bytes.now c.args.last.now.changed plan c.args.states.now c.loop-k.states = known_plan _ _ _ _ _ c.args.plan.now _ _ c.items.ensures.layout c.requires.received.input c.requires.plan c.requires.known (c.requires.fits.one_each ∙ c.requires.places.all) c.loop-k.auto.states in
     let skips = taking_skips layout r bytes c.args.states.now c.loop-k.states c.args.out.now.items c.loop-k.out.items (vec_len c.loop-k.out) (vec_capacity c.loop-k.out) known.all known.same in
     let along = passed_to layout r bytes c.args.last.now.bytes.now c.args.last.now.changed plan c.args.states.now c.loop-k.states c.args.out.now.items c.loop-k.out.items (vec_len c.loop-k.out) (vec_capacity c.loop-k.out) c.loop-k.from (length plan) known c.loop-k.invariant.within (omega arith)
     (λ j item there low high. elim (cases_lt j range.end) [
@@ -229,15 +165,7 @@ returns-clause-appends g c =
     let plan = c.args.plan.now.items.items in
     let range = c.items_of_span-range.result in
     let held = c.items_of_span-range.ensures in
-    let known : IsKnownPlan layout r bytes c.args.last.now.bytes.now c.args.last.now.changed plan c.args.states.now c.loop-k.states = record {
-      laid = c.items.ensures.layout;
-      input = c.requires.received.input;
-      places = c.requires.plan.places;
-      each = c.requires.plan.each;
-      known = c.requires.known;
-      all = c.requires.fits.one_each ∙ c.requires.places.all;
-      same = c.loop-k.auto.states;
-    } in
+    let known : IsKnownPlan layout r bytes c.args.last.now.bytes.now c.args.last.now.changed plan c.args.states.now c.loop-k.states = known_plan _ _ _ _ _ c.args.plan.now _ _ c.items.ensures.layout c.requires.received.input c.requires.plan c.requires.known (c.requires.fits.one_each ∙ c.requires.places.all) c.loop-k.auto.states in
     let skips = taking_skips layout r bytes c.args.states.now c.loop-k.states c.args.out.now.items c.loop-k.out.items (vec_len c.loop-k.out) (vec_capacity c.loop-k.out) known.all known.same in
     let along = passed_to layout r bytes c.args.last.now.bytes.now c.args.last.now.changed plan c.args.states.now c.loop-k.states c.args.out.now.items c.loop-k.out.items (vec_len c.loop-k.out) (vec_capacity c.loop-k.out) c.loop-k.from (length plan) known c.loop-k.invariant.within (omega arith)
     (λ j item there low high. elim (cases_lt j range.end) [

@@ -1,9 +1,7 @@
-use Rattle.std.proofs.Common.{◌≡◌, ◌∙◌, List, false, subst, ap, sym, refl, arith}
+use Rattle.std.proofs.Common.{◌≡◌, ◌∙◌, List, false, subst, ap, sym, refl}
 use Rattle.std.proofs.lemmas.Option.{slice_get_within}
 use Rattle.hid_report_descriptor.specs.Fields.{is_padding}
-use Rattle.hid_layout.specs.Reports.{report_bytes}
 use Rattle.hid_layout.specs.declared.control.ControlKind.TheVariants.{Switch, Value, NullValue, Relative}
-use Rattle.hid_snapshots.specs.Encoding.{IsData}
 use Rattle.hid_snapshots.specs.declared.control_state.ControlState.{ControlState}
 use Rattle.hid_snapshots.specs.declared.event.Event.{Event}
 use Rattle.hid_usages.specs.Appending.{HasSpace, Appends}
@@ -12,8 +10,7 @@ use Rattle.hid_usages.specs.Taking.{events_of_numbers_at}
 use Rattle.hid_usages.proofs.BitLemmas.{has_bits}
 use Rattle.hid_usages.proofs.EventLemmas.{nothing_appended}
 use Rattle.hid_usages.proofs.FixedLemmas.{padding_stays, data_read, listed_known}
-use Rattle.hid_usages.proofs.PassingLemmas.{planned_as, bits_planned, variable_planned, array_planned, padding_planned}
-use Rattle.hid_usages.proofs.TakeLemmas.{form_of_item}
+use Rattle.hid_usages.proofs.PassingLemmas.{is_filled, planned_as, bits_planned, variable_planned, array_planned, padding_planned}
 use Rattle.hid_usages.proofs.take_plan.take_planned_item.Goals as goal
 
 pub item_at-requires : goal.item_at-requires
@@ -21,18 +18,10 @@ item_at-requires g c = slice_get_within c.args.received.now.layout.now.items c.a
 
 pub take_bit_fields-requires-clause-listed : goal.take_bit_fields-requires-clause-listed
 take_bit_fields-requires-clause-listed g c =
-    let layout = c.args.received.now.layout.now in
     let item = c.item_at.result.now in
-    let as_planned = planned_as layout c.args.planned.now item c.requires.planned c.item_at.ensures.item in
-    let no_padding : is_padding item.shape ≡ false = ap is_padding (has_bits item (bits_planned item (sym as_planned.2 ∙ c.in-Bits.is))).shape in
-    let in_report = c.requires.in_report item c.item_at.ensures.item in
-    let d : IsData layout c.args.received.now.report c.args.planned.now.place item = record { listed = c.item_at.ensures.item; in_report = in_report; no_padding = no_padding } in
-    record {
-      layout = c.item_at.ensures.layout;
-      input = form_of_item layout c.args.received.now.report c.args.planned.now.place item c.item_at.ensures.layout c.requires.received.input d;
-      with_data = record { listed = d.listed; in_report = refl; no_padding = d.no_padding };
-      whole = omega (arith, ap (report_bytes layout) in_report, c.requires.received.whole);
-    }
+    let as_planned = planned_as c.args.received.now.layout.now c.args.planned.now item c.requires.planned c.item_at.ensures.item in
+    is_filled _ c.args.received.now.report c.args.received.now.bytes.now c.item_at.ensures.layout c.requires.received.input c.item_at.ensures.item (c.requires.in_report item c.item_at.ensures.item)
+    (ap is_padding (has_bits item (bits_planned item (sym as_planned.2 ∙ c.in-Bits.is))).shape) c.requires.received.whole
 
 pub take_bit_fields-requires-clause-bits : goal.take_bit_fields-requires-clause-bits
 take_bit_fields-requires-clause-bits g c =
@@ -46,18 +35,10 @@ take_bit_fields-requires-clause-at g c =
 
 pub take_variable-requires-clause-listed : goal.take_variable-requires-clause-listed
 take_variable-requires-clause-listed g c =
-    let layout = c.args.received.now.layout.now in
     let item = c.item_at.result.now in
-    let as_planned = planned_as layout c.args.planned.now item c.requires.planned c.item_at.ensures.item in
-    let no_padding : is_padding item.shape ≡ false = ap is_padding (variable_planned item Switch (sym as_planned.2 ∙ c.in-Switches.is)).0 in
-    let in_report = c.requires.in_report item c.item_at.ensures.item in
-    let d : IsData layout c.args.received.now.report c.args.planned.now.place item = record { listed = c.item_at.ensures.item; in_report = in_report; no_padding = no_padding } in
-    record {
-      layout = c.item_at.ensures.layout;
-      input = form_of_item layout c.args.received.now.report c.args.planned.now.place item c.item_at.ensures.layout c.requires.received.input d;
-      with_data = record { listed = d.listed; in_report = refl; no_padding = d.no_padding };
-      whole = omega (arith, ap (report_bytes layout) in_report, c.requires.received.whole);
-    }
+    let as_planned = planned_as c.args.received.now.layout.now c.args.planned.now item c.requires.planned c.item_at.ensures.item in
+    is_filled _ c.args.received.now.report c.args.received.now.bytes.now c.item_at.ensures.layout c.requires.received.input c.item_at.ensures.item (c.requires.in_report item c.item_at.ensures.item)
+    (ap is_padding (variable_planned item Switch (sym as_planned.2 ∙ c.in-Switches.is)).0) c.requires.received.whole
 
 pub take_variable-requires-clause-shape : goal.take_variable-requires-clause-shape
 take_variable-requires-clause-shape g c =
@@ -76,18 +57,10 @@ take_variable-requires-clause-at g c =
 
 pub take_variable-requires-in-Values-clause-listed : goal.take_variable-requires-in-Values-clause-listed
 take_variable-requires-in-Values-clause-listed g c =
-    let layout = c.args.received.now.layout.now in
     let item = c.item_at.result.now in
-    let as_planned = planned_as layout c.args.planned.now item c.requires.planned c.item_at.ensures.item in
-    let no_padding : is_padding item.shape ≡ false = ap is_padding (variable_planned item Value (sym as_planned.2 ∙ c.in-Values.is)).0 in
-    let in_report = c.requires.in_report item c.item_at.ensures.item in
-    let d : IsData layout c.args.received.now.report c.args.planned.now.place item = record { listed = c.item_at.ensures.item; in_report = in_report; no_padding = no_padding } in
-    record {
-      layout = c.item_at.ensures.layout;
-      input = form_of_item layout c.args.received.now.report c.args.planned.now.place item c.item_at.ensures.layout c.requires.received.input d;
-      with_data = record { listed = d.listed; in_report = refl; no_padding = d.no_padding };
-      whole = omega (arith, ap (report_bytes layout) in_report, c.requires.received.whole);
-    }
+    let as_planned = planned_as c.args.received.now.layout.now c.args.planned.now item c.requires.planned c.item_at.ensures.item in
+    is_filled _ c.args.received.now.report c.args.received.now.bytes.now c.item_at.ensures.layout c.requires.received.input c.item_at.ensures.item (c.requires.in_report item c.item_at.ensures.item)
+    (ap is_padding (variable_planned item Value (sym as_planned.2 ∙ c.in-Values.is)).0) c.requires.received.whole
 
 pub take_variable-requires-in-Values-clause-shape : goal.take_variable-requires-in-Values-clause-shape
 take_variable-requires-in-Values-clause-shape g c =
@@ -106,18 +79,10 @@ take_variable-requires-in-Values-clause-at g c =
 
 pub take_variable-requires-in-NullValues-clause-listed : goal.take_variable-requires-in-NullValues-clause-listed
 take_variable-requires-in-NullValues-clause-listed g c =
-    let layout = c.args.received.now.layout.now in
     let item = c.item_at.result.now in
-    let as_planned = planned_as layout c.args.planned.now item c.requires.planned c.item_at.ensures.item in
-    let no_padding : is_padding item.shape ≡ false = ap is_padding (variable_planned item NullValue (sym as_planned.2 ∙ c.in-NullValues.is)).0 in
-    let in_report = c.requires.in_report item c.item_at.ensures.item in
-    let d : IsData layout c.args.received.now.report c.args.planned.now.place item = record { listed = c.item_at.ensures.item; in_report = in_report; no_padding = no_padding } in
-    record {
-      layout = c.item_at.ensures.layout;
-      input = form_of_item layout c.args.received.now.report c.args.planned.now.place item c.item_at.ensures.layout c.requires.received.input d;
-      with_data = record { listed = d.listed; in_report = refl; no_padding = d.no_padding };
-      whole = omega (arith, ap (report_bytes layout) in_report, c.requires.received.whole);
-    }
+    let as_planned = planned_as c.args.received.now.layout.now c.args.planned.now item c.requires.planned c.item_at.ensures.item in
+    is_filled _ c.args.received.now.report c.args.received.now.bytes.now c.item_at.ensures.layout c.requires.received.input c.item_at.ensures.item (c.requires.in_report item c.item_at.ensures.item)
+    (ap is_padding (variable_planned item NullValue (sym as_planned.2 ∙ c.in-NullValues.is)).0) c.requires.received.whole
 
 pub take_variable-requires-in-NullValues-clause-shape : goal.take_variable-requires-in-NullValues-clause-shape
 take_variable-requires-in-NullValues-clause-shape g c =
@@ -136,18 +101,10 @@ take_variable-requires-in-NullValues-clause-at g c =
 
 pub take_variable-requires-in-Motions-clause-listed : goal.take_variable-requires-in-Motions-clause-listed
 take_variable-requires-in-Motions-clause-listed g c =
-    let layout = c.args.received.now.layout.now in
     let item = c.item_at.result.now in
-    let as_planned = planned_as layout c.args.planned.now item c.requires.planned c.item_at.ensures.item in
-    let no_padding : is_padding item.shape ≡ false = ap is_padding (variable_planned item Relative (sym as_planned.2 ∙ c.in-Motions.is)).0 in
-    let in_report = c.requires.in_report item c.item_at.ensures.item in
-    let d : IsData layout c.args.received.now.report c.args.planned.now.place item = record { listed = c.item_at.ensures.item; in_report = in_report; no_padding = no_padding } in
-    record {
-      layout = c.item_at.ensures.layout;
-      input = form_of_item layout c.args.received.now.report c.args.planned.now.place item c.item_at.ensures.layout c.requires.received.input d;
-      with_data = record { listed = d.listed; in_report = refl; no_padding = d.no_padding };
-      whole = omega (arith, ap (report_bytes layout) in_report, c.requires.received.whole);
-    }
+    let as_planned = planned_as c.args.received.now.layout.now c.args.planned.now item c.requires.planned c.item_at.ensures.item in
+    is_filled _ c.args.received.now.report c.args.received.now.bytes.now c.item_at.ensures.layout c.requires.received.input c.item_at.ensures.item (c.requires.in_report item c.item_at.ensures.item)
+    (ap is_padding (variable_planned item Relative (sym as_planned.2 ∙ c.in-Motions.is)).0) c.requires.received.whole
 
 pub take_variable-requires-in-Motions-clause-shape : goal.take_variable-requires-in-Motions-clause-shape
 take_variable-requires-in-Motions-clause-shape g c =
@@ -166,18 +123,10 @@ take_variable-requires-in-Motions-clause-at g c =
 
 pub take_key_fields-requires-clause-listed : goal.take_key_fields-requires-clause-listed
 take_key_fields-requires-clause-listed g c =
-    let layout = c.args.received.now.layout.now in
     let item = c.item_at.result.now in
-    let as_planned = planned_as layout c.args.planned.now item c.requires.planned c.item_at.ensures.item in
-    let no_padding : is_padding item.shape ≡ false = ap is_padding (array_planned item (sym as_planned.2 ∙ c.in-Keys.is)) in
-    let in_report = c.requires.in_report item c.item_at.ensures.item in
-    let d : IsData layout c.args.received.now.report c.args.planned.now.place item = record { listed = c.item_at.ensures.item; in_report = in_report; no_padding = no_padding } in
-    record {
-      layout = c.item_at.ensures.layout;
-      input = form_of_item layout c.args.received.now.report c.args.planned.now.place item c.item_at.ensures.layout c.requires.received.input d;
-      with_data = record { listed = d.listed; in_report = refl; no_padding = d.no_padding };
-      whole = omega (arith, ap (report_bytes layout) in_report, c.requires.received.whole);
-    }
+    let as_planned = planned_as c.args.received.now.layout.now c.args.planned.now item c.requires.planned c.item_at.ensures.item in
+    is_filled _ c.args.received.now.report c.args.received.now.bytes.now c.item_at.ensures.layout c.requires.received.input c.item_at.ensures.item (c.requires.in_report item c.item_at.ensures.item)
+    (ap is_padding (array_planned item (sym as_planned.2 ∙ c.in-Keys.is))) c.requires.received.whole
 
 pub take_key_fields-requires-clause-shape : goal.take_key_fields-requires-clause-shape
 take_key_fields-requires-clause-shape g c =
