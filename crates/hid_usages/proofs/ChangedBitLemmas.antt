@@ -1,11 +1,12 @@
 -- The words of a report are compared one by one.
-use Rattle.std.proofs.Common.{zero, suc, ◌==◌, Bool, true, false, max, bit_or, ◌≡◌, ℕ, ◌+◌, ◌-◌, ◌*◌, ◌/◌, ◌%◌, ◌^◌, ◌<◌, ◌≤◌, inl, inr, List, ◌++◌, length, bit_xor, add_comm, refl, sym, ap, ◌∙◌, subst, arith}
+use Rattle.std.proofs.Common.{[], ◌∷◌, drop, get_or, zero, suc, ◌==◌, Bool, true, false, max, bit_or, ◌≡◌, ℕ, ◌+◌, ◌-◌, ◌*◌, ◌/◌, ◌%◌, ◌^◌, ◌<◌, ◌≤◌, inl, inr, List, length, bit_xor, add_comm, refl, sym, ap, ◌∙◌, subst, arith}
 use Rattle.std.specs.Int.{bit_at, to_le_bytes, trailing_zeros, leading_zeros}
 use Rattle.std.proofs.lemmas.Bool.{cases_lt}
 use Rattle.std.proofs.lemmas.List.{get_or_append_left}
 use Rattle.std.proofs.lemmas.Nat.{leading_length, shr_high}
 use Rattle.std.proofs.lemmas.Nat.Bits.{bit_at-lt, bit_at-zero, bit_at_xor, bit_at_or, bit_at_above, bit_at_cat_low, bit_at_cat_high, same_from_bits, bit_at-trailing_zeros}
 use Rattle.std.specs.Bool.{OnTrue}
+use Rattle.std.specs.List.{slice_set}
 use Rattle.std.proofs.Math.Nat.{pow-suc}
 use Rattle.hid_usages.proofs.BitLemmas.{same_number}
 use Rattle.std.proofs.Common.{w64}
@@ -150,9 +151,9 @@ high_part bytes at low high =
 pub all_compared : (last bytes : List ℕ) (k : ℕ) (span : BitSpan) → 8 * length bytes ≤ 64 * k → AreCompared last bytes k span → SameOutside last bytes span
 all_compared last bytes k span all done = λ n inside outside. done.agrees n (omega arith) inside outside
 
--- the bytes of a word that was read from others have their bits
-pub word_kept : (from bytes : List ℕ) (word width n : ℕ) → from ≡ to_le_bytes w64 word → word < 2 ^ 64 → word ≡ pattern_of bytes 0 width → n < width → width ≤ 64 → bit_of from n ≡ bit_of bytes n
-word_kept from bytes word width n is fits same low few =
+-- the bytes of a word have its bits
+word_bytes : (from : List ℕ) (word n : ℕ) → from ≡ to_le_bytes w64 word → word < 2 ^ 64 → n < 64 → bit_of from n ≡ bit_at word n
+word_bytes from word n is fits low =
     let len : length from ≡ 8 = ap (λ (bs : List ℕ). length bs) is in
     let lowest : word % 256 ≡ word / 1 % 256 = omega arith in
     let has : HasBytes from word 8 = rw is ((((((((tt, lowest), refl), refl), refl), refl), refl), refl), refl) in
@@ -160,15 +161,29 @@ word_kept from bytes word width n is fits same low few =
     let whole : pattern_of from 0 64 ≡ word =
     ap (pattern_of from 0) (sym all) ∙ scattered from word 8 len (subst (λ (m : ℕ). word < 2 ^ m) (sym all) fits) has in
     let here : 0 + n ≡ n = omega arith in
-    ap (bit_of from) (sym here) ∙ sym (bit_at-pattern_of from 0 64 n (omega arith)) ∙ ap (λ (w : ℕ). bit_at w n) (whole ∙ same)
-    ∙ bit_at-pattern_of bytes 0 width n low ∙ ap (bit_of bytes) here
+    ap (bit_of from) (sym here) ∙ sym (bit_at-pattern_of from 0 64 n low) ∙ ap (λ (w : ℕ). bit_at w n) whole
 
--- so do they in front of other bytes
-pub word_kept_first : (new from rest bytes : List ℕ) (word width n : ℕ) → new ≡ from → from ≡ to_le_bytes w64 word → word < 2 ^ 64 → word ≡ pattern_of bytes 0 width → n < width → width ≤ 64 → bit_of (new ++ rest) n ≡ bit_of bytes n
-word_kept_first new from rest bytes word width n copied is fits same low few =
-    let len : length new ≡ 8 = ap (λ (bs : List ℕ). length bs) (copied ∙ is) in
-    ap (λ (b : ℕ). bit_at b (n % 8)) (get_or_append_left new rest 0 (n / 8) (omega (arith, len, low, few)))
-    ∙ ap (λ (bs : List ℕ). bit_of bs n) copied ∙ word_kept from bytes word width n is fits same low few
+-- eight bytes that are written one by one
+eight_set : (ys : List ℕ) (a b c d e f g h : ℕ) → 8 ≤ length ys → slice_set (slice_set (slice_set (slice_set (slice_set (slice_set (slice_set (slice_set ys 0 a) 1 b) 2 c) 3 d) 4 e) 5 f) 6 g) 7 h ≡ a ∷ b ∷ c ∷ d ∷ e ∷ f ∷ g ∷ h ∷ drop 8 ys
+eight_set [] a b c d e f g h long = absurd (omega (arith, long))
+eight_set (y0 ∷ []) a b c d e f g h long = absurd (omega (arith, long))
+eight_set (y0 ∷ (y1 ∷ [])) a b c d e f g h long = absurd (omega (arith, long))
+eight_set (y0 ∷ (y1 ∷ (y2 ∷ []))) a b c d e f g h long = absurd (omega (arith, long))
+eight_set (y0 ∷ (y1 ∷ (y2 ∷ (y3 ∷ [])))) a b c d e f g h long = absurd (omega (arith, long))
+eight_set (y0 ∷ (y1 ∷ (y2 ∷ (y3 ∷ (y4 ∷ []))))) a b c d e f g h long = absurd (omega (arith, long))
+eight_set (y0 ∷ (y1 ∷ (y2 ∷ (y3 ∷ (y4 ∷ (y5 ∷ [])))))) a b c d e f g h long = absurd (omega (arith, long))
+eight_set (y0 ∷ (y1 ∷ (y2 ∷ (y3 ∷ (y4 ∷ (y5 ∷ (y6 ∷ []))))))) a b c d e f g h long = absurd (omega (arith, long))
+eight_set (y0 ∷ (y1 ∷ (y2 ∷ (y3 ∷ (y4 ∷ (y5 ∷ (y6 ∷ (y7 ∷ ys)))))))) a b c d e f g h long = refl
+
+-- so have those that are written in the place of the first eight
+pub word_put : (ys zs : List ℕ) (word n : ℕ) → zs ≡ to_le_bytes w64 word → word < 2 ^ 64 → 8 ≤ length ys → n < 64
+    → bit_of (slice_set (slice_set (slice_set (slice_set (slice_set (slice_set (slice_set (slice_set ys 0 (get_or zs 0 0)) 1 (get_or zs 1 0)) 2 (get_or zs 2 0)) 3 (get_or zs 3 0)) 4 (get_or zs 4 0)) 5 (get_or zs 5 0)) 6 (get_or zs 6 0)) 7 (get_or zs 7 0)) n ≡ bit_at word n
+word_put ys zs word n is fits long low =
+    let from = to_le_bytes w64 word in
+    let len : length from ≡ 8 = refl in
+    subst (λ (zs : List ℕ). bit_of (slice_set (slice_set (slice_set (slice_set (slice_set (slice_set (slice_set (slice_set ys 0 (get_or zs 0 0)) 1 (get_or zs 1 0)) 2 (get_or zs 2 0)) 3 (get_or zs 3 0)) 4 (get_or zs 4 0)) 5 (get_or zs 5 0)) 6 (get_or zs 6 0)) 7 (get_or zs 7 0)) n ≡ bit_at word n) (sym is)
+    (ap (λ (bs : List ℕ). bit_of bs n) (eight_set ys (get_or from 0 0) (get_or from 1 0) (get_or from 2 0) (get_or from 3 0) (get_or from 4 0) (get_or from 5 0) (get_or from 6 0) (get_or from 7 0) long)
+    ∙ ap (λ (b : ℕ). bit_at b (n % 8)) (get_or_append_left from (drop 8 ys) 0 (n / 8) (omega (arith, len, low))) ∙ word_bytes from word n refl fits low)
 
 -- eight bytes that are the same as a word have the same bits
 pub same_eight : (last bytes : List ℕ) (first a b : ℕ) → a ≡ pattern_of last (8 * first) 64 → b ≡ pattern_of bytes (8 * first) 64 → a ≡ b → SameFrom last bytes (8 * first) (8 * first + 64)

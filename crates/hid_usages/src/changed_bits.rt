@@ -2,7 +2,8 @@
 
 ghost use Rattle.std.specs.Prelude.{◌≡◌, ◌<◌, ◌≤◌, ◌+◌, ◌-◌, ◌*◌, ◌^◌, ℕ, length, IfSome};
 ghost use Rattle.std.specs.Bool.{OnTrue};
-ghost use Rattle.hid_fields.specs.Field.{pattern_of};
+ghost use Rattle.std.specs.Int.{bit_at};
+ghost use Rattle.hid_fields.specs.Field.{bit_of, pattern_of};
 ghost use Rattle.hid_usages.specs.ChangedBits.{kept_bytes, IsOneWord, IsOutsideSpan, SameFrom, SameOutside, HoldBits, Grows};
 ghost use Rattle.hid_usages.specs.SameWords.{FindsUnlike};
 
@@ -272,6 +273,23 @@ pub(crate) fn changed_bits(last: &[u8], bytes: &[u8], word: u64) -> BitSpan
     }
 }
 
+/// Keeps the bytes of a word as the first eight, one by one: the compiler makes one write of them.
+#[inline(always)]
+fn keep_word(last: &mut [u8], word: u64)
+    requires { 8 ≤ length last.old }
+    ensures { (n : ℕ) → n < 64 → bit_of last.new n ≡ bit_at word n }
+{
+    let [a, b, c, d, e, f, g, h] = word.to_le_bytes();
+    last[0] = a;
+    last[1] = b;
+    last[2] = c;
+    last[3] = d;
+    last[4] = e;
+    last[5] = f;
+    last[6] = g;
+    last[7] = h;
+}
+
 /// Keeps the bytes of a report as those of the last one. The word is that of [`one_word`].
 #[inline(always)]
 pub(crate) fn keep_bytes(last: &mut [u8], bytes: &[u8], word: u64)
@@ -280,7 +298,7 @@ pub(crate) fn keep_bytes(last: &mut [u8], bytes: &[u8], word: u64)
     ensures { HoldBits last.new bytes.now }
 {
     if bytes.len() <= 8 {
-        last[..8].copy_from_slice(&word.to_le_bytes());
+        keep_word(last, word);
     } else {
         last[..bytes.len()].copy_from_slice(bytes);
     }

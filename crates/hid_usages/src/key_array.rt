@@ -1,7 +1,7 @@
 //! The keys of an array that its elements name.
 
 ghost use Rattle.std.specs.Prelude.{All, ◌≡◌, ◌<◌, ℕ, false, length, slice_get, Some, ◌≢◌, ◌≤◌, ◌*◌, ◌+ℤ◌, pos, MatchOption, IfSome, not, true, ◌&&◌, int_le};
-ghost use Rattle.hid_report_descriptor.specs.Usages.{is_rollover};
+ghost use Rattle.hid_report_descriptor.specs.Usages.{is_rollover, usage_list};
 ghost use Rattle.hid_layout.specs.Controls.{is_key};
 ghost use Rattle.hid_usages.specs.Reading.{FitsFields};
 ghost use Rattle.hid_usages.specs.KeyArrays.{usages_of_array, is_rollover_number, HasUsages, CountsUsages, CanAdd, AddsKey, AddsNextKey, KeepsOtherFlags, AreClear, ReadsNumbers};
@@ -9,6 +9,7 @@ ghost use Rattle.hid_usages.specs.KeyArrays.{usages_of_array, is_rollover_number
 use crate::view_changes::listed_usage;
 use hid_fields::FieldCodec;
 use hid_layout::{Layout, MAX_KEYS, MainItem, Usage, usage_count};
+use hid_report_descriptor::entry_count;
 use hid_snapshots::{FieldRun, Flags};
 
 /// The place that an element of this number names, if it is below `count`.
@@ -140,6 +141,20 @@ pub(crate) fn read_keys<C: FieldCodec>(
     }
 }
 
+/// How many usages these ranges give. Most arrays have one range.
+#[inline(always)]
+fn count_usages(entries: &[(Usage, Usage)]) -> usize
+    requires { length entries.now ≤ 64 }
+    ensures value { result ≡ length (usage_list entries.now) }
+    ensures few { result ≤ 64 * 65536 }
+{
+    if entries.len() == 1 {
+        entry_count(&entries[0])
+    } else {
+        usage_count(entries)
+    }
+}
+
 /// Sets the keys that these numbers name, one by one. Inlined twice: numbers of a byte each need no shifts.
 #[inline(always)]
 fn read_each_key<C: FieldCodec>(
@@ -153,7 +168,7 @@ fn read_each_key<C: FieldCodec>(
     requires clear { AreClear array.now named.old }
     ensures { ReadsNumbers array.now numbers.now result named.old named.new }
 {
-    let count = usage_count(array.entries);
+    let count = count_usages(array.entries);
     let mut last = None;
     for k in 0..numbers.len() {
         let number = numbers.number::<C>(k);

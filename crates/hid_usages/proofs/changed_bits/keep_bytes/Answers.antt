@@ -1,12 +1,15 @@
-use Rattle.std.proofs.Common.{ℕ, ◌*◌, ◌≤◌, length, drop, arith}
-use Rattle.hid_usages.proofs.ChangedBitLemmas.{word_kept_first}
+use Rattle.std.proofs.Common.{◌≡◌, ◌+◌, ◌*◌, ◌<◌, ◌≤◌, ◌∙◌, ℕ, ap, length, arith}
+use Rattle.std.specs.Int.{bit_at}
+use Rattle.hid_fields.specs.Field.{bit_of}
+use Rattle.hid_fields.proofs.WordLemmas.{bit_at-pattern_of}
 use Rattle.hid_usages.proofs.changed_bits.keep_bytes.Goals as goal
 
-one_word : (many : ℕ) → many ≤ 8 → 8 * many ≤ 64
-one_word many few = omega arith
+in_word : (many n : ℕ) → many ≤ 8 → n < 8 * many → n < 64
+in_word many n few low = omega arith
 
 pub returns-then-bytes-le8 : goal.returns-then-bytes-le8
 returns-then-bytes-le8 c = λ n low.
     let bytes = c.args.bytes.now in
-    word_kept_first c.copy_from_slice.new.self c.to_le_bytes.result (drop 8 c.args.last.now) bytes c.args.word (8 * length bytes) n
-    c.copy_from_slice.ensures.after c.to_le_bytes.ensures (omega (arith, c.ranges.word)) (c.requires.word c.if-bytes-le8.true) low (one_word (length bytes) c.if-bytes-le8.true)
+    let here : 0 + n ≡ n = omega arith in
+    c.keep_word.ensures n (in_word (length bytes) n c.if-bytes-le8.true low) ∙ ap (λ (w : ℕ). bit_at w n) (c.requires.word c.if-bytes-le8.true)
+    ∙ bit_at-pattern_of bytes 0 (8 * length bytes) n low ∙ ap (bit_of bytes) here

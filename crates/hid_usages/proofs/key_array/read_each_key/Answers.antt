@@ -26,7 +26,7 @@ loop-k-init g c = record {
 }
 
 pub add_next_key-requires-clause-count : goal.add_next_key-requires-clause-count
-add_next_key-requires-clause-count g c = (c.usage_count-count.ensures.value, c.usage_count-count.ensures.few)
+add_next_key-requires-clause-count g c = (c.count_usages-count.ensures.value, c.count_usages-count.ensures.few)
 
 pub add_next_key-requires-clause-can : goal.add_next_key-requires-clause-can
 add_next_key-requires-clause-can g c =
