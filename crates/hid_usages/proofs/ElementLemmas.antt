@@ -221,21 +221,6 @@ kept_set {A = A} read held new numbers k from v within number is kept = λ j x w
       ]
     ]
 
--- one element more stays
-pub kept_next : {A : Type 0} (read : A × ℤ → A) (held : List A) (numbers : List ℤ) (from i : ℕ) (b : A) (w : ℤ) → AreKept read held numbers from i → slice_get held i ≡ Some b → slice_get numbers i ≡ Some w → read (b, w) ≡ b
-    → AreKept read held numbers from (i + 1)
-kept_next read held numbers from i b w kept here number stays = λ j x v low high h k.
-    elim (cases_lt j i) [
-      | inl lt ↦ kept j x v low lt h k
-      | inr ge ↦
-          let e : j ≡ i = omega arith in
-          let there : Some x ≡ Some b = sym h ∙ ap (λ (n : ℕ). slice_get held n) e ∙ here in
-          let other : Some v ≡ Some w = sym k ∙ ap (λ (n : ℕ). slice_get numbers n) e ∙ number in
-          let same : x ≡ b = cc in
-          let same' : v ≡ w = cc in
-          rw (same, same') stays
-    ]
-
 pub same_flag : (a b : Bool) → not (beq a b) ≡ false → a ≡ b
 same_flag true true h = refl
 same_flag false false h = refl

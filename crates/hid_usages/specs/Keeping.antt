@@ -1,9 +1,8 @@
 -- What is passed over: elements that their numbers leave as they are, and numbers that name no key again (our choice).
-use Rattle.std.specs.Prelude.{◌≡◌, ◌≢◌, ℕ, ◌<◌, ◌≤◌, List, [], ◌∷◌, length, ◌++◌, Option, Some, None, ℤ, slice_get}
+use Rattle.std.specs.Prelude.{◌≡◌, ℕ, ◌<◌, ◌≤◌, List, [], ◌∷◌, length, ◌++◌, Option, Some, None, ℤ, slice_get}
 use Rattle.hid_layout.specs.declared.main_item.MainItem.{MainItem}
 use Rattle.hid_layout.specs.Controls.{Key}
 use Rattle.hid_usages.specs.declared.elements.ElementRange.{ElementRange}
-use Rattle.hid_usages.specs.declared.elements.FoundNumber.{FoundNumber}
 use Rattle.hid_usages.specs.Reading.{named_keys_from}
 
 -- the numbers of the elements from one on, before an end, leave them as they are. Example: all elements of a report that
@@ -16,17 +15,6 @@ AreKept {A = A} read held numbers from end =
 abbrev pub FindsKept : {A : Type 0} → (A × ℤ → A) → List A → List ℤ → ℕ → ℕ → Option ℕ → Type 0
 FindsKept read held numbers from end None = AreKept read held numbers from end
 FindsKept read held numbers from end (Some place) = (from ≤ place) × (place < end) × AreKept read held numbers from place
-
--- an element is found with its number, and those from one on before it are kept; or all from that one on are
-abbrev pub FindsNumber : {A : Type 0} → (A × ℤ → A) → List A → List ℤ → ℕ → Option FoundNumber → Type 0
-FindsNumber read held numbers from None = AreKept read held numbers from (length held)
-FindsNumber read held numbers from (Some found) =
-    FindsKept read held numbers from (length held) (Some found.index) × (slice_get numbers found.index ≡ Some found.number)
-
--- the number of the element at an index doesn't leave it as it is
-abbrev pub IsChanged : {A : Type 0} → (A × ℤ → A) → List A → List ℤ → ℕ → Type 0
-IsChanged {A = A} read held numbers j =
-    (x : A) (v : ℤ) → slice_get held j ≡ Some x → slice_get numbers j ≡ Some v → read (x, v) ≢ x
 
 -- the elements of an item outside of a range are left by their numbers as they are
 pub record KeepsOthers {A : Type 0} (read : A × ℤ → A) (held : List A) (numbers : List ℤ)

@@ -6,7 +6,7 @@ ghost use Rattle.hid_snapshots.specs.Events.{control_at, switch_event, value_eve
 ghost use Rattle.hid_usages.specs.Appending.{HasSpace, Appends};
 ghost use Rattle.hid_usages.specs.Elements.{switch_by_number, value_by_number, read_all, switch_events_read, value_events_read, OfElement, BecomesAt};
 ghost use Rattle.hid_usages.specs.EventSources.{IsSource, usages_of_source};
-ghost use Rattle.hid_usages.specs.Keeping.{AreKept, FindsNumber, IsChanged, KeepsOthers};
+ghost use Rattle.hid_usages.specs.Keeping.{KeepsOthers};
 ghost use Rattle.hid_usages.specs.Reading.{is_in, read_switch};
 
 use crate::event_source::{EventSource, push_null, push_number, push_switch};
@@ -126,13 +126,6 @@ fn is_kept(before: Option<i64>, carriable: &Carriable, number: &i64) -> bool
     }
 }
 
-/// The number of an element.
-#[derive(Clone, Copy)]
-pub(crate) struct FoundNumber {
-    pub(crate) index: usize,
-    pub(crate) number: i64,
-}
-
 /// The number of the field at an index. Of fields that are bytes it takes less where that is said.
 #[inline(always)]
 fn number_at<C: FieldCodec>(numbers: &FieldRun<'_>, index: usize, are_bytes: bool) -> i64
@@ -144,35 +137,6 @@ fn number_at<C: FieldCodec>(numbers: &FieldRun<'_>, index: usize, are_bytes: boo
     } else {
         numbers.number::<C>(index)
     }
-}
-
-/// The first value from one on that its number changes. Those from an end on are left by theirs.
-#[inline(always)]
-fn next_value<C: FieldCodec>(
-    held: &Values,
-    carriable: &Carriable,
-    numbers: &FieldRun<'_>,
-    are_bytes: bool,
-    from: usize,
-    end: usize,
-) -> Option<FoundNumber>
-    requires numbers { length numbers.now ≡ length held.now }
-    requires end { end ≤ length held.now }
-    requires after { AreKept (value_by_number carriable.now) held.now numbers.now end
-        (length held.now) }
-    ensures found { FindsNumber (value_by_number carriable.now) held.now numbers.now from result }
-    ensures changed { IfSome result (λ found. IsChanged (value_by_number carriable.now) held.now
-        numbers.now found.index) }
-    ensures bound { IfSome result (λ found. found.index + 1 < 2 ^ 64) }
-{
-    let carriable = *carriable;
-    for index in from..end {
-        let number = number_at::<C>(numbers, index, are_bytes);
-        if !is_kept(held.get(index), &carriable, &number) {
-            return Some(FoundNumber { index, number });
-        }
-    }
-    None
 }
 
 /// Sets the value at an index by an element's number, which changes it, and appends its event.
@@ -208,6 +172,34 @@ fn take_value(
     } else {
         push_null(source, index, out);
         held.set(index, None);
+    }
+}
+
+/// Sets the value at an index by an element's number, and appends its event, if it changes.
+#[inline(always)]
+fn take_number(
+    source: &EventSource<'_>,
+    carriable: &Carriable,
+    index: usize,
+    number: &i64,
+    held: &mut Values,
+    out: &mut Vec<Event>,
+)
+    requires source { IsSource source.now }
+    requires index { index < length (usages_of_source source.now) }
+    requires held { length held.old ≡ length (usages_of_source source.now) }
+    requires room { OfElement source.now.layout.now source.now.item index held.old
+        (λ usage before. HasSpace out.old (value_event (control_at source.now.item index) usage
+        before (value_by_number carriable.now (before, number.now)))) }
+    ensures held { BecomesAt index (λ before. value_by_number carriable.now (before, number.now))
+        held.old held.new }
+    ensures appends { OfElement source.now.layout.now source.now.item index held.old
+        (λ usage before. Appends out.old (value_event (control_at source.now.item index) usage
+        before (value_by_number carriable.now (before, number.now))) out.new) }
+{
+    let before = held.get(index);
+    if !is_kept(before, carriable, number) {
+        take_value(source, carriable, index, number, held, out);
     }
 }
 
@@ -264,9 +256,9 @@ fn take_each_value<C: FieldCodec>(
     ensures appends { Appends out.old (value_events_read source.now.layout.now source.now.item
         carriable.now held.old numbers.now) out.new }
 {
-    let mut from = range.first;
-    while let Some(found) = next_value::<C>(held, carriable, numbers, are_bytes, from, range.end) {
-        take_value(source, carriable, found.index, &found.number, held, out);
-        from = found.index + 1;
+    let carriable = *carriable;
+    for index in range.first..range.end {
+        let number = number_at::<C>(numbers, index, are_bytes);
+        take_number(source, &carriable, index, &number, held, out);
     }
 }
