@@ -2,6 +2,7 @@ pub mod ListLemmas
 pub mod CodeLemmas
 pub mod WordLemmas
 pub mod NoteLemmas
+pub mod PutLemmas
 pub mod FillLemmas
 pub mod ItemLemmas
 pub mod BlankLemmas

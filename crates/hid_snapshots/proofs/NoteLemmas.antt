@@ -1,5 +1,5 @@
 -- Words of places, and after them the notes of which are filled.
-use Rattle.std.proofs.Common.{◌≡◌, ◌≢◌, ℕ, zero, suc, ◌+◌, ◌-◌, ◌*◌, ◌/◌, ◌%◌, ◌^◌, ◌<◌, ◌≤◌, ◌==◌, inl, inr, ◌&&◌, not, Bool, true, false, List, [], ◌∷◌, ◌++◌, length, take, drop, replicate, Option, refl, sym, ap, ◌∙◌, subst, arith}
+use Rattle.std.proofs.Common.{◌≡◌, ◌≢◌, ℕ, zero, suc, ◌+◌, ◌*◌, ◌/◌, ◌%◌, ◌^◌, ◌<◌, ◌≤◌, ◌==◌, inl, inr, ◌&&◌, not, Bool, true, false, List, [], ◌∷◌, length, take, drop, replicate, Option, refl, sym, ap, ◌∙◌, subst, arith}
 use Rattle.std.specs.List.{slice_set}
 use Rattle.std.specs.Int.{bit_at, div_ceil}
 use Rattle.std.proofs.Math.Seq.{take-set-lt}
@@ -62,18 +62,6 @@ same_by (x ∷ xs) (y ∷ ys) e same =
     let first : x ≡ y = same 0 (omega arith) in
     ap (λ (w : ℕ). w ∷ xs) first ∙ ap (λ (t : List ℕ). y ∷ t) (same_by xs ys (omega arith) (λ i h. same (suc i) (omega arith)))
 
--- the first words are 0, and the others stay
-pub spliced : (ys xs : List ℕ) (c : ℕ) → length xs ≡ length ys → c ≤ length ys → ((i : ℕ) → i < c → word_at xs i ≡ 0) → ((i : ℕ) → c ≤ i → word_at xs i ≡ word_at ys i)
-    → xs ≡ take c (replicate (length ys) 0) ++ drop c ys
-spliced [] [] zero e h first rest = refl
-spliced [] [] (suc c) e h first rest = absurd (omega arith)
-spliced [] (x ∷ xs) c e h first rest = absurd (omega arith)
-spliced (y ∷ ys) [] c e h first rest = absurd (omega arith)
-spliced (y ∷ ys) (x ∷ xs) zero e h first rest = same_by (x ∷ xs) (y ∷ ys) e (λ i l. rest i (omega arith))
-spliced (y ∷ ys) (x ∷ xs) (suc c) e h first rest =
-    let none : x ≡ 0 = first 0 (omega arith) in
-    ap (λ (w : ℕ). w ∷ xs) none ∙ ap (λ (t : List ℕ). 0 ∷ t) (spliced ys xs c (omega arith) (omega arith) (λ i l. first (suc i) (omega arith)) (λ i l. rest (suc i) (omega arith)))
-
 zero_in : (n i : ℕ) → word_at (replicate n 0) i ≡ 0
 zero_in zero i = refl
 zero_in (suc n) zero = refl
@@ -104,6 +92,16 @@ noted_here ws notes notes' top top' k w p noted within empty here others groups 
 pub noted_first : (ws notes : List ℕ) (top k w : ℕ) → k ≡ 0 → AreNoted ws notes top → AreNoted (slice_set ws k w) notes top
 noted_first ws notes top k w e noted =
     record { filled = λ i some none. set_other ws k w i (λ same. absurd (omega arith)) ∙ noted.filled i some none; groups = noted.groups }
+
+-- a word that is filled is written, which has its note
+pub noted_again : (ws notes : List ℕ) (top k w : ℕ) → word_at ws k ≢ 0 → AreNoted ws notes top → AreNoted (slice_set ws k w) notes top
+noted_again ws notes top k w filled noted = record {
+  filled = λ i some none. elim (cases_eq i k) [
+    | inl same ↦ absurd (filled (ap (word_at ws) (sym same) ∙ noted.filled i some none))
+    | inr ne ↦ set_other ws k w i ne ∙ noted.filled i some none
+  ];
+  groups = noted.groups;
+}
 
 -- a word is 0 that has no note, or is in a group without a bit
 pub unfilled : (ws notes : List ℕ) (top k i word : ℕ) → AreNoted ws notes top → word ≡ word_at notes (k / 64) → 0 < k → k ≤ i
@@ -190,29 +188,3 @@ found_first ws ds vs n top count from r are same e found =
     let here : FindsFirst (are_alone (take count ws) vs) from (64 * count) r = subst (λ (xs : List ℕ). FindsFirst (are_alone (take count xs) vs) from (64 * count) r) same found in
     let all : FindsFirst (are_alone (words_of ws n) vs) from (64 * div_ceil n 64) r = subst (λ (k : ℕ). FindsFirst (are_alone (take k ws) vs) from (64 * k) r) e here in
     subst (λ (k : ℕ). FindsFirst (are_alone (words_of ws n) vs) from (64 * k) r) (sym (words_long ws n top are)) all
-
--- the first words of others are moved to these
-pub words_moved : (us vs ds xs : List ℕ) (n m top top' count others : ℕ) → AreFlags us n top → AreFlags vs m top' → count ≡ div_ceil n 64 → others ≡ div_ceil m 64 → ds ≡ vs
-    → div_ceil n 64 ≤ div_ceil m 64 → length xs ≡ length us → ((i : ℕ) → i < count → word_at (take count xs) i ≡ word_at (take others ds) i)
-    → words_of xs n ≡ take (length (words_of us n)) (words_of vs m)
-words_moved us vs ds xs n m top top' count others are are' e e' same few long each =
-    let mine = words_long us n top are in
-    let theirs = words_long vs m top' are' in
-    let now : length (words_of xs n) ≡ div_ceil n 64 = length-take-le (div_ceil n 64) xs (omega (arith, long, are.notes)) in
-    let target : length (take (length (words_of us n)) (words_of vs m)) ≡ length (words_of us n) = length-take-le (length (words_of us n)) (words_of vs m) (omega (arith, mine, theirs, few)) in
-    same_by (words_of xs n) (take (length (words_of us n)) (words_of vs m)) (omega (arith, now, target, mine))
-    (λ i h.
-    ap (λ (k : ℕ). word_at (take k xs) i) (sym e) ∙ each i (omega (arith, h, now, e)) ∙ ap (λ (ys : List ℕ). word_at (take others ys) i) same
-    ∙ ap (λ (k : ℕ). word_at (take k vs) i) e' ∙ sym (at_first (words_of vs m) (length (words_of us n)) i (omega (arith, h, now, mine))))
-
--- the words that are left where the first ones were moved
-pub words_left : (vs ds xs : List ℕ) (m top count others : ℕ) → AreFlags vs m top → others ≡ div_ceil m 64 → ds ≡ vs → count ≤ div_ceil m 64 → length xs ≡ length vs
-    → ((i : ℕ) → i < count → word_at (take others xs) i ≡ 0) → ((i : ℕ) → count ≤ i → word_at (take others xs) i ≡ word_at (take others ds) i)
-    → words_of xs m ≡ take count (replicate (length (words_of vs m)) 0) ++ drop count (words_of vs m)
-words_left vs ds xs m top count others are e same few long first rest =
-    let theirs = words_long vs m top are in
-    let now : length (words_of xs m) ≡ div_ceil m 64 = length-take-le (div_ceil m 64) xs (omega (arith, long, are.notes)) in
-    spliced (words_of vs m) (words_of xs m) count (omega (arith, now, theirs)) (omega (arith, theirs, few)) (λ i h. ap (λ (k : ℕ). word_at (take k xs) i) (sym e) ∙ first i h)
-    (λ i h.
-    ap (λ (k : ℕ). word_at (take k xs) i) (sym e) ∙ rest i h ∙ ap (λ (ys : List ℕ). word_at (take others ys) i) same
-    ∙ ap (λ (k : ℕ). word_at (take k vs) i) e)

@@ -13,7 +13,7 @@ use Rattle.std.proofs.lemmas.Nat.{shr-shr, shr_le}
 use Rattle.std.specs.Option.{IfSome}
 use Rattle.std.specs.Int.RustNames.{count_ones}
 use Rattle.std.specs.Simd.Lanes.{mask_l}
-use Rattle.std.proofs.lemmas.List.{take_all, length-take, length-drop, get_or-drop, get_or-take, take-set-le, drop-set-lt, drop-set-add, get_or-set_same, get_or-set_other, map-id, drop-replicate, length-replicate, length-take-le}
+use Rattle.std.proofs.lemmas.List.{take_all, length-take, length-drop, get_or-drop, get_or-take, take-set-le, drop-set-lt, drop-set-add, get_or-set_same, get_or-set_other, map-id, drop-replicate, length-replicate}
 use Rattle.std.proofs.lemmas.List.Sums.{sum_by-cons, sum_by-take-drop, count_by-le-length}
 use Rattle.std.proofs.lemmas.Simd.{mask_l-lt, bit_mask_l, ones-mask_l}
 use Rattle.std.proofs.lemmas.Nat.Bits.{same_from_bits_below, bit_at-lt, bit_at-zero, bit_at-suc, bit_at_lowest, bit_at_and, bit_at_xor, bit_at_not, bit_at_above, bit_at-trailing_zeros}
@@ -115,6 +115,12 @@ word_bit (suc k) ps i h = by_place (split_place i) (λ j. word_bit k (drop 64 ps
 
 word_lt : (ps : List Bool) → mask_l (take 64 ps) < 2 ^ 64
 word_lt ps = omega (arith, mask_l-lt (take 64 ps), pow_mono {i = length (take 64 ps)} {j = 64} (omega (arith, length-take 64 ps)))
+
+pub words_small : (m : ℕ) (ps : List Bool) (k : ℕ) → unwrap_or (slice_get (words_in m ps) k) 0 < 2 ^ 64
+unfolding words_in
+words_small zero ps k = omega arith
+words_small (suc m) ps zero = word_lt ps
+words_small (suc m) ps (suc k) = words_small m (drop 64 ps) k
 
 -- the first word with one place set
 first_set : (ps : List Bool) (i : ℕ) (p : Bool) (w : ℕ) → i < 64 → i < length ps → w < 2 ^ 64 → bit_at w i ≡ cond p 1 0 → ((b : ℕ) → b < 64 → b ≢ i → bit_at w b ≡ bit_at (mask_l (take 64 ps)) b)
@@ -239,7 +245,7 @@ place_set ws n ps i p w are e h small here others =
     kept (slice_set ws (i / 64) w) n (slice_set ps i p) made (t.1 ∙ sym (set_length ps i p)) are.small
 
 -- one bit of one word and not of another
-bits_apart : (x y : ℕ) → x < 2 → y < 2 → (min x (1 - y) == 1) ≡ ((x == 1) && not (y == 1))
+pub bits_apart : (x y : ℕ) → x < 2 → y < 2 → (min x (1 - y) == 1) ≡ ((x == 1) && not (y == 1))
 bits_apart zero zero h k = refl
 bits_apart zero (suc zero) h k = refl
 bits_apart (suc zero) zero h k = refl
@@ -376,93 +382,6 @@ found_behind test from n ps ws (Some p) are e found =
     let small = are.small in
     let high = found.high in
     omega arith
-
--- ---- the first places, after which none is pressed
-
-no_places : {A : Type 0} (n : ℕ) → take {A = A} n [] ≡ []
-no_places zero = refl
-no_places (suc n) = refl
-
-drop_take : {A : Type 0} (k n : ℕ) (xs : List A) → drop k (take n xs) ≡ take (n - k) (drop k xs)
-drop_take zero n xs =
-    let e : n - 0 ≡ n = omega arith in
-    rw e refl
-drop_take (suc k) zero xs =
-    let e : 0 - suc k ≡ 0 = omega arith in
-    rw e refl
-drop_take (suc k) (suc n) [] = sym (no_places (suc n - suc k))
-drop_take (suc k) (suc n) (x ∷ xs) =
-    let e : suc n - suc k ≡ n - k = omega arith in
-    rw e (drop_take k n xs)
-
-on_dropped : (k : ℕ) (ps : List Bool) (i : ℕ) → is_on (drop k ps) i ≡ is_on ps (k + i)
-on_dropped k ps i = unwrap_or-slice_get (drop k ps) i false ∙ get_or-drop k ps i false ∙ sym (unwrap_or-slice_get ps (k + i) false)
-
-word_off : (j : ℕ) (ps : List Bool) → ((i : ℕ) → is_on ps i ≡ false) → mask_l (take j ps) ≡ 0
-word_off zero ps none = refl
-word_off (suc j) [] none = refl
-word_off (suc j) (p ∷ ps) none =
-    let off : p ≡ false = none 0 in
-    rw (off, word_off j ps (λ i. none (suc i))) refl
-
--- a word isn't changed by what is cut off after the pressed places
-cut_word : (j n : ℕ) (ps : List Bool) → ((i : ℕ) → n ≤ i → is_on ps i ≡ false) → mask_l (take j (take n ps)) ≡ mask_l (take j ps)
-cut_word zero n ps none = refl
-cut_word (suc j) zero ps none = sym (word_off (suc j) ps (λ i. none i (omega arith)))
-cut_word (suc j) (suc n) [] none = refl
-cut_word (suc j) (suc n) (p ∷ ps) none = ap (λ (w : ℕ). cond p 1 0 + 2 * w) (cut_word j n ps (λ i h. none (suc i) (omega arith)))
-
-first_words : (k n m : ℕ) (ps : List Bool) → n ≤ 64 * k → k ≤ m → ((i : ℕ) → n ≤ i → is_on ps i ≡ false) → words_in k (take n ps) ≡ take k (words_in m ps)
-unfolding words_in
-first_words zero n m ps few within none = refl
-first_words (suc k) n zero ps few within none = absurd (omega arith)
-first_words (suc k) n (suc m) ps few within none =
-    rw (cut_word 64 n ps none, drop_take 64 n ps, first_words k (n - 64) m (drop 64 ps) (omega arith) (omega arith) (λ i h. on_dropped 64 ps i ∙ none (64 + i) (omega arith))) refl
-
--- the first places of others, after which none of these is pressed, are kept by their first words
-pub first_kept : (ws vs us : List ℕ) (n m : ℕ) (ps qs : List Bool) → AreWords us n → places_in us n ≡ ps → AreWords vs m → places_in vs m ≡ qs → length ps ≤ length qs → ((i : ℕ) → length ps ≤ i → is_on qs i ≡ false) → ws ≡ take (length us) vs
-    → (places_in ws n ≡ take (length ps) qs) × AreWords ws n
-first_kept ws vs us n m ps qs are e are' e' few none is =
-    let t = told us n ps are e in
-    let t' = told vs m qs are' e' in
-    let long : length (take (length ps) qs) ≡ length ps = length-take-le (length ps) qs few in
-    let made : take (length us) vs ≡ switch_words (take (length ps) qs) =
-    ap (λ (xs : List ℕ). take (length us) xs) t'.0
-    ∙ ap (λ (k : ℕ). take k (switch_words qs)) (t.2 ∙ ap (λ (k : ℕ). div_ceil k 64) t.1)
-    ∙ sym (first_words (div_ceil (length ps) 64) (length ps) (div_ceil (length qs) 64) qs (enough (length ps)) (omega arith) none)
-    ∙ ap (λ (k : ℕ). words_in (div_ceil k 64) (take (length ps) qs)) (sym long)
-    in
-    kept ws n (take (length ps) qs) (is ∙ made) (t.1 ∙ sym long) are.small
-
-words_off : (m : ℕ) (ps : List Bool) → ((i : ℕ) → is_on ps i ≡ false) → words_in m ps ≡ replicate m 0
-unfolding words_in
-words_off zero ps none = refl
-words_off (suc m) ps none = rw (word_off 64 ps none, words_off m (drop 64 ps) (λ i. on_dropped 64 ps i ∙ none (64 + i))) refl
-
--- the words after the pressed places are 0
-zeros_behind : (k m : ℕ) (ps : List Bool) → ((i : ℕ) → 64 * k ≤ i → is_on ps i ≡ false) → drop k (words_in m ps) ≡ replicate (m - k) 0
-unfolding words_in
-zeros_behind zero m ps none =
-    let e : m - 0 ≡ m = omega arith in
-    rw e (words_off m ps (λ i. none i (omega arith)))
-zeros_behind (suc k) zero ps none =
-    let e : 0 - suc k ≡ 0 = omega arith in
-    rw e refl
-zeros_behind (suc k) (suc m) ps none =
-    let e : suc m - suc k ≡ m - k = omega arith in
-    rw e (zeros_behind k m (drop 64 ps) (λ i h. on_dropped 64 ps i ∙ none (64 + i) (omega arith)))
-
--- none is pressed once the first words are 0, where none was pressed after them
-pub first_cleared : (ws vs : List ℕ) (n count : ℕ) (ps : List Bool) → AreWords ws n → places_in ws n ≡ ps → ((i : ℕ) → count ≤ i → is_on ps i ≡ false) → vs ≡ take (div_ceil count 64) (replicate (length ws) 0) ++ drop (div_ceil count 64) ws
-    → (places_in vs n ≡ replicate n false) × AreWords vs n
-first_cleared ws vs n count ps are e none is =
-    let t = told ws n ps are e in
-    let k = div_ceil count 64 in
-    let long : length ws ≡ div_ceil (length ps) 64 = t.2 ∙ ap (λ (j : ℕ). div_ceil j 64) t.1 in
-    let behind : drop k ws ≡ drop k (replicate (length ws) 0) =
-    ap (λ (xs : List ℕ). drop k xs) t.0 ∙ zeros_behind k (div_ceil (length ps) 64) ps (λ i h. none i (omega (arith, enough count))) ∙ ap (λ (j : ℕ). replicate (j - k) 0) (sym long) ∙ sym (drop-replicate k (length ws) 0)
-    in
-    cleared vs n (is ∙ ap (λ (xs : List ℕ). take k (replicate (length ws) 0) ++ xs) behind ∙ take_drop k (replicate (length ws) 0) ∙ ap (λ (j : ℕ). replicate j 0) t.2) are.small
 
 -- bits that aren't the same in two words
 bits_unlike : (x y : ℕ) → x < 2 → y < 2 → ((x + y) % 2 == 1) ≡ not (beq (x == 1) (y == 1))

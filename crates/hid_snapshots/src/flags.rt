@@ -1,7 +1,7 @@
 //! Pressed places, kept as words of 64 bits (our choice).
 
-ghost use Rattle.std.specs.Prelude.{◌≡◌, ◌≢◌, ◌+◌, ◌<◌, ◌*◌, ◌/◌, ◌^◌, ◌==◌, ◌≤◌, ℕ, Bool, List, true, false, length, slice_get, slice_set, take, drop, replicate, Some, IfOk, IfSome, unwrap_or, if◌then◌else◌};
-ghost use Rattle.std.specs.Int.{bit_at};
+ghost use Rattle.std.specs.Prelude.{◌≡◌, ◌≢◌, ◌+◌, ◌<◌, ◌*◌, ◌/◌, ◌^◌, ◌==◌, ◌≤◌, ◌&&◌, ℕ, Bool, List, true, false, length, slice_get, slice_set, take, drop, replicate, Some, IfOk, IfSome, unwrap_or, if◌then◌else◌};
+ghost use Rattle.std.specs.Int.{bit_at, div_ceil};
 ghost use Rattle.hid_snapshots.specs.ExactCapacity.{IsFull};
 ghost use Rattle.hid_snapshots.specs.Words.{bits_in, switch_words, word_at, is_on, is_alone, is_unlike, is_bit, are_alone, FindsFirst, FindsGroup, HasNotes, AreGroups, AreNoted};
 
@@ -83,13 +83,82 @@ impl Flags {
     {
         let k = index / 64;
         let word = with_bit(self.words[k], index % 64, pressed);
-        put_word(
+        replace_word(
             &mut self.words,
             &mut self.top,
             self.len.div_ceil(64),
             k,
             word,
         );
+    }
+
+    /// How many words the places have.
+    pub fn word_count(&self) -> usize
+        ensures value { result ≡ div_ceil (length self.now) 64 }
+        ensures few { 64 * result < 2 ^ 64 + 64 }
+    {
+        self.len.div_ceil(64)
+    }
+
+    /// The word at an index, whose bits are 1 where its places are pressed.
+    #[inline(always)]
+    pub fn word(&self, k: usize) -> u64
+        requires { k < div_ceil (length self.now) 64 }
+        ensures { (b : ℕ) → b < 64 → (bit_at result b == 1) ≡ is_on self.now (64 * k + b) }
+    {
+        self.words[k]
+    }
+
+    /// A word whose bits are 1 where the places of the word at an index are pressed here and not in the other.
+    #[inline(always)]
+    pub fn alone(&self, k: usize, other: &Flags) -> u64
+        requires here { k < div_ceil (length self.now) 64 }
+        requires there { k < div_ceil (length other.now) 64 }
+        ensures { (b : ℕ) → b < 64
+            → (bit_at result b == 1) ≡ is_alone self.now other.now (64 * k + b) }
+    {
+        self.word(k) & !other.word(k)
+    }
+
+    /// A word whose bits are 1 where the places of the word at an index are pressed here and in the other.
+    #[inline(always)]
+    pub fn common(&self, k: usize, other: &Flags) -> u64
+        requires here { k < div_ceil (length self.now) 64 }
+        requires there { k < div_ceil (length other.now) 64 }
+        ensures { (b : ℕ) → b < 64 → (bit_at result b == 1)
+            ≡ (is_on self.now (64 * k + b) && is_on other.now (64 * k + b)) }
+    {
+        self.word(k) & other.word(k)
+    }
+
+    /// Presses exactly those of the word at an index whose bits are 1 in this one, which has no bit beyond the last place.
+    #[inline(always)]
+    pub fn put(&mut self, k: usize, word: u64)
+        requires k { k < div_ceil (length self.old) 64 }
+        requires fits { (b : ℕ) → b < 64 → length self.old ≤ 64 * k + b
+            → (bit_at word b == 1) ≡ false }
+        ensures here { (b : ℕ) → b < 64 → is_on self.new (64 * k + b) ≡ (bit_at word b == 1) }
+        ensures others { (i : ℕ) → i / 64 ≢ k → is_on self.new i ≡ is_on self.old i }
+        ensures len { length self.new ≡ length self.old }
+    {
+        write_word(
+            &mut self.words,
+            &mut self.top,
+            self.len.div_ceil(64),
+            k,
+            word,
+        );
+    }
+
+    /// The next word, from one on, of which a place may be pressed; the count of words, or more, where none is.
+    #[inline(always)]
+    pub fn next_filled(&self, from: usize) -> usize
+        requires low { 0 < from }
+        requires high { from ≤ div_ceil (length self.now) 64 }
+        ensures low { from ≤ result }
+        ensures none { (i : ℕ) → 64 * from ≤ i → i < 64 * result → is_on self.now i ≡ false }
+    {
+        next_filled(&self.words, self.top, self.len.div_ceil(64), from)
     }
 
     /// Presses exactly those whose bits are 1 in the word, the first one lowest. There are at most 64, and the word has no
@@ -133,26 +202,6 @@ impl Flags {
     {
         self.words.copy_from_slice(&other.words);
         self.top = other.top;
-    }
-
-    /// Makes these the first ones of the other, of which none is pressed after them, and releases all of the other.
-    #[inline(always)]
-    pub fn take_first(&mut self, other: &mut Flags)
-        requires places { length self.old ≤ length other.old }
-        requires none { (i : ℕ) → length self.old ≤ i → is_on other.old i ≡ false }
-        ensures flags { self.new ≡ take (length self.old) other.old }
-        ensures other { other.new ≡ replicate (length other.old) false }
-    {
-        let count = self.len.div_ceil(64);
-        let other_count = other.len.div_ceil(64);
-        move_words(
-            &mut self.words,
-            &mut self.top,
-            count,
-            &mut other.words,
-            &mut other.top,
-            other_count,
-        );
     }
 
     /// Whether both have the same values and length.
@@ -228,18 +277,50 @@ fn note_word(words: &mut [u64], top: &mut u64, count: usize, k: usize, is_filled
     *top = with_bit(*top, group.min(63), noted != 0 || 63 <= group);
 }
 
-/// Writes one of the first words, and notes whether it is filled.
+/// Makes one of the first words 0, and takes back its note.
 #[inline(always)]
-fn put_word(words: &mut [u64], top: &mut u64, count: usize, k: usize, word: u64)
+fn clear_word(words: &mut [u64], top: &mut u64, count: usize, k: usize)
+    requires notes { HasNotes words.old count }
+    requires k { k < count }
+    requires noted { AreNoted (take count words.old) (drop count words.old) top.old }
+    ensures words { take count words.new ≡ slice_set (take count words.old) k 0 }
+    ensures noted { AreNoted (take count words.new) (drop count words.new) top.new }
+{
+    words[k] = 0;
+    if k != 0 {
+        note_word(words, top, count, k, false);
+    }
+}
+
+/// Writes one of the first words, and notes it where it was empty. One that becomes empty keeps its note.
+#[inline(always)]
+fn replace_word(words: &mut [u64], top: &mut u64, count: usize, k: usize, word: u64)
     requires notes { HasNotes words.old count }
     requires k { k < count }
     requires noted { AreNoted (take count words.old) (drop count words.old) top.old }
     ensures words { take count words.new ≡ slice_set (take count words.old) k word }
     ensures noted { AreNoted (take count words.new) (drop count words.new) top.new }
 {
+    let before = words[k];
     words[k] = word;
-    if k != 0 {
+    if k != 0 && before == 0 {
         note_word(words, top, count, k, word != 0);
+    }
+}
+
+/// Writes one of the first words, and notes whether it is filled where that may change.
+#[inline(always)]
+fn write_word(words: &mut [u64], top: &mut u64, count: usize, k: usize, word: u64)
+    requires notes { HasNotes words.old count }
+    requires k { k < count }
+    requires noted { AreNoted (take count words.old) (drop count words.old) top.old }
+    ensures words { take count words.new ≡ slice_set (take count words.old) k word }
+    ensures noted { AreNoted (take count words.new) (drop count words.new) top.new }
+{
+    if word == 0 {
+        clear_word(words, top, count, k);
+    } else {
+        replace_word(words, top, count, k, word);
     }
 }
 
@@ -294,44 +375,8 @@ fn clear_words(words: &mut [u64], top: &mut u64, count: usize)
 {
     let mut k = 0;
     while k < count {
-        put_word(words, top, count, k, 0);
+        clear_word(words, top, count, k);
         k = next_filled(words, *top, count, k + 1);
-    }
-}
-
-/// Moves the first words of others into these, and leaves 0 in their place.
-#[inline(always)]
-fn move_words(
-    words: &mut [u64],
-    top: &mut u64,
-    count: usize,
-    others: &mut [u64],
-    other_top: &mut u64,
-    other_count: usize,
-)
-    requires notes { HasNotes words.old count }
-    requires noted { AreNoted (take count words.old) (drop count words.old) top.old }
-    requires other_notes { HasNotes others.old other_count }
-    requires other_noted { AreNoted (take other_count others.old) (drop other_count others.old)
-        other_top.old }
-    requires within { count ≤ other_count }
-    requires few { 64 * other_count < 2 ^ 64 + 64 }
-    ensures words { (i : ℕ) → i < count
-        → word_at (take count words.new) i ≡ word_at (take other_count others.old) i }
-    ensures first { (i : ℕ) → i < count → word_at (take other_count others.new) i ≡ 0 }
-    ensures rest { (i : ℕ) → count ≤ i
-        → word_at (take other_count others.new) i ≡ word_at (take other_count others.old) i }
-    ensures noted { AreNoted (take count words.new) (drop count words.new) top.new }
-    ensures other_noted { AreNoted (take other_count others.new) (drop other_count others.new)
-        other_top.new }
-{
-    let mut k = 0;
-    while k < count {
-        put_word(words, top, count, k, others[k]);
-        put_word(others, other_top, other_count, k, 0);
-        let held = next_filled(words, *top, count, k + 1);
-        let named = next_filled(others, *other_top, other_count, k + 1);
-        k = held.min(named);
     }
 }
 
@@ -367,6 +412,18 @@ pub fn lowest_from(word: u64, from: usize) -> Option<usize>
         None
     } else {
         Some(from + rest.trailing_zeros() as usize)
+    }
+}
+
+/// The lowest bit of a word, from one on, that is 1; none from 64 on.
+#[inline(always)]
+pub fn next_bit(word: u64, from: usize) -> Option<usize>
+    ensures { FindsFirst (λ b. bit_at word b == 1) from 64 result }
+{
+    if from < 64 {
+        lowest_from(word, from)
+    } else {
+        None
     }
 }
 

@@ -53,7 +53,7 @@ pub use encode::{bare_report, encode_report, first_bit, write_report};
 pub use event::Event;
 pub use exact_capacity::{full_from, full_of};
 pub use fault::{ChangeFault, MemoryFault, ReportFault};
-pub use flags::{Flags, lowest_from};
+pub use flags::{Flags, lowest_from, next_bit};
 pub use items::{is_input, is_of, item_at, item_count, plan_of};
 pub use keys::{has_keys, key_words};
 pub use numbers::FieldRun;

@@ -1,5 +1,5 @@
 -- The events of the elements of one item.
-use Rattle.std.proofs.Common.{Vec, vec_capacity, ◌≡◌, ℕ, zero, suc, ◌+◌, ◌-◌, ◌<◌, ◌≤◌, ◌&&◌, not, Bool, true, false, List, [], ◌∷◌, ◌++◌, append_assoc, length, length-append, append-nil, drop, Some, refl, sym, ap, ◌∙◌, arith}
+use Rattle.std.proofs.Common.{Vec, vec_capacity, ◌≡◌, ℕ, zero, suc, ◌+◌, ◌-◌, ◌<◌, ◌≤◌, ◌&&◌, not, inl, inr, Bool, true, false, List, [], ◌∷◌, ◌++◌, append_assoc, length, length-append, append-nil, drop, Some, refl, sym, ap, ◌∙◌, arith}
 use Rattle.std.specs.List.{slice_get, zip}
 use Rattle.hid_report_descriptor.specs.declared.usage.Usage.{Usage}
 use Rattle.hid_layout.specs.declared.control.ControlId.{ControlId}
@@ -14,6 +14,7 @@ use Rattle.hid_snapshots.specs.declared.control_state.ControlState.{ControlState
 use Rattle.hid_snapshots.specs.declared.control_state.ControlState.TheVariants.{Absent, Switches, Values, Motions, RollOver}
 use Rattle.hid_snapshots.specs.ControlStates.{HasRoom}
 pub use Rattle.hid_snapshots.proofs.ListLemmas.{drop_at, zip_at}
+use Rattle.std.proofs.lemmas.Bool.{cases_lt}
 use Rattle.hid_usages.specs.Appending.{HasSpace, Appends}
 use Rattle.hid_snapshots.specs.Events.{control_at, switch_event, up_event, down_event, element_list_events, usages_of, HasPlaces}
 
@@ -196,6 +197,35 @@ each_done f test bs xs told_at us from tells long long' within none =
     ∙ ap (λ (k : ℕ). element_list_events f k (drop k us) (drop k (zip bs xs))) e
     ∙ ap (λ (vs : List Usage). element_list_events f (length us) vs (drop (length us) (zip bs xs)))
     (drop_all (length us) us (omega arith))
+
+-- elements that don't pass the test tell nothing, also past the last one
+pub each_skipped : (f : ℕ → Usage → Bool × Bool → List Event) (test : ℕ → Bool) (bs xs : List Bool) (told_at : ℕ → Usage → Event) (us : List Usage) (from n : ℕ) → TellsBy f test bs xs told_at → length bs ≡ length us → length us ≤ length xs
+    → ((j : ℕ) → from ≤ j → j < from + n → test j ≡ false)
+    → element_list_events f from (drop from us) (drop from (zip bs xs))
+    ≡ element_list_events f (from + n) (drop (from + n) us) (drop (from + n) (zip bs xs))
+each_skipped f test bs xs told_at us from zero tells long long' none =
+    let e : from ≡ from + 0 = omega arith in
+    ap (λ (k : ℕ). element_list_events f k (drop k us) (drop k (zip bs xs))) e
+each_skipped f test bs xs told_at us from (suc n) tells long long' none = elim (cases_lt from (length us)) [
+  | inl low ↦
+      let pairs : length (zip bs xs) ≡ length us = length_zip bs xs (omega (arith, long, long')) ∙ long in
+      let u = got us from low in
+      let p = got (zip bs xs) from (omega arith) in
+      let e : (from + 1) + n ≡ from + suc n = omega arith in
+      element_list_events-from f us (zip bs xs) from u.0 p.0 u.1 p.1
+      ∙ ap (λ (t : List Event). t ++ element_list_events f (from + 1) (drop (from + 1) us) (drop (from + 1) (zip bs xs))) (tells.none from u.0 p.0 p.1 (none from (omega arith) (omega arith)))
+      ∙ each_skipped f test bs xs told_at us (from + 1) n tells long long' (λ j a b. none j (omega arith) (omega arith))
+      ∙ ap (λ (k : ℕ). element_list_events f k (drop k us) (drop k (zip bs xs))) e
+  | inr past ↦ each_end f us (drop from (zip bs xs)) from past ∙ sym (each_end f us (drop (from + suc n) (zip bs xs)) (from + suc n) (omega arith))
+]
+
+pub each_until : (f : ℕ → Usage → Bool × Bool → List Event) (test : ℕ → Bool) (bs xs : List Bool) (told_at : ℕ → Usage → Event) (us : List Usage) (from to : ℕ) → TellsBy f test bs xs told_at → length bs ≡ length us → length us ≤ length xs → from ≤ to
+    → ((j : ℕ) → from ≤ j → j < to → test j ≡ false)
+    → element_list_events f from (drop from us) (drop from (zip bs xs)) ≡ element_list_events f to (drop to us) (drop to (zip bs xs))
+each_until f test bs xs told_at us from to tells long long' le none =
+    let e : from + (to - from) ≡ to = omega arith in
+    each_skipped f test bs xs told_at us from (to - from) tells long long' (λ j a b. none j a (omega arith))
+    ∙ ap (λ (k : ℕ). element_list_events f k (drop k us) (drop k (zip bs xs))) e
 
 -- what stays tells nothing
 pub no_switch : (c : ControlId) (u : Usage) (b a : Bool) → b ≡ a → switch_event c u b a ≡ []

@@ -112,7 +112,7 @@ named_again item vs v i (key ∷ keys) =
     twice false true = refl
     twice false false = refl
 
-switch_is : (keys : List Key) (p : ℕ) (b : Bool) (key : Key) → slice_get (map (λ (k : Key). k.is_switch) keys) p ≡ Some b → slice_get keys p ≡ Some key → key.is_switch ≡ b
+pub switch_is : (keys : List Key) (p : ℕ) (b : Bool) (key : Key) → slice_get (map (λ (k : Key). k.is_switch) keys) p ≡ Some b → slice_get keys p ≡ Some key → key.is_switch ≡ b
 switch_is keys p b key h k = let e = map_at (λ (x : Key). x.is_switch) keys p key k in cc
 
 pub key_added : (item : MainItem) (vs : List ℤ) (v : ℤ) (keys : List Key) (p : ℕ) → p < length keys → slice_get (map (λ (k : Key). k.is_switch) keys) p ≡ Some true → v ≡ item.min +ℤ pos p
@@ -171,6 +171,19 @@ no_rollover_named item us v none = by_range (is_in item.min item.max v) refl
         → (elim (elim (cond b (Some (at_zero (v -ℤ item.min))) None) as (λ _. Option Usage) [ None ↦ None | Some i ↦ slice_get us i ]) as (λ _. Bool) [ None ↦ false | Some u ↦ is_rollover u ]) ≡ false
     by_range false e = refl
     by_range true e = by_usage (slice_get us (at_zero (v -ℤ item.min))) refl (record { le = true_test (le_z item.min v) ((both_true (le_z item.min v) (le_z v item.max) e).0) })
+
+pub and_false : (b : Bool) → (b && false) ≡ false
+and_false true = refl
+and_false false = refl
+
+-- an element whose number is over the greatest one wherever it names a place doesn't name ErrorRollOver
+pub no_rollover_past : (item : MainItem) (us : List Usage) (v : ℤ) → ((p : ℕ) → p < length us → v ≡ item.min +ℤ pos p → le_z v item.max ≡ false) → names_rollover item us v ≡ false
+no_rollover_past item us v past = elim (cases_Bool (le_z v item.max)) [
+  | inl on ↦ no_rollover_named item us v (λ p h e. let off = past p h e in absurd (cc))
+  | inr off ↦
+      let out : is_in item.min item.max v ≡ false = ap (λ (b : Bool). le_z item.min v && b) off ∙ and_false (le_z item.min v) in
+      ap (λ (b : Bool). elim (elim (cond b (Some (at_zero (v -ℤ item.min))) None) as (λ _. Option Usage) [ None ↦ None | Some i ↦ slice_get us i ]) as (λ _. Bool) [ None ↦ false | Some u ↦ is_rollover u ]) out
+]
 
 -- one number names one key more at most
 named_few : (item : MainItem) (vs : List ℤ) (v : ℤ) (i : ℕ) (keys : List Key)

@@ -17,6 +17,7 @@ pub mod CrossingVectors
 pub mod ElementLemmas
 pub mod PlaceLemmas
 pub mod DropLemmas
+pub mod HeldLemmas
 pub mod RoomLemmas
 pub mod BackLemmas
 pub mod BoundLemmas

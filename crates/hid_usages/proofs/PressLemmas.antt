@@ -1,5 +1,5 @@
 -- The keys of an array, by its usage list.
-use Rattle.std.proofs.Common.{◌≡◌, ℕ, ◌<◌, ◌&&◌, ◌==◌, nat_lt, not, inl, inr, Bool, true, false, List, [], ◌∷◌, ◌++◌, append-nil, length, map, Option, Some, None, ℤ, pos, ◌+ℤ◌, int_le, refl, sym, ap, ◌∙◌, subst, arith}
+use Rattle.std.proofs.Common.{◌≡◌, ℕ, ◌+◌, ◌<◌, ◌&&◌, ◌==◌, nat_lt, not, inl, inr, Bool, true, false, List, [], ◌∷◌, ◌++◌, append-nil, length, map, Option, Some, None, ℤ, pos, ◌+ℤ◌, int_le, refl, sym, ap, ◌∙◌, subst, arith}
 use Rattle.std.specs.List.{list_any, slice_get, slice_set}
 use Rattle.std.specs.Option.{option_map}
 use Rattle.std.proofs.lemmas.Option.{slice_get_within}
@@ -24,10 +24,11 @@ use Rattle.hid_snapshots.specs.declared.control_state.ControlState.TheVariants.{
 use Rattle.hid_snapshots.specs.ControlStates.{HasRoom}
 use Rattle.hid_snapshots.specs.Events.{change_events, key_events, key_usages, usages_at, usages_of, HasPlaces}
 use Rattle.hid_snapshots.specs.Views.{form_motions}
+use Rattle.hid_snapshots.proofs.ItemLemmas.{got}
 use Rattle.hid_usages.proofs.EventLemmas.{has_places}
 use Rattle.hid_usages.specs.Reading.{FitsFields, motion_state, read_state, array_keys, keys_of, keys_at, named_keys_from, names_rollover, read_keys}
 use Rattle.hid_usages.proofs.BoundLemmas.{in_range}
-use Rattle.hid_usages.proofs.KeyLemmas.{key_added, no_key_added, no_place_added, rollover_named}
+use Rattle.hid_usages.proofs.KeyLemmas.{named_same, switch_is, key_added, no_key_added, no_place_added, rollover_named}
 
 -- no key stands after the last place that a key can have
 key_low : (m : MainItem) (p : ℕ) (u : Usage) → is_key m p u ≡ true → p < 65536
@@ -95,10 +96,22 @@ place_encodable m v p fits is =
     let least = (both_true (int_le m.min v) (int_le v v) (inside m.min v v (omega (arith, ints)) (omega (arith, ints)))).0 in
     ap (is_encodable m) (sym is) ∙ sym (in_range m m.min m.max refl refl v fits) ∙ ap (λ (b : Bool). b && int_le v m.max) least
 
--- whether a place is a key that a number can press, by the tests of it
-pub key_tested : (m : MainItem) (v : ℤ) (p : ℕ) (u : Usage) (few low none : Bool) → FitsFields m v → v ≡ m.min +ℤ pos p → int_le v m.max ≡ few → nat_lt p 65536 ≡ low → (u.id == 0) ≡ none
-    → is_key m p u ≡ (few && (low && (not none && not (is_keyboard_error u))))
-key_tested m v p u few low none fits is at_most before zero = rw (place_encodable m v p fits is, at_most, before, zero) refl
+-- whether a place is a key that a number can press, which is no greater than the greatest
+pub key_is : (m : MainItem) (v : ℤ) (p : ℕ) (u : Usage) → FitsFields m v → v ≡ m.min +ℤ pos p → int_le v m.max ≡ true → is_key m p u ≡ (nat_lt p 65536 && (not (u.id == 0) && not (is_keyboard_error u)))
+key_is m v p u fits is most = ap (λ (b : Bool). b && (nat_lt p 65536 && (not (u.id == 0) && not (is_keyboard_error u)))) (place_encodable m v p fits is ∙ most)
+
+-- a number that is over the greatest one wherever it names a place names no key
+pub no_key_past : (m : MainItem) (us : List Usage) (vs : List ℤ) (v : ℤ) → FitsFields m v → ((p : ℕ) → p < length us → v ≡ m.min +ℤ pos p → int_le v m.max ≡ false)
+    → named_keys_from m vs 0 (array_keys m us) ≡ named_keys_from m (vs ++ v ∷ []) 0 (array_keys m us)
+no_key_past m us vs v fits past =
+    named_same m vs v 0 (array_keys m us)
+    (λ j key g e.
+    let is : v ≡ m.min +ℤ pos j = (let n : 0 + j ≡ j = omega arith in rw n at e) in
+    let within : j < length (array_keys m us) = slice_get_within (array_keys m us) j key g in
+    let listed : j < length us = omega (arith, keys-length m us, within) in
+    let u = got us j listed in
+    switch_is (array_keys m us) j (is_key m j u.0) key (key_here m us j u.0 u.1 within) g
+    ∙ ap (λ (b : Bool). b && (nat_lt j 65536 && (not (u.0.id == 0) && not (is_keyboard_error u.0)))) (place_encodable m v j fits is ∙ past j listed is))
 
 -- What the numbers of an array's elements make of its control state, and tell, is what they do by its usage list.
 pub record ReadsKeys (layout : Contents) (i : ℕ) (m : MainItem) (us : List Usage) (state : ControlState)

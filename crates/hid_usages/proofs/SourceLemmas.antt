@@ -87,12 +87,6 @@ run_next es first k n m d run within count fits next = record {
 pub run_is : (es : List Entry) (first : Usage) (ranges count : ℕ) → AreInRun es first ranges count → IsRun es first (record { ranges = ranges; count = count })
 run_is es first ranges count run = record { within = run.within; fits = run.fits; each = run.each; all = run.all }
 
--- the usages of the only range
-pub one_counted : (es : List Entry) (d : Entry) → length es ≡ 1 → length (usage_list es) ≡ entry_count (get_or es 0 d)
-one_counted [] d one = absurd (omega (arith, one))
-one_counted (e ∷ []) d one = (let all : length (usage_list (e ∷ [])) ≡ entry_count e + 0 = counted (e ∷ []) 0 d (omega arith) in omega (arith, all))
-one_counted (e ∷ f ∷ es) d one = absurd (omega (arith, one))
-
 -- before the end of the first ranges
 pub run_known : (layout : Contents) (i : ℕ) (es : List Entry) (usages : ItemUsages) (run : UsageRun) → slice_get layout.entries i ≡ Some es → IsRun es (first_in usages) run → usages.more + 1 ≡ run.count → usages.end ≡ run.count
     → AreUsages layout i usages

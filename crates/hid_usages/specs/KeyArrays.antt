@@ -1,5 +1,5 @@
 -- The keys that the elements of an array name, as they are read one by one (HID 1.11, 6.2.2.5 and appendix C).
-use Rattle.std.specs.Prelude.{◌≡◌, ℕ, ◌*◌, ◌<◌, ◌≤◌, Bool, true, false, not, List, [], ◌∷◌, ◌++◌, length, replicate, take, slice_get, Option, Some, ℤ}
+use Rattle.std.specs.Prelude.{◌≡◌, ℕ, ◌<◌, ◌≤◌, Bool, true, false, not, List, [], ◌∷◌, ◌++◌, length, replicate, take, slice_get, Option, Some, ℤ}
 use Rattle.std.specs.List.{list_any}
 use Rattle.hid_report_descriptor.specs.declared.usage.Usage.{Usage}
 use Rattle.hid_report_descriptor.specs.Usages.{usage_list}
@@ -30,10 +30,6 @@ is_rollover_number array = names_rollover array.item.now (usages_of_array array)
 pub record HasUsages (array : KeyArray) : Type 0 where
   pub there : array.place < length array.layout.now.items
   pub entries : slice_get array.layout.now.entries array.place ≡ Some array.entries.now
-
--- the count of an array's usages, which are at most 64 ranges of 65,536
-abbrev pub CountsUsages : KeyArray → ℕ → Type 0
-CountsUsages array count = (count ≡ length (usages_of_array array)) × (count ≤ 64 * 65536)
 
 -- flags have one for each key of an array, and may have more
 abbrev pub HasFlags : KeyArray → List Bool → Type 0

@@ -1,28 +1,26 @@
 //! The keys of an array that its elements name.
 
-ghost use Rattle.std.specs.Prelude.{All, ◌≡◌, ◌<◌, ℕ, false, length, slice_get, Some, ◌≢◌, ◌≤◌, ◌*◌, ◌+ℤ◌, pos, MatchOption, IfSome, not, true, ◌&&◌, int_le};
-ghost use Rattle.hid_report_descriptor.specs.Usages.{is_rollover, usage_list};
-ghost use Rattle.hid_layout.specs.Controls.{is_key};
+ghost use Rattle.std.specs.Prelude.{All, ◌≡◌, ◌==◌, ◌<◌, ◌≤◌, ◌*◌, ◌&&◌, ◌+ℤ◌, ℕ, pos, nat_lt, int_le, true, false, not, length, slice_get, Some, MatchOption, IfSome};
+ghost use Rattle.hid_report_descriptor.specs.Usages.{is_rollover, is_keyboard_error};
 ghost use Rattle.hid_usages.specs.Reading.{FitsFields};
-ghost use Rattle.hid_usages.specs.KeyArrays.{usages_of_array, is_rollover_number, HasUsages, CountsUsages, CanAdd, AddsKey, AddsNextKey, KeepsOtherFlags, AreClear, ReadsNumbers};
+ghost use Rattle.hid_usages.specs.KeyArrays.{usages_of_array, is_rollover_number, HasUsages, CanAdd, AddsKey, AddsNextKey, KeepsOtherFlags, AreClear, ReadsNumbers};
 
 use crate::view_changes::listed_usage;
 use hid_fields::FieldCodec;
 use hid_layout::{Layout, MAX_KEYS, MainItem, Usage, usage_count};
-use hid_report_descriptor::entry_count;
+use hid_report_descriptor::FIRST_KEY;
 use hid_snapshots::{FieldRun, Flags};
 
-/// The place that an element of this number names, if it is below `count`.
+/// The place that an element of this number names, if it can carry it.
 #[inline(always)]
-pub(crate) fn place_of(item: &MainItem, number: &i64, count: usize) -> Option<usize>
-    requires { count ≤ 64 * 65536 }
-    ensures { MatchOption result ((p : ℕ) → p < count
-        → number.now ≢ (item.now.min +ℤ pos p)) (λ p. (p < count)
-        × (number.now ≡ item.now.min +ℤ pos p)) }
+fn place_of(item: &MainItem, number: &i64) -> Option<usize>
+    ensures { MatchOption result ((p : ℕ) → p < 64 * 65536
+        → number.now ≡ (item.now.min +ℤ pos p) → int_le number.now item.now.max ≡ false)
+        (λ p. (number.now ≡ item.now.min +ℤ pos p) × (int_le number.now item.now.max ≡ true)) }
 {
     match number.checked_sub(item.min) {
         Some(place) => {
-            if 0 <= place && place < count as i64 {
+            if 0 <= place && *number <= item.max {
                 Some(place as usize)
             } else {
                 None
@@ -32,13 +30,21 @@ pub(crate) fn place_of(item: &MainItem, number: &i64, count: usize) -> Option<us
     }
 }
 
-/// Whether an element of this number can press the key with this usage at its place.
-pub(crate) fn is_pressable(item: &MainItem, number: &i64, place: usize, usage: &Usage) -> bool
-    requires fits { FitsFields item.now number.now }
-    requires number { number.now ≡ item.now.min +ℤ pos place }
-    ensures { result ≡ is_key item.now place usage.now }
+/// Whether a usage is of a key: no usage and the errors of a keyboard aren't, whose IDs are the first.
+#[inline(always)]
+fn is_key_usage(usage: &Usage) -> bool
+    ensures { result ≡ (not (usage.now.id == 0) && not (is_keyboard_error usage.now)) }
 {
-    *number <= item.max && (place < MAX_KEYS && (usage.id != 0 && !usage.is_keyboard_error()))
+    FIRST_KEY <= usage.id || (usage.id != 0 && !usage.is_keyboard_error())
+}
+
+/// Whether a key with this usage can stand at a place.
+#[inline(always)]
+fn is_pressable(place: usize, usage: &Usage) -> bool
+    ensures { result ≡ (nat_lt place 65536 && (not (usage.now.id == 0)
+        && not (is_keyboard_error usage.now))) }
+{
+    place < MAX_KEYS && is_key_usage(usage)
 }
 
 /// An array's item at its place in a layout, with its ranges of usages.
@@ -51,42 +57,44 @@ pub(crate) struct KeyArray<'a> {
 }
 
 /// Adds the key with this usage at the place that an element of this number names.
+#[inline(always)]
 fn set_key(array: &KeyArray<'_>, number: &i64, place: usize, usage: &Usage, named: &mut Flags)
     requires can { CanAdd array.now number.now named.old }
     requires number { number.now ≡ array.now.item.now.min +ℤ pos place }
+    requires most { int_le number.now array.now.item.now.max ≡ true }
     requires usage { slice_get (usages_of_array array.now) place ≡ Some usage.now }
     ensures keys { AddsKey array.now number.now named.old named.new }
     ensures others { KeepsOtherFlags array.now named.old named.new }
 {
-    if is_pressable(array.item, number, place, usage) {
+    if is_pressable(place, usage) {
         named.set(place, true);
     }
 }
 
-/// Whether an element of this number, which names this usage, reports ErrorRollOver.
+/// Whether a usage is ErrorRollOver: its ID is looked at first, which no key has.
 #[inline(always)]
-pub(crate) fn reports_rollover(item: &MainItem, number: &i64, usage: &Usage) -> bool
-    ensures { result ≡ (int_le number.now item.now.max && is_rollover usage.now) }
+fn reports_rollover(usage: &Usage) -> bool
+    ensures { result ≡ is_rollover usage.now }
 {
-    *number <= item.max && usage.is_rollover()
+    usage.id < FIRST_KEY && usage.is_rollover()
 }
 
 /// Adds the key that an element of this number names; false where it names ErrorRollOver.
 #[inline(always)]
-fn add_key(array: &KeyArray<'_>, count: usize, number: &i64, named: &mut Flags) -> bool
+fn add_key(array: &KeyArray<'_>, number: &i64, named: &mut Flags) -> bool
     requires listed { HasUsages array.now }
-    requires count { CountsUsages array.now count }
+    requires few { length (usages_of_array array.now) ≤ 64 * 65536 }
     requires can { CanAdd array.now number.now named.old }
     ensures rolls { result ≡ not (is_rollover_number array.now number.now) }
     ensures keys { result ≡ true → AddsKey array.now number.now named.old named.new }
     ensures others { KeepsOtherFlags array.now named.old named.new }
 {
-    match place_of(array.item, number, count) {
+    match place_of(array.item, number) {
         None => true,
         Some(place) => match listed_usage(array.layout, array.place, array.entries, place) {
             None => true,
             Some(usage) => {
-                if reports_rollover(array.item, number, &usage) {
+                if reports_rollover(&usage) {
                     false
                 } else {
                     set_key(array, number, place, &usage, named);
@@ -99,15 +107,9 @@ fn add_key(array: &KeyArray<'_>, count: usize, number: &i64, named: &mut Flags) 
 
 /// Adds the key that the next element's number names, unless it is the number before.
 #[inline(always)]
-fn add_next_key(
-    array: &KeyArray<'_>,
-    count: usize,
-    before: Option<i64>,
-    number: &i64,
-    named: &mut Flags,
-) -> bool
+fn add_next_key(array: &KeyArray<'_>, before: Option<i64>, number: &i64, named: &mut Flags) -> bool
     requires listed { HasUsages array.now }
-    requires count { CountsUsages array.now count }
+    requires few { length (usages_of_array array.now) ≤ 64 * 65536 }
     requires can { CanAdd array.now number.now named.old }
     requires before { IfSome before (λ v. is_rollover_number array.now v ≡ false) }
     ensures rolls { result ≡ not (is_rollover_number array.now number.now) }
@@ -117,7 +119,7 @@ fn add_next_key(
     if before == Some(*number) {
         true
     } else {
-        add_key(array, count, number, named)
+        add_key(array, number, named)
     }
 }
 
@@ -141,20 +143,6 @@ pub(crate) fn read_keys<C: FieldCodec>(
     }
 }
 
-/// How many usages these ranges give. Most arrays have one range.
-#[inline(always)]
-fn count_usages(entries: &[(Usage, Usage)]) -> usize
-    requires { length entries.now ≤ 64 }
-    ensures value { result ≡ length (usage_list entries.now) }
-    ensures few { result ≤ 64 * 65536 }
-{
-    if entries.len() == 1 {
-        entry_count(&entries[0])
-    } else {
-        usage_count(entries)
-    }
-}
-
 /// Sets the keys that these numbers name, one by one. Inlined twice: numbers of a byte each need no shifts.
 #[inline(always)]
 fn read_each_key<C: FieldCodec>(
@@ -168,11 +156,13 @@ fn read_each_key<C: FieldCodec>(
     requires clear { AreClear array.now named.old }
     ensures { ReadsNumbers array.now numbers.now result named.old named.new }
 {
-    let count = count_usages(array.entries);
+    // For the prover: how many usages there are at most.
+    let _ = usage_count(array.entries);
+
     let mut last = None;
     for k in 0..numbers.len() {
         let number = numbers.number::<C>(k);
-        if !add_next_key(array, count, last, &number, named) {
+        if !add_next_key(array, last, &number, named) {
             return false;
         }
         last = Some(number);

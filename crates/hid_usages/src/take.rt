@@ -1,11 +1,12 @@
 //! What a report of any bytes makes of a view, and the events of it.
 
-ghost use Rattle.std.specs.Prelude.{All, pos, ◌≡◌, ◌<◌, ◌≤◌, ◌^◌, ◌+◌, ◌++◌, false, length, take, replicate};
+ghost use Rattle.std.specs.Prelude.{All, pos, ◌≡◌, ◌<◌, ◌≤◌, ◌^◌, ◌+◌, ◌++◌, ◌&&◌, ℕ, false, length, take, replicate};
 ghost use Rattle.hid_layout.specs.Controls.{items_of, controls_of_form};
 ghost use Rattle.hid_layout.specs.declared.control.Controls.TheVariants as head;
 ghost use Rattle.hid_layout.specs.declared.control.ControlKind.TheVariants as ControlKind;
 ghost use Rattle.hid_snapshots.specs.ControlStates.{HasRoom, FitsView};
-ghost use Rattle.hid_snapshots.specs.Events.{element_events, key_events, usages_at, HasPlaces};
+ghost use Rattle.hid_snapshots.specs.Events.{element_events, key_events, ups, downs, usages_at, HasPlaces};
+ghost use Rattle.hid_snapshots.specs.Words.{is_on};
 ghost use Rattle.hid_snapshots.specs.Views.{motions_of};
 ghost use Rattle.hid_usages.specs.Appending.{HasSpace, Appends};
 ghost use Rattle.hid_usages.specs.Bits.{are_bits, read_bits};
@@ -28,10 +29,10 @@ use crate::key_array::{KeyArray, read_keys};
 use crate::plan::planned_item;
 use crate::take_plan::take_planned_item;
 use crate::value_range::Bounds;
-use crate::view_changes::{flag_changes, motions};
+use crate::view_changes::{motions, usage_at};
 use hid_fields::FieldCodec;
-use hid_layout::{ControlKind, Layout, MainItem, Usage};
-use hid_snapshots::{ControlState, Event, FieldRun, Flags};
+use hid_layout::{ControlId, ControlKind, Layout, MainItem, Usage};
+use hid_snapshots::{ControlState, Event, FieldRun, Flags, next_bit};
 
 /// The bytes of an Input report, with its layout and its number there.
 #[derive(Clone, Copy)]
@@ -276,6 +277,77 @@ fn take_first(
     ensures appends { Appends out.old (flag_events place (usages_at layout.now place) held.old
         named.old) out.new }
 {
-    flag_changes(layout, place, held, named, out);
-    held.take_first(named);
+    take_releases(layout, place, held, named, out);
+    take_presses(layout, place, held, named, out);
+}
+
+/// Releases the held keys that aren't named, by rising index, and appends their events. A word of keys is compared at a time.
+#[inline(always)]
+fn take_releases(
+    layout: &Layout,
+    place: usize,
+    held: &mut Flags,
+    named: &Flags,
+    out: &mut Vec<Event>,
+)
+    requires held { length held.old ≡ length (usages_at layout.now place) }
+    requires places { length held.old ≤ length named.now }
+    requires room { HasSpace out.old
+        (ups place (usages_at layout.now place) held.old named.now) }
+    ensures held { (i : ℕ) → is_on held.new i ≡ (is_on held.old i && is_on named.now i) }
+    ensures len { length held.new ≡ length held.old }
+    ensures appends { Appends out.old (ups place (usages_at layout.now place) held.old named.now)
+        out.new }
+{
+    let mut k = 0;
+    while k < held.word_count() {
+        let alone = held.alone(k, named);
+        let mut from = 0;
+        while let Some(bit) = next_bit(alone, from) {
+            let index = 64 * k + bit;
+            let control = ControlId { item: place, index };
+            let usage = usage_at(layout, place, index);
+            out.push_reserved(Event::Up { control, usage });
+            from = bit + 1;
+        }
+        held.put(k, held.common(k, named));
+        k = held.next_filled(k + 1);
+    }
+}
+
+/// Presses the named keys, of which every held one is, by rising index, and appends their events; then none is named any more.
+#[inline(always)]
+fn take_presses(
+    layout: &Layout,
+    place: usize,
+    held: &mut Flags,
+    named: &mut Flags,
+    out: &mut Vec<Event>,
+)
+    requires held { length held.old ≡ length (usages_at layout.now place) }
+    requires places { length held.old ≤ length named.old }
+    requires others { NoneSetFrom (length held.old) named.old }
+    requires kept { (i : ℕ) → is_on named.old i ≡ false → is_on held.old i ≡ false }
+    requires room { HasSpace out.old
+        (downs place (usages_at layout.now place) held.old named.old) }
+    ensures held { held.new ≡ take (length held.old) named.old }
+    ensures named { named.new ≡ replicate (length named.old) false }
+    ensures appends { Appends out.old (downs place (usages_at layout.now place) held.old named.old)
+        out.new }
+{
+    let mut k = 0;
+    while k < held.word_count() {
+        let alone = named.alone(k, held);
+        let mut from = 0;
+        while let Some(bit) = next_bit(alone, from) {
+            let index = 64 * k + bit;
+            let control = ControlId { item: place, index };
+            let usage = usage_at(layout, place, index);
+            out.push_reserved(Event::Down { control, usage });
+            from = bit + 1;
+        }
+        held.put(k, named.word(k));
+        named.put(k, 0);
+        k = named.next_filled(k + 1);
+    }
 }

@@ -9,9 +9,9 @@ pub loop-k-preserved : goal.loop-k-preserved
 loop-k-preserved c =
     let k = c.loop-k.k in
     record {
-      noted = c.put_word.ensures.noted;
+      noted = c.clear_word.ensures.noted;
       zeros = λ i h. elim (cases_lt i (k + 1)) [
-        | inl low ↦ ap (λ (xs : List ℕ). word_at xs i) c.put_word.ensures.words ∙ zeros_more (take c.args.count c.loop-k.words) k i c.loop-k.invariant.zeros low
+        | inl low ↦ ap (λ (xs : List ℕ). word_at xs i) c.clear_word.ensures.words ∙ zeros_more (take c.args.count c.loop-k.words) k i c.loop-k.invariant.zeros low
         | inr high ↦ c.next_filled-k.ensures.none i high h
       ];
     }

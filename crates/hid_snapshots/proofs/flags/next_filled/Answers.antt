@@ -1,4 +1,4 @@
-use Rattle.std.proofs.Common.{◌≡◌, ◌∙◌, ◌+◌, ◌/◌, ◌%◌, inl, inr, sym, ℕ, length, take, drop, arith}
+use Rattle.std.proofs.Common.{◌∙◌, ◌+◌, ◌/◌, ◌%◌, inl, inr, sym, take, drop, arith}
 use Rattle.std.proofs.lemmas.Bool.{cases_lt}
 use Rattle.std.proofs.lemmas.Option.{unwrap_or-slice_get}
 use Rattle.hid_snapshots.proofs.NoteLemmas.{at_behind, unfilled, none_filled}

@@ -25,8 +25,8 @@ loop-k-init g c = record {
   again = tt;
 }
 
-pub add_next_key-requires-clause-count : goal.add_next_key-requires-clause-count
-add_next_key-requires-clause-count g c = (c.count_usages-count.ensures.value, c.count_usages-count.ensures.few)
+pub add_next_key-requires-clause-few : goal.add_next_key-requires-clause-few
+add_next_key-requires-clause-few g c = omega (arith, c.usage_count.ensures.value, c.usage_count.ensures.few)
 
 pub add_next_key-requires-clause-can : goal.add_next_key-requires-clause-can
 add_next_key-requires-clause-can g c =

@@ -1,4 +1,4 @@
-use Rattle.std.proofs.Common.{◌≡◌, ◌∙◌, ◌+◌, ap, ℕ, replicate}
+use Rattle.std.proofs.Common.{◌∙◌, ◌+◌, ap, ℕ, replicate}
 use Rattle.std.specs.Int.{div_ceil}
 use Rattle.hid_snapshots.proofs.NoteLemmas.{new_flags}
 use Rattle.hid_snapshots.proofs.flags.Flags.clear.Goals as goal

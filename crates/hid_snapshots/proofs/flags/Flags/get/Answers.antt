@@ -1,4 +1,4 @@
-use Rattle.std.proofs.Common.{◌≡◌, ◌∙◌, ◌/◌, ◌<◌, sym, ap, ℕ, List, length, arith}
+use Rattle.std.proofs.Common.{◌∙◌, ◌/◌, ◌<◌, sym, ap, ℕ, List, length, arith}
 use Rattle.std.specs.Int.{div_ceil}
 use Rattle.hid_snapshots.specs.Words.{is_bit}
 use Rattle.hid_snapshots.proofs.WordLemmas.{word_there, place_read}

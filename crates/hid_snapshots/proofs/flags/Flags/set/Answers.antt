@@ -10,7 +10,7 @@ use Rattle.hid_snapshots.proofs.flags.Flags.set.Goals as goal
 
 pub invariant_of-self : goal.invariant_of-self
 invariant_of-self c =
-    let vs = c.put_word.new.words in
+    let vs = c.replace_word.new.words in
     let ws = c.self.inside.words.items in
     let n = c.self.inside.len in
     let k = c.args.index / 64 in
@@ -21,14 +21,14 @@ invariant_of-self c =
     let set = place_set _ _ _ c.args.index c.args.pressed w c.self.invariant.words c.self.view_is c.requires c.with_bit-word.type_inv c.with_bit-word.ensures.bit
     (same_at _ _ w c.index.result.now (c.args.index % 64) there (c.index.ensures ∙ sym (get_or-take (div_ceil n 64) ws k c.index.result.now within)) c.with_bit-word.ensures.others) in
     let made : take c.div_ceil.result vs ≡ slice_set (words_of ws n) k w =
-    c.put_word.ensures.words ∙ ap (λ (xs : List ℕ). slice_set (take c.div_ceil.result xs) k w) c.deref_mut.ensures.value ∙ ap (λ (m : ℕ). slice_set (take m ws) k w) c.div_ceil.ensures
+    c.replace_word.ensures.words ∙ ap (λ (xs : List ℕ). slice_set (take c.div_ceil.result xs) k w) c.deref_mut.ensures.value ∙ ap (λ (m : ℕ). slice_set (take m ws) k w) c.div_ceil.ensures
     in
-    subst (λ (xs : List ℕ). AreFlags xs n c.put_word.new.top) (sym is)
-    (flags_written ws vs _ n c.put_word.new.top c.div_ceil.result c.div_ceil.ensures (omega (arith, c.put_word.auto.words, ap length c.deref_mut.ensures.value)) c.self.invariant.notes made set.1 c.put_word.ensures.noted)
+    subst (λ (xs : List ℕ). AreFlags xs n c.replace_word.new.top) (sym is)
+    (flags_written ws vs _ n c.replace_word.new.top c.div_ceil.result c.div_ceil.ensures (omega (arith, c.replace_word.auto.words, ap length c.deref_mut.ensures.value)) c.self.invariant.notes made set.1 c.replace_word.ensures.noted)
 
 pub returns : goal.returns
 returns c =
-    let vs = c.put_word.new.words in
+    let vs = c.replace_word.new.words in
     let ws = c.self.inside.words.items in
     let n = c.self.inside.len in
     let k = c.args.index / 64 in
@@ -39,6 +39,6 @@ returns c =
     let set = place_set _ _ _ c.args.index c.args.pressed w c.self.invariant.words c.self.view_is c.requires c.with_bit-word.type_inv c.with_bit-word.ensures.bit
     (same_at _ _ w c.index.result.now (c.args.index % 64) there (c.index.ensures ∙ sym (get_or-take (div_ceil n 64) ws k c.index.result.now within)) c.with_bit-word.ensures.others) in
     let made : take c.div_ceil.result vs ≡ slice_set (words_of ws n) k w =
-    c.put_word.ensures.words ∙ ap (λ (xs : List ℕ). slice_set (take c.div_ceil.result xs) k w) c.deref_mut.ensures.value ∙ ap (λ (m : ℕ). slice_set (take m ws) k w) c.div_ceil.ensures
+    c.replace_word.ensures.words ∙ ap (λ (xs : List ℕ). slice_set (take c.div_ceil.result xs) k w) c.deref_mut.ensures.value ∙ ap (λ (m : ℕ). slice_set (take m ws) k w) c.div_ceil.ensures
     in
     ap (λ (xs : List ℕ). places_in (words_of xs n) n) is ∙ ap (λ (m : ℕ). places_in (take m vs) n) (sym c.div_ceil.ensures) ∙ ap (λ (xs : List ℕ). places_in xs n) made ∙ set.0
