@@ -15,10 +15,12 @@
 
 mod names;
 mod opened;
+mod read_lines;
 mod refused;
 mod words;
 
 pub use names::{FileName, ShownBytes, is_escaped};
 pub use opened::{NamedFile, OPENED_FILES, file_of, opened_path};
+pub use read_lines::ReadLines;
 pub use refused::{matches_of, print_refused_words};
 pub use words::{Words, WordsFault, print_unread_words, word_of, words_of, words_of_files};

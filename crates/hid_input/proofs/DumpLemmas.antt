@@ -1,66 +1,112 @@
--- Rows of a dump, line by line.
-use Rattle.std.proofs.Common.{◌≡◌, ℕ, ◌+◌, ◌-◌, ◌<◌, ◌≤◌, zero, suc, List, [], ◌∷◌, ◌++◌, length, get_or, take, drop, map, Option, None, Some, Bor, refl, sym, ap, ◌∙◌, arith}
-use Rattle.std.specs.Option.{option_and_then}
-use Rattle.std.proofs.lemmas.List.{append_assoc, drop_more, drop_all, length_push, length-drop, map_push}
-use Rattle.hid_input.specs.declared.words.WordForm.{WordForm}
-use Rattle.hid_input.specs.Dump.{Rows, pieces_within, repeated_row, line_below, lines_below}
+-- Rows and lines of a dump, one after the other.
+use Rattle.std.proofs.Common.{◌≡◌, ℕ, ◌+◌, ◌<◌, ◌≤◌, Bool, true, false, List, [], ◌∷◌, ◌++◌, length, take, drop, Option, None, Some, Result, Ok, Err, inl, inr, subst, refl, sym, ap, ◌∙◌, arith, ⊎_elim}
+use Rattle.std.specs.Prelude.{◌||◌, nat_le, if◌then◌else◌, MatchResult}
+use Rattle.std.proofs.lemmas.Bool.{cases_Bool, cond-true, cond-false}
+use Rattle.std.specs.Char.{is_ascii_whitespace}
+use Rattle.hid_input.specs.declared.fault.InputCause.{InputCause}
+use Rattle.hid_input.specs.declared.fault.InputCause.TheVariants.{DumpLine, WordOrder, Memory}
+use Rattle.hid_input.specs.declared.fault.InputFault.{InputFault}
+use Rattle.hid_input.specs.declared.found.Place.{Place}
+use Rattle.hid_input.specs.Descriptor.{IsDescriptor}
+use Rattle.hid_input.specs.Faults.{of_text}
+use Rattle.hid_input.specs.Text.{without_space}
+use Rattle.hid_input.specs.Words.{byte_of_pair}
+use Rattle.hid_input.specs.Dump.{shows, begins_word, row_bytes, line_bytes, rows_bytes, further, based_bytes, dump_bytes, last_line, IsDump, IsNotWhole, IsDumpFault}
+use Rattle.hid_input.proofs.SpaceLemmas.{space_first, other_first, first_is_other}
 
--- one more piece
-pub piece_cut : (most less width : ℕ) (rest : List ℕ) → most ≡ less + 1 → 0 < length rest
-    → pieces_within most width rest ≡ take width rest ∷ pieces_within less width (drop width rest)
-piece_cut zero less width rest is some = absurd (omega arith)
-piece_cut (suc most) less width [] is some = absurd (omega arith)
-piece_cut (suc most) less width (byte ∷ rest) is some =
-    let same : most ≡ less = omega arith in
-    ap (λ (n : ℕ). take width (byte ∷ rest) ∷ pieces_within n width (drop width (byte ∷ rest))) same
+pub row_behind_space : (long : Bool) (bytes text : List ℕ) → row_bytes long bytes (without_space text) ≡ row_bytes long bytes text
+row_behind_space long bytes [] = refl
+row_behind_space long bytes (high ∷ []) = ⊎_elim
+    (λ (is : is_ascii_whitespace high ≡ true). rw (space_first high [] is) (rw is refl))
+    (λ (no : is_ascii_whitespace high ≡ false). rw (other_first high [] no) refl) (cases_Bool (is_ascii_whitespace high))
+row_behind_space long bytes (high ∷ low ∷ text) = ⊎_elim
+    (λ (is : is_ascii_whitespace high ≡ true). rw (space_first high (low ∷ text) is) (rw is (row_behind_space long bytes (low ∷ text))))
+    (λ (no : is_ascii_whitespace high ≡ false). rw (other_first high (low ∷ text) no) refl) (cases_Bool (is_ascii_whitespace high))
 
-pub no_pieces : (most width : ℕ) (rest : List ℕ) → length rest ≡ 0 → pieces_within most width rest ≡ []
-no_pieces zero width rest none = refl
-no_pieces (suc most) width [] none = refl
-no_pieces (suc most) width (byte ∷ rest) none = absurd (omega arith)
+-- what a row has by its first pair
+abbrev pub by_pair : Bool → List ℕ → List ℕ → Option ℕ → Result (List ℕ) InputCause
+by_pair long bytes rest None = Err DumpLine
+by_pair long bytes rest (Some byte) =
+    if shows rest (bytes ++ byte ∷ []) then Ok (bytes ++ byte ∷ []) else row_bytes (long || begins_word rest) (bytes ++ byte ∷ []) rest
 
--- a row once more
-pub row_repeated : (bytes row : List ℕ) (times less : ℕ) → times ≡ less + 1 → (bytes ++ row) ++ repeated_row less row ≡ bytes ++ repeated_row times row
-row_repeated bytes row zero less is = absurd (omega arith)
-row_repeated bytes row (suc times) less is =
-    let same : less ≡ times = omega arith in
-    append_assoc bytes row (repeated_row less row) ∙ ap (λ (n : ℕ). bytes ++ (row ++ repeated_row n row)) same
+pub row_pair : (long : Bool) (bytes text : List ℕ) → 2 ≤ length text → without_space text ≡ text
+    → row_bytes long bytes text ≡ by_pair long bytes (drop 2 text) (byte_of_pair (take 2 text))
+row_pair long bytes [] some begins = absurd (omega arith)
+row_pair long bytes (high ∷ []) some begins = absurd (omega arith)
+row_pair long bytes (high ∷ low ∷ text) some begins =
+    let no = first_is_other high (low ∷ text) begins in
+    rw no (elim (byte_of_pair (high ∷ low ∷ [])) as (λ o. elim o as (λ _. Result (List ℕ) InputCause) [
+      | None ↦ Err DumpLine
+      | Some byte ↦ if shows text (bytes ++ byte ∷ []) then Ok (bytes ++ byte ∷ []) else row_bytes (long || begins_word text) (bytes ++ byte ∷ []) text
+    ] ≡ by_pair long bytes text o) [
+      | None ↦ refl
+      | Some byte ↦ refl
+    ])
+
+-- one more pair, which the end of the row shows or not
+pub row_shown : (long : Bool) (bytes text new : List ℕ) (byte : ℕ) → 2 ≤ length text → without_space text ≡ text → byte_of_pair (take 2 text) ≡ Some byte
+    → new ≡ bytes ++ byte ∷ [] → shows (drop 2 text) new ≡ true → row_bytes long bytes text ≡ Ok new
+row_shown long bytes text new byte some begins is added shown =
+    let here : shows (drop 2 text) (bytes ++ byte ∷ []) ≡ true = sym (ap (λ (b : List ℕ). shows (drop 2 text) b) added) ∙ shown in
+    row_pair long bytes text some begins ∙ (ap (by_pair long bytes (drop 2 text)) is ∙ (cond-true (shows (drop 2 text) (bytes ++ byte ∷ [])) _ _ here ∙ ap Ok (sym added)))
+
+pub row_more : (long : Bool) (bytes text new : List ℕ) (byte : ℕ) → 2 ≤ length text → without_space text ≡ text → byte_of_pair (take 2 text) ≡ Some byte
+    → new ≡ bytes ++ byte ∷ [] → shows (drop 2 text) new ≡ false → row_bytes long bytes text ≡ row_bytes (long || begins_word (drop 2 text)) new (drop 2 text)
+row_more long bytes text new byte some begins is added shown =
+    let here : shows (drop 2 text) (bytes ++ byte ∷ []) ≡ false = sym (ap (λ (b : List ℕ). shows (drop 2 text) b) added) ∙ shown in
+    row_pair long bytes text some begins ∙ (ap (by_pair long bytes (drop 2 text)) is ∙ (cond-false (shows (drop 2 text) (bytes ++ byte ∷ [])) _ _ here
+    ∙ ap (λ (b : List ℕ). row_bytes (long || begins_word (drop 2 text)) b (drop 2 text)) (sym added)))
+
+pub row_end : (long : Bool) (bytes text : List ℕ) → length text < 2 → without_space text ≡ text
+    → row_bytes long bytes text ≡ (if nat_le 1 (length text) then Err DumpLine else (if long then Err WordOrder else Ok bytes))
+row_end long bytes [] few begins = refl
+row_end long bytes (high ∷ []) few begins = rw (first_is_other high [] begins) refl
+row_end long bytes (high ∷ low ∷ text) few begins = absurd (omega arith)
 
 -- one more line
-pub line_taken : (base : ℕ) (form : WordForm) (lines : List (List ℕ)) (i : ℕ) (before after : Rows) (all : Option Rows) → i < length lines
-    → Some after ≡ line_below base form before (get_or lines i []) → lines_below base form before (drop i lines) ≡ all
-    → lines_below base form after (drop (i + 1) lines) ≡ all
-line_taken base form lines i before after all below taken so_far =
-    ap (option_and_then (λ next. lines_below base form next (drop (i + 1) lines))) taken
-    ∙ (sym (ap (lines_below base form before) (drop_more lines i [] below)) ∙ so_far)
+pub rows_step : (base number : ℕ) (bytes line row : List ℕ) (lines : List (List ℕ)) → line_bytes base (length bytes) line ≡ Ok row
+    → rows_bytes base number bytes (line ∷ lines) ≡ rows_bytes base (number + 1) (bytes ++ row) lines
+rows_step base number bytes line row lines is =
+    ap (λ (read : Result (List ℕ) InputCause). elim read as (λ _. Result (List ℕ) (ℕ × InputCause)) [
+      | Ok more ↦ rows_bytes base (number + 1) (bytes ++ more) lines
+      | Err cause ↦ Err (number, cause)
+    ]) is
 
-pub line_refused : (base : ℕ) (form : WordForm) (lines : List (List ℕ)) (i : ℕ) (before : Rows) (all : Option Rows) → i < length lines
-    → None ≡ line_below base form before (get_or lines i []) → lines_below base form before (drop i lines) ≡ all → None ≡ all
-line_refused base form lines i before all below refused so_far =
-    ap (option_and_then (λ next. lines_below base form next (drop (i + 1) lines))) refused
-    ∙ (sym (ap (lines_below base form before) (drop_more lines i [] below)) ∙ so_far)
+pub rows_refused : (base number : ℕ) (bytes line : List ℕ) (lines : List (List ℕ)) (cause : InputCause) → line_bytes base (length bytes) line ≡ Err cause
+    → rows_bytes base number bytes (line ∷ lines) ≡ Err (number, cause)
+rows_refused base number bytes line lines cause is =
+    ap (λ (read : Result (List ℕ) InputCause). elim read as (λ _. Result (List ℕ) (ℕ × InputCause)) [
+      | Ok more ↦ rows_bytes base (number + 1) (bytes ++ more) lines
+      | Err cause ↦ Err (number, cause)
+    ]) is
 
-pub lines_end : (base : ℕ) (form : WordForm) (lines : List (List ℕ)) (i : ℕ) (before : Rows) (all : Option Rows) → length lines ≤ i
-    → lines_below base form before (drop i lines) ≡ all → Some before ≡ all
-lines_end base form lines i before all above so_far = sym (ap (lines_below base form before) (drop_all i lines above)) ∙ so_far
+-- one more base
+pub base_refused : (furthest fault : ℕ × InputCause) (base : ℕ) (bases : List ℕ) (lines : List (List ℕ)) → rows_bytes base 1 [] lines ≡ Err fault
+    → based_bytes furthest (base ∷ bases) lines ≡ based_bytes (further furthest fault) bases lines
+base_refused furthest fault base bases lines is =
+    ap (λ (read : Result (List ℕ) (ℕ × InputCause)). elim read as (λ _. Result (ℕ × List ℕ) (ℕ × InputCause)) [
+      | Ok bytes ↦ Ok (base, bytes)
+      | Err fault ↦ based_bytes (further furthest fault) bases lines
+    ]) is
 
-abbrev pub now_of : Bor (List ℕ) → List ℕ
-now_of cell = cell.now
+pub base_read : (furthest : ℕ × InputCause) (base : ℕ) (bases bytes : List ℕ) (lines : List (List ℕ)) → rows_bytes base 1 [] lines ≡ Ok bytes
+    → based_bytes furthest (base ∷ bases) lines ≡ Ok (base, bytes)
+base_read furthest base bases bytes lines is =
+    ap (λ (read : Result (List ℕ) (ℕ × InputCause)). elim read as (λ _. Result (ℕ × List ℕ) (ℕ × InputCause)) [
+      | Ok bytes ↦ Ok (base, bytes)
+      | Err fault ↦ based_bytes (further furthest fault) bases lines
+    ]) is
 
-pub piece_taken : (width : ℕ) (row rest more : List ℕ) (cells after : List (Bor (List ℕ))) (cell : Bor (List ℕ)) (all : List (List ℕ))
-    → 0 < width → 0 < length rest → after ≡ cells ++ cell ∷ [] → cell.now ≡ take width rest → more ≡ drop width rest
-    → map now_of cells ++ pieces_within (length row - length cells) width rest ≡ all → length cells + length rest ≤ length row
-    → (map now_of after ++ pieces_within (length row - length after) width more ≡ all) × (length after + length more ≤ length row)
-piece_taken width row rest more cells after cell all wide some is cut left so_far room =
-    let count : length after ≡ length cells + 1 = ap length is ∙ length_push cells cell in
-    let most : length row - length cells ≡ (length row - length after) + 1 = omega arith in
-    let shown : map now_of after ≡ map now_of cells ++ take width rest ∷ [] =
-    ap (map now_of) is ∙ (map_push now_of cells cell ∙ ap (λ (piece : List ℕ). map now_of cells ++ piece ∷ []) cut) in
-    let less = pieces_within (length row - length after) width in (
-      ap (λ (pieces : List (List ℕ)). pieces ++ less more) shown
-          ∙ (ap (λ (text : List ℕ). (map now_of cells ++ take width rest ∷ []) ++ less text) left
-          ∙ (append_assoc (map now_of cells) (take width rest ∷ []) (less (drop width rest))
-          ∙ (ap (λ (pieces : List (List ℕ)). map now_of cells ++ pieces) (sym (piece_cut (length row - length cells) (length row - length after) width rest most some))
-          ∙ so_far))),
-      omega (arith, ap length left, length-drop width rest),
-    )
+-- the bytes of a base were read: they are a descriptor, or not
+pub read_whole : (text bytes : List ℕ) (base : ℕ) (read : Result Place InputFault) → dump_bytes text ≡ Ok (base, bytes)
+    → MatchResult read (λ place. (place.bytes.items ≡ bytes) × IsDescriptor bytes × (place.lines ≡ (1, last_line text))) (λ fault. IsNotWhole text base bytes fault)
+    → MatchResult read (λ place. (b : ℕ) × IsDump text b place) (λ fault. IsDumpFault text fault (dump_bytes text))
+read_whole text bytes base (Ok place) is found =
+    (base, (is ∙ ap (λ (b : List ℕ). Ok (base, b)) (sym found.0), subst IsDescriptor (sym found.0) found.1, found.2))
+read_whole text bytes base (Err fault) is refused =
+    subst (λ (all : Result (ℕ × List ℕ) (ℕ × InputCause)). IsDumpFault text fault all) (sym is) (inr refused)
+
+-- memory ran out
+pub no_memory : (text : List ℕ) (fault : InputFault) (all : Result (ℕ × List ℕ) (ℕ × InputCause)) → fault ≡ of_text Memory → IsDumpFault text fault all
+no_memory text fault (Ok read) is = inl is
+no_memory text fault (Err refused) is = inl is

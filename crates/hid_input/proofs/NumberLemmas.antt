@@ -8,7 +8,7 @@ use Rattle.std.proofs.Math.Nat.{mul-le-mul_left}
 use Rattle.std.proofs.lemmas.Bool.{cases_lt, and_parts, and_from, leb-true}
 use Rattle.std.proofs.lemmas.Int.Digits.{digits_value_more}
 use Rattle.std.proofs.lemmas.List.Folds.{list_all_more}
-use Rattle.hid_input.specs.Numbers.{is_digit_of}
+use Rattle.hid_input.specs.Words.{is_digit_of}
 
 -- what is over the greatest number stays over it
 pub capped : (value base digit most : ℕ) → 1 ≤ base → min (min (min value most * base) most + digit) most ≡ min (value * base + digit) most

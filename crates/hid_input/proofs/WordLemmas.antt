@@ -1,7 +1,7 @@
 -- Bytes of words, one word after the other.
-use Rattle.std.proofs.Common.{◌≡◌, ℕ, ◌+◌, ◌<◌, ◌≤◌, List, [], ◌∷◌, ◌++◌, length, get_or, take, drop, Option, None, Some, refl, sym, ap, ◌∙◌, arith}
+use Rattle.std.proofs.Common.{◌≡◌, ℕ, ◌+◌, ◌<◌, ◌≤◌, List, [], ◌∷◌, ◌++◌, length, take, drop, Option, None, Some, refl, sym, ap, ◌∙◌, arith}
 use Rattle.std.specs.Prelude.{◌==◌, if◌then◌else◌}
-use Rattle.std.proofs.lemmas.List.{append-nil, append_assoc, drop_more, drop_all}
+use Rattle.std.proofs.lemmas.List.{append-nil, append_assoc}
 use Rattle.hid_input.specs.Words.{both, all_bytes, single_byte, byte_of_pair, run_bytes}
 
 pub both_assoc : (a b c : Option (List ℕ)) → both (both a b) c ≡ both a (both b c)
@@ -15,30 +15,28 @@ both_nothing None = refl
 both_nothing (Some more) = refl
 
 -- one more word of all, which has bytes
-pub word_added : (bytes_of : List ℕ → Option (List ℕ)) (words : List (List ℕ)) (i : ℕ) (before after : List ℕ) (all : Option (List ℕ)) → i < length words
-    → both (Some before) (bytes_of (get_or words i [])) ≡ Some after → both (Some before) (all_bytes bytes_of (drop i words)) ≡ all
-    → both (Some after) (all_bytes bytes_of (drop (i + 1) words)) ≡ all
-word_added bytes_of words i before after all below added so_far =
-    let rest = all_bytes bytes_of (drop (i + 1) words) in
+pub word_added : (bytes_of : List ℕ → Option (List ℕ)) (words : List (List ℕ)) (word : List ℕ) (others : List (List ℕ)) (before after : List ℕ) (all : Option (List ℕ))
+    → words ≡ word ∷ others → both (Some before) (bytes_of word) ≡ Some after → both (Some before) (all_bytes bytes_of words) ≡ all
+    → both (Some after) (all_bytes bytes_of others) ≡ all
+word_added bytes_of words word others before after all is added so_far =
+    let rest = all_bytes bytes_of others in
     ap (λ (o : Option (List ℕ)). both o rest) (sym added)
-    ∙ (both_assoc (Some before) (bytes_of (get_or words i [])) rest
-    ∙ (sym (ap (λ (ws : List (List ℕ)). both (Some before) (all_bytes bytes_of ws)) (drop_more words i [] below)) ∙ so_far))
+    ∙ (both_assoc (Some before) (bytes_of word) rest
+    ∙ (sym (ap (λ (ws : List (List ℕ)). both (Some before) (all_bytes bytes_of ws)) is) ∙ so_far))
 
 -- one word that has none
-pub word_refused : (bytes_of : List ℕ → Option (List ℕ)) (words : List (List ℕ)) (i : ℕ) (before : List ℕ) (all : Option (List ℕ)) → i < length words
-    → both (Some before) (bytes_of (get_or words i [])) ≡ None → both (Some before) (all_bytes bytes_of (drop i words)) ≡ all → None ≡ all
-word_refused bytes_of words i before all below refused so_far =
-    let rest = all_bytes bytes_of (drop (i + 1) words) in
-    ap (λ (o : Option (List ℕ)). both o rest) (sym refused)
-    ∙ (both_assoc (Some before) (bytes_of (get_or words i [])) rest
-    ∙ (sym (ap (λ (ws : List (List ℕ)). both (Some before) (all_bytes bytes_of ws)) (drop_more words i [] below)) ∙ so_far))
+pub word_refused : (bytes_of : List ℕ → Option (List ℕ)) (words : List (List ℕ)) (word : List ℕ) (others : List (List ℕ)) (before : List ℕ) (all : Option (List ℕ))
+    → words ≡ word ∷ others → both (Some before) (bytes_of word) ≡ None → both (Some before) (all_bytes bytes_of words) ≡ all → all ≡ None
+word_refused bytes_of words word others before all is refused so_far =
+    let rest = all_bytes bytes_of others in
+    sym so_far ∙ (ap (λ (ws : List (List ℕ)). both (Some before) (all_bytes bytes_of ws)) is
+    ∙ (sym (both_assoc (Some before) (bytes_of word) rest) ∙ ap (λ (o : Option (List ℕ)). both o rest) refused))
 
 -- no more words
-pub words_end : (bytes_of : List ℕ → Option (List ℕ)) (words : List (List ℕ)) (i : ℕ) (before : List ℕ) (all : Option (List ℕ)) → length words ≤ i
-    → both (Some before) (all_bytes bytes_of (drop i words)) ≡ all → Some before ≡ all
-words_end bytes_of words i before all above so_far =
-    ap Some (sym (append-nil before))
-    ∙ (sym (ap (λ (ws : List (List ℕ)). both (Some before) (all_bytes bytes_of ws)) (drop_all i words above)) ∙ so_far)
+pub words_end : (bytes_of : List ℕ → Option (List ℕ)) (words : List (List ℕ)) (before : List ℕ) (all : Option (List ℕ)) → words ≡ []
+    → both (Some before) (all_bytes bytes_of words) ≡ all → all ≡ Some before
+words_end bytes_of words before all none so_far =
+    sym so_far ∙ (ap (λ (ws : List (List ℕ)). both (Some before) (all_bytes bytes_of ws)) none ∙ ap Some (append-nil before))
 
 -- a run, pair by pair
 pub run_step : (run : List ℕ) → 2 ≤ length run → run_bytes run ≡ both (single_byte (byte_of_pair (take 2 run))) (run_bytes (drop 2 run))

@@ -1,9 +1,14 @@
--- Why a file has no descriptor, of the whole text or of a line of it (our choice: docs/PICTURES.md).
-use Rattle.std.specs.Prelude.{◌≡◌, ◌==◌, ◌⊎◌, ℕ, if◌then◌else◌, List, [], ◌++◌, Option, None, Some, codes}
+-- Why a file has no descriptor, of the whole text or of a line of it (our choice: docs/INPUT-FORMS.md).
+use Rattle.std.specs.Prelude.{◌==◌, ℕ, if◌then◌else◌, List, [], ◌++◌, Option, None, Some, codes}
 use Rattle.std.specs.Fmt.{decimal}
 use Rattle.hid_input.specs.declared.fault.InputCause.{InputCause}
-use Rattle.hid_input.specs.declared.fault.InputCause.TheVariants.{BadHex, NoCount, BadCount, BadArray, ArrayEnd, SeveralArrays, SeveralLists, Unclear, BadEscape, SeveralStrings, LineEnds, WordOrder, Offset, Dump, BadItem, Unavailable, OtherBytes, UsbDescriptors, LineNumbers, SeveralDescriptors, Frame, TwoWays, Utf16, OtherBrackets, OtherLine, NoDescriptor, Memory}
+use Rattle.hid_input.specs.declared.fault.InputCause.TheVariants.{NotWhole, NoByte, NoCount, BadCount, BadHex, Several, Operator, Unclear, LineEnds, WordOrder, Offset, DumpLine, OtherLine, BadItem, Unavailable, Utf16, NoDescriptor, Memory}
 use Rattle.hid_input.specs.declared.fault.InputFault.{InputFault}
+use Rattle.hid_input.specs.declared.recorded.RecordedFault.{RecordedFault}
+use Rattle.hid_input.specs.declared.recorded.RecordedFault.TheVariants as recorded
+use Rattle.hid_input.specs.declared.whole.DescriptorCause.{DescriptorCause}
+use Rattle.hid_input.specs.declared.whole.DescriptorCause.TheVariants.{Truncated, EndWithout, Unclosed, Other}
+use Rattle.hid_input.specs.declared.whole.DescriptorFault.{DescriptorFault}
 
 -- what is wrong with the whole text
 abbrev pub of_text : InputCause → InputFault
@@ -13,43 +18,57 @@ of_text cause = record { line = None; cause = cause }
 abbrev pub of_line : ℕ → InputCause → InputFault
 of_line line cause = record { line = Some line; cause = cause }
 
--- why hex or a dump is refused: memory ran out, or it can be read in another way too, which gives other bytes
-abbrev pub IsOfHex : InputFault → Type 0
-IsOfHex fault = (fault ≡ of_text Memory) ⊎ (fault ≡ of_text TwoWays)
+-- the cause of a fault of COUNT HEX
+abbrev pub cause_of : RecordedFault → InputCause
+cause_of recorded.NoCount = NoCount
+cause_of (recorded.BadHex at) = BadHex at
+cause_of (recorded.BadCount said found) = BadCount said found
+cause_of recorded.Memory = Memory
+
+-- why bytes aren't one whole descriptor, in words
+abbrev pub descriptor_words : DescriptorCause → ℕ → List ℕ
+descriptor_words Truncated at = codes "L1 at " ++ (decimal at ++ codes ": an item is cut off")
+descriptor_words EndWithout at = codes "L6 at " ++ (decimal at ++ codes ": an End Collection without its Collection")
+descriptor_words Unclosed at = codes "L7 at " ++ (decimal at ++ codes ": a Collection is open at the end")
+descriptor_words Other at = codes "byte " ++ (decimal at ++ codes ": no report descriptor goes on so")
+
+-- a fault of a descriptor, in words
+abbrev pub descriptor_text : DescriptorFault → List ℕ
+descriptor_text fault = descriptor_words fault.cause fault.at
+
+-- the way out of each refusal
+abbrev pub way_out : List ℕ
+way_out = codes "; convert it: xxd -r -p FILE | hidmap"
 
 -- how many bytes there are, in words
 abbrev pub bytes_text : ℕ → List ℕ
 bytes_text found =
-    if found == 1 then codes ", there is 1 byte" else codes ", there are " ++ (decimal found ++ codes " bytes")
+    if found == 1 then codes ", there is 1 byte; convert it: xxd -r -p FILE | hidmap"
+    else codes ", there are " ++ (decimal found ++ codes " bytes; convert it: xxd -r -p FILE | hidmap")
 
--- the cause of a fault, in words
+-- the cause of a fault, in words, and the way out
 abbrev pub cause_text : InputCause → List ℕ
-cause_text (BadHex at) = codes "byte " ++ (decimal at ++ codes " isn't two hex digits")
-cause_text NoCount = codes "the count is missing, or no number"
-cause_text (BadCount said found) = codes "the count says " ++ (decimal said ++ bytes_text found)
-cause_text BadArray = codes "an element is no number from 0 to 255, or one is missing"
-cause_text ArrayEnd = codes "the array has no end: } and nothing, or ; , ) or } after it"
-cause_text SeveralArrays = codes "several arrays, or a table of them: which one is meant?"
-cause_text SeveralLists = codes "one descriptor or several? Write one in a line or an array"
-cause_text Unclear = codes "it isn't clear where a comment or a string ends"
-cause_text BadEscape = codes "an escape of the string is no byte, or a digit follows it"
-cause_text SeveralStrings = codes "other strings or operators beside it: give one string alone"
-cause_text LineEnds = codes "lines that end with CR or FF alone: end each with LF"
-cause_text WordOrder = codes "the order of bytes isn't known (try xxd or od -t x1)"
-cause_text Offset = codes "an offset? The first word doesn't count the bytes before it"
-cause_text Dump = codes "a dump with offsets, of which this line can't be read"
-cause_text BadItem = codes "no item as lsusb prints them"
-cause_text Unavailable = codes "lsusb couldn't read the descriptor: /sys/class/hidraw has it"
-cause_text OtherBytes = codes "no descriptor begins so: is an offset or a header in front?"
-cause_text UsbDescriptors = codes "USB descriptors: /sys/class/hidraw has report descriptors"
-cause_text LineNumbers = codes "numbers of lines, or offsets? Leave them out, or use { }"
-cause_text SeveralDescriptors = codes "several report descriptors: give one of them alone"
-cause_text Frame = codes "a frame of a capture: give its descriptor alone"
-cause_text TwoWays = codes "it can be read in two ways: write it as { 0x05, 0x01, .. }"
-cause_text Utf16 = codes "text of UTF-16: write it as UTF-8"
-cause_text OtherBrackets = codes "numbers in [ ] or ( ): write them in { }"
-cause_text OtherLine = codes "neither hex nor a comment of // or #, as other lines are"
-cause_text NoDescriptor = codes "text without a descriptor: hex, a dump or numbers in { }"
+cause_text (NotWhole fault) = codes "no whole descriptor: " ++ (descriptor_text fault ++ way_out)
+cause_text (NoByte column) =
+    codes "column "
+    ++ (decimal column ++ codes ": neither a byte nor a comment of // or #; convert it: xxd -r -p FILE | hidmap")
+cause_text NoCount = codes "the count is missing, or no number" ++ way_out
+cause_text (BadCount said found) = codes "the count is " ++ (decimal said ++ bytes_text found)
+cause_text (BadHex at) = codes "byte " ++ (decimal at ++ codes " isn't two hex digits; convert it: xxd -r -p FILE | hidmap")
+cause_text (Several first second) =
+    codes "two descriptors, from lines "
+    ++ (decimal first ++ (codes " and " ++ (decimal second ++ codes ": give one alone; convert it: xxd -r -p FILE | hidmap")))
+cause_text Operator = codes "an operator or an index beside it: give the bytes alone" ++ way_out
+cause_text Unclear = codes "a comment without its end, or with a backslash at its end" ++ way_out
+cause_text LineEnds = codes "lines that end with CR or FF alone: end each with LF" ++ way_out
+cause_text WordOrder = codes "the order of bytes isn't known (try xxd or od -t x1)" ++ way_out
+cause_text Offset = codes "the offset isn't the number of bytes in front of it" ++ way_out
+cause_text DumpLine = codes "neither an offset with bytes nor their characters (try xxd or od -v -A x -t x1)" ++ way_out
+cause_text OtherLine = codes "neither a line of a recording nor a comment" ++ way_out
+cause_text BadItem = codes "no item as lsusb prints them" ++ way_out
+cause_text Unavailable = codes "lsusb couldn't read the descriptor: /sys/class/hidraw has it" ++ way_out
+cause_text Utf16 = codes "text of UTF-16: write it as UTF-8" ++ way_out
+cause_text NoDescriptor = codes "text without a descriptor" ++ way_out
 cause_text Memory = codes "out of memory"
 
 -- the line of a fault in words, or nothing where the whole text is meant

@@ -1,16 +1,21 @@
--- Files that are known by their first bytes, and are no report descriptors (our choice: docs/PICTURES.md).
+-- Files that are known by their first bytes, and are no report descriptors (our choice: docs/INPUT-FORMS.md).
 use Rattle.std.specs.Prelude.{ℕ, ◌==◌, Bool, ◌&&◌, ◌||◌, nat_le, List, [], ◌∷◌, length, slice_index, take, drop, if◌then◌else◌, Option, None, Some, codes, nat_eq}
 use Rattle.std.specs.List.{starts_with, list_all}
 use Rattle.std.specs.Char.{is_ascii_whitespace}
-use Rattle.usb_capture.specs.Extent.{is_capture}
-use Rattle.hid_input.specs.declared.fault.InputCause.TheVariants as causes
 use Rattle.hid_input.specs.declared.known.KnownFile.{KnownFile}
-use Rattle.hid_input.specs.Faults.{cause_text}
 use Rattle.hid_input.specs.declared.known.KnownFile.TheVariants.{Capture, UsbDescriptors, Compressed, Program}
 
 -- bytes begin with these
 abbrev pub begins : List ℕ → List ℕ → Bool
 begins part bytes = starts_with nat_eq bytes part
+
+-- a capture of pcap, in either order of bytes and either unit of time, or of pcapng
+abbrev pub is_capture : List ℕ → Bool
+is_capture bytes =
+    begins (0xD4 ∷ 0xC3 ∷ 0xB2 ∷ 0xA1 ∷ []) bytes
+    || (begins (0xA1 ∷ 0xB2 ∷ 0xC3 ∷ 0xD4 ∷ []) bytes
+    || (begins (0x4D ∷ 0x3C ∷ 0xB2 ∷ 0xA1 ∷ []) bytes
+    || (begins (0xA1 ∷ 0xB2 ∷ 0x3C ∷ 0x4D ∷ []) bytes || begins (0x0A ∷ 0x0D ∷ 0x0D ∷ 0x0A ∷ []) bytes)))
 
 -- a device descriptor of 18 bytes, or a configuration of 9 bytes with an interface of 9 after it (USB 2.0, 9.6.1, 9.6.3 and 9.6.5)
 abbrev pub are_usb_descriptors : List ℕ → Bool
@@ -54,6 +59,6 @@ begins_text bytes =
 -- what it is, and what can be done, in words
 abbrev pub known_text : KnownFile → List ℕ
 known_text Capture = codes "a capture of a bus: hidplay reads it"
-known_text UsbDescriptors = cause_text causes.UsbDescriptors
+known_text UsbDescriptors = codes "USB descriptors: /sys/class/hidraw has report descriptors"
 known_text Compressed = codes "a compressed file: unpack it first"
 known_text Program = codes "a program, without a report descriptor"

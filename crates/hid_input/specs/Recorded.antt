@@ -1,110 +1,106 @@
--- Descriptors in what hid-recorder and usbhid-dump print (our choice: docs/PICTURES.md).
-use Rattle.std.specs.Prelude.{ℕ, ◌==◌, Bool, false, not, ◌&&◌, nat_le, List, [], ◌∷◌, ◌++◌, length, slice_index, drop, is_some, if◌then◌else◌, Option, None, Some, ◌+◌, take, codes}
-use Rattle.std.specs.List.{list_any, list_all, position, find, filter}
+-- Lines of hid-recorder, usbhid-dump and umockdev (our choice: docs/RECORDINGS.md).
+use Rattle.std.specs.Prelude.{◌≡◌, ◌⊎◌, ℕ, ◌==◌, ◌+◌, Bool, true, false, not, ◌&&◌, ◌||◌, nat_le, nat_eq, List, [], ◌∷◌, length, slice_index, if◌then◌else◌, Option, None, Some, is_some, Result, Ok, Err, codes}
+use Rattle.std.specs.List.{list_any, find, ends_with}
 use Rattle.std.specs.Str.{bytes_eq}
-use Rattle.std.specs.Option.{option_and_then}
-use Rattle.std.specs.Char.{is_ascii_whitespace}
-use Rattle.hid_input.specs.declared.words.WordForm.TheVariants as forms
-use Rattle.hid_input.specs.Numbers.{number_of, without_space, trimmed_text}
-use Rattle.hid_input.specs.Words.{all_bytes, word_bytes}
-use Rattle.hid_input.specs.Hex.{words_of, lines_of, is_spelled, before_space}
-use Rattle.hid_input.specs.Dump.{from_place}
+use Rattle.std.specs.Option.{option_map, option_and_then}
+use Rattle.std.specs.Char.{is_ascii_whitespace, is_ascii_alphabetic}
+use Rattle.hid_input.specs.declared.recorded.RecordedFault.{RecordedFault}
+use Rattle.hid_input.specs.declared.recorded.RecordedFault.TheVariants.{NoCount, BadHex, BadCount, Memory}
+use Rattle.hid_input.specs.declared.words.Reading.TheVariants.{Plain}
+use Rattle.hid_input.specs.Known.{begins_text}
+use Rattle.hid_input.specs.Text.{is_text, without_mark, lines_of, is_empty_line, without_space, before_space, from_space, first_word, behind_part, split_at}
+use Rattle.hid_input.specs.Words.{number_of, byte_of_pair, text_bytes}
 
--- the bytes of hex whose tool writes them in their order: words of hex, marked or not
-unfoldable pub ordered_bytes : List ℕ → Option (List ℕ)
-ordered_bytes hex = all_bytes (word_bytes forms.Hex) (words_of hex)
+-- how many pairs of hex digits a text has in front of what is none
+abbrev pub pairs_before : List ℕ → ℕ
+pairs_before [] = 0
+pairs_before (high ∷ []) = 0
+pairs_before (high ∷ low ∷ rest) =
+    if is_ascii_whitespace high then pairs_before (low ∷ rest)
+    else (if is_some (byte_of_pair (high ∷ low ∷ [])) then pairs_before rest + 1 else 0)
 
--- what stands after the letter R and a colon with which a line begins
-abbrev pub behind_letter : List ℕ → Option (List ℕ)
-behind_letter text =
-    if nat_le 2 (length text) && ((slice_index text 0 == 82) && (slice_index text 1 == 58)) then Some (drop 2 text) else None
+-- the bytes of a line, or that the byte at a position of it isn't two hex digits
+abbrev pub bytes_or_bad : ℕ → Option (List ℕ) → Result (List ℕ) RecordedFault
+bytes_or_bad at None = Err (BadHex at)
+bytes_or_bad at (Some bytes) = Ok bytes
 
+-- the bytes of words of hex. Example: 05 01 and 0501 are 05 01
+abbrev pub hex_of : List ℕ → Result (List ℕ) RecordedFault
+hex_of text = bytes_or_bad (pairs_before text) (text_bytes Plain text)
+
+-- bytes are as many as a number says
+abbrev pub if_counted : Option ℕ → Result (List ℕ) RecordedFault → Result (List ℕ) RecordedFault
+if_counted None read = Err NoCount
+if_counted (Some said) (Err fault) = Err fault
+if_counted (Some said) (Ok bytes) = if length bytes == said then Ok bytes else Err (BadCount said (length bytes))
+
+-- the bytes of COUNT HEX. Example: 2 05 01 is 05 01
+abbrev pub recorded_bytes : List ℕ → Result (List ℕ) RecordedFault
+recorded_bytes text = if_counted (number_of 10 (first_word text)) (hex_of (from_space (without_space text)))
+
+-- why nothing is read: memory ran out, or as is meant
+abbrev pub IsFault : RecordedFault → Result (List ℕ) RecordedFault → Type 0
+IsFault fault meant = (fault ≡ Memory) ⊎ (meant ≡ Err fault)
+
+-- what stands after the R: of a line, whatever white space is in front
 abbrev pub after_letter : List ℕ → Option (List ℕ)
-after_letter line = behind_letter (without_space line)
+after_letter line = behind_part (codes "R:") (without_space line)
 
--- bytes, if a count says that there are so many
-abbrev pub if_counted : Option ℕ → Option (List ℕ) → Option (List ℕ)
-if_counted None bytes = None
-if_counted (Some said) None = None
-if_counted (Some said) (Some bytes) = if length bytes == said then Some bytes else None
+-- what stands after H: report_descriptor= of a line of umockdev
+abbrev pub after_property : List ℕ → Option (List ℕ)
+after_property line = behind_part (codes "H: report_descriptor=") line
 
--- the bytes of a count and hex
-abbrev pub bytes_behind : List ℕ → Option (List ℕ)
-bytes_behind text = if_counted (number_of 10 (before_space text)) (ordered_bytes (from_place (position is_ascii_whitespace text) text))
+-- a letter of hid-recorder's lines: D, E, I, N, P or R
+abbrev pub is_record_letter : ℕ → Bool
+is_record_letter byte = (byte == 68) || ((byte == 69) || ((byte == 73) || ((byte == 78) || ((byte == 80) || (byte == 82)))))
 
-unfoldable pub counted_bytes : List ℕ → Option (List ℕ)
-counted_bytes counted = bytes_behind (trimmed_text counted)
+-- a text begins with such a letter and a colon
+abbrev pub begins_with_letter : (ℕ → Bool) → List ℕ → Bool
+begins_with_letter is_letter text = nat_le 2 (length text) && (is_letter (slice_index text 0) && (slice_index text 1 == 58))
 
--- the bytes of a line R:, or those of the lines below another line
-abbrev pub recorded_here : Option (List ℕ) → Option (List ℕ) → Option (List ℕ)
-recorded_here None below = below
-recorded_here (Some counted) below = counted_bytes counted
+-- a word is the head of a dump of usbhid-dump
+abbrev pub is_head : List ℕ → Bool
+is_head word = ends_with nat_eq word (codes ":DESCRIPTOR") || ends_with nat_eq word (codes ":STREAM")
 
--- the bytes of the first line R: of hid-recorder
-abbrev pub recorded_bytes : List (List ℕ) → Option (List ℕ)
-recorded_bytes [] = None
-recorded_bytes (line ∷ lines) = recorded_here (after_letter line) (recorded_bytes lines)
+-- a line is one of a recording, whatever white space stands in front of it
+abbrev pub is_record : List ℕ → Bool
+is_record line = begins_with_letter is_record_letter (without_space line) || is_head (first_word line)
 
--- some line of a text is one
-abbrev pub has_recorded : List ℕ → Bool
-has_recorded text = list_any (λ line. is_some (after_letter line)) (lines_of text)
+-- some line of a text is one of a recording
+abbrev pub has_record : List ℕ → Bool
+has_record text = list_any is_record (lines_of text)
 
--- another record than this one
-abbrev pub are_others : Option (List ℕ) → Option (List ℕ) → Bool
-are_others None other = false
-are_others (Some one) None = false
-are_others (Some one) (Some other) = not (bytes_eq (trimmed_text other) (trimmed_text one))
+-- a line says nothing: it has white space alone, or begins with the sign of a comment, #
+abbrev pub is_passed : List ℕ → Bool
+is_passed line = is_empty_line line || (nat_le 1 (length line) && (slice_index line 0 == 35))
 
--- lines R: that aren't all the same, by the first of them
-abbrev pub has_others : Option (List ℕ) → List (List ℕ) → Bool
-has_others None lines = false
-has_others (Some first) lines = list_any (λ line. are_others (after_letter first) (after_letter line)) lines
+-- a line may be beside an R: line: it says nothing, or begins with a letter and a colon
+abbrev pub is_beside : List ℕ → Bool
+is_beside line = is_passed line || begins_with_letter is_ascii_alphabetic (without_space line)
 
-abbrev pub has_other_records : List ℕ → Bool
-has_other_records text = has_others (find (λ line. is_some (after_letter line)) (lines_of text)) (lines_of text)
+-- a line, if there is one, is one of a recording
+abbrev pub is_record_or_none : Option (List ℕ) → Bool
+is_record_or_none None = true
+is_record_or_none (Some line) = is_record line
 
--- a colon, which parts the words of a heading
-abbrev pub is_colon : ℕ → Bool
-is_colon byte = byte == 58
+-- the first line that says something is one of a recording, or no line does
+abbrev pub begins_recording : List ℕ → Bool
+begins_recording text = is_record_or_none (find (λ line. not (is_passed line)) (lines_of text))
+
+-- bytes are the text of a recording, whose first bytes are characters if others are control characters
+abbrev pub is_recording : List ℕ → Bool
+is_recording bytes = (is_text (without_mark bytes) || begins_text (without_mark bytes)) && has_record (without_mark bytes)
+
+-- what stands after a decimal number and a colon
+unfoldable pub behind_number : List ℕ → Option (List ℕ)
+behind_number text = option_and_then (λ parts. option_map (λ number. parts.1) (number_of 10 parts.0)) (split_at 58 text)
 
 -- a word, if there is one, is DESCRIPTOR
 abbrev pub is_descriptor_word : Option (List ℕ) → Bool
 is_descriptor_word None = false
 is_descriptor_word (Some word) = bytes_eq word (codes "DESCRIPTOR")
 
--- what stands after a colon at this place, if a decimal number stands in front of it
-abbrev pub behind_number_at : Option ℕ → List ℕ → Option (List ℕ)
-behind_number_at None text = None
-behind_number_at (Some place) text = if is_some (number_of 10 (take place text)) then Some (drop (place + 1) text) else None
-
--- what stands after a decimal number and a colon
-unfoldable pub behind_number : List ℕ → Option (List ℕ)
-behind_number text = behind_number_at (position is_colon text) text
-
--- a heading of usbhid-dump: its first word is BUS:DEVICE:INTERFACE:DESCRIPTOR, of three decimal numbers
+-- a line begins with BUS:DEVICE:INTERFACE:DESCRIPTOR, as usbhid-dump prints it in front of a descriptor
 abbrev pub is_heading : List ℕ → Bool
 is_heading line =
     is_descriptor_word (option_and_then behind_number (option_and_then behind_number (behind_number (before_space line))))
-
--- the lines with which lines begin, up to an empty one, each with its end
-abbrev pub block_of : List (List ℕ) → List ℕ
-block_of [] = []
-block_of (line ∷ lines) = if list_all is_ascii_whitespace line then [] else line ++ (10 ∷ block_of lines)
-
--- the lines below the first heading that has some, up to an empty one
-abbrev pub block_below : List (List ℕ) → List ℕ
-block_below [] = []
-block_below (line ∷ lines) =
-    if is_heading line && not (length (block_of lines) == 0) then block_of lines else block_below lines
-
--- a text has such lines
-abbrev pub has_dumped : List ℕ → Bool
-has_dumped text = not (length (block_below (lines_of text)) == 0)
-
--- a text has several headings
-abbrev pub has_headings : List ℕ → Bool
-has_headings text = nat_le 2 (length (filter is_heading (lines_of text)))
-
--- the bytes of such lines, if all are hex
-unfoldable pub block_bytes : List ℕ → Option (List ℕ)
-block_bytes block = if is_spelled block then ordered_bytes block else None

@@ -1,170 +1,291 @@
-//! Dumps: rows of bytes after offsets, which count the bytes so far.
+//! Dumps: lines of an offset, bytes in hex, and perhaps their characters.
+//! ```text
+//!   00000000: 0501 0902 a101 0901 a100 0509 1901 2903  ..............).     xxd
+//!   00000000  05 01 09 02 a1 01 09 01  a1 00 05 09 19 01 29 03  |......).|   hexdump -C
+//!   0000020 15 00 25 01 95 03 75 01 81 02 95 01 75 05 81 01               od -t x1
+//! ```
+//! An offset is the number of bytes in front of its line, in hex, decimal or octal: the same in each line. Each byte is written, so
+//! `*` for repeated lines isn't read.
 
-ghost use Rattle.std.specs.Prelude.{◌≡◌, ◌∷◌, [], ◌++◌, OnOk, IfOk, map, false, if◌then◌else◌, bytes_eq};
-ghost use Rattle.hid_input.specs.Dump.{repeated_row, no_rows, filled_bytes, row_below, text_below, line_below, row_bytes, dump_of, rows_of, bytes_read};
+ghost use Rattle.std.specs.Prelude.{◌≡◌, ◌==◌, ◌≤◌, ◌||◌, ℕ, [], false, IfOk, MatchResult};
+ghost use Rattle.std.specs.List.{list_all, zip};
+ghost use Rattle.std.specs.Option.{option_copied};
+ghost use Rattle.hid_input.specs.Text.{lines_of};
+ghost use Rattle.hid_input.specs.Descriptor.{IsDescriptor};
+ghost use Rattle.hid_input.specs.Dump.{base_count, without_last, offset_digits, is_dump, character_of, are_shown, inside_bars, shows_in_bars, shows, begins_word, row_bytes, line_bytes, rows_bytes, begins_by, byte_line, further, dump_bytes, last_line, IsDump, IsNotWhole, IsDumpFault};
 
-use crate::cells::read_row;
-use crate::columns::{behind_offset, offset_of};
-use crate::parts::{line_number, trimmed_text};
-use crate::words::WordForm;
+use crate::fault::{InputCause, InputFault};
+use crate::found::Place;
+use crate::text::{
+    behind_part, first_word, is_empty_line, line_at, split_line, split_word, without_space,
+};
+use crate::whole::descriptor_fault;
+use crate::words::{byte_of_pair, number_of};
 use std::alloc::{AllocError, Global};
-use std::mem;
 
-/// The most bytes that a line `*` fills up to: more than a descriptor may have.
-const MOST: u64 = 65536;
+/// The bases of offsets.
+const BASES: [u32; 3] = [16, 10, 8];
 
-/// How a dump is read.
-#[derive(Clone, Copy)]
-pub struct Way {
-    /// The base of its offsets: 16, 10 or 8.
-    pub base: u32,
-    /// How its bytes are written.
-    pub form: WordForm,
-}
-
-/// What is read of a dump.
-#[derive(Drop)]
-pub struct DumpBytes {
-    /// The bytes of the rows so far.
-    pub bytes: Vec<u8>,
-    /// The bytes of the last row.
-    last: Vec<u8>,
-    /// Whether `*` stands in front of the next row: rows like the last one are left out.
-    is_squeezed: bool,
-}
-
-/// Adds a row so many times.
-fn repeat(bytes: &mut Vec<u8>, row: &[u8], count: usize) -> Result<(), AllocError>
-    ensures { OnOk result (bytes.new.items ≡ bytes.old.items ++ repeated_row count row.now) }
+/// In how many of these an offset may be, by its first word: tools write octal ones with seven digits, and decimal ones with seven or,
+/// in front of a colon, eight.
+fn base_count(word: &[u8]) -> usize
+    ensures count { result ≡ base_count word.now }
+    ensures few { result ≤ 3 }
 {
-    for _turn in 0..count {
-        bytes.extend_from_slice(row)?;
+    if word.len() == 7 {
+        3
+    } else if word.len() == 9 && word[8] == b':' {
+        2
+    } else {
+        1
     }
-    Ok(())
 }
 
-/// Whether a line stands for rows like the last one.
-fn is_star(text: &[u8]) -> bool
-    ensures { result ≡ bytes_eq text.now (42 ∷ []) }
+/// A text without a byte at its end.
+fn without_last(text: &[u8], byte: u8) -> &[u8]
+    ensures { result.now ≡ without_last byte text.now }
 {
-    text == b"*".as_slice()
+    if text.len() >= 1 && text[text.len() - 1] == byte {
+        &text[..text.len() - 1]
+    } else {
+        text
+    }
 }
 
-impl DumpBytes {
-    /// Nothing yet.
-    fn new(alloc: Global) -> DumpBytes
-        ensures { rows_of result ≡ no_rows }
-    {
-        DumpBytes {
-            bytes: Vec::new(alloc),
-            last: Vec::new(alloc),
-            is_squeezed: false,
-        }
-    }
+/// The digits of an offset: without `0x` in front and a colon at the end.
+fn offset_digits(word: &[u8]) -> &[u8]
+    ensures { result.now ≡ offset_digits word.now }
+{
+    without_last(behind_part(word, b"0x").unwrap_or(word), b':')
+}
 
-    /// Adds the rows that `*` leaves out, up to an offset; false where none are known, or where there would be too many.
-    fn fill(&mut self, offset: u64) -> Result<bool, AllocError>
-        ensures { IfOk result (λ is_filled. (if is_filled then Some self.new.bytes.items else None) ≡ filled_bytes offset (rows_of self.old)) }
-    {
-        if !self.is_squeezed {
-            return Ok(true);
-        }
-        if offset > MOST || self.last.len() == 0 {
-            return Ok(false);
-        }
-        let missing = offset.saturating_sub(self.bytes.len() as u64);
-        let count = missing as usize / self.last.len();
-        repeat(&mut self.bytes, self.last.as_slice(), count)?;
-        Ok(true)
-    }
+/// Whether each digit is a zero.
+fn are_zeros(digits: &[u8]) -> bool
+    ensures { result ≡ list_all (λ byte. byte == 48) digits.now }
+{
+    digits.iter().all(|byte| *byte == b'0')
+}
 
-    /// Adds a row.
-    fn add_row(&mut self, row: Vec<u8>) -> Result<(), AllocError>
-        ensures bytes { OnOk result (self.new.bytes.items ≡ self.old.bytes.items ++ row.items) }
-        ensures last { OnOk result (self.new.last.items ≡ row.items) }
-        ensures squeezed { OnOk result (self.new.is_squeezed ≡ false) }
-    {
-        self.bytes.extend_from_slice(row.as_slice())?;
-        self.is_squeezed = false;
-        drop(mem::replace(&mut self.last, row));
-        Ok(())
-    }
+/// Whether the first word of a text is the offset 0: four zeros or more, or zeros with `0x` in front or a colon at the end.
+pub fn is_dump(text: &[u8]) -> bool
+    ensures { result ≡ is_dump text.now }
+{
+    let word = first_word(text);
+    let digits = offset_digits(word);
+    are_zeros(digits) && (digits.len() >= 4 || (digits.len() >= 1 && digits.len() < word.len()))
+}
 
-    /// Takes a row with this offset; false where it doesn't count the bytes in front of it, or where the row can't be read.
-    fn take_row(
-        &mut self,
-        alloc: Global,
-        offset: u64,
-        rest: &[u8],
-        form: WordForm,
-    ) -> Result<bool, AllocError>
-        ensures { IfOk result (λ is_taken. (if is_taken then Some (rows_of self.new) else None) ≡ row_below offset (filled_bytes offset (rows_of self.old)) (row_bytes form rest.now)) }
-    {
-        if !self.fill(offset)? || self.bytes.len() as u64 != offset {
-            return Ok(false);
-        }
-        match read_row(alloc, rest, form)? {
-            Some(row) => {
-                self.add_row(row)?;
-                Ok(true)
-            }
-            None => Ok(false),
-        }
+/// The character that shows a byte: itself, or a full stop if it isn't printed.
+fn character_of(byte: u8) -> u8
+    ensures { result ≡ character_of byte }
+{
+    if b' ' <= byte && byte <= b'~' {
+        byte
+    } else {
+        b'.'
     }
+}
 
-    /// Takes a line without white space at its ends; false where it isn't of the dump.
-    fn take_text(&mut self, alloc: Global, text: &[u8], way: Way) -> Result<bool, AllocError>
-        ensures { IfOk result (λ is_taken. (if is_taken then Some (rows_of self.new) else None) ≡ text_below way.base way.form (rows_of self.old) text.now) }
+/// Whether characters show the bytes beside them.
+fn each_shown(characters: &[u8], bytes: &[u8]) -> bool
+    ensures { result ≡ list_all (λ pair. pair.0 == character_of pair.1) (zip characters.now bytes.now) }
+{
+    characters
+        .iter()
+        .zip(bytes.iter())
+        .all(|(character, byte)| *character == character_of(*byte))
+}
+
+/// Whether characters show bytes, one each.
+fn are_shown(characters: &[u8], bytes: &[u8]) -> bool
+    ensures { result ≡ are_shown characters.now bytes.now }
+{
+    characters.len() == bytes.len() && each_shown(characters, bytes)
+}
+
+/// What stands between `| |` or `> <`.
+fn inside_bars(text: &[u8]) -> Option<&[u8]>
+    ensures { option_copied result ≡ inside_bars text.now }
+{
+    let length = text.len();
+    if length >= 2
+        && ((text[0] == b'|' && text[length - 1] == b'|')
+            || (text[0] == b'>' && text[length - 1] == b'<'))
     {
-        if text.is_empty() {
-            return Ok(true);
-        }
-        if is_star(text) {
-            self.is_squeezed = true;
-            return Ok(self.last.len() >= 1);
-        }
-        let Some(offset) = offset_of(text, way.base) else {
-            return Ok(false);
+        Some(&text[1..length - 1])
+    } else {
+        None
+    }
+}
+
+/// Whether the characters of bytes stand in bars after white space.
+fn shows_in_bars(end: &[u8], bytes: &[u8]) -> bool
+    ensures { result ≡ shows_in_bars end.now bytes.now }
+{
+    let text = without_space(end);
+    match inside_bars(text) {
+        Some(inside) => text.len() < end.len() && are_shown(inside, bytes),
+        None => false,
+    }
+}
+
+/// Whether the end of a row shows the bytes in front of it: their characters stand there in bars, or after two blanks.
+fn shows(end: &[u8], bytes: &[u8]) -> bool
+    ensures { result ≡ shows end.now bytes.now }
+{
+    let place = end.len().saturating_sub(bytes.len());
+    let (blanks, characters) = end.split_at(place);
+    shows_in_bars(end, bytes)
+        || (place >= 2 && is_empty_line(blanks) && are_shown(characters, bytes))
+}
+
+/// Whether some word of a row has several bytes: an earlier one, or the next byte stands beside the last.
+fn is_long(had_long: bool, more: &[u8]) -> bool
+    ensures { result ≡ (had_long || begins_word more.now) }
+{
+    had_long || (more.len() >= 1 && !more[0].is_ascii_whitespace())
+}
+
+/// The bytes of a row: words of hex, up to their characters. Without these each word is one byte.
+fn read_row(alloc: Global, row: &[u8]) -> Result<Result<Vec<u8>, InputCause>, AllocError>
+    ensures { IfOk result (λ read. MatchResult read (λ bytes. row_bytes false [] row.now ≡ Ok bytes.items) (λ cause. row_bytes false [] row.now ≡ Err cause)) }
+{
+    let mut bytes = Vec::new(alloc);
+    let mut rest = without_space(row);
+    let mut had_long = false;
+    while rest.len() >= 2 {
+        let (pair, more) = rest.split_at(2);
+        let Some(byte) = byte_of_pair(pair) else {
+            return Ok(Err(InputCause::DumpLine));
         };
-        match behind_offset(text) {
-            Some(rest) => self.take_row(alloc, offset, rest, way.form),
-            None => Ok(false),
+        bytes.push(byte)?;
+        if shows(more, bytes.as_slice()) {
+            return Ok(Ok(bytes));
         }
+        had_long = is_long(had_long, more);
+        rest = without_space(more);
     }
+    if rest.len() >= 1 {
+        return Ok(Err(InputCause::DumpLine));
+    }
+    if had_long {
+        return Ok(Err(InputCause::WordOrder));
+    }
+    Ok(Ok(bytes))
+}
 
-    /// Takes a line; false where it isn't of the dump.
-    #[tactic(auto, unfolding(crate::specs::Dump::line_below))]
-    fn take_line(&mut self, alloc: Global, line: &[u8], way: Way) -> Result<bool, AllocError>
-        ensures { IfOk result (λ is_taken. (if is_taken then Some (rows_of self.new) else None) ≡ line_below way.base way.form (rows_of self.old) line.now) }
-    {
-        self.take_text(alloc, trimmed_text(line), way)
+/// The bytes of a line whose offset is the number of bytes in front of it.
+fn read_line(
+    alloc: Global,
+    base: u32,
+    count: u64,
+    line: &[u8],
+) -> Result<Result<Vec<u8>, InputCause>, AllocError>
+    ensures { IfOk result (λ read. MatchResult read (λ bytes. line_bytes base count line.now ≡ Ok bytes.items) (λ cause. line_bytes base count line.now ≡ Err cause)) }
+{
+    let (word, row) = split_word(without_space(without_last(line, b'\r')));
+    if word.is_empty() {
+        return Ok(Ok(Vec::new(alloc)));
+    }
+    match number_of(offset_digits(word), base) {
+        Some(offset) if offset == count => read_row(alloc, row),
+        _ => Ok(Err(InputCause::Offset)),
     }
 }
 
-/// What comes of reading a dump.
-pub enum DumpEnd {
-    /// All its lines are read.
-    Read(Vec<u8>),
-    /// The line of this number, from 1 on, isn't of the dump.
-    Line(u64),
+/// The bytes of a dump whose offsets are in this base; or the number of the line that is none, and why.
+fn read_rows(
+    alloc: Global,
+    text: &[u8],
+    base: u32,
+) -> Result<Result<Vec<u8>, (u64, InputCause)>, AllocError>
+    ensures { IfOk result (λ read. MatchResult read (λ bytes. rows_bytes base 1 [] (lines_of text.now) ≡ Ok bytes.items)
+        (λ fault. rows_bytes base 1 [] (lines_of text.now) ≡ Err fault)) }
+{
+    let mut bytes = Vec::new(alloc);
+    let mut number = 1u64;
+    let mut rest = text;
+    loop {
+        let (line, below) = split_line(rest);
+        match read_line(alloc, base, bytes.len() as u64, line)? {
+            Ok(row) => bytes.extend_from_slice(row.as_slice())?,
+            Err(cause) => return Ok(Err((number, cause))),
+        }
+        match below {
+            Some(below) => rest = below,
+            None => return Ok(Ok(bytes)),
+        }
+        number += 1;
+    }
 }
 
-/// Reads a dump in one way.
+/// Whether the offset of a line is no more than this number.
+fn begins_by(line: &[u8], at: u64, base: u32) -> bool
+    ensures { result ≡ begins_by base at line.now }
+{
+    match number_of(offset_digits(first_word(line)), base) {
+        Some(offset) => offset <= at,
+        None => false,
+    }
+}
+
+/// The line of the byte after so many others: the last whose offset is no more than their number.
+fn line_of_byte(text: &[u8], at: u64, base: u32) -> u64
+    ensures { result ≡ byte_line base at 1 1 (lines_of text.now) }
+{
+    let mut found = 1u64;
+    let mut number = 1u64;
+    let mut rest = text;
+    loop {
+        let (line, below) = split_line(rest);
+        if begins_by(line, at, base) {
+            found = number;
+        }
+        match below {
+            Some(below) => rest = below,
+            None => return found,
+        }
+        number += 1;
+    }
+}
+
+/// The descriptor that these bytes of a dump are.
+fn whole_dump(text: &[u8], base: u32, bytes: Vec<u8>) -> Result<Place, InputFault>
+    ensures { MatchResult result (λ place. (place.bytes.items ≡ bytes.items) × IsDescriptor bytes.items × (place.lines ≡ (1, last_line text.now)))
+        (λ fault. IsNotWhole text.now base bytes.items fault) }
+{
+    if let Some(fault) = descriptor_fault(bytes.as_slice()) {
+        let line = line_of_byte(text, fault.at as u64, base);
+        return Err(InputFault::of_line(line, InputCause::NotWhole(fault)));
+    }
+    Ok(Place {
+        bytes,
+        lines: (1, line_at(text, text.trim_ascii_end().len())),
+    })
+}
+
+/// The later of two lines that are none.
+fn further(one: (u64, InputCause), other: (u64, InputCause)) -> (u64, InputCause)
+    ensures { result ≡ further one other }
+{
+    if other.0 < one.0 { one } else { other }
+}
+
+/// The descriptor in a dump, in the first base of offsets in which each line is read. If none is, the line at which the last one fails.
 ///
 /// # Errors
-/// Out of memory.
-#[tactic(auto, unfolding(crate::specs::Dump::dump_of))]
-pub fn read_dump(alloc: Global, lines: &[&[u8]], way: Way) -> Result<DumpEnd, AllocError>
-    ensures { IfOk result (λ end. bytes_read end ≡ dump_of way.base (map (λ line. line.now) lines.now) way.form) }
+/// [`InputCause::Offset`], [`InputCause::DumpLine`] or [`InputCause::WordOrder`] of a line; [`InputCause::NotWhole`];
+/// [`InputCause::Memory`].
+pub fn read_dump(alloc: Global, text: &[u8]) -> Result<Place, InputFault>
+    ensures { MatchResult result (λ place. (base : ℕ) × IsDump text.now base place) (λ fault. IsDumpFault text.now fault (dump_bytes text.now)) }
 {
-    let mut dump = DumpBytes::new(alloc);
-    for (before, line) in lines.iter().enumerate() {
-        if !dump.take_line(alloc, line, way)? {
-            return Ok(DumpEnd::Line(line_number(before)));
+    let mut furthest = (0, InputCause::DumpLine);
+    let bases = &BASES[..base_count(first_word(text))];
+    for base in bases {
+        match read_rows(alloc, text, *base)? {
+            Ok(bytes) => return whole_dump(text, *base, bytes),
+            Err(fault) => furthest = further(furthest, fault),
         }
     }
-    if dump.is_squeezed {
-        return Ok(DumpEnd::Line(lines.len() as u64));
-    }
-    Ok(DumpEnd::Read(dump.bytes))
+    Err(InputFault::of_line(furthest.0, furthest.1))
 }

@@ -2,63 +2,47 @@
 
 ghost use Rattle.std.specs.Prelude.{◌≡◌};
 
+use crate::recorded::RecordedFault;
+use crate::text::{column_at, line_at};
+use crate::whole::DescriptorFault;
 use std::alloc::AllocError;
 use std::fmt;
 
 /// Why no descriptor is read.
 #[derive(Clone, Copy, Debug, PartialEq, Eq)]
 pub enum InputCause {
-    /// A byte isn't two hex digits; so many bytes stand before it in its line.
-    BadHex { at: u64 },
+    /// The bytes aren't one whole report descriptor.
+    NotWhole(DescriptorFault),
+    /// A character that is neither of a byte nor a separator nor in a comment. Columns count from 1.
+    NoByte { column: u64 },
     /// The count of an `R:` line is missing, or no number.
     NoCount,
     /// The count of an `R:` line, or the length that lsusb prints, isn't that of the bytes.
     BadCount { said: u64, found: u64 },
-    /// An element of an array of C is no byte.
-    BadArray,
-    /// No brace closes an array of C, or something else follows it than may.
-    ArrayEnd,
-    /// Another array of C follows, or other rows of a table: nothing says which one is meant.
-    SeveralArrays,
-    /// Hex may be of several descriptors, one below the other.
-    SeveralLists,
-    /// A comment or a string of C has no end, or one that not all programs take for it.
+    /// A byte after a mark isn't two hex digits; so many bytes are in front of it.
+    BadHex { at: u64 },
+    /// Two descriptors, by the lines in which they begin.
+    Several { first: u64, second: u64 },
+    /// An operator or an index beside a list or a string, which may change its bytes.
+    Operator,
+    /// A comment without its end, or one of `//` that a backslash continues.
     Unclear,
-    /// An escape of a string of C is no byte, or a digit follows it, or it is octal in some languages alone.
-    BadEscape,
-    /// A string beside others, of which nothing says whether they belong together; or a single character.
-    SeveralStrings,
     /// Lines end with CR or FF alone, which not all programs take for the end of a line.
     LineEnds,
-    /// Words of more than two digits, of which nothing says in which order their bytes are.
+    /// Words of several bytes in a dump, without characters that show their order.
     WordOrder,
-    /// A first word that is longer than the others, and doesn't count the bytes.
+    /// The offset of a line of a dump isn't the number of bytes in front of it.
     Offset,
-    /// A line of a dump that no way of reading dumps reads.
-    Dump,
+    /// A line of a dump that isn't an offset, bytes and their characters.
+    DumpLine,
+    /// A line beside an `R:` line that isn't part of a recording.
+    OtherLine,
     /// An item of lsusb that is none of HID 1.11, 6.2.2.
     BadItem,
-    /// lsusb says that it couldn't read the report descriptor.
+    /// lsusb prints that it couldn't read the report descriptor.
     Unavailable,
-    /// The bytes don't begin as those of a report descriptor (HID 1.11, 6.2.2): something stands in front of it, as a header, a length or
-    /// an offset.
-    OtherBytes,
-    /// Descriptors of a device or of a configuration (USB 2.0, 9.6).
-    UsbDescriptors,
-    /// In front of the lines stand numbers that count them.
-    LineNumbers,
-    /// Several report descriptors that aren't the same, as of several interfaces.
-    SeveralDescriptors,
-    /// The bytes of a frame of a capture, with its header.
-    Frame,
-    /// Two ways to read it, which give different bytes.
-    TwoWays,
     /// Text of UTF-16.
     Utf16,
-    /// Numbers in brackets that aren't braces, as lists of Python, Rust and JSON have them.
-    OtherBrackets,
-    /// A line that is neither hex nor a comment, beside lines of hex.
-    OtherLine,
     /// Text in which no descriptor is found.
     NoDescriptor,
     /// Memory ran out.
@@ -68,7 +52,7 @@ pub enum InputCause {
 /// Why a file has no descriptor, and in which line.
 #[derive(Clone, Copy, Debug, PartialEq, Eq)]
 pub struct InputFault {
-    /// From 1 on; none where the whole text is meant.
+    /// From 1 on; none if the whole text is meant.
     pub line: Option<u64>,
     /// What is wrong there.
     pub cause: InputCause,
@@ -77,14 +61,14 @@ pub struct InputFault {
 impl InputFault {
     ghost use Rattle.hid_input.specs.Faults.{of_text, of_line};
 
-    /// What is wrong with the whole text.
+    /// A fault of the whole text.
     pub fn of_text(cause: InputCause) -> InputFault
         ensures { result ≡ of_text cause }
     {
         InputFault { line: None, cause }
     }
 
-    /// What is wrong with a line.
+    /// A fault of a line.
     pub fn of_line(line: u64, cause: InputCause) -> InputFault
         ensures { result ≡ of_line line cause }
     {
@@ -92,6 +76,12 @@ impl InputFault {
             line: Some(line),
             cause,
         }
+    }
+
+    /// A character at a place of a text that isn't explained.
+    pub fn no_byte(text: &[u8], place: usize) -> InputFault {
+        let column = column_at(text, place);
+        InputFault::of_line(line_at(text, place), InputCause::NoByte { column })
     }
 }
 
@@ -106,6 +96,21 @@ impl From<AllocError> for InputFault {
     }
 }
 
+impl From<RecordedFault> for InputCause {
+    ghost use Rattle.hid_input.specs.Faults.{cause_of};
+
+    ghost from_gives = { λ fault cause. cause ≡ cause_of fault };
+
+    fn from(fault: RecordedFault) -> InputCause {
+        match fault {
+            RecordedFault::NoCount => InputCause::NoCount,
+            RecordedFault::BadHex { at } => InputCause::BadHex { at },
+            RecordedFault::BadCount { said, found } => InputCause::BadCount { said, found },
+            RecordedFault::Memory => InputCause::Memory,
+        }
+    }
+}
+
 impl fmt::Display for InputCause {
     ghost use Rattle.std.specs.Prelude.{Some};
     ghost use Rattle.hid_input.specs.Faults.{cause_text};
@@ -114,52 +119,61 @@ impl fmt::Display for InputCause {
 
     fn fmt<W: fmt::Write>(&self, f: &mut fmt::Formatter<W>) -> fmt::Result {
         let words = match *self {
-            InputCause::BadCount { said, found: 1 } => {
-                return write!(f, "the count says {said}, there is 1 byte");
+            InputCause::NotWhole(fault) => {
+                return write!(
+                    f,
+                    "no whole descriptor: {fault}; convert it: xxd -r -p FILE | hidmap"
+                );
+            }
+            InputCause::NoByte { column } => {
+                return write!(
+                    f,
+                    "column {column}: neither a byte nor a comment of // or #; convert it: xxd -r -p FILE | hidmap"
+                );
+            }
+            InputCause::BadCount { said, found } if found == 1 => {
+                return write!(
+                    f,
+                    "the count is {said}, there is 1 byte; convert it: xxd -r -p FILE | hidmap"
+                );
             }
             InputCause::BadCount { said, found } => {
-                return write!(f, "the count says {said}, there are {found} bytes");
+                return write!(
+                    f,
+                    "the count is {said}, there are {found} bytes; convert it: xxd -r -p FILE | hidmap"
+                );
             }
-            InputCause::BadHex { at } => return write!(f, "byte {at} isn't two hex digits"),
+            InputCause::BadHex { at } => {
+                return write!(
+                    f,
+                    "byte {at} isn't two hex digits; convert it: xxd -r -p FILE | hidmap"
+                );
+            }
+            InputCause::Several { first, second } => {
+                return write!(
+                    f,
+                    "two descriptors, from lines {first} and {second}: give one alone; convert it: xxd -r -p FILE | hidmap"
+                );
+            }
+            InputCause::Memory => return f.write_str("out of memory"),
             InputCause::NoCount => "the count is missing, or no number",
-            InputCause::BadArray => "an element is no number from 0 to 255, or one is missing",
-            InputCause::ArrayEnd => "the array has no end: } and nothing, or ; , ) or } after it",
-            InputCause::SeveralArrays => "several arrays, or a table of them: which one is meant?",
-            InputCause::SeveralLists => {
-                "one descriptor or several? Write one in a line or an array"
-            }
-            InputCause::Unclear => "it isn't clear where a comment or a string ends",
-            InputCause::BadEscape => "an escape of the string is no byte, or a digit follows it",
-            InputCause::SeveralStrings => {
-                "other strings or operators beside it: give one string alone"
-            }
+            InputCause::Operator => "an operator or an index beside it: give the bytes alone",
+            InputCause::Unclear => "a comment without its end, or with a backslash at its end",
             InputCause::LineEnds => "lines that end with CR or FF alone: end each with LF",
-            InputCause::WordOrder => { "the order of bytes isn't known (try xxd or od -t x1)" }
-            InputCause::Offset => "an offset? The first word doesn't count the bytes before it",
-            InputCause::Dump => "a dump with offsets, of which this line can't be read",
+            InputCause::WordOrder => "the order of bytes isn't known (try xxd or od -t x1)",
+            InputCause::Offset => "the offset isn't the number of bytes in front of it",
+            InputCause::DumpLine => {
+                "neither an offset with bytes nor their characters (try xxd or od -v -A x -t x1)"
+            }
+            InputCause::OtherLine => "neither a line of a recording nor a comment",
             InputCause::BadItem => "no item as lsusb prints them",
             InputCause::Unavailable => {
                 "lsusb couldn't read the descriptor: /sys/class/hidraw has it"
             }
-            InputCause::OtherBytes => {
-                "no descriptor begins so: is an offset or a header in front?"
-            }
-            InputCause::UsbDescriptors => {
-                "USB descriptors: /sys/class/hidraw has report descriptors"
-            }
-            InputCause::LineNumbers => "numbers of lines, or offsets? Leave them out, or use { }",
-            InputCause::SeveralDescriptors => "several report descriptors: give one of them alone",
-            InputCause::Frame => { "a frame of a capture: give its descriptor alone" }
-            InputCause::TwoWays => "it can be read in two ways: write it as { 0x05, 0x01, .. }",
             InputCause::Utf16 => "text of UTF-16: write it as UTF-8",
-            InputCause::OtherBrackets => "numbers in [ ] or ( ): write them in { }",
-            InputCause::OtherLine => "neither hex nor a comment of // or #, as other lines are",
-            InputCause::NoDescriptor => {
-                "text without a descriptor: hex, a dump or numbers in { }"
-            }
-            InputCause::Memory => "out of memory",
+            InputCause::NoDescriptor => "text without a descriptor",
         };
-        f.write_str(words)
+        write!(f, "{words}; convert it: xxd -r -p FILE | hidmap")
     }
 }
 

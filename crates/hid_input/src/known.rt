@@ -2,11 +2,9 @@
 
 ghost use Rattle.std.specs.Prelude.{◌≡◌};
 ghost use Rattle.std.specs.List.{list_all};
-ghost use Rattle.hid_input.specs.Known.{are_usb_descriptors, is_compressed, is_program, known_file, is_printed, is_written, begins_text};
+ghost use Rattle.hid_input.specs.Known.{is_capture, are_usb_descriptors, is_compressed, is_program, known_file, is_printed, is_written, begins_text};
 
-use crate::fault::InputCause;
 use std::fmt;
-use usb_capture::is_capture;
 
 /// How many of the first bytes are looked at for characters.
 const FIRST: usize = 8;
@@ -33,12 +31,25 @@ impl fmt::Display for KnownFile {
     fn fmt<W: fmt::Write>(&self, f: &mut fmt::Formatter<W>) -> fmt::Result {
         let words = match *self {
             KnownFile::Capture => "a capture of a bus: hidplay reads it",
-            KnownFile::UsbDescriptors => return fmt::Display::fmt(&InputCause::UsbDescriptors, f),
+            KnownFile::UsbDescriptors => {
+                "USB descriptors: /sys/class/hidraw has report descriptors"
+            }
             KnownFile::Compressed => "a compressed file: unpack it first",
             KnownFile::Program => "a program, without a report descriptor",
         };
         f.write_str(words)
     }
+}
+
+/// Whether bytes begin as a capture of pcap, in either order of bytes and either unit of time, or of pcapng.
+fn is_capture(bytes: &[u8]) -> bool
+    ensures { result ≡ is_capture bytes.now }
+{
+    bytes.starts_with(&[0xD4, 0xC3, 0xB2, 0xA1])
+        || bytes.starts_with(&[0xA1, 0xB2, 0xC3, 0xD4])
+        || bytes.starts_with(&[0x4D, 0x3C, 0xB2, 0xA1])
+        || bytes.starts_with(&[0xA1, 0xB2, 0x3C, 0x4D])
+        || bytes.starts_with(&[0x0A, 0x0D, 0x0D, 0x0A])
 }
 
 /// Whether bytes begin with the descriptor of a device, or with those of a configuration and an interface.

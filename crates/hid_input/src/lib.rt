@@ -1,51 +1,40 @@
-//! Descriptors in the files that people have: binary, hex, arrays of C, dumps with offsets, and what the tools of Linux print.
+//! The report descriptor in a file: binary, or text of one of seven shapes.
 //! ```text
-//!   bytes --> control bytes? --> the descriptor itself
-//!         --> text --> dump | hex | R: line | usbhid-dump | lsusb -v | array or string of C --> its bytes, or an InputFault
-//!
-//!   00000000: 0501 0902 a101 0901 a100 0509 1901 2903  ..............).     xxd
-//!   00000000  05 01 09 02 a1 01 09 01  a1 00 05 09 19 01 29 03  |......).|   hexdump -C
-//!   0000020 025 000 045 001 225 003 165 001 201 002 225 001                   od -t o1
+//!   bytes --> control bytes? --> binary: all of them
+//!         --> text --> 00000000: 0501 0902 ..  ......      dump       xxd, hexdump -C, od, tshark
+//!                  --> R: 50 05 01 09 02 ..                recording  hid-recorder, umockdev
+//!                  --> 003:002:000:DESCRIPTOR              block      usbhid-dump
+//!                  --> Report Descriptor: (length is 50)   items      lsusb -v
+//!                  --> 05 01 09 02 ..   0501..  0x05, ..   hex
+//!                  --> u8 d[] = { 0x05, 0x01, .. };        list       in { }, [ ], ( ) or < >
+//!                  --> "\x05\x01\t\x02 .."                 escapes
 //! ```
-//! The rule to know: a first column is an offset if it counts the bytes so far, and characters at the right are those of the
-//! bytes of their line. Dumps and hex are read in each way in which they can be, and where two ways differ the text is refused.
+//! Two rules replace all guesses. **The bytes are one whole report descriptor**: a text in which an offset, a line number or another
+//! order of bytes was taken for the descriptor isn't one. **Every character of the text is explained**: it is of a byte, an offset, a
+//! separator or a comment; beside a list or strings only words may appear, and no second descriptor.
 //!
-//! The promise: what is read of a text is what the definition of its form says, and what it encodes is read (`text`, `alone`,
-//! `complete` and `one_way` on [`descriptor_in`]). Bytes that aren't text are the descriptor, byte for byte.
+//! The promise: `whole`, `shown`, `recorded`, `read`, `binary` and `refused` on [`descriptor_in`]. Time and memory are in proportion to the text.
 #![tactic(auto)]
 
-mod alternatives;
-mod beginning;
-mod causes;
-mod cells;
-mod characters;
-mod code;
-mod collections;
-mod columns;
-mod comments;
-mod decimal;
-mod digits;
-mod doubts;
 mod dump;
 mod fault;
-mod form;
-mod frames;
+mod found;
 mod items;
 mod known;
-mod numbered;
-mod others;
-mod parts;
+mod lists;
+mod marked;
+mod plain;
 mod reading;
 mod recorded;
-mod refusals;
-mod several;
 mod spelled;
 mod strings;
-mod ways;
+mod text;
+mod whole;
 mod words;
 
 pub use fault::{InputCause, InputFault};
+pub use found::{Found, Shape};
 pub use known::{KnownFile, begins_text, known_file};
-pub use reading::{descriptor_in, is_recording};
-pub use recorded::begins_recording;
-pub use words::marked_digits;
+pub use reading::descriptor_in;
+pub use recorded::{RecordedFault, begins_recording, is_recording, read_recorded};
+pub use whole::{DescriptorCause, DescriptorFault};

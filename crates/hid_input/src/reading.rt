@@ -1,262 +1,191 @@
-//! The descriptor of a file, whatever form it has.
+//! The descriptor of a file, whatever its shape.
 
-ghost use Rattle.std.specs.Prelude.{◌≡◌, ◌⊎◌, ℕ, false, true, List, None, Some, IfOk, IfErr, Err};
-ghost use Rattle.std.specs.List.{list_all};
-ghost use Rattle.hid_input.specs.Hex.{spelled_bytes};
-ghost use Rattle.hid_input.specs.Dump.{IsDump, HasNoOthers};
-ghost use Rattle.hid_input.specs.Decimal.{HasNoOtherHex};
-ghost use Rattle.hid_input.specs.Forms.{form_of, Encodes, IsAlone, IsFaultOf, IsMemory, IsUnread, IsNamed};
-ghost use Rattle.hid_input.specs.Doubts.{doubt, binary_doubt, IsDoubted};
-ghost use Rattle.hid_input.specs.Comments.{hex_beside};
-ghost use Rattle.hid_input.specs.Faults.{of_text, IsOfHex};
-ghost use Rattle.hid_input.specs.Text.{is_text_byte, has_printed, is_text, is_utf16, without_mark};
-ghost use Rattle.hid_input.specs.Records.{is_recording};
-ghost use Rattle.hid_input.specs.Refusals.{IsOrMemory, spelling_fault};
+ghost use Rattle.std.specs.Prelude.{◌≡◌, Err, IfErr, IfOk, IfSome, Some, false, true};
+ghost use Rattle.std.specs.List.{list_any};
+ghost use Rattle.hid_input.specs.Descriptor.{IsDescriptor};
+ghost use Rattle.hid_input.specs.Faults.{of_text};
+ghost use Rattle.hid_input.specs.Shapes.{IsBareFile, IsBareText, Reads, ReadsHex, ReadsPlain, ReadsRecord, Spells, is_directive, names_directive, record_of, text_of};
+ghost use Rattle.hid_input.specs.Dump.{is_dump};
+ghost use Rattle.hid_input.specs.Marked.{names_itself};
+ghost use Rattle.hid_input.specs.Text.{has_other_ends, is_text, is_utf16, lines_of, without_mark};
+ghost use Rattle.hid_input.specs.Plain.{plain, without_quotes};
+ghost use Rattle.hid_input.specs.Spelled.{spelled_bytes};
 
-use crate::causes::{dump_cause, unclear_fault};
-use crate::code::read_array;
-use crate::comments::hex_beside;
-use crate::decimal::add_decimal;
-use crate::doubts::{binary_doubt, doubt};
+use crate::dump::{is_dump, read_dump};
 use crate::fault::{InputCause, InputFault};
-use crate::form::{TextForm, form_of};
-use crate::items::read_listed;
-use crate::known::begins_text;
-use crate::recorded::{has_record, read_dumped, read_recorded};
-use crate::refusals::missing_fault;
-use crate::spelled::read_spelled;
-use crate::strings::read_string;
-use crate::ways::{add_dumps, agreed, are_all};
+use crate::found::{Found, Place, Shape};
+use crate::lists::find_list;
+use crate::marked::find_marked;
+use crate::plain::{is_clear, is_quoted, without_comments, without_marks};
+use crate::spelled::{Spelled, read_spelled, whole_fault};
+use crate::strings::find_strings;
+use crate::text::{
+    first_word, has_other_ends, is_text, is_utf16, line_at, without_mark, without_space,
+};
 use std::alloc::Global;
 
-/// Whether a byte may stand in text: any but control bytes, of which spaces may.
-fn is_text_byte(byte: u8) -> bool
-    ensures { result ≡ is_text_byte byte }
-{
-    byte.is_ascii_whitespace() || (b' ' <= byte && byte != 127)
+/// The fault of two descriptors.
+fn two_of(list: &Place, strings: &Place) -> InputFault {
+    let (first, second) = (list.lines.0, strings.lines.0);
+    InputFault::of_text(InputCause::Several { first, second })
 }
 
-/// Whether some byte is no space.
-fn has_printed(bytes: &[u8]) -> bool
-    ensures { result ≡ has_printed bytes.now }
+/// The descriptor in a list or in strings.
+fn find_among_words(alloc: Global, plain: &[u8]) -> Result<Option<Found>, InputFault>
+    ensures { IfOk result (λ read. IfSome read (ReadsPlain plain.now)) }
 {
-    bytes.iter().any(|byte| !byte.is_ascii_whitespace())
+    let list = find_list(alloc, plain)?;
+    let strings = find_strings(alloc, plain)?;
+    match (list, strings) {
+        (Some(list), Some(strings)) => Err(two_of(&list, &strings)),
+        (Some(list), None) => Ok(Some(list.found(Shape::List))),
+        (None, Some(strings)) => Ok(Some(strings.found(Shape::Escapes))),
+        (None, None) => Ok(None),
+    }
 }
 
-/// Whether each byte may stand in text.
-fn are_text_bytes(bytes: &[u8]) -> bool
-    ensures { result ≡ list_all is_text_byte bytes.now }
+/// The descriptor that a text of bytes and separators alone spells.
+fn read_whole(plain: &[u8], read: Spelled) -> Result<Found, InputFault>
+    requires { spelled_bytes plain.now ≡ Some read.bytes.items }
+    ensures found { IfOk result (ReadsPlain plain.now) }
+    ensures read { ReadsHex (spelled_bytes plain.now) result }
 {
-    bytes.iter().all(|byte| is_text_byte(*byte))
+    if read.bytes.is_empty() {
+        return Err(InputFault::of_text(InputCause::NoDescriptor));
+    }
+    if let Some(fault) = whole_fault(plain, 0, plain, &read) {
+        return Err(fault);
+    }
+    let first = plain.len().saturating_sub(plain.trim_ascii_start().len());
+    let last = plain.trim_ascii_end().len();
+    Ok(Found {
+        bytes: read.bytes,
+        shape: Shape::Hex,
+        lines: Some((line_at(plain, first), line_at(plain, last))),
+    })
 }
 
-/// Whether the bytes are text: something is printed, and there are no control bytes but spaces. They need not be UTF-8.
-fn is_text(bytes: &[u8]) -> bool
-    ensures { result ≡ is_text bytes.now }
-{
-    has_printed(bytes) && are_text_bytes(bytes)
-}
-
-/// The bytes after a byte order mark of UTF-8, or all where there is none.
-fn without_mark(bytes: &[u8]) -> &[u8]
-    ensures { result.now ≡ without_mark bytes.now }
-{
-    if bytes.len() >= 3 && bytes[0] == 0xEF && bytes[1] == 0xBB && bytes[2] == 0xBF {
-        &bytes[3..]
+/// The fault of a text of which a character isn't explained, with bytes in front of it.
+fn no_byte(plain: &[u8], place: usize) -> InputFault {
+    let front = &plain[..place.min(plain.len())];
+    if front.iter().any(|byte| byte.is_ascii_hexdigit()) {
+        InputFault::no_byte(plain, place)
     } else {
-        bytes
+        InputFault::of_text(InputCause::NoDescriptor)
     }
 }
 
-/// Whether the bytes begin with the mark of UTF-16, in either order of bytes, and a character below 256.
-fn is_utf16(bytes: &[u8]) -> bool
-    ensures { result ≡ is_utf16 bytes.now }
+/// The descriptor in text without comments.
+fn read_plain(alloc: Global, plain: &[u8]) -> Result<Found, InputFault>
+    ensures found { IfOk result (ReadsPlain plain.now) }
+    ensures read { ReadsHex (spelled_bytes plain.now) result }
 {
-    bytes.len() >= 4
-        && ((bytes[0] == 0xFF && bytes[1] == 0xFE && bytes[3] == 0)
-            || (bytes[0] == 0xFE && bytes[1] == 0xFF && bytes[2] == 0))
-}
-
-/// The bytes of a dump: in each way in which the text can be read they are the same.
-fn read_offset_dump(alloc: Global, text: &[u8]) -> Result<Vec<u8>, InputFault>
-    ensures dump { IfOk result (λ read. IsDump text.now read.items × HasNoOthers text.now read.items) }
-    ensures read { (bytes : List ℕ) → IsDump text.now bytes → HasNoOthers text.now bytes
-        → IfErr result (λ fault. fault ≡ of_text InputCause.Memory) }
-    ensures faults { (bytes : List ℕ) → IsDump text.now bytes → IfErr result IsOfHex }
-{
-    let mut readings = Vec::new(alloc);
-    let reached = add_dumps(alloc, text, &mut readings)?;
-    match agreed(readings)? {
-        Some(bytes) => Ok(bytes),
-        None => {
-            let cause = dump_cause(alloc, text, reached)?;
-            Err(InputFault::of_line(reached, cause))
-        }
-    }
-}
-
-/// The bytes of hex, which may be decimal, and of which a first column may count the bytes: in each way in which the text can be
-/// read they are the same.
-fn read_hex(alloc: Global, text: &[u8]) -> Result<Vec<u8>, InputFault>
-    ensures spelled { IfOk result (λ read. spelled_bytes text.now ≡ Some read.items) }
-    ensures faults { (bytes : List ℕ) → spelled_bytes text.now ≡ Some bytes → IfErr result IsOfHex }
-    ensures others { IfOk result (λ read. HasNoOtherHex text.now read.items) }
-    ensures read { (bytes : List ℕ) → spelled_bytes text.now ≡ Some bytes → HasNoOtherHex text.now bytes
-        → IfErr result (λ fault. fault ≡ of_text InputCause.Memory) }
-    ensures why { spelled_bytes text.now ≡ None → IfErr result (IsOrMemory (spelling_fault text.now)) }
-{
-    let spelled = read_spelled(alloc, text)?;
-    let mut others = Vec::new(alloc);
-    add_decimal(alloc, text, &mut others)?;
-    let _reached = add_dumps(alloc, text, &mut others)?;
-    if !are_all(others.as_slice(), spelled.as_slice()) {
-        return Err(InputFault::of_text(InputCause::TwoWays));
-    }
-    Ok(spelled)
-}
-
-/// The bytes of hex beside other text.
-fn read_beside(alloc: Global, text: &[u8]) -> Result<Vec<u8>, InputFault>
-    ensures spelled { IfOk result (λ read. spelled_bytes (hex_beside text.now) ≡ Some read.items) }
-    ensures faults { (bytes : List ℕ) → spelled_bytes (hex_beside text.now) ≡ Some bytes → IfErr result IsOfHex }
-    ensures others { IfOk result (λ read. HasNoOtherHex (hex_beside text.now) read.items) }
-    ensures read { (bytes : List ℕ) → spelled_bytes (hex_beside text.now) ≡ Some bytes → HasNoOtherHex (hex_beside text.now) bytes
-        → IfErr result (λ fault. fault ≡ of_text InputCause.Memory) }
-    ensures why { spelled_bytes (hex_beside text.now) ≡ None
-        → IfErr result (IsOrMemory (spelling_fault (hex_beside text.now))) }
-{
-    let hex = hex_beside(alloc, text)?;
-    read_hex(alloc, hex.as_slice())
-}
-
-/// The descriptor in text of this form.
-fn read_form(alloc: Global, text: &[u8], form: TextForm) -> Result<Vec<u8>, InputFault>
-    ensures text { IfOk result (λ read. Encodes text.now read.items form) }
-    ensures alone { IfOk result (λ read. IsAlone text.now read.items form) }
-    ensures complete { (whole : List ℕ) → Encodes text.now whole form → IfErr result (λ fault. IsFaultOf fault form) }
-    ensures one_way { (whole : List ℕ) → Encodes text.now whole form → IsAlone text.now whole form
-        → IfErr result IsMemory }
-    ensures why { IsUnread text.now form → IfErr result (λ fault. IsNamed text.now fault form) }
-{
-    match form {
-        TextForm::OtherEnds => Err(InputFault::of_text(InputCause::LineEnds)),
-        TextForm::Dump => read_offset_dump(alloc, text),
-        TextForm::Hex => read_hex(alloc, text),
-        TextForm::Recorded => read_recorded(alloc, text),
-        TextForm::Dumped => read_dumped(alloc, text),
-        TextForm::Listed => read_listed(alloc, text),
-        TextForm::Unavailable => Err(InputFault::of_text(InputCause::Unavailable)),
-        TextForm::Array => read_array(alloc, text),
-        TextForm::Beside => read_beside(alloc, text),
-        TextForm::Quoted => read_string(alloc, text),
-        TextForm::Unclear => Err(unclear_fault(text)),
-        TextForm::Other => Err(missing_fault(text)),
-    }
-}
-
-/// The descriptor in text of this form, if nothing speaks against its bytes.
-#[tactic(auto, using(crate::proofs::FormLemmas::memory_named))]
-fn read_sure(alloc: Global, text: &[u8], form: TextForm) -> Result<Vec<u8>, InputFault>
-    ensures text { IfOk result (λ read. Encodes text.now read.items form) }
-    ensures alone { IfOk result (λ read. IsAlone text.now read.items form) }
-    ensures sure { IfOk result (λ read. doubt text.now read.items form ≡ None) }
-    ensures complete { (whole : List ℕ) → Encodes text.now whole form
-        → IfErr result (λ fault. IsFaultOf fault form ⊎ IsDoubted fault (doubt text.now whole form)) }
-    ensures one_way { (whole : List ℕ) → Encodes text.now whole form → IsAlone text.now whole form
-        → IfErr result (λ fault. IsMemory fault ⊎ IsDoubted fault (doubt text.now whole form)) }
-    ensures why { IsUnread text.now form → IfErr result (λ fault. IsNamed text.now fault form) }
-{
-    match read_form(alloc, text, form) {
-        Err(fault) => Err(fault),
-        Ok(bytes) => match doubt(alloc, text, bytes.as_slice(), form)? {
-            Some(cause) => Err(InputFault::of_text(cause)),
-            None => Ok(bytes),
+    match read_spelled(alloc, plain)? {
+        Ok(read) => read_whole(plain, read),
+        Err(place) => match find_among_words(alloc, plain)? {
+            Some(found) => Ok(found),
+            None => Err(no_byte(plain, place)),
         },
     }
 }
 
-/// The descriptor in text.
-#[tactic(auto, using(crate::proofs::FormLemmas::memory_named))]
-fn descriptor_in_text(alloc: Global, text: &[u8]) -> Result<Vec<u8>, InputFault>
-    ensures text { IfOk result (λ read. Encodes text.now read.items (form_of text.now)) }
-    ensures alone { IfOk result (λ read. IsAlone text.now read.items (form_of text.now)) }
-    ensures sure { IfOk result (λ read. doubt text.now read.items (form_of text.now) ≡ None) }
-    ensures complete { (whole : List ℕ) → Encodes text.now whole (form_of text.now)
-        → IfErr result (λ fault. IsFaultOf fault (form_of text.now) ⊎ IsDoubted fault (doubt text.now whole (form_of text.now))) }
-    ensures one_way { (whole : List ℕ) → Encodes text.now whole (form_of text.now)
-        → IsAlone text.now whole (form_of text.now)
-        → IfErr result (λ fault. IsMemory fault ⊎ IsDoubted fault (doubt text.now whole (form_of text.now))) }
-    ensures why { IsUnread text.now (form_of text.now) → IfErr result (λ fault. IsNamed text.now fault (form_of text.now)) }
+/// Whether a word names a directive of C.
+fn names_directive(word: &[u8]) -> bool
+    ensures { result ≡ names_directive word.now }
 {
-    let form = form_of(alloc, text)?;
-    read_sure(alloc, text, form)
+    word == b"if".as_slice()
+        || word == b"ifdef".as_slice()
+        || word == b"ifndef".as_slice()
+        || word == b"elif".as_slice()
+        || word == b"else".as_slice()
+        || word == b"endif".as_slice()
+        || word == b"define".as_slice()
+        || word == b"include".as_slice()
 }
 
-/// Bytes that aren't text, if nothing speaks against them.
-fn read_binary(alloc: Global, bytes: &[u8]) -> Result<Vec<u8>, InputFault>
-    ensures binary { IfOk result (λ read. read.items ≡ bytes.now) }
-    ensures sure { IfOk result (λ read. binary_doubt bytes.now ≡ None) }
-    ensures whole { IfErr result (λ fault. fault ≡ of_text InputCause.Memory ⊎ IsDoubted fault (binary_doubt bytes.now)) }
+/// Whether a line is a directive of C with a blank after its `#`, which looks like a comment.
+fn is_directive(line: &[u8]) -> bool
+    ensures { result ≡ is_directive line.now }
 {
-    match binary_doubt(bytes) {
-        Some(cause) => Err(InputFault::of_text(cause)),
-        None => Ok(Vec::from_slice(alloc, bytes)?),
+    let text = without_space(line);
+    text.len() >= 2
+        && text[0] == b'#'
+        && (text[1] == b' ' || text[1] == b'\t')
+        && names_directive(first_word(&text[2..]))
+}
+
+/// Whether some line of a text is such a directive.
+fn has_directive(text: &[u8]) -> bool
+    ensures { result ≡ list_any is_directive (lines_of text.now) }
+{
+    text.split(|byte| *byte == b'\n')
+        .any(|line| is_directive(line))
+}
+
+/// The descriptor in text that nothing quotes.
+fn read_text(alloc: Global, text: &[u8]) -> Result<Found, InputFault>
+    ensures found { IfOk result (Reads text.now) }
+    ensures recorded { is_dump text.now ≡ false → ReadsRecord (record_of text.now) result }
+    ensures read { IsBareText text.now → ReadsHex (spelled_bytes (plain text.now)) result }
+{
+    if is_dump(text) {
+        return Ok(read_dump(alloc, text)?.found(Shape::Dump));
     }
+    if let Some(found) = find_marked(alloc, text)? {
+        return Ok(found);
+    }
+    let (plain, end) = without_comments(alloc, text)?;
+    if !is_clear(end) || has_directive(text) {
+        return Err(InputFault::of_text(InputCause::Unclear));
+    }
+    read_plain(alloc, plain.as_slice())
 }
 
-/// The descriptor in the bytes of a file. Text is read as the first of these that it has: a dump whose first word is an offset,
-/// hex, a line `R:` of hid-recorder, a descriptor of usbhid-dump or of lsusb, hex beside comments, an array or a string of C. Other
-/// bytes are taken as they are.
+/// The text in bytes with a mark of quoted lines in front of each line, or without.
+fn read_quoted(alloc: Global, text: &[u8]) -> Result<Found, InputFault>
+    ensures found { IfOk result (Reads (without_quotes text.now)) }
+    ensures recorded { is_dump (without_quotes text.now) ≡ false → ReadsRecord (record_of (without_quotes text.now)) result }
+    ensures read { IsBareText (without_quotes text.now) → ReadsHex (spelled_bytes (plain (without_quotes text.now))) result }
+{
+    if is_quoted(text) {
+        return read_text(alloc, without_marks(alloc, text)?.as_slice());
+    }
+    read_text(alloc, text)
+}
+
+/// The descriptor in the bytes of a file: text is read in the first shape that it has, and other bytes are the descriptor.
 ///
 /// # Errors
-/// An [`InputFault`]: what is wrong with the form that is found, or that there is none.
-pub fn descriptor_in(alloc: Global, bytes: &[u8]) -> Result<Vec<u8>, InputFault>
-    // Text: what its form encodes, in each way in which it can be read.
-    ensures text { is_text (without_mark bytes.now) ≡ true
-        → IfOk result (λ read. Encodes (without_mark bytes.now) read.items (form_of (without_mark bytes.now))) }
-    ensures alone { is_text (without_mark bytes.now) ≡ true
-        → IfOk result (λ read. IsAlone (without_mark bytes.now) read.items (form_of (without_mark bytes.now))) }
-    ensures sure { is_text (without_mark bytes.now) ≡ true
-        → IfOk result (λ read. doubt (without_mark bytes.now) read.items (form_of (without_mark bytes.now)) ≡ None) }
-
-    // Text that encodes bytes is refused for memory alone, since it can be read in another way too, or for a doubt.
-    ensures complete { (whole : List ℕ) → is_utf16 bytes.now ≡ false → is_text (without_mark bytes.now) ≡ true
-        → Encodes (without_mark bytes.now) whole (form_of (without_mark bytes.now))
-        → IfErr result (λ fault. IsFaultOf fault (form_of (without_mark bytes.now))
-        ⊎ IsDoubted fault (doubt (without_mark bytes.now) whole (form_of (without_mark bytes.now)))) }
-    ensures one_way { (whole : List ℕ) → is_utf16 bytes.now ≡ false → is_text (without_mark bytes.now) ≡ true
-        → Encodes (without_mark bytes.now) whole (form_of (without_mark bytes.now))
-        → IsAlone (without_mark bytes.now) whole (form_of (without_mark bytes.now))
-        → IfErr result (λ fault. IsMemory fault
-        ⊎ IsDoubted fault (doubt (without_mark bytes.now) whole (form_of (without_mark bytes.now)))) }
-
-    // Text that encodes no bytes is refused for memory, or by its line, byte and cause.
-    ensures why { is_utf16 bytes.now ≡ false → is_text (without_mark bytes.now) ≡ true
-        → IsUnread (without_mark bytes.now) (form_of (without_mark bytes.now))
-        → IfErr result (λ fault. IsNamed (without_mark bytes.now) fault (form_of (without_mark bytes.now))) }
-
-    // Other bytes.
-    ensures binary { is_text (without_mark bytes.now) ≡ false → IfOk result (λ read. read.items ≡ bytes.now) }
-    ensures sure_binary { is_text (without_mark bytes.now) ≡ false → IfOk result (λ read. binary_doubt bytes.now ≡ None) }
-    ensures whole { is_utf16 bytes.now ≡ false → is_text (without_mark bytes.now) ≡ false
-        → IfErr result (λ fault. fault ≡ of_text InputCause.Memory ⊎ IsDoubted fault (binary_doubt bytes.now)) }
+/// An [`InputFault`]: the line and the character that isn't explained, or why the bytes aren't one whole descriptor.
+pub fn descriptor_in(alloc: Global, bytes: &[u8]) -> Result<Found, InputFault>
+    // The bytes are one whole report descriptor, where the shape doesn't name itself.
+    ensures whole { IfOk result (λ found. names_itself found.shape ≡ false → IsDescriptor found.bytes.items) }
+    // The text spells them, and no others.
+    ensures shown { is_text (without_mark bytes.now) ≡ true → IfOk result (λ found. Spells (text_of bytes.now) found.bytes.items found.shape found.lines) }
+    // Other bytes are the descriptor, and are refused for memory alone.
+    ensures binary { is_text (without_mark bytes.now) ≡ false → IfOk result (λ found. found.bytes.items ≡ bytes.now) }
     ensures utf16 { is_utf16 bytes.now ≡ true → result ≡ Err (of_text InputCause.Utf16) }
+    ensures refused { is_utf16 bytes.now ≡ false → is_text (without_mark bytes.now) ≡ false
+        → IfErr result (λ fault. fault ≡ of_text InputCause.Memory) }
+    // The first line that names a descriptor by R: gives its bytes, or why it has none.
+    ensures recorded { is_utf16 bytes.now ≡ false → is_text (without_mark bytes.now) ≡ true → has_other_ends (without_mark bytes.now) ≡ false
+        → is_dump (text_of bytes.now) ≡ false → ReadsRecord (record_of (text_of bytes.now)) result }
+    // Text of bytes in hex alone is read, and refused if they are no whole descriptor.
+    ensures read { IsBareFile bytes.now → ReadsHex (spelled_bytes (plain (text_of bytes.now))) result }
 {
     if is_utf16(bytes) {
         return Err(InputFault::of_text(InputCause::Utf16));
     }
     let text = without_mark(bytes);
-    if is_text(text) {
-        return descriptor_in_text(alloc, text);
+    if !is_text(text) {
+        return Ok(Found {
+            bytes: Vec::from_slice(alloc, bytes)?,
+            shape: Shape::Binary,
+            lines: None,
+        });
     }
-    read_binary(alloc, bytes)
-}
-
-/// Whether bytes are the text of a recording: some line is one that hid-recorder or usbhid-dump writes. Control characters may stand
-/// in such a text, as in the name of a device, where its first eight bytes are characters.
-pub fn is_recording(bytes: &[u8]) -> bool
-    ensures { result ≡ is_recording bytes.now }
-{
-    let text = without_mark(bytes);
-    (is_text(text) || begins_text(text)) && has_record(text)
+    if has_other_ends(text) {
+        return Err(InputFault::of_text(InputCause::LineEnds));
+    }
+    read_quoted(alloc, text)
 }

@@ -1,207 +1,175 @@
-//! Bytes in hex, in whatever way they are spelled: `05 01`, `0501`, `05:01`, `0x05, 0x01`, `\x05\x01`.
+//! Text of bytes and separators alone.
 
-ghost use Rattle.std.specs.Prelude.{◌≡◌, ℕ, ◌==◌, List, None, Some, IfOk, IfErr, map};
-ghost use Rattle.hid_input.specs.Faults.{of_text};
-ghost use Rattle.hid_input.specs.Refusals.{IsOrMemory, spelling_fault};
-ghost use Rattle.std.specs.List.{list_any, list_all};
-ghost use Rattle.std.specs.Option.{option_map};
-ghost use Rattle.std.specs.Char.{is_ascii_hexdigit};
-ghost use Rattle.hid_input.specs.Hex.{is_separator, words_of, lines_of, is_one_word, is_long, are_long, is_bare, are_runs, runs_bytes, spelled_bytes, is_spelled_byte, begins_with_colon, is_last, is_label, is_marked_line, has_marked_line, is_spelled};
+ghost use Rattle.std.specs.Prelude.{◌≡◌, ◌≤◌, false, true, None, Some, IfOk, IfNone, IfSome, MatchResult, is_some, length, ◌||◌, ◌==◌};
+ghost use Rattle.std.specs.List.{list_any};
+ghost use Rattle.std.specs.Option.{option_or};
+ghost use Rattle.hid_input.specs.Words.{text_bytes};
+ghost use Rattle.hid_input.specs.Descriptor.{IsDescriptor};
+ghost use Rattle.hid_input.specs.Shapes.{IsWholeFault};
+ghost use Rattle.hid_input.specs.Spelled.{is_joint, is_loose, has_loose, is_parted, parted_from, misses_comma, spelled_bytes};
 
 use crate::fault::{InputCause, InputFault};
-use crate::parts::{first_word, place_of, without_space};
-use crate::refusals::spelling_fault;
-use crate::words::{WordForm, is_h, is_x, read_words};
+use crate::text::line_at;
+use crate::whole::descriptor_fault;
+use crate::words::{Reading, add_words, next_word};
 use std::alloc::{AllocError, Global};
 
-/// The most digits of a word of `od -t x8`. A run of more digits than this has its bytes in their order.
-const LONGEST_WORD: usize = 16;
-
-/// What parts bytes.
-pub fn is_separator(byte: u8) -> bool
-    ensures { result ≡ is_separator byte }
-{
-    byte.is_ascii_whitespace() || matches!(byte, b',' | b';' | b':' | b'-' | b'\\')
+/// The bytes of a text, and how its words spell them.
+#[derive(Drop)]
+pub struct Spelled {
+    /// The bytes.
+    pub bytes: Vec<u8>,
+    /// How each word spells them.
+    pub reading: Reading,
 }
 
-/// Whether a line has one word at most.
-fn is_one_word(line: &[u8]) -> bool
-    ensures { result ≡ is_one_word line.now }
+/// Whether a byte is a colon or a hyphen.
+fn is_joint(byte: u8) -> bool
+    ensures { result ≡ is_joint byte }
 {
-    line.split(|byte| is_separator(*byte))
-        .filter(|word| !word.is_empty())
-        .count()
-        <= 1
+    byte == b':' || byte == b'-'
 }
 
-/// Whether each line has one word at most.
-fn are_one_word_lines(text: &[u8]) -> bool
-    ensures { result ≡ list_all is_one_word (lines_of text.now) }
+/// Whether a character can't stand after this one and, without white space between, after that one: a joint between others than hex
+/// digits, or a comma without bytes in front of it.
+fn is_loose(before: u8, last: u8, byte: u8) -> bool
+    ensures { result ≡ is_loose before last byte }
 {
-    text.split(|byte| *byte == b'\n').all(is_one_word)
+    (is_joint(byte) && !before.is_ascii_hexdigit())
+        || (is_joint(before) && !byte.is_ascii_hexdigit())
+        || (byte == b',' && last == b',')
 }
 
-/// Whether a run has more digits than a word of od.
-fn is_long(word: &[u8]) -> bool
-    ensures { result ≡ is_long word.now }
+/// Where such a character stands in a text.
+fn loose_place(text: &[u8]) -> Option<usize>
+    ensures { is_some result ≡ has_loose text.now }
 {
-    word.len() > LONGEST_WORD
-}
-
-/// Whether each word is a run of more digits than a word of od has.
-fn are_all_long(words: &[&[u8]]) -> bool
-    ensures { result ≡ list_all is_long (map (λ word. word.now) words.now) }
-{
-    words.iter().all(|word| is_long(word))
-}
-
-/// Whether each word but the last is a run of more digits than a word of od has, and the only one is.
-fn are_long(words: &[&[u8]]) -> bool
-    ensures { result ≡ are_long (map (λ word. word.now) words.now) }
-{
-    words.len() >= 1 && is_long(words[0]) && are_all_long(&words[..words.len() - 1])
-}
-
-/// Whether a text is one word of digits with nothing in front of it: od writes a blank in front of a word.
-fn is_bare(text: &[u8], words: &[&[u8]]) -> bool
-    ensures { result ≡ is_bare text.now (map (λ word. word.now) words.now) }
-{
-    words.len() == 1 && text.len() >= 1 && text[0].is_ascii_hexdigit()
-}
-
-/// Whether each line is a run of digits, as `xxd -p` writes them.
-fn are_runs(text: &[u8], words: &[&[u8]]) -> bool
-    requires { map (λ word. word.now) words.now ≡ words_of text.now }
-    ensures { result ≡ are_runs text.now }
-{
-    (are_long(words) || is_bare(text, words)) && are_one_word_lines(text)
-}
-
-/// The words of a text.
-///
-/// # Errors
-/// Out of memory.
-pub fn words_of(alloc: Global, text: &[u8]) -> Result<Vec<&[u8]>, AllocError>
-    ensures { IfOk result (λ words. map (λ word. word.now) words.items ≡ words_of text.now) }
-{
-    text.split(|byte| is_separator(*byte))
-        .filter(|word| !word.is_empty())
-        .collect(alloc)
-}
-
-/// The bytes of runs of digits; none where a line isn't one.
-///
-/// # Errors
-/// Out of memory.
-fn read_runs(alloc: Global, text: &[u8], words: &[&[u8]]) -> Result<Option<Vec<u8>>, AllocError>
-    requires { map (λ word. word.now) words.now ≡ words_of text.now }
-    ensures { IfOk result (λ read. option_map (λ bytes. bytes.items) read ≡ runs_bytes text.now) }
-{
-    if are_runs(text, words) {
-        read_words(alloc, words, WordForm::Run)
+    let mut before = b' ';
+    let mut last = b',';
+    for (at, byte) in text.iter().enumerate() {
+        if is_loose(before, last, *byte) {
+            return Some(at);
+        }
+        before = *byte;
+        last = if byte.is_ascii_whitespace() {
+            last
+        } else {
+            *byte
+        };
+    }
+    if is_joint(before) {
+        Some(text.len())
     } else {
-        Ok(None)
+        None
     }
 }
 
-/// The bytes of hex in any spelling: each word a byte, or each line a run of digits; none where a text is no hex.
+/// Whether a character begins a word after another one, with white space and no comma between.
+fn is_parted(before: u8, last: u8, byte: u8) -> bool
+    ensures { result ≡ is_parted before last byte }
+{
+    !byte.is_ascii_whitespace() && byte != b',' && before.is_ascii_whitespace() && last != b','
+}
+
+/// Where a word begins that no comma parts from the one in front of it.
+fn parted_place(text: &[u8]) -> Option<usize>
+    ensures { is_some result ≡ parted_from 32 44 text.now }
+{
+    let mut before = b' ';
+    let mut last = b',';
+    for (at, byte) in text.iter().enumerate() {
+        if is_parted(before, last, *byte) {
+            return Some(at);
+        }
+        before = *byte;
+        last = if byte.is_ascii_whitespace() {
+            last
+        } else {
+            *byte
+        };
+    }
+    None
+}
+
+/// Whether a text has a comma.
+fn has_comma(text: &[u8]) -> bool
+    ensures { result ≡ list_any (λ byte. byte == 44) text.now }
+{
+    text.iter().any(|byte| *byte == b',')
+}
+
+/// Where a text with commas misses one.
+fn missing_place(text: &[u8]) -> Option<usize>
+    ensures { is_some result ≡ misses_comma text.now }
+{
+    if has_comma(text) {
+        parted_place(text)
+    } else {
+        None
+    }
+}
+
+/// Where the separators of a text aren't those of one list.
+fn bad_place(text: &[u8]) -> Option<usize>
+    ensures { is_some result ≡ (has_loose text.now || misses_comma text.now) }
+{
+    match loose_place(text) {
+        Some(place) => Some(place),
+        None => missing_place(text),
+    }
+}
+
+/// The bytes that a text spells: in hex if each word is hex, else as elements of a list. Or the place from which on neither reads it.
 ///
 /// # Errors
 /// Out of memory.
-#[tactic(auto, unfolding(crate::specs::Hex::spelled_bytes))]
-pub fn try_spelled(alloc: Global, text: &[u8]) -> Result<Option<Vec<u8>>, AllocError>
-    ensures { IfOk result (λ read. option_map (λ bytes. bytes.items) read ≡ spelled_bytes text.now) }
+#[tactic(auto, using(crate::proofs::WordLemmas::both_nothing))]
+pub fn read_spelled(alloc: Global, text: &[u8]) -> Result<Result<Spelled, usize>, AllocError>
+    ensures { IfOk result (λ read. MatchResult read (λ found. spelled_bytes text.now ≡ Some found.bytes.items) (λ _. spelled_bytes text.now ≡ None)) }
 {
-    let words = words_of(alloc, text)?;
-    match read_words(alloc, words.as_slice(), WordForm::Byte)? {
-        Some(bytes) => Ok(Some(bytes)),
-        None => read_runs(alloc, text, words.as_slice()),
+    let loose = bad_place(text);
+    let mut bytes = Vec::new(alloc);
+    let hex = add_words(&mut bytes, text, Reading::Hex)?;
+    if loose.is_none() && hex.is_none() {
+        let reading = Reading::Hex;
+        return Ok(Ok(Spelled { bytes, reading }));
     }
-}
-
-/// The bytes of hex in any spelling.
-///
-/// # Errors
-/// [`InputCause::BadHex`] where a word isn't hex; [`InputCause::Offset`] and [`InputCause::WordOrder`] where longer words stand
-/// beside others; [`InputCause::Memory`].
-pub fn read_spelled(alloc: Global, text: &[u8]) -> Result<Vec<u8>, InputFault>
-    ensures bytes { IfOk result (λ read. spelled_bytes text.now ≡ Some read.items) }
-    ensures faults { (bytes : List ℕ) → spelled_bytes text.now ≡ Some bytes
-        → IfErr result (λ fault. fault ≡ of_text InputCause.Memory) }
-    ensures why { spelled_bytes text.now ≡ None → IfErr result (IsOrMemory (spelling_fault text.now)) }
-{
-    match try_spelled(alloc, text)? {
-        Some(bytes) => Ok(bytes),
-        None => Err(spelling_fault(text)),
+    let mut bytes = Vec::new(alloc);
+    let elements = add_words(&mut bytes, text, Reading::Elements)?;
+    if loose.is_none() && elements.is_none() {
+        let reading = Reading::Elements;
+        return Ok(Ok(Spelled { bytes, reading }));
     }
+    let left = hex.unwrap_or(0).min(elements.unwrap_or(0));
+    let place = text.len().saturating_sub(left);
+    Ok(Err(place.min(loose.unwrap_or(text.len()))))
 }
 
-/// Whether a text has a hex digit.
-fn has_digit(text: &[u8]) -> bool
-    ensures { result ≡ list_any is_ascii_hexdigit text.now }
-{
-    text.iter().any(|byte| byte.is_ascii_hexdigit())
-}
-
-/// Whether a text has this byte.
-pub fn has_byte(text: &[u8], wanted: u8) -> bool
-    ensures { result ≡ list_any (λ byte. byte == wanted) text.now }
-{
-    text.iter().any(|byte| *byte == wanted)
-}
-
-/// Whether a byte may stand in hex.
-fn is_spelled_byte(byte: u8) -> bool
-    ensures { result ≡ is_spelled_byte byte }
-{
-    byte.is_ascii_hexdigit() || is_separator(byte) || is_x(byte) || is_h(byte)
-}
-
-/// Whether each byte may stand in hex.
-pub fn are_spelled_bytes(text: &[u8]) -> bool
-    ensures { result ≡ list_all is_spelled_byte text.now }
-{
-    text.iter().all(|byte| is_spelled_byte(*byte))
-}
-
-/// Whether a line begins with a colon, as Intel HEX, or with a label: a letter of hid-recorder, or an offset.
-pub fn is_marked_line(line: &[u8]) -> bool
-    ensures { result ≡ is_marked_line line.now }
-{
-    begins_with_colon(without_space(line)) || is_label(first_word(line))
-}
-
-/// Whether a colon is first.
-fn begins_with_colon(text: &[u8]) -> bool
-    ensures { result ≡ begins_with_colon text.now }
-{
-    text.len() >= 1 && text[0] == b':'
-}
-
-/// Whether a word has a colon at its end alone.
-fn is_label(word: &[u8]) -> bool
-    ensures { result ≡ is_label word.now }
-{
-    match place_of(word, b':') {
-        Some(place) => place + 1 == word.len(),
-        None => false,
+/// The place of the word that has the byte after so many others.
+fn byte_place(text: &[u8], at: usize, reading: Reading) -> usize {
+    let mut rest = text;
+    let mut count = 0usize;
+    while let Some((word, more)) = next_word(rest, reading) {
+        count = count.saturating_add(match reading {
+            Reading::Elements => 1,
+            _ => word.len() / 2,
+        });
+        if count > at {
+            return text
+                .len()
+                .saturating_sub(word.len().saturating_add(more.len()));
+        }
+        rest = more;
     }
+    text.trim_ascii_end().len()
 }
 
-/// Whether some line of a text has such a mark.
-fn has_marked_line(text: &[u8]) -> bool
-    ensures { result ≡ has_marked_line text.now }
+/// Why the bytes of a part of a text, which begins at this place, aren't one whole descriptor.
+pub fn whole_fault(text: &[u8], start: usize, part: &[u8], read: &Spelled) -> Option<InputFault>
+    ensures whole { IfNone result (IsDescriptor read.now.bytes.items) }
+    ensures fault { IfSome result (λ fault. IsWholeFault read.now.bytes.items fault) }
 {
-    text.split(|byte| *byte == b'\n').any(is_marked_line)
-}
-
-/// Whether a text may be bytes in hex: it has nothing but hex digits, marks and separators. Where a dash stands, no blank
-/// does: `od -t f4` writes numbers such as 7e-45. No line is one of Intel HEX, or one of hid-recorder.
-pub fn is_spelled(text: &[u8]) -> bool
-    ensures { result ≡ is_spelled text.now }
-{
-    has_digit(text)
-        && !(has_byte(text, b'-') && has_byte(text, b' '))
-        && !has_marked_line(text)
-        && are_spelled_bytes(text)
+    let fault = descriptor_fault(read.bytes.as_slice())?;
+    let place = start.saturating_add(byte_place(part, fault.at, read.reading));
+    Some(InputFault::of_line(line_at(text, place), InputCause::NotWhole(fault)))
 }

@@ -1,131 +1,94 @@
-//! Words and cells of digits, and the bytes that they encode.
+//! Words of digits, and the bytes that they spell.
 
-ghost use Rattle.std.specs.Prelude.{◌≡◌, IfOk, map, reverse, is_some};
-ghost use Rattle.std.specs.Option.{option_map, option_copied};
-ghost use Rattle.hid_input.specs.Words.{all_bytes, IsAdded, single_byte, without_zero, byte_of_digits, is_x, is_h, marked_digits, digits_of, byte_of_word, is_prefixed, number_by, number_byte, hex_bytes, same_byte, constant_byte, without_suffix, element_byte, run_bytes, word_bytes};
+ghost use Rattle.std.specs.Prelude.{◌≡◌, ◌<◌, ◌≤◌, ◌+◌, ◌-◌, length, take, position, if◌then◌else◌, IfOk, IfSome, is_none, false};
+ghost use Rattle.std.specs.Option.{option_map};
+ghost use Rattle.std.specs.Char.{digit_value};
+ghost use Rattle.hid_input.specs.Words.{is_digit_of, number_of, as_byte, byte_in_base, byte_of_pair, is_prefixed, ends_in, same_byte, number_byte, element_byte, single_byte, run_bytes, word_bytes, is_separator, is_no_separator, words_of, text_bytes, IsAdded, Parts};
 
-use crate::digits::{byte_of, column_byte, octal_byte, pair_of};
-use crate::parts::trimmed_text;
-use std::alloc::{AllocError, Global};
+use std::alloc::AllocError;
 
-/// How a word or a cell is written.
+/// How words spell bytes.
 #[derive(Clone, Copy, Debug, PartialEq, Eq)]
-pub enum WordForm {
-    /// One byte: two digits, or one or two that are marked as hex: `0x5`, `x05`, `05h`.
-    Byte,
-    /// One byte: two digits.
-    Pair,
-    /// Bytes of two digits each, the first one first.
-    Run,
-    /// Bytes of two digits each, the first one first, marked as hex or not; where they are marked, also one byte of one digit:
-    /// `0x0501`, `0x5`.
+pub enum Reading {
+    /// Two hex digits for each byte, between white space: `05`, `0501`.
+    Plain,
+    /// Two hex digits for each byte, between white space, `,` `:` or `-`.
     Hex,
-    /// Bytes of two digits each, the last one first.
-    Swapped,
-    /// One byte: a blank and three octal digits.
-    Octal,
-    /// One byte: a decimal number in four columns.
-    Decimal,
-    /// One byte: a decimal number in five columns, perhaps with a sign.
-    Signed,
-    /// One byte: a decimal number, or hex that is marked.
-    Number,
-    /// One byte: an element of an array of C.
-    Element,
+    /// One byte each, between white space or commas: `0x05`, `05h`, or a decimal number.
+    Elements,
 }
 
-/// Whether a byte is `x` of either case.
-pub fn is_x(byte: u8) -> bool
-    ensures { result ≡ is_x byte }
+/// The value of a digit, if it is one in this base.
+fn digit_of(byte: u8, base: u32) -> Option<u32>
+    ensures { result ≡ (if is_digit_of base byte then Some (digit_value byte) else None) }
 {
-    matches!(byte, b'x' | b'X')
+    if base > 36 || base < 2 {
+        return None;
+    }
+    char::from(byte).to_digit(base)
 }
 
-/// Whether a byte is `h` of either case.
-pub fn is_h(byte: u8) -> bool
-    ensures { result ≡ is_h byte }
+/// The number that digits spell, or the greatest of 64 bits where it is over that; none where there is no digit, or another
+/// character.
+#[tactic(auto, unfolding(crate::specs::Words::number_of))]
+pub fn number_of(word: &[u8], base: u32) -> Option<u64>
+    ensures { result ≡ number_of base word.now }
 {
-    matches!(byte, b'h' | b'H')
+    if word.is_empty() {
+        return None;
+    }
+    let mut number = 0u64;
+    for byte in word {
+        let digit = digit_of(*byte, base)?;
+        number = number
+            .saturating_mul(u64::from(base))
+            .saturating_add(u64::from(digit));
+    }
+    Some(number)
 }
 
-/// The digits of a word that is marked as hex: after `0x` or `x`, or before `h`. They may be none, or no digits.
-pub fn marked_digits(word: &[u8]) -> Option<&[u8]>
-    ensures { option_copied result ≡ marked_digits word.now }
+/// A number that is a byte.
+fn as_byte(number: u64) -> Option<u8>
+    ensures { result ≡ as_byte number }
 {
-    if word.len() >= 2 && word[0] == b'0' && is_x(word[1]) {
-        Some(&word[2..])
-    } else if word.len() >= 1 && is_x(word[0]) {
-        Some(&word[1..])
-    } else if word.len() >= 1 && is_h(word[word.len() - 1]) {
-        Some(&word[..word.len() - 1])
+    if number <= 255 {
+        Some(number as u8)
     } else {
         None
     }
 }
 
-/// Three digits without a zero in front of a letter, which assemblers want there.
-fn without_zero(digits: &[u8]) -> &[u8]
-    ensures { result.now ≡ without_zero digits.now }
+/// The byte that digits spell.
+fn byte_of(word: &[u8], base: u32) -> Option<u8>
+    ensures { result ≡ byte_in_base base word.now }
 {
-    if digits.len() == 3 && digits[0] == b'0' && !digits[1].is_ascii_digit() {
-        &digits[1..]
-    } else {
-        digits
-    }
+    as_byte(number_of(word, base)?)
 }
 
-/// The byte that one or two hex digits encode, perhaps with such a zero.
-fn byte_of_digits(digits: &[u8]) -> Option<u8>
-    ensures { result ≡ byte_of_digits digits.now }
+/// The byte that two hex digits spell.
+pub fn byte_of_pair(word: &[u8]) -> Option<u8>
+    ensures { result ≡ byte_of_pair word.now }
 {
-    match digits {
-        [digit] => Some(char::from(*digit).to_digit(16)? as u8),
-        _ => pair_of(without_zero(digits)),
-    }
+    let [high, low] = word else {
+        return None;
+    };
+    let high = char::from(*high).to_digit(16)?;
+    let low = char::from(*low).to_digit(16)?;
+    Some((high * 16 + low) as u8)
 }
 
-/// The byte of a word: two hex digits, or one or two that are marked as hex.
-pub fn byte_in(word: &[u8]) -> Option<u8>
-    ensures { result ≡ byte_of_word word.now }
-{
-    match pair_of(word) {
-        Some(byte) => Some(byte),
-        None => byte_of_digits(marked_digits(word)?),
-    }
-}
-
-/// Whether a number is marked as hex in C.
+/// Whether a word has `0x` in front.
 fn is_prefixed(word: &[u8]) -> bool
     ensures { result ≡ is_prefixed word.now }
 {
-    word.len() >= 2 && word[0] == b'0' && is_x(word[1])
+    word.len() >= 2 && word[0] == b'0' && (word[1] == b'x' || word[1] == b'X')
 }
 
-/// The byte of a number: in hex where it is marked, else in decimal.
-fn number_byte(word: &[u8]) -> Option<u8>
-    ensures { result ≡ number_byte word.now }
+/// Whether a word has this letter at its end.
+fn ends_in(word: &[u8], small: u8, capital: u8) -> bool
+    ensures { result ≡ ends_in small capital word.now }
 {
-    match marked_digits(word) {
-        Some(digits) => byte_of_digits(digits),
-        None => byte_of(word, 10),
-    }
-}
-
-/// The digits of a word of hex: those that are marked, or the whole word where none are.
-pub fn digits_in(word: &[u8]) -> &[u8]
-    ensures { result.now ≡ digits_of word.now }
-{
-    match marked_digits(word) {
-        Some([]) | None => word,
-        Some(digits) => digits,
-    }
-}
-
-/// Whether a word is marked as hex.
-pub fn is_marked(word: &[u8]) -> bool
-    ensures { result ≡ is_some (marked_digits word.now) }
-{
-    marked_digits(word).is_some()
+    word.len() >= 1 && (word[word.len() - 1] == small || word[word.len() - 1] == capital)
 }
 
 /// A byte that two readings give.
@@ -138,12 +101,15 @@ fn same_byte(one: Option<u8>, other: Option<u8>) -> Option<u8>
     }
 }
 
-/// The byte of a number of C. One that begins with 0 is octal, and is taken if it is the same in decimal (C11, 6.4.4.1).
-fn constant_byte(word: &[u8]) -> Option<u8>
-    ensures { result ≡ constant_byte word.now }
+/// The byte of a number: in hex by `0x` or `h`, else in decimal. One that begins with 0 is octal in C, and is taken if it is the same
+/// in decimal (C11, 6.4.4.1).
+fn number_byte(word: &[u8]) -> Option<u8>
+    ensures { result ≡ number_byte word.now }
 {
     if is_prefixed(word) {
         byte_of(&word[2..], 16)
+    } else if ends_in(word, b'h', b'H') && (word.len() == 3 || word[0].is_ascii_digit()) {
+        byte_of(&word[..word.len() - 1], 16)
     } else if word.len() >= 1 && word[0] == b'0' {
         same_byte(byte_of(word, 8), byte_of(word, 10))
     } else {
@@ -151,28 +117,18 @@ fn constant_byte(word: &[u8]) -> Option<u8>
     }
 }
 
-/// A number without the `u` or `U` that may stand after it.
-fn without_suffix(word: &[u8]) -> &[u8]
-    ensures { result.now ≡ without_suffix word.now }
+/// The byte of an element of a list, perhaps with `u` or `U` after it.
+pub fn element_byte(word: &[u8]) -> Option<u8>
+    ensures { result ≡ element_byte word.now }
 {
-    if word.len() >= 1 && (word[word.len() - 1] == b'u' || word[word.len() - 1] == b'U') {
-        &word[..word.len() - 1]
+    if ends_in(word, b'u', b'U') {
+        number_byte(&word[..word.len() - 1])
     } else {
-        word
+        number_byte(word)
     }
 }
 
-/// The byte of an element of an array of C.
-fn element_byte(word: &[u8]) -> Option<u8>
-    ensures { result ≡ element_byte word.now }
-{
-    constant_byte(without_suffix(trimmed_text(word)))
-}
-
 /// Adds a byte; false where there is none.
-///
-/// # Errors
-/// Out of memory.
 fn add_byte(bytes: &mut Vec<u8>, byte: Option<u8>) -> Result<bool, AllocError>
     ensures { IfOk result (λ is_read. IsAdded bytes.old.items (single_byte byte) is_read bytes.new.items) }
 {
@@ -185,17 +141,17 @@ fn add_byte(bytes: &mut Vec<u8>, byte: Option<u8>) -> Result<bool, AllocError>
     }
 }
 
-/// Adds the bytes of a run of digits, two for each, the first one first; false where it is none.
+/// Adds the bytes of a run of hex digits, two for each; false where it is none.
 ///
 /// # Errors
 /// Out of memory.
-fn add_run(bytes: &mut Vec<u8>, run: &[u8]) -> Result<bool, AllocError>
+pub fn add_run(bytes: &mut Vec<u8>, run: &[u8]) -> Result<bool, AllocError>
     ensures { IfOk result (λ is_read. IsAdded bytes.old.items (run_bytes run.now) is_read bytes.new.items) }
 {
     let mut rest = run;
     while rest.len() >= 2 {
         let (pair, more) = rest.split_at(2);
-        match pair_of(pair) {
+        match byte_of_pair(pair) {
             Some(byte) => bytes.push(byte)?,
             None => return Ok(false),
         }
@@ -204,79 +160,72 @@ fn add_run(bytes: &mut Vec<u8>, run: &[u8]) -> Result<bool, AllocError>
     Ok(rest.is_empty())
 }
 
-/// Adds the bytes of a word of hex, marked or not; false where it is none.
-///
-/// # Errors
-/// Out of memory.
-fn add_hex(bytes: &mut Vec<u8>, word: &[u8]) -> Result<bool, AllocError>
-    ensures { IfOk result (λ is_read. IsAdded bytes.old.items (hex_bytes word.now) is_read bytes.new.items) }
+/// Whether a byte parts words.
+fn is_separator(byte: u8, reading: Reading) -> bool
+    ensures { result ≡ is_separator reading byte }
 {
-    match marked_digits(word) {
-        None => add_run(bytes, word),
-        Some([]) => Ok(false),
-        Some([digit]) => add_byte(bytes, byte_of_digits(&[*digit])),
-        Some(digits) => add_run(bytes, digits),
+    match reading {
+        Reading::Plain => byte.is_ascii_whitespace(),
+        Reading::Hex => {
+            byte.is_ascii_whitespace() || byte == b',' || byte == b':' || byte == b'-'
+        }
+        Reading::Elements => byte.is_ascii_whitespace() || byte == b',',
     }
 }
 
-/// Adds the bytes of a run of digits, the last one first; false where it is none.
-///
-/// # Errors
-/// Out of memory.
-fn add_swapped(alloc: Global, bytes: &mut Vec<u8>, run: &[u8]) -> Result<bool, AllocError>
-    ensures { IfOk result (λ is_read. IsAdded bytes.old.items (option_map reverse (run_bytes run.now)) is_read bytes.new.items) }
+/// Where the first separator of a text stands.
+fn separator(text: &[u8], reading: Reading) -> Option<usize>
+    ensures { result ≡ position (is_separator reading) text.now }
 {
-    let mut swapped = Vec::new(alloc);
-    if !add_run(&mut swapped, run)? {
-        return Ok(false);
-    }
-    swapped.reverse();
-    bytes.extend_from_slice(swapped.as_slice())?;
-    Ok(true)
+    text.iter().position(|byte| is_separator(*byte, reading))
+}
+
+/// Where the first byte of a text stands that is no separator.
+fn no_separator(text: &[u8], reading: Reading) -> Option<usize>
+    ensures { result ≡ position (is_no_separator reading) text.now }
+{
+    text.iter().position(|byte| !is_separator(*byte, reading))
+}
+
+/// The next word of a text and what stands after it, if it has one.
+pub fn next_word(text: &[u8], reading: Reading) -> Option<(&[u8], &[u8])>
+    ensures words { Parts reading (words_of reading text.now) (option_map (λ found. (found.0.now, found.1.now)) result) }
+    ensures room { IfSome result (λ found. length found.0.now + length found.1.now ≤ length text.now) }
+    ensures some { IfSome result (λ found. 0 < length found.0.now) }
+{
+    let start = no_separator(text, reading)?;
+    let text = &text[start..];
+    let end = separator(text, reading).unwrap_or(text.len());
+    Some((&text[..end], &text[end..]))
 }
 
 /// Adds the bytes of a word; false where it has none.
-///
-/// # Errors
-/// Out of memory.
-fn add_word(
-    alloc: Global,
-    bytes: &mut Vec<u8>,
-    word: &[u8],
-    form: WordForm,
-) -> Result<bool, AllocError>
-    ensures { IfOk result (λ is_read. IsAdded bytes.old.items (word_bytes form word.now) is_read bytes.new.items) }
+fn add_word(bytes: &mut Vec<u8>, word: &[u8], reading: Reading) -> Result<bool, AllocError>
+    ensures { IfOk result (λ is_read. IsAdded bytes.old.items (word_bytes reading word.now) is_read bytes.new.items) }
 {
-    match form {
-        WordForm::Byte => add_byte(bytes, byte_in(word)),
-        WordForm::Pair => add_byte(bytes, pair_of(word)),
-        WordForm::Run => add_run(bytes, word),
-        WordForm::Hex => add_hex(bytes, word),
-        WordForm::Swapped => add_swapped(alloc, bytes, word),
-        WordForm::Octal => add_byte(bytes, octal_byte(word)),
-        WordForm::Decimal => add_byte(bytes, column_byte(word, 4)),
-        WordForm::Signed => add_byte(bytes, column_byte(word, 5)),
-        WordForm::Number => add_byte(bytes, number_byte(word)),
-        WordForm::Element => add_byte(bytes, element_byte(word)),
+    match reading {
+        Reading::Plain | Reading::Hex => add_run(bytes, word),
+        Reading::Elements => add_byte(bytes, element_byte(word)),
     }
 }
 
-/// The bytes of words of this form, one after the other; none where a word has none.
+/// Adds the bytes of the words of a text; if a word has none, how much of the text stands from there on.
 ///
 /// # Errors
 /// Out of memory.
-pub fn read_words(
-    alloc: Global,
-    words: &[&[u8]],
-    form: WordForm,
-) -> Result<Option<Vec<u8>>, AllocError>
-    ensures { IfOk result (λ read. option_map (λ bytes. bytes.items) read ≡ all_bytes (word_bytes form) (map (λ word. word.now) words.now)) }
+pub fn add_words(
+    bytes: &mut Vec<u8>,
+    text: &[u8],
+    reading: Reading,
+) -> Result<Option<usize>, AllocError>
+    ensures { IfOk result (λ left. IsAdded bytes.old.items (text_bytes reading text.now) (is_none left) bytes.new.items) }
 {
-    let mut bytes = Vec::new(alloc);
-    for word in words {
-        if !add_word(alloc, &mut bytes, word, form)? {
-            return Ok(None);
+    let mut rest = text;
+    while let Some((word, more)) = next_word(rest, reading) {
+        if !add_word(bytes, word, reading)? {
+            return Ok(Some(word.len().saturating_add(more.len())));
         }
+        rest = more;
     }
-    Ok(Some(bytes))
+    Ok(None)
 }

@@ -7,7 +7,6 @@ use Rattle.hex.specs.Hex.{decode_of, hex_digit_value}
 use Rattle.hex.specs.declared.error.FromHexError.{FromHexError}
 use Rattle.hid_text.specs.Words.{is_blank, is_no_blank, words_of, after_word, hex_of, byte_from, pair_of}
 use Rattle.hid_text.specs.Numbers.{number_of}
-use Rattle.hid_input.specs.Words.{is_x, is_h}
 use Rattle.hid_text.proofs.WordLemmas.{pair_alone}
 use Rattle.std.specs.Char.{digit_value}
 use Rattle.std.specs.Str.Parse.{digits_value}
@@ -28,7 +27,7 @@ use Rattle.std.specs.Bool.{OnTrue}
 use Rattle.std.proofs.lemmas.List.Folds.{list_all_at}
 use Rattle.std.proofs.lemmas.Bool.{cases_Bool, cases_lt, le-leb, lt-ltb, le-ltb, cond-false, or_cases, and_parts, leb-true, eqb-true, ne_eqb, cond-true}
 use Rattle.hid_recording.specs.declared.fault.Refusal.TheVariants.{BadHex}
-use Rattle.hid_recording.specs.Words.{IsNone, IsNoHex, BeginsWithPair, ends_word, bytes_before, bad_byte_from, bad_byte, bytes_of, is_mark, as_blank, without_mark_by, without_mark, digit_words, spelled_bytes, BeginsWithCount, BeginsWithTime, decimal_of, is_time_byte, is_no_time_byte, is_time, time_of}
+use Rattle.hid_recording.specs.Words.{IsNone, IsNoHex, BeginsWithPair, ends_word, bytes_before, bad_byte_from, bad_byte, bytes_of, spelled_bytes, BeginsWithCount, BeginsWithTime, decimal_of, is_time_byte, is_no_time_byte, is_time, time_of}
 
 small : (b : ℕ) → is_time_byte b ≡ true → b < 128
 small b e = elim (or_cases _ _ e) [
@@ -181,43 +180,6 @@ pair_between : (high low : ℕ) (rest : List ℕ) → is_blank high ≡ false �
 pair_between high low [] first second ended = rw (first, second) refl
 pair_between high low (next ∷ rest) first second ended = rw (first, second, ended) refl
 
--- a byte that is no mark is kept
-kept : (b : ℕ) (mark : Bool) → is_mark b ≡ mark → not mark ≡ true → as_blank b ≡ b
-kept b true is none = absurd (cc)
-kept b false is none = rw is refl
-
--- what marks a word as hex is no digit
-x_high : (high low : ℕ) → is_x high ≡ true → pair_of high low ≡ None
-x_high high low mark = elim (or_cases _ _ mark) [
-  | inl small' ↦ rw (eqb-true high 120 small') refl
-  | inr large ↦ rw (eqb-true high 88 large) refl
-]
-
-x_low : (high low : ℕ) → is_x low ≡ true → pair_of high low ≡ None
-x_low high low mark = elim (or_cases _ _ mark) [
-  | inl small' ↦ rw (eqb-true low 120 small') (no_low (hex_digit_value high))
-  | inr large ↦ rw (eqb-true low 88 large) (no_low (hex_digit_value high))
-]
-
-h_low : (high low : ℕ) → is_h low ≡ true → pair_of high low ≡ None
-h_low high low mark = elim (or_cases _ _ mark) [
-  | inl small' ↦ rw (eqb-true low 104 small') (no_low (hex_digit_value high))
-  | inr large ↦ rw (eqb-true low 72 large) (no_low (hex_digit_value high))
-]
-
--- two digits that nothing marks are as they stand
-unmarked_by : (high low : ℕ) (zero' x y h : Bool) → y ≡ false → x ≡ false → h ≡ false
-    → without_mark_by (cond (zero' && y) (Some []) (cond x (Some (low ∷ [])) (cond h (Some (high ∷ [])) None))) (high ∷ low ∷ []) ≡ high ∷ low ∷ []
-unmarked_by high low true x y h a b c = rw (a, b, c) refl
-unmarked_by high low false x y h a b c = rw (b, c) refl
-
-unmarked_pair : (high low byte : ℕ) → pair_of high low ≡ Some byte → without_mark (high ∷ low ∷ []) ≡ high ∷ low ∷ []
-unmarked_pair high low byte pair =
-    unmarked_by high low (nat_eq high 48) (is_x high) (is_x low) (is_h low)
-    (not_so (is_x low) (pair_of high low) byte (x_low high low) pair)
-    (not_so (is_x high) (pair_of high low) byte (x_high high low) pair)
-    (not_so (is_h low) (pair_of high low) byte (h_low high low) pair)
-
 -- a text begins with a space and two digits
 pub pair_first : (text : List ℕ) (byte : ℕ) → 3 ≤ length text → get_or text 0 0 ≡ 32 → ends_word (take (length text - 3) (drop 3 text)) ≡ true
     → pair_of (get_or text 1 0) (get_or text 2 0) ≡ Some byte → BeginsWithPair (words_of text) byte (words_of (take (length text - 3) (drop 3 text)))
@@ -231,76 +193,6 @@ pair_first (a ∷ high ∷ low ∷ rest) byte some space ended pair =
       high ∷ low ∷ [],
       ap (λ b. words_of (b ∷ high ∷ low ∷ rest)) space ∙ pair_between high low rest first second (rw left at ended) ∙ ap (λ l. (high ∷ low ∷ []) ∷ words_of l) (sym left),
       pair_alone high low ∙ ap (option_map (λ b. b ∷ [])) pair,
-      unmarked_pair high low byte pair,
-    )
-
--- a byte that is one of these is no digit
-high_none : (high low : ℕ) (b : ℕ) → pair_of b low ≡ None → nat_eq high b ≡ true → pair_of high low ≡ None
-high_none high low b none is = rw (eqb-true high b is) none
-
-low_none : (high low : ℕ) (b : ℕ) → pair_of high b ≡ None → nat_eq low b ≡ true → pair_of high low ≡ None
-low_none high low b none is = rw (eqb-true low b is) none
-
--- a mark is no digit
-mark_high : (high low : ℕ) → is_mark high ≡ true → pair_of high low ≡ None
-mark_high high low mark = elim (or_cases _ _ mark) [
-  | inl comma ↦ high_none high low 44 refl comma
-  | inr a ↦ elim (or_cases _ _ a) [
-    | inl dash ↦ high_none high low 45 refl dash
-    | inr b ↦ elim (or_cases _ _ b) [
-      | inl colon ↦ high_none high low 58 refl colon
-      | inr c ↦ elim (or_cases _ _ c) [
-        | inl semicolon ↦ high_none high low 59 refl semicolon
-        | inr backslash ↦ high_none high low 92 refl backslash
-      ]
-    ]
-  ]
-]
-
-mark_low : (high low : ℕ) → is_mark low ≡ true → pair_of high low ≡ None
-mark_low high low mark = elim (or_cases _ _ mark) [
-  | inl comma ↦ low_none high low 44 (no_low (hex_digit_value high)) comma
-  | inr a ↦ elim (or_cases _ _ a) [
-    | inl dash ↦ low_none high low 45 (no_low (hex_digit_value high)) dash
-    | inr b ↦ elim (or_cases _ _ b) [
-      | inl colon ↦ low_none high low 58 (no_low (hex_digit_value high)) colon
-      | inr c ↦ elim (or_cases _ _ c) [
-        | inl semicolon ↦ low_none high low 59 (no_low (hex_digit_value high)) semicolon
-        | inr backslash ↦ low_none high low 92 (no_low (hex_digit_value high)) backslash
-      ]
-    ]
-  ]
-]
-
--- a blank is kept at the end of a word
-blank_kept : (rest : List ℕ) → ends_word rest ≡ true → ends_word (map as_blank rest) ≡ true
-blank_kept [] ended = ended
-blank_kept (next ∷ rest) ended = ⊎_elim
-    (λ (space : nat_eq next 32 ≡ true). rw (eqb-true next 32 space) refl)
-    (λ (other : nat_eq next 32 ≡ false). let tab : nat_eq next 9 ≡ true = rw other at ended in rw (eqb-true next 9 tab) refl)
-    (cases_Bool (nat_eq next 32))
-
--- a text begins with a space and two digits, with blanks for its marks too
-pub pair_marked : (text : List ℕ) (byte : ℕ) → 3 ≤ length text → get_or text 0 0 ≡ 32 → ends_word (take (length text - 3) (drop 3 text)) ≡ true
-    → pair_of (get_or text 1 0) (get_or text 2 0) ≡ Some byte
-    → BeginsWithPair (words_of (map as_blank text)) byte (words_of (map as_blank (take (length text - 3) (drop 3 text))))
-pair_marked [] byte some space ended pair = absurd (omega arith)
-pair_marked (a ∷ []) byte some space ended pair = absurd (omega arith)
-pair_marked (a ∷ high ∷ []) byte some space ended pair = absurd (omega arith)
-pair_marked (a ∷ high ∷ low ∷ rest) byte some space ended pair =
-    let left : take (length (a ∷ high ∷ low ∷ rest) - 3) rest ≡ rest = take_all (length (a ∷ high ∷ low ∷ rest) - 3) rest (omega arith) in
-    let first = not_so (is_blank high) (pair_of high low) byte (blank_high high low) pair in
-    let second = not_so (is_blank low) (pair_of high low) byte (blank_low high low) pair in
-    let one = kept high false (not_so (is_mark high) (pair_of high low) byte (mark_high high low) pair) refl in
-    let two = kept low false (not_so (is_mark low) (pair_of high low) byte (mark_low high low) pair) refl in (
-      high ∷ low ∷ [],
-      ap (λ b. words_of (as_blank b ∷ as_blank high ∷ as_blank low ∷ map as_blank rest)) space
-          ∙ ap (λ b. words_of (32 ∷ b ∷ as_blank low ∷ map as_blank rest)) one
-          ∙ ap (λ b. words_of (32 ∷ high ∷ b ∷ map as_blank rest)) two
-          ∙ pair_between high low (map as_blank rest) first second (blank_kept rest (rw left at ended))
-          ∙ ap (λ l. (high ∷ low ∷ []) ∷ words_of (map as_blank l)) (sym left),
-      pair_alone high low ∙ ap (option_map (λ b. b ∷ [])) pair,
-      unmarked_pair high low byte pair,
     )
 
 -- nothing is left
@@ -310,23 +202,10 @@ none_left (b ∷ rest) none = absurd (omega (arith, none))
 
 -- where nothing is left, all is read
 pub all_read : (text rest bytes : List ℕ) (none : Bool) → none ≡ nat_eq (length rest) 0
-    → IsReadTo (digit_words (map as_blank text)) bytes (digit_words (map as_blank rest)) → OnTrue none (spelled_bytes text ≡ Ok bytes)
+    → IsReadTo (words_of text) bytes (words_of rest) → OnTrue none (spelled_bytes text ≡ Ok bytes)
 all_read text rest bytes true is read =
-    hex_whole (digit_words (map as_blank text)) (digit_words (map as_blank rest)) bytes read
-    (ap (λ l. digit_words (map as_blank l)) (none_left rest (eqb-true (length rest) 0 (sym is))))
+    hex_whole (words_of text) (words_of rest) bytes read (ap words_of (none_left rest (eqb-true (length rest) 0 (sym is))))
 all_read text rest bytes false is read = tt
-
--- a text without marks is as it stands
-pub none_marked : (text : List ℕ) → list_all (λ b. not (is_mark b)) text ≡ true → map as_blank text ≡ text
-none_marked [] plain = refl
-none_marked (b ∷ text) plain =
-    let parts = and_parts _ _ plain in
-    let here : as_blank b ≡ b = kept b (is_mark b) refl parts.0 in
-    rw here (ap (λ l. b ∷ l) (none_marked text parts.1))
-
--- a word of digits is the first of its text's
-pub first_digits : (text word : List ℕ) (others : List (List ℕ)) → words_of text ≡ word ∷ others → digit_words text ≡ without_mark word ∷ map without_mark others
-first_digits text word others first = ap (map without_mark) first
 
 -- why one word has no bytes is why all have none
 pub no_bytes : (cause : Cause) (words left others : List (List ℕ)) (word bytes : List ℕ) → IsReadTo words bytes left → left ≡ word ∷ others

@@ -3,12 +3,15 @@ use Rattle.std.specs.Prelude.{◌≡◌, ℕ, ◌==◌, Bool, ◌&&◌, ◌||◌
 use Rattle.std.specs.Global.{Vec}
 use Rattle.std.specs.List.{slice_split}
 use Rattle.hid_text.specs.Words.{Word, words_of, after_word}
+use Rattle.hid_input.specs.Recorded.{recorded_bytes}
+use Rattle.hid_input.specs.declared.recorded.RecordedFault.{RecordedFault}
+use Rattle.hid_input.specs.declared.recorded.RecordedFault.TheVariants as recorded
 use Rattle.hid_recording.specs.declared.dump.Address.{Address}
 use Rattle.hid_recording.specs.declared.dump.Content.{Content}
 use Rattle.hid_recording.specs.declared.dump.Content.TheVariants as contents
 use Rattle.hid_recording.specs.declared.fault.Cause.{Cause}
 use Rattle.hid_recording.specs.declared.fault.Refusal.{Refusal}
-use Rattle.hid_recording.specs.declared.fault.Refusal.TheVariants.{Syntax, NoCount, BadCount, BadDevice, BadTime}
+use Rattle.hid_recording.specs.declared.fault.Refusal.TheVariants.{Syntax, NoCount, BadCount, BadHex, BadDevice, BadTime}
 use Rattle.hid_recording.specs.declared.record.Record.{Record}
 use Rattle.hid_recording.specs.declared.record.Record.TheVariants as records
 use Rattle.hid_recording.specs.Words.{IsNone, spelled_bytes, decimal_of, device_of_word, time_of, is_colon, address_of, content_of}
@@ -80,19 +83,17 @@ device_or_refusal (Some device) = Ok (Device device)
 abbrev pub device_record : List Word → Result LineMeaning Refusal
 device_record words = device_or_refusal (option_and_then device_of_word (only_word words))
 
--- the bytes of a descriptor, or why there are none
-abbrev pub descriptor_or_unread : Result (List ℕ) Refusal → LineMeaning
+-- the bytes of a descriptor, or why there are none. (No text is out of memory.)
+abbrev pub descriptor_or_unread : Result (List ℕ) RecordedFault → LineMeaning
 descriptor_or_unread (Ok bytes) = Descriptor bytes
-descriptor_or_unread (Err refusal) = Unread None refusal
-
--- the descriptor that a text spells, if it has a count in front: the first of some words
-abbrev pub descriptor_behind : List Word → List ℕ → LineMeaning
-descriptor_behind (count ∷ words) text = descriptor_or_unread (counted_bytes count text)
-descriptor_behind [] text = Unread None NoCount
+descriptor_or_unread (Err recorded.NoCount) = Unread None NoCount
+descriptor_or_unread (Err (recorded.BadHex at)) = Unread None (BadHex at)
+descriptor_or_unread (Err (recorded.BadCount said found)) = Unread None (BadCount said found)
+descriptor_or_unread (Err recorded.Memory) = Nothing
 
 -- what a text after `R:` says: COUNT BYTES
 abbrev pub descriptor_record : List ℕ → LineMeaning
-descriptor_record text = descriptor_behind (words_of text) (after_word text)
+descriptor_record text = descriptor_or_unread (recorded_bytes text)
 
 -- what came at a time; BadTime where there is no time
 abbrev pub report_at_time : Option (List ℕ) → Word → List ℕ → Result LineMeaning Refusal

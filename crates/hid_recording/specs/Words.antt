@@ -9,7 +9,6 @@ use Rattle.hex.specs.Hex.{decode_of}
 use Rattle.hex.specs.declared.error.FromHexError.{FromHexError}
 use Rattle.hid_text.specs.Words.{Word, is_blank, words_of, after_word, hex_of, pair_of}
 use Rattle.hid_text.specs.Numbers.{number_of}
-use Rattle.hid_input.specs.Words.{marked_digits}
 use Rattle.hid_recording.specs.declared.dump.Address.{Address}
 use Rattle.hid_recording.specs.declared.dump.Content.{Content}
 use Rattle.hid_recording.specs.declared.dump.Content.TheVariants as contents
@@ -52,43 +51,19 @@ abbrev pub IsNoHex : Cause → ℕ → Word → Type 0
 IsNoHex Memory count word = ⊤
 IsNoHex cause count word = (cause ≡ Refused (BadHex (count + bytes_before word))) × (result_ok (decode_of word) ≡ None)
 
--- what may stand between bytes beside blanks: one of , - : ; and \
-abbrev pub is_mark : ℕ → Bool
-is_mark b = b == 44 || (b == 45 || (b == 58 || (b == 59 || b == 92)))
-
--- a byte of a text, a blank for such a mark
-abbrev pub as_blank : ℕ → ℕ
-as_blank b = if is_mark b then 32 else b
-
--- the digits of a word that is marked as hex, if it has some; a digit alone is that of a byte
-abbrev pub without_mark_by : Option Word → Word → Word
-without_mark_by None word = word
-without_mark_by (Some []) word = word
-without_mark_by (Some (digit ∷ [])) word = 48 ∷ digit ∷ []
-without_mark_by (Some (first ∷ second ∷ more)) word = first ∷ second ∷ more
-
--- a word without what marks it as hex: 0x or x in front of its digits, or h after them
-abbrev pub without_mark : Word → Word
-without_mark word = without_mark_by (marked_digits word) word
-
--- the words of a text, without what marks them as hex
-abbrev pub digit_words : List ℕ → List Word
-digit_words text = map without_mark (words_of text)
-
--- The bytes that a text spells, or the first that isn't two digits: words of hex with blanks or marks between them, each marked as
--- hex or not. Example: 0x05, 01:a1 is 05 01 A1, and so are \x05\x01\xA1 and 5h 1h A1
+-- The bytes that a text spells, or the first that isn't two digits: words of hex with blanks between them. Example: 05 01A1 is 05 01 A1
 abbrev pub spelled_bytes : List ℕ → Result (List ℕ) Refusal
-spelled_bytes text = bytes_of (digit_words (map as_blank text))
+spelled_bytes text = bytes_of (words_of text)
 
 -- a text ends, or a blank comes: a word before it is at its end
 abbrev pub ends_word : List ℕ → Bool
 ends_word [] = true
 ends_word (next ∷ rest) = is_blank next
 
--- words begin with two hex digits that encode a byte and aren't marked, before others
+-- words begin with two hex digits that encode a byte, before others
 abbrev pub BeginsWithPair : List Word → ℕ → List Word → Type 0
 BeginsWithPair words byte others =
-    (word : Word) × (words ≡ word ∷ others) × (result_ok (decode_of word) ≡ Some (byte ∷ [])) × (without_mark word ≡ word)
+    (word : Word) × (words ≡ word ∷ others) × (result_ok (decode_of word) ≡ Some (byte ∷ []))
 
 -- bytes grew by those that a word encodes; or why they didn't
 abbrev pub AddsBytes : List ℕ → List ℕ → Word → Result (Unit {0}) Cause → Type 0
@@ -101,14 +76,6 @@ AddsFirst old new words (Ok None) = (words ≡ []) × (new ≡ old)
 AddsFirst old new words (Ok (Some text)) =
     (word : Word) × (more : List ℕ) × (words ≡ word ∷ words_of text.now) × (result_ok (decode_of word) ≡ Some more) × (new ≡ old ++ more)
 AddsFirst old new words (Err cause) = (word : Word) × (others : List Word) × (words ≡ word ∷ others) × IsNoHex cause (length old) word
-
--- bytes grew by those that the first word of digits encodes, before the words of the text that is left; there is no word; or why
--- they didn't
-abbrev pub AddsDigits : List ℕ → List ℕ → List Word → Result (Option (Bor (List ℕ))) Cause → Type 0
-AddsDigits old new words (Ok None) = (words ≡ []) × (new ≡ old)
-AddsDigits old new words (Ok (Some text)) =
-    (word : Word) × (more : List ℕ) × (words ≡ word ∷ digit_words text.now) × (result_ok (decode_of word) ≡ Some more) × (new ≡ old ++ more)
-AddsDigits old new words (Err cause) = (word : Word) × (others : List Word) × (words ≡ word ∷ others) × IsNoHex cause (length old) word
 
 -- the number that decimal digits encode, 2 to the 64 less 1 at most
 abbrev pub decimal_of : Word → Option ℕ

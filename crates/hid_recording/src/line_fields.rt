@@ -5,7 +5,7 @@ ghost use Rattle.std.specs.List.{slice_split};
 ghost use Rattle.std.specs.Option.{option_map};
 ghost use Rattle.hid_text.specs.Words.{words_of};
 ghost use Rattle.hid_recording.specs.declared.line_fields.TheConstants.{MAX_DEVICES};
-ghost use Rattle.hid_recording.specs.Words.{AddsBytes, AddsFirst, BeginsWithCount, BeginsWithPair, BeginsWithTime, IsNone, as_blank, ends_word, bytes_before, bytes_of, decimal_of, in_devices, device_of_word, is_time_byte, is_no_time_byte, is_time, time_of, is_colon, address_of, content_of};
+ghost use Rattle.hid_recording.specs.Words.{AddsBytes, AddsFirst, BeginsWithCount, BeginsWithPair, BeginsWithTime, IsNone, ends_word, bytes_before, bytes_of, decimal_of, in_devices, device_of_word, is_time_byte, is_no_time_byte, is_time, time_of, is_colon, address_of, content_of};
 
 use super::dump::{Address, Content};
 use super::fault::{Cause, Refusal};
@@ -100,8 +100,6 @@ fn ends_word(text: &[u8]) -> bool
 /// of the time of [`first_word`]; most words of a recording are such.
 pub fn next_pair(text: &[u8]) -> Option<(u8, &[u8])>
     ensures pair { IfSome result (λ found. BeginsWithPair (words_of text.now) found.0 (words_of found.1.now)) }
-    ensures marked { IfSome result (λ found. BeginsWithPair (words_of (map as_blank text.now)) found.0
-        (words_of (map as_blank found.1.now))) }
     ensures room { IfSome result (λ found. length found.1.now < length text.now) }
 {
     let [b' ', high, low, more @ ..] = text else {

@@ -1,10 +1,10 @@
 //! What a line of a recording says.
 
-ghost use Rattle.std.specs.Prelude.{◌≡◌, ◌≢◌, Ok, Err, IfErr, IfSome, MatchResult, map};
+ghost use Rattle.std.specs.Prelude.{◌≡◌, ◌≢◌, None, Ok, Err, IfErr, IfSome, MatchResult, map};
 ghost use Rattle.hid_text.specs.Words.{words_of};
 ghost use Rattle.std.specs.Option.{option_map};
 ghost use Rattle.hid_recording.specs.Words.{IsNone, decimal_of, spelled_bytes};
-ghost use Rattle.hid_recording.specs.Records.{record_of, text_record, device_record, descriptor_record, report_record, Report, counted_bytes, bytes_if_counted, miscount, only_word, dump_record, header_record, begins_at, dump_begin, time_record, ReadsRecord};
+ghost use Rattle.hid_recording.specs.Records.{record_of, text_record, device_record, descriptor_record, meaning_of_record, Unread, report_record, Report, bytes_if_counted, miscount, only_word, dump_record, header_record, begins_at, dump_begin, time_record, ReadsRecord};
 ghost use Rattle.hid_recording.specs.MemoryUse.{RunsOutIf, has_words};
 
 use super::dump::{Address, Content};
@@ -14,6 +14,7 @@ use super::line_fields::{
     read_device, read_time,
 };
 use super::spelled::{put_pairs, put_spelled};
+use hid_input::{RecordedFault, read_recorded};
 use hid_text::first_word;
 use std::alloc::Global;
 
@@ -137,16 +138,13 @@ fn put_counted(
     }
 }
 
-/// Reads the bytes that a text spells, if they are as many as the count says.
-fn read_counted(alloc: Global, count: &[u8], text: &[u8]) -> Result<Vec<u8>, Cause>
-    ensures { MatchResult result
-        (λ bytes. counted_bytes count.now text.now ≡ Ok bytes.items)
-        (λ cause. IsNone cause (counted_bytes count.now text.now)) }
+/// A descriptor whose bytes can't be read.
+fn unread<'a>(refusal: Refusal) -> Record<'a>
+    ensures { meaning_of_record result ≡ Unread None refusal }
 {
-    let mut bytes = Vec::new(alloc);
-    match put_counted(alloc, &mut bytes, read_count(count), text) {
-        Ok(()) => Ok(bytes),
-        Err(cause) => Err(cause),
+    Record::Unread {
+        interface: None,
+        refusal,
     }
 }
 
@@ -154,19 +152,15 @@ fn read_counted(alloc: Global, count: &[u8], text: &[u8]) -> Result<Vec<u8>, Cau
 fn read_descriptor(alloc: Global, text: &[u8]) -> Result<Record<'_>, Cause>
     ensures { ReadsRecord result (Ok (descriptor_record text.now)) }
 {
-    let Some((count, hex)) = first_word(text) else {
-        return Ok(Record::Unread {
-            interface: None,
-            refusal: Refusal::NoCount,
-        });
-    };
-    match read_counted(alloc, count, hex) {
+    match read_recorded(alloc, text) {
         Ok(bytes) => Ok(Record::Descriptor(bytes)),
-        Err(Cause::Refused(refusal)) => Ok(Record::Unread {
-            interface: None,
-            refusal,
-        }),
-        Err(cause) => Err(cause),
+        Err(RecordedFault::NoCount) => Ok(unread(Refusal::NoCount)),
+        Err(RecordedFault::BadHex { at }) => Ok(unread(Refusal::BadHex { at: at as usize })),
+        Err(RecordedFault::BadCount { said, found }) => {
+            let found = found as usize;
+            Ok(unread(Refusal::BadCount { said, found }))
+        }
+        Err(RecordedFault::Memory) => Err(Cause::Memory),
     }
 }
 

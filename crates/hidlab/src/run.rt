@@ -8,7 +8,8 @@ use super::words::{
     expected_of, hex_words, left_words, mark_words, name_words, syntax_words, unmet_words,
     word_shown,
 };
-use hid_input::{InputCause, InputFault, KnownFile, descriptor_in, known_file};
+use command_words::{FileName, ReadLines};
+use hid_input::{Found, InputCause, InputFault, KnownFile, Shape, descriptor_in, known_file};
 use hid_layout::{Layout, Limits};
 use hid_script::{Cause, StepFault};
 use hid_snapshots::ChangeFault;
@@ -388,6 +389,20 @@ fn known_as(alloc: Global, descriptor: &[u8]) -> Option<KnownFile> {
     }
 }
 
+/// Prints which lines of a file were read, if it doesn't name them itself.
+fn print_lines(rt: &HostRuntime, path: &str, found: &Found) {
+    let (Shape::Block | Shape::Items | Shape::List | Shape::Escapes, Some((first, last))) = (
+        found.shape,
+        found.lines,
+    ) else {
+        return;
+    };
+    let name = FileName(path);
+    let count = found.bytes.len();
+    let read = ReadLines { count, first, last };
+    let _ = eprintln!(rt; "hidlab: {name}: {read}");
+}
+
 /// The descriptor in a file, which a line names.
 ///
 /// # Errors
@@ -402,16 +417,19 @@ pub fn read_descriptor(rt: &HostRuntime, line: usize, path: &str) -> Result<Vec<
         }
     };
     match descriptor_in(alloc, bytes.as_slice()) {
-        Ok(descriptor) if descriptor.is_empty() => Err(file_trouble(
+        Ok(found) if found.bytes.is_empty() => Err(file_trouble(
             alloc,
             line,
             LabCause::NoDescriptor,
             name,
             &"no descriptor",
         )),
-        Ok(descriptor) => match known_as(alloc, descriptor.as_slice()) {
+        Ok(found) => match known_as(alloc, found.bytes.as_slice()) {
             Some(known) => Err(file_trouble(alloc, line, LabCause::NoDescriptor, name, &known)),
-            None => Ok(descriptor),
+            None => {
+                print_lines(rt, path, &found);
+                Ok(found.bytes)
+            }
         },
         Err(
             InputFault {

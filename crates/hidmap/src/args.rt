@@ -14,7 +14,7 @@ pub struct CliArgs<'a> {
 }
 
 const CODES: &str =
-    "A descriptor is read as binary, or as text: a line R: of hid-recorder, what\nusbhid-dump, lsusb -v, xxd, hexdump -C, od -t x1 or Wireshark print, hex, an\narray or a string of C.\nL1 to L16 are why it is refused: docs/RECORDINGS.md. The pictures:\ndocs/PICTURES.md. Both are installed in share/doc/rulohevian.";
+    "A whole descriptor is read from binary, or from text: a line R: of hid-recorder,\nwhat usbhid-dump, lsusb -v, xxd, hexdump -C, od -t x1 or Wireshark print, hex, a\nlist in brackets, or strings of escapes: docs/INPUT-FORMS.md.\nL1 to L16 are why it is refused: docs/RECORDINGS.md. The pictures:\ndocs/PICTURES.md. All are installed in share/doc/rulohevian.";
 
 /// The option `--svg N`.
 fn svg<'a>(alloc: Global) -> Result<Arg<'a>, AllocError> {

@@ -3,7 +3,7 @@
 //!   hidmap [OPTIONS] [FILE]
 //!
 //!   FILE, or standard input --> descriptor_in --> Layout::parse_within --> hid_page::draw --> standard output
-//!     whatever its form: hid_input                   |
+//!     in any shape: hid_input                        |
 //!                                                    +-- refused --> draw_refused --> standard output
 //!                                                                    and in words --> standard error
 //! ```
@@ -20,8 +20,12 @@ mod status;
 
 use args::{CliArgs, parse_args};
 use columns::{COLUMNS, columns_of};
-use command_words::{FileName, NamedFile, print_refused_words, print_unread_words, words_of_files};
-use hid_input::{InputCause, InputFault, KnownFile, begins_text, descriptor_in, known_file};
+use command_words::{
+    FileName, NamedFile, ReadLines, print_refused_words, print_unread_words, words_of_files,
+};
+use hid_input::{
+    Found, InputCause, InputFault, KnownFile, Shape, begins_text, descriptor_in, known_file,
+};
 use hid_layout::{Cause, Layout, LayoutFault, Limits, MAX_DESCRIPTOR, long_report};
 use hid_notation::RefusalText;
 use hid_page::{Form, MAX_DRAWN, draw, draw_refused};
@@ -118,7 +122,10 @@ fn draw_file(rt: &HostRuntime, asked: &CliArgs<'_>) -> u8 {
         return REFUSED;
     }
     match descriptor_in(rt.alloc(), bytes.as_slice()) {
-        Ok(descriptor) => draw_bytes(rt, asked, descriptor.as_slice()),
+        Ok(found) => {
+            print_lines(rt, name, &found);
+            draw_bytes(rt, asked, found.bytes.as_slice())
+        }
         Err(
             InputFault {
                 cause: InputCause::Memory,
@@ -131,6 +138,20 @@ fn draw_file(rt: &HostRuntime, asked: &CliArgs<'_>) -> u8 {
             REFUSED
         }
     }
+}
+
+/// Prints which lines were read, of a text that doesn't name them itself.
+fn print_lines(rt: &HostRuntime, name: &str, found: &Found) {
+    let (Shape::Block | Shape::Items | Shape::List | Shape::Escapes, Some((first, last))) = (
+        found.shape,
+        found.lines,
+    ) else {
+        return;
+    };
+    let name = FileName(name);
+    let count = found.bytes.len();
+    let read = ReadLines { count, first, last };
+    let _ = eprintln!(rt; "hidmap: {name}: {read}");
 }
 
 /// What a file is that has no descriptor, if it is known: by its first bytes, or as text with control characters.

@@ -3,9 +3,9 @@
 /// What a file may be, and each code with its words.
 #[rattlefmt::skip]
 pub const CODES: &str = "A file is text of hid-recorder or usbhid-dump, a capture (pcap, pcapng), a live
-device (/dev/hidraw0) or a report descriptor: binary, hex, an array or a string
-of C, or what lsusb -v, xxd, hexdump -C, od -t x1 or Wireshark print. Without a
-file, standard input is read.
+device (/dev/hidraw0) or a report descriptor: binary, hex, a list in brackets,
+strings of escapes, or what lsusb -v, xxd, hexdump -C, od -t x1 or Wireshark
+print (docs/INPUT-FORMS.md). Without a file, standard input is read.
 
 Refusals are reported in place, with their line, and the rest goes on:
   R1: no line of a recording

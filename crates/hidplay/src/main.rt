@@ -32,17 +32,19 @@ mod watched_reader;
 use advice::advice_of;
 use args::{CliArgs, parse_args};
 use command_words::{
-    FileName, NamedFile, file_of, print_refused_words, print_unread_words, words_of_files,
+    FileName, NamedFile, ReadLines, file_of, print_refused_words, print_unread_words,
+    words_of_files,
 };
 use end_line::end_line;
 use fault::{FileFault, Why, before_all};
 use file_line::file_line;
 use hid_capture::UndescribedEndpoint;
+use hid_input::Found;
 use hid_recording::{Cause, GivenDescriptor, Summary, play_live};
 use hidraw::{ReportFile, descriptor_name, may_have_descriptor, node_of};
 use named_lines::NamedLines;
 use progress::Progress;
-use source::{Kind, Manner, Notes, play_source, read_descriptor};
+use source::{Kind, Manner, Notes, lines_of, play_source, read_descriptor};
 use status::{
     FINE, OUTSIDE, WRONG_USAGE, ends_all, exit_of, has_descriptor, lack_status, lacks_descriptor,
     worse,
@@ -134,9 +136,10 @@ fn play_with_descriptor(rt: &HostRuntime, asked: &CliArgs<'_>) -> u8 {
         return WRONG_USAGE;
     }
     match open_descriptor(rt, file) {
-        Ok(bytes) => {
+        Ok(found) => {
+            print_lines(rt, file.name, lines_of(&found));
             let given = GivenDescriptor {
-                bytes: bytes.as_slice(),
+                bytes: found.bytes.as_slice(),
                 endpoint: asked.endpoint,
             };
             play_all(rt, asked, Some(given))
@@ -173,14 +176,14 @@ fn print_no_node(rt: &HostRuntime, name: &str) -> u8 {
 }
 
 /// The report descriptor that a reader gives.
-fn take_descriptor<R: Read + Drop>(alloc: Global, reader: R) -> Result<Vec<u8>, FileEnd> {
+fn take_descriptor<R: Read + Drop>(alloc: Global, reader: R) -> Result<Found, FileEnd> {
     let mut watched = WatchedReader::new(reader);
     let read = read_descriptor(alloc, &mut watched);
     read.map_err(|fault| end_of_file(fault, watched.failure))
 }
 
 /// The report descriptor in a file, or in standard input.
-fn open_descriptor(rt: &HostRuntime, file: NamedFile<'_>) -> Result<Vec<u8>, FileEnd> {
+fn open_descriptor(rt: &HostRuntime, file: NamedFile<'_>) -> Result<Found, FileEnd> {
     if is_standard_input(file) {
         return take_descriptor(rt.alloc(), rt.stdin());
     }
@@ -252,8 +255,10 @@ fn play_next<W: Write>(
     let mut notes = Notes {
         undescribed: Vec::new(rt.alloc()),
         has_own: false,
+        lines: None,
     };
     let end = play_one(rt, asked, manner, file, &mut notes, out);
+    print_lines(rt, file.name, notes.lines);
     print_undescribed(rt, file.name, notes.undescribed.as_slice());
     if notes.has_own && manner.given.is_some() && has_descriptor(&end) {
         print_own(rt, file.name);
@@ -264,6 +269,14 @@ fn play_next<W: Write>(
     Next {
         status: worse(exit_of(&end), lack_status(lacks)),
         is_last: ends_all(strict, &end) || lacks,
+    }
+}
+
+/// Prints which lines of a text were read as a descriptor.
+fn print_lines(rt: &HostRuntime, name: &str, lines: Option<ReadLines>) {
+    if let Some(lines) = lines {
+        let name = FileName(name);
+        let _ = eprintln!(rt; "{name}: {lines}");
     }
 }
 
@@ -466,7 +479,7 @@ fn system_descriptor(
     rt: &HostRuntime,
     system: NamedFile<'_>,
     node: &str,
-) -> Result<Vec<u8>, FileEnd> {
+) -> Result<Found, FileEnd> {
     let Some(folder) = system.path else {
         // (the folder may not be read)
         return open_descriptor(rt, system);
@@ -490,7 +503,7 @@ fn play_node<W: Write>(
         return play_reports(rt, manner, given.bytes, file, out);
     }
     match system_descriptor(rt, asked.system, node) {
-        Ok(bytes) => play_reports(rt, manner, bytes.as_slice(), file, out),
+        Ok(found) => play_reports(rt, manner, found.bytes.as_slice(), file, out),
         Err(end) => {
             if let Ok(name) = descriptor_name(rt.alloc(), asked.system.name, node) {
                 print_fault(rt, name.as_str(), &end);

@@ -5,8 +5,9 @@ ghost use Rattle.hidplay.specs.Source.{ReadsPiece, ReadsUpTo, IsAfterPassed, Rea
 
 use super::fault::{FileFault, before_all, other_file, unread_descriptor};
 use super::other::{OtherFile, is_script, is_umockdev, other_of, says_nothing};
+use command_words::ReadLines;
 use hid_capture::UndescribedEndpoint;
-use hid_input::{InputCause, begins_recording, descriptor_in, is_recording};
+use hid_input::{Found, InputCause, Shape, begins_recording, descriptor_in, is_recording};
 use hid_recording::{
     Cause, GivenDescriptor, Options, Summary, Watch, descriptor_line, play, play_capture,
 };
@@ -163,19 +164,32 @@ fn read_beginning<R: Read>(alloc: Global, reader: &mut R) -> Result<Vec<u8>, Fil
 ///
 /// # Errors
 /// Those of reading, and why the file has no descriptor.
-pub fn read_descriptor<R: Read>(alloc: Global, reader: &mut R) -> Result<Vec<u8>, FileFault> {
+pub fn read_descriptor<R: Read>(alloc: Global, reader: &mut R) -> Result<Found, FileFault> {
     let bytes = read_front(alloc, reader, LONGEST)?;
     match descriptor_in(alloc, bytes.as_slice()) {
-        Ok(descriptor) => known_for_itself(alloc, descriptor),
+        Ok(found) => known_for_itself(alloc, found),
         Err(fault) => Err(unread_descriptor(fault)),
     }
 }
 
 /// A descriptor, if its bytes aren't those of another file.
-fn known_for_itself(alloc: Global, descriptor: Vec<u8>) -> Result<Vec<u8>, FileFault> {
-    match other_of(alloc, descriptor.as_slice()) {
-        None => Ok(descriptor),
+fn known_for_itself(alloc: Global, found: Found) -> Result<Found, FileFault> {
+    match other_of(alloc, found.bytes.as_slice()) {
+        None => Ok(found),
         Some(other) => Err(other_file(other)),
+    }
+}
+
+/// Which lines were read, of a text that doesn't name them itself.
+pub fn lines_of(found: &Found) -> Option<ReadLines> {
+    let (first, last) = found.lines?;
+    match found.shape {
+        Shape::Binary | Shape::Dump | Shape::Hex | Shape::Recording => None,
+        Shape::Block | Shape::Items | Shape::List | Shape::Escapes => Some(ReadLines {
+            count: found.bytes.len(),
+            first,
+            last,
+        }),
     }
 }
 
@@ -242,6 +256,8 @@ pub struct Notes {
     pub undescribed: Vec<UndescribedEndpoint>,
     /// Whether it has its own descriptors: it is no capture.
     pub has_own: bool,
+    /// Of a text that is a descriptor alone the lines that were read.
+    pub lines: Option<ReadLines>,
 }
 
 /// Plays a file, as what it is.
@@ -266,11 +282,44 @@ pub fn play_source<R: Read + Drop, W: Write, H: Watch>(
     }
 }
 
+/// Plays the descriptor that was found in a text.
+fn play_found<W: Write, H: Watch>(
+    alloc: Global,
+    found: Found,
+    manner: Manner<'_>,
+    notes: &mut Notes,
+    out: &mut W,
+    watch: &mut H,
+) -> Result<Summary, FileFault> {
+    let found = known_for_itself(alloc, found)?;
+    notes.lines = lines_of(&found);
+    play_descriptor(alloc, found.bytes.as_slice(), out, manner.options, watch)
+}
+
+/// Plays the descriptor in a recording of umockdev, whose lines `E:` are properties and no reports.
+fn play_umockdev<R: Read, W: Write, H: Watch>(
+    alloc: Global,
+    beginning: Vec<u8>,
+    reader: &mut BufReader<R>,
+    manner: Manner<'_>,
+    notes: &mut Notes,
+    out: &mut W,
+    watch: &mut H,
+) -> Result<Summary, FileFault> {
+    let mut front = beginning;
+    read_on(&mut front, reader, LONGEST)?;
+    match descriptor_in(alloc, front.as_slice()) {
+        Ok(found) => play_found(alloc, found, manner, notes, out, watch),
+        Err(fault) if is_missing(fault.cause) => Err(other_file(OtherFile::Umockdev)),
+        Err(fault) => Err(unread_descriptor(fault)),
+    }
+}
+
 /// Whether a text has no descriptor: it may be a script.
 fn is_missing(cause: InputCause) -> bool {
     matches!(
         cause,
-        InputCause::OtherBrackets | InputCause::OtherLine | InputCause::NoDescriptor
+        InputCause::NoByte { .. } | InputCause::NotWhole(_) | InputCause::NoDescriptor
     )
 }
 
@@ -280,18 +329,16 @@ fn play_other<R: Read, W: Write, H: Watch>(
     alloc: Global,
     beginning: Vec<u8>,
     reader: &mut BufReader<R>,
+    manner: Manner<'_>,
+    notes: &mut Notes,
     out: &mut W,
-    options: Options,
     watch: &mut H,
 ) -> Result<Summary, FileFault> {
     let mut front = beginning;
     read_on(&mut front, reader, LONGEST)?;
     if !is_recording(front.as_slice()) {
         match descriptor_in(alloc, front.as_slice()) {
-            Ok(bytes) => {
-                let bytes = known_for_itself(alloc, bytes)?;
-                return play_descriptor(alloc, bytes.as_slice(), out, options, watch);
-            }
+            Ok(found) => return play_found(alloc, found, manner, notes, out, watch),
             Err(fault) => {
                 if !is_missing(fault.cause) {
                     return Err(unread_descriptor(fault));
@@ -310,7 +357,7 @@ fn play_other<R: Read, W: Write, H: Watch>(
         }
     }
     let mut recording = front.as_slice().chain(reader);
-    Ok(play(alloc, &mut recording, out, options, watch)?)
+    Ok(play(alloc, &mut recording, out, manner.options, watch)?)
 }
 
 /// Plays a file that is a capture, a recording or a descriptor, by what it begins with.
@@ -331,13 +378,13 @@ fn play_detected<R: Read, W: Write, H: Watch>(
     skip_mark(reader)?;
     let beginning = read_beginning(alloc, reader)?;
     if is_umockdev(after_passed(beginning.as_slice())) {
-        return Err(other_file(OtherFile::Umockdev));
+        return play_umockdev(alloc, beginning, reader, manner, notes, out, watch);
     }
     if begins_recording(beginning.as_slice()) {
         let mut recording = beginning.as_slice().chain(reader);
         Ok(play(alloc, &mut recording, out, manner.options, watch)?)
     } else {
-        play_other(alloc, beginning, reader, out, manner.options, watch)
+        play_other(alloc, beginning, reader, manner, notes, out, watch)
     }
 }
 

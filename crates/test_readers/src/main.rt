@@ -95,7 +95,7 @@ fn read_file(rt: &HostRuntime, name: &str) -> Result<Vec<u8>, Stop> {
         return Err(Stop::File);
     }
     match descriptor_in(rt.alloc(), bytes.as_slice()) {
-        Ok(descriptor) => Ok(descriptor),
+        Ok(found) => Ok(found.bytes),
         Err(_) => Err(Stop::File),
     }
 }

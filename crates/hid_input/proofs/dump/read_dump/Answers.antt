@@ -1,36 +1,46 @@
-use Rattle.std.proofs.Common.{◌≡◌, ◌<◌, Bool, [], Some, None, length, get_or, map, ap, ◌∙◌, sym, arith}
-use Rattle.std.specs.Prelude.{if◌then◌else◌}
-use Rattle.std.specs.Option.{option_and_then}
-use Rattle.std.proofs.lemmas.List.{length-map, get_or-map}
-use Rattle.hid_input.specs.Dump.{rows_of, line_below, dump_of, whole_dump}
-use Rattle.hid_input.proofs.DumpLemmas.{line_taken, line_refused, now_of}
+use Rattle.std.proofs.Common.{◌≡◌, ◌∷◌, ◌+◌, ◌<◌, ◌≤◌, ℕ, List, [], Result, Ok, Err, length, get_or, take, drop, inr, subst, sym, ap, ◌∙◌, arith}
+use Rattle.std.proofs.lemmas.List.{drop_more}
+use Rattle.std.proofs.Math.ListN.{drop_of_length-le}
+use Rattle.hid_input.specs.declared.dump.TheConstants.{BASES}
+use Rattle.hid_input.specs.declared.fault.InputCause.{InputCause}
+use Rattle.hid_input.specs.declared.fault.InputCause.TheVariants.{DumpLine}
+use Rattle.hid_input.specs.Text.{lines_of}
+use Rattle.hid_input.specs.Dump.{base_count, rows_bytes, based_bytes, dump_bytes, IsDumpFault}
+use Rattle.hid_input.proofs.DumpLemmas.{base_refused, base_read, read_whole}
 use Rattle.hid_input.proofs.dump.read_dump.Goals as goal
 
-pub returns-then-not-branch : goal.returns-then-not-branch
-unfolding dump_of
-returns-then-not-branch c =
-    let i = c.loop-before.before in
-    let lines = c.args.lines.now in
-    let way = c.args.way in
-    let before = rows_of c.loop-before.dump in
-    let after = rows_of c.take_line.new.self in
-    let below : i < length lines = omega arith in
-    let item = get_or-map now_of lines i (record { ref_ptr = (0, 0); now = [] }) [] below in
-    let refused : None ≡ line_below way.base way.form before (get_or (map now_of lines) i []) =
-    sym (ap (λ (b : Bool). if b then Some after else None) c.if-not-branch.true)
-    ∙ (c.in_ok-take_line.ensures ∙ sym (ap (line_below way.base way.form before) item)) in
-    ap (option_and_then whole_dump) (line_refused way.base way.form (map now_of lines) i before _ (omega (arith, length-map lines now_of)) refused c.loop-before.invariant)
+pub loop-base-init : goal.loop-base-init
+loop-base-init c =
+    ap (λ (count : ℕ). based_bytes (0, DumpLine) (take count BASES) (lines_of c.args.text.now)) (c.base_count.ensures.count ∙ ap base_count c.first_word.ensures)
 
-pub loop-before-preserved : goal.loop-before-preserved
-loop-before-preserved c =
-    let i = c.loop-before.before in
-    let lines = c.args.lines.now in
-    let way = c.args.way in
-    let before = rows_of c.loop-before.dump in
-    let after = rows_of c.take_line.new.self in
-    let below : i < length lines = omega arith in
-    let item = get_or-map now_of lines i (record { ref_ptr = (0, 0); now = [] }) [] below in
-    let taken : Some after ≡ line_below way.base way.form before (get_or (map now_of lines) i []) =
-    sym (ap (λ (b : Bool). if b then Some after else None) c.if-not-branch.false)
-    ∙ (c.in_ok-take_line.ensures ∙ sym (ap (line_below way.base way.form before) item)) in
-    line_taken way.base way.form (map now_of lines) i before after _ (omega (arith, length-map lines now_of)) taken c.loop-before.invariant
+pub loop-base-preserved : goal.loop-base-preserved
+loop-base-preserved c =
+    let i = c.loop-base.base-index in
+    let bases = take c.base_count.result BASES in
+    let lines = lines_of c.args.text.now in
+    let below : i < length bases = c.loop-base-test.true in
+    let read : rows_bytes (get_or bases i 0) 1 [] lines ≡ Err c.in-Err.fault = rw c.in-Err.is at c.in_ok-bytes.ensures in
+    ap (λ (f : ℕ × InputCause). based_bytes f (drop (i + 1) bases) lines) c.further-furthest.ensures
+    ∙ (sym (base_refused c.loop-base.furthest c.in-Err.fault (get_or bases i 0) (drop (i + 1) bases) lines read)
+    ∙ (ap (λ (more : List ℕ). based_bytes c.loop-base.furthest more lines) (sym (drop_more bases i 0 below)) ∙ c.loop-base.invariant))
+
+pub returns : goal.returns
+returns c =
+    let i = c.loop-base.base-index in
+    let bases = take c.base_count.result BASES in
+    let lines = lines_of c.args.text.now in
+    let past : length bases ≤ i = c.loop-base-test.false in
+    let none : based_bytes c.loop-base.furthest (drop i bases) lines ≡ Err c.loop-base.furthest = ap (λ (more : List ℕ). based_bytes c.loop-base.furthest more lines) (drop_of_length-le bases past) in
+    subst (λ (all : Result (ℕ × List ℕ) (ℕ × InputCause)). IsDumpFault c.args.text.now c.of_line.result all) (sym none ∙ c.loop-base.invariant) (inr c.of_line.ensures)
+
+pub returns-in-Ok : goal.returns-in-Ok
+returns-in-Ok c =
+    let i = c.loop-base.base-index in
+    let bases = take c.base_count.result BASES in
+    let lines = lines_of c.args.text.now in
+    let below : i < length bases = c.loop-base-test.true in
+    let read : rows_bytes (get_or bases i 0) 1 [] lines ≡ Ok c.in-Ok.bytes.items = rw c.in-Ok.is at c.in_ok-bytes.ensures in
+    let found : dump_bytes c.args.text.now ≡ Ok (get_or bases i 0, c.in-Ok.bytes.items) =
+    sym c.loop-base.invariant ∙ (ap (λ (more : List ℕ). based_bytes c.loop-base.furthest more lines) (drop_more bases i 0 below)
+    ∙ base_read c.loop-base.furthest (get_or bases i 0) (drop (i + 1) bases) c.in-Ok.bytes.items lines read) in
+    read_whole c.args.text.now c.in-Ok.bytes.items (get_or bases i 0) c.whole_dump.result found c.whole_dump.ensures

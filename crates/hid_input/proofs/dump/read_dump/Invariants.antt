@@ -1,9 +1,8 @@
-use Rattle.std.proofs.Common.{◌≡◌, drop, map}
-use Rattle.hid_input.specs.Dump.{lines_below, no_rows, rows_of}
+use Rattle.std.proofs.Common.{◌≡◌, drop}
+use Rattle.hid_input.specs.Text.{lines_of}
+use Rattle.hid_input.specs.Dump.{based_bytes, dump_bytes}
 use Rattle.hid_input.proofs.dump.read_dump.Given as goal
 
--- the rows so far, and those of the other lines, are those of all
-abbrev pub invariant-loop-before : goal.invariant-loop-before
-invariant-loop-before l =
-    lines_below l.way.base l.way.form (rows_of l.dump) (drop l.before (map (λ line. line.now) l.lines))
-    ≡ lines_below l.way.base l.way.form no_rows (map (λ line. line.now) l.lines)
+-- no base so far
+abbrev pub invariant-loop-base : goal.invariant-loop-base
+invariant-loop-base l = based_bytes l.furthest (drop l.base-index l.bases) (lines_of l.text) ≡ dump_bytes l.text

@@ -1,8 +1,8 @@
 use Rattle.std.proofs.Common.{rules, tests}
 use Rattle.std.proofs.lemmas.Iterator.Search.{any_from_yields_List}
 use Rattle.std.proofs.lemmas.Iterator.Splits.{YieldsList-from_slice_split}
-use Rattle.hid_input.specs.Hex.{is_newline}
-use Rattle.hid_input.specs.Listed.{is_unavailable}
+use Rattle.hid_input.specs.Text.{is_newline}
+use Rattle.hid_input.specs.Items.{is_unavailable}
 use Rattle.hid_input.proofs.items.has_unavailable.Goals as goal
 
 pub returns : goal.returns

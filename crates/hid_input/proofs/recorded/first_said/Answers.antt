@@ -2,8 +2,8 @@ use Rattle.std.proofs.Common.{rules, tests, ℕ, List}
 use Rattle.std.specs.Prelude.{not}
 use Rattle.std.proofs.lemmas.Iterator.Search.{find_from_yields_List}
 use Rattle.std.proofs.lemmas.Iterator.Splits.{YieldsList-from_slice_split}
-use Rattle.hid_input.specs.Hex.{is_newline}
-use Rattle.hid_input.specs.Records.{is_passed}
+use Rattle.hid_input.specs.Text.{is_newline}
+use Rattle.hid_input.specs.Recorded.{is_passed}
 use Rattle.hid_input.proofs.recorded.first_said.Goals as goal
 
 pub returns : goal.returns

@@ -1,8 +1,8 @@
 use Rattle.std.proofs.Common.{rules, tests}
 use Rattle.std.proofs.lemmas.Iterator.Search.{any_from_yields_List}
 use Rattle.std.proofs.lemmas.Iterator.Splits.{YieldsList-from_slice_split}
-use Rattle.hid_input.specs.Hex.{is_newline}
-use Rattle.hid_input.specs.Records.{is_record}
+use Rattle.hid_input.specs.Text.{is_newline}
+use Rattle.hid_input.specs.Recorded.{is_record}
 use Rattle.hid_input.proofs.recorded.has_record.Goals as goal
 
 pub returns : goal.returns

@@ -1,0 +1,57 @@
+//! What is found in a file, and where.
+
+ghost use Rattle.std.specs.Prelude.{◌≡◌, Some};
+
+/// How a file has its descriptor.
+#[derive(Clone, Copy, Debug, PartialEq, Eq)]
+pub enum Shape {
+    /// The bytes of the file are the descriptor.
+    Binary,
+    /// Lines of an offset and bytes.
+    Dump,
+    /// A line `R: COUNT HEX` of hid-recorder, or `H: report_descriptor=HEX` of umockdev.
+    Recording,
+    /// Lines below a heading of usbhid-dump.
+    Block,
+    /// Items as `lsusb -v` prints them.
+    Items,
+    /// A list in brackets, among words.
+    List,
+    /// Escapes, as in strings of C and Python, among words.
+    Escapes,
+    /// Hex or numbers, and nothing else but comments.
+    Hex,
+}
+
+/// The descriptor of a file.
+#[derive(Debug, Drop)]
+pub struct Found {
+    /// The bytes of the descriptor.
+    pub bytes: Vec<u8>,
+    /// How the file has them.
+    pub shape: Shape,
+    /// The first and the last line that they were read from, from 1 on; none of binary.
+    pub lines: Option<(u64, u64)>,
+}
+
+/// Bytes, with the first and the last line that they were read from.
+#[derive(Drop)]
+pub struct Place {
+    /// The bytes.
+    pub bytes: Vec<u8>,
+    /// The lines.
+    pub lines: (u64, u64),
+}
+
+impl Place {
+    /// These bytes as the descriptor of a file.
+    pub fn found(self, shape: Shape) -> Found
+        ensures { result ≡ record { bytes = self.bytes; shape = shape; lines = Some self.lines } }
+    {
+        Found {
+            bytes: self.bytes,
+            shape,
+            lines: Some(self.lines),
+        }
+    }
+}

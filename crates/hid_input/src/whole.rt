@@ -1,0 +1,248 @@
+//! Whether bytes are one whole report descriptor (HID 1.11, 6.2.2).
+
+ghost use Rattle.std.specs.Prelude.{◌≡◌, ◌==◌, ◌≤◌, drop, length, Some, IfErr, MatchOption, ℕ, List};
+ghost use Rattle.hid_input.specs.declared.whole.DescriptorFault.{DescriptorFault};
+ghost use Rattle.std.specs.List.{list_all};
+ghost use Rattle.std.specs.Result.{result_ok};
+ghost use Rattle.hid_items.specs.Reading.{first_kind};
+ghost use Rattle.hid_input.specs.Descriptor.{IsDescriptor, IsFault, cut_place, start};
+
+use hid_items::{Item, ItemFault, ItemKind, Items};
+use std::fmt;
+
+/// Why bytes aren't one whole report descriptor.
+#[derive(Clone, Copy, Debug, PartialEq, Eq)]
+pub enum DescriptorCause {
+    /// The bytes end in the middle of an item.
+    Truncated,
+    /// An End Collection that no Collection matches.
+    EndWithout,
+    /// A Collection is open at the end.
+    Unclosed,
+    /// No descriptor goes on so: an item that HID 1.11 doesn't have, or not there; or the end without a Collection.
+    Other,
+}
+
+/// Why bytes aren't one whole report descriptor, and how many of them are in front of that.
+#[derive(Clone, Copy, Debug, PartialEq, Eq)]
+pub struct DescriptorFault {
+    /// How many bytes are in front of it.
+    pub at: usize,
+    /// What is wrong there.
+    pub cause: DescriptorCause,
+}
+
+impl fmt::Display for DescriptorFault {
+    ghost use Rattle.std.specs.Prelude.{Some};
+    ghost use Rattle.hid_input.specs.Faults.{descriptor_text};
+
+    ghost output = { λ fault. Some (descriptor_text fault) };
+
+    fn fmt<W: fmt::Write>(&self, f: &mut fmt::Formatter<W>) -> fmt::Result {
+        let at = self.at;
+        match self.cause {
+            DescriptorCause::Truncated => write!(f, "L1 at {at}: an item is cut off"),
+            DescriptorCause::EndWithout => {
+                write!(f, "L6 at {at}: an End Collection without its Collection")
+            }
+            DescriptorCause::Unclosed => write!(f, "L7 at {at}: a Collection is open at the end"),
+            DescriptorCause::Other => write!(f, "byte {at}: no report descriptor goes on so"),
+        }
+    }
+}
+
+/// What stands so far, after some items.
+#[derive(Clone, Copy, Debug, PartialEq, Eq)]
+pub struct Progress {
+    /// How many collections are open.
+    pub depth: u64,
+    /// Whether a Usage Page was there, or a Usage with a page in it.
+    pub has_page: bool,
+    /// Whether a Usage was there since the last Main item.
+    pub has_usage: bool,
+    /// Whether the last item is an End Collection that closes all collections.
+    pub is_closed: bool,
+}
+
+/// Nothing stands in front of the first item.
+const START: Progress = Progress {
+    depth: 0,
+    has_page: false,
+    has_usage: false,
+    is_closed: false,
+};
+
+impl Progress {
+    ghost use Rattle.hid_input.specs.Descriptor.{after_field, after_collection, after_end, after_other, after_prefix, after_item, item_cause};
+    ghost use Rattle.hid_items.specs.ItemEncoding.{prefix_of};
+
+    /// After an Input, Output or Feature item.
+    fn field(self) -> Result<Progress, DescriptorCause>
+        ensures next { result_ok result ≡ after_field self }
+        ensures cause { IfErr result (λ cause. cause ≡ DescriptorCause.Other) }
+    {
+        if self.depth == 0 {
+            return Err(DescriptorCause::Other);
+        }
+        Ok(Progress {
+            depth: self.depth,
+            has_page: self.has_page,
+            has_usage: false,
+            is_closed: false,
+        })
+    }
+
+    /// After a Collection.
+    fn open(self) -> Result<Progress, DescriptorCause>
+        ensures next { result_ok result ≡ after_collection self }
+        ensures cause { IfErr result (λ cause. cause ≡ DescriptorCause.Other) }
+    {
+        if !self.has_page || (self.depth == 0 && !self.has_usage) {
+            return Err(DescriptorCause::Other);
+        }
+        Ok(Progress {
+            depth: self.depth.saturating_add(1),
+            has_page: true,
+            has_usage: false,
+            is_closed: false,
+        })
+    }
+
+    /// After an End Collection.
+    fn close(self) -> Result<Progress, DescriptorCause>
+        ensures next { result_ok result ≡ after_end self }
+        ensures cause { IfErr result (λ cause. cause ≡ DescriptorCause.EndWithout) }
+    {
+        if self.depth == 0 {
+            return Err(DescriptorCause::EndWithout);
+        }
+        Ok(Progress {
+            depth: self.depth - 1,
+            has_page: self.has_page,
+            has_usage: false,
+            is_closed: self.depth == 1,
+        })
+    }
+
+    /// After a Global or a Local item, or a long one.
+    fn other(self, is_page: bool, is_usage: bool) -> Progress
+        ensures { result ≡ after_other is_page is_usage self }
+    {
+        Progress {
+            depth: self.depth,
+            has_page: self.has_page || is_page,
+            has_usage: self.has_usage || is_usage,
+            is_closed: false,
+        }
+    }
+
+    /// After a short item, by its prefix and its length.
+    fn short(self, prefix: u8, length: usize) -> Result<Progress, DescriptorCause>
+        ensures next { result_ok result ≡ after_prefix prefix length self }
+        ensures cause { IfErr result (λ cause. cause ≡ item_cause prefix) }
+    {
+        if self.depth == 0 && length == 1 && prefix != 0xC0 {
+            return Err(DescriptorCause::Other);
+        }
+        match prefix {
+            0x80 | 0x90 | 0xB0 => self.field(),
+            0xA0 => self.open(),
+            0xC0 => self.close(),
+            0x04 => Ok(self.other(true, false)),
+            0x08 | 0x18 => Ok(self.other(length == 5, true)),
+            0xA4 | 0xB4 if length == 1 => Ok(self.other(false, false)),
+            0x14
+            | 0x24
+            | 0x34
+            | 0x44
+            | 0x54
+            | 0x64
+            | 0x74
+            | 0x84
+            | 0x94
+            | 0x28
+            | 0x38
+            | 0x48
+            | 0x58
+            | 0x78
+            | 0x88
+            | 0x98
+            | 0xA8 => Ok(self.other(false, false)),
+            _ => Err(DescriptorCause::Other),
+        }
+    }
+
+    /// After an item.
+    fn after(self, item: &Item<'_>) -> Result<Progress, DescriptorCause>
+        requires { item.now.kind ≡ first_kind item.now.bytes.now }
+        ensures next { result_ok result ≡ after_item self item.now.bytes.now }
+        ensures cause { IfErr result (λ cause. cause ≡ item_cause (prefix_of item.now.bytes.now)) }
+    {
+        match item.kind {
+            ItemKind::Short { prefix } => self.short(prefix, item.bytes.len()),
+            ItemKind::Long { .. } => Ok(self.other(false, false)),
+        }
+    }
+}
+
+/// Whether each byte is zero.
+fn all_zero(bytes: &[u8]) -> bool
+    ensures { result ≡ list_all (λ byte. byte == 0) bytes.now }
+{
+    bytes.iter().all(|byte| *byte == 0)
+}
+
+/// Whether each byte from a place on is zero.
+fn are_zeros(bytes: &[u8], from: usize) -> bool
+    requires { from ≤ length bytes.now }
+    ensures { result ≡ list_all (λ byte. byte == 0) (drop from bytes.now) }
+{
+    all_zero(&bytes[from..])
+}
+
+/// How many bytes are in front of an item that is cut off.
+fn cut_place(fault: ItemFault) -> usize
+    ensures { result ≡ cut_place fault }
+{
+    let ItemFault::Truncated { at } = fault;
+    at
+}
+
+/// A fault at a place.
+fn fault(at: usize, cause: DescriptorCause) -> Option<DescriptorFault>
+    ensures { result ≡ Some (record { at = at; cause = cause }) }
+{
+    Some(DescriptorFault { at, cause })
+}
+
+/// Why bytes aren't one whole report descriptor, if they aren't.
+pub fn descriptor_fault(bytes: &[u8]) -> Option<DescriptorFault>
+    ensures { MatchOption result (IsDescriptor bytes.now) (λ fault. IsFault bytes.now fault) }
+{
+    let length = bytes.len();
+    let mut progress = START;
+    for next in Items::new(bytes) {
+        let item = match next {
+            Ok(item) => item,
+            Err(cut) => return fault(cut_place(cut), DescriptorCause::Truncated),
+        };
+        progress = match progress.after(&item) {
+            Ok(progress) => progress,
+            Err(cause) => return fault(item.at, cause),
+        };
+        if progress.is_closed && are_zeros(bytes, item.at + item.bytes.len()) {
+            return None;
+        }
+    }
+    if progress.depth > 0 {
+        return fault(length, DescriptorCause::Unclosed);
+    }
+    fault(length, DescriptorCause::Other)
+}
+
+/// Bytes with a fault are no whole descriptor.
+pub fn faults_are_true()
+    ensures { (bytes : List ℕ) (fault : DescriptorFault) → IsFault bytes fault → IsDescriptor bytes → ⊥ }
+{
+    hid_items::laws::prefix_free();
+}
