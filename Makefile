@@ -157,8 +157,9 @@ deb: $(HIDRUN) $(HIDPLAY) $(HIDMAP) $(HIDLAB) $(HIDSERVE) $(HIDATTACH) library  
 deb-test: deb  ## installs and tries the packages in a root of their own, as root
 	tools/package/check bin/rulohevian_$(VERSION)-1_*.deb bin/libhidstack*_$(LIBRARY_VERSION)-1_*.deb
 
-# The recordings that name a device, and the examples of pictures.
-PICTURED := $(shell grep -l '^N:' examples/recordings/*.hid) $(wildcard examples/pictures/*.hid)
+# The recordings that name a device, and those with the examples of pictures.
+NAMED := $(shell grep -l '^N:' examples/recordings/*.hid)
+PICTURED := $(NAMED) $(wildcard examples/pictures/*.hid)
 
 # Compares the expected texts with a second reader, and the manual pages and completion with programs and header; runs examples, rows
 # and command lines on the proved programs, also on failing streams.
@@ -166,7 +167,7 @@ examples: $(HIDRUN) $(HIDPLAY) $(HIDMAP) $(HIDLAB) $(HIDSERVE) $(HIDATTACH) $(BE
 	tools/check/second-reader examples/*/*.script
 	tools/check/recordings examples/*/*.hid
 	tools/check/pictures $(MAPPER) $(PICTURED)
-	tools/check/inputs $(MAPPER) examples/recordings/*.hid
+	tools/check/inputs $(MAPPER) $(PLAYER) $(HIDLAB) $(NAMED)
 	tools/check/hidplay $(PLAYER)
 	tools/check/damaged-captures $(PLAYER)
 	tools/check/commands $(HIDRUN) $(PLAYER) $(MAPPER) $(HIDLAB) $(HIDSERVE) $(HIDATTACH) $(BENCH)
