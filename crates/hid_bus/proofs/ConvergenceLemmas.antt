@@ -38,7 +38,8 @@ use Rattle.hid_bus.proofs.HistoryLemmas.{link}
 use Rattle.hid_bus.proofs.PieceLemmas.{lived_pieces}
 use Rattle.hid_bus.proofs.AbortedRoundLemmas.{fresh_cuts}
 use Rattle.hid_bus.proofs.FairnessLemmas.{clean_in_time}
-use Rattle.hid_bus.proofs.AgreementLemmas.{IsInStep, at_by_item, other_report, step_keeps, history_keeps, fresh_in_step, nothing_due_agrees}
+use Rattle.hid_bus.proofs.KindLemmas.{at_by_item}
+use Rattle.hid_bus.proofs.AgreementLemmas.{IsInStep, other_report, step_keeps, history_keeps, fresh_in_step, nothing_due_agrees}
 
 -- ---- one motion
 

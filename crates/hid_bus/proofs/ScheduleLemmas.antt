@@ -126,7 +126,7 @@ step_halts items s (Polls fate) =
     let t : LinkState = state_before_answer items s fate in
     answered_halts items t.reports t.current t.toggle t.view t.halted fate ∙ arrived_halts items s fate
 
-epoch_halts : (items : List Item) (bus_events : List BusEvent) (s : LinkState) → AreWithinEpoch bus_events
+pub epoch_halts : (items : List Item) (bus_events : List BusEvent) (s : LinkState) → AreWithinEpoch bus_events
     → (state_after_all items s bus_events).halted ≡ s.halted
 epoch_halts items [] s within = refl
 epoch_halts items (Own x ∷ bus_events) s within =

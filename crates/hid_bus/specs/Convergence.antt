@@ -198,6 +198,14 @@ pub record StaysStill (items : List Item) (snapshot : List ControlState) (idle :
   pub going : (state_after_all items (initial_link items snapshot idle) bus_events).halted ≡ false
   pub still : AreStill (state_after_all items (initial_link items snapshot idle) bus_events).reports.idle steps
 
+-- Both ends agree once as many polls lost nothing as the device needs, whatever other polls lose.
+abbrev pub AgreesAfterCleanPolls : List Item → List ControlState → List ℕ → List BusEvent → List OwnStep → Type 0
+AgreesAfterCleanPolls items snapshot idle bus_events steps =
+    let s : LinkState = state_after_all items (initial_link items snapshot idle) bus_events in
+    StaysStill items snapshot idle bus_events steps
+    → polls_needed items s ≤ closed_count (fates_of steps)
+    → IsAtRest items (state_after_steps items s steps)
+
 -- Both ends agree within (k + 1) times the polls that the device needs, where at most k in a row lose something.
 abbrev pub AgreesInTime : ℕ → List Item → List ControlState → List ℕ → List BusEvent → List OwnStep → Type 0
 AgreesInTime k items snapshot idle bus_events steps =

@@ -13,7 +13,7 @@ ghost use Rattle.hid_bus.specs.HistoryState.{HistoryHolds, IsQuietPoll, StandsBy
 ghost use Rattle.hid_bus.specs.AbortedRounds.{HasAbortFlags, OpensNext, StaysDue};
 ghost use Rattle.hid_bus.specs.DeviceHistory.{Clears, BusEvent, Halts, AreWithinEpoch, outcomes_of_events, ended_rounds, events_of_outcomes, events_of_history, state_after_all};
 ghost use Rattle.hid_bus.specs.Motion.{HasMotions, KeepsMotion, KeepsAccepted, KeepsThroughHistory, AreBetweenRounds, are_accepted};
-ghost use Rattle.hid_bus.specs.Convergence.{AgreesInTime, AreSendable, RestsAfterCleanPolls, RestsInTime};
+ghost use Rattle.hid_bus.specs.Convergence.{AgreesAfterCleanPolls, AgreesInTime, AreSendable, RestsAfterCleanPolls, RestsInTime};
 ghost use Rattle.hid_bus.specs.Agreement.{AgreesAtNak, AnswersNak, HasNothingToSend, IsUnmoved};
 ghost use Rattle.hid_bus.specs.Rounds.{OwnStep, Round, reaches_host, is_clean, has_crossed, has_closed, rounds, events_of_rounds, events_of_epoch, initial_history};
 ghost use Rattle.hid_bus.specs.LinkState.{LinkState, OpenRound, HasPieces, is_last, initial_link, state_after_steps, events_of_steps};
@@ -160,6 +160,9 @@ pub fn devices_come_to_rest()
     ensures fair { (most_lost : ℕ) (items : List Item) (snapshot : List ControlState)
         (idle : List ℕ) (bus_events : List BusEvent) (rounds : ℕ → ℕ) (steps : List OwnStep)
         → RestsInTime most_lost items snapshot idle bus_events rounds steps }
+    ensures counted { (items : List Item) (snapshot : List ControlState) (idle : List ℕ)
+        (bus_events : List BusEvent) (steps : List OwnStep)
+        → AgreesAfterCleanPolls items snapshot idle bus_events steps }
     ensures needed { (most_lost : ℕ) (items : List Item) (snapshot : List ControlState)
         (idle : List ℕ) (bus_events : List BusEvent) (steps : List OwnStep)
         → AgreesInTime most_lost items snapshot idle bus_events steps }

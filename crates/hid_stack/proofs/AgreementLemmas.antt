@@ -1,11 +1,10 @@
 -- A host on a bus agrees with its device where that has nothing to send.
-use Rattle.std.proofs.Common.{◌≡◌, ◌<◌, ◌≤◌, ◌+◌, ◌*◌, ◌++◌, ◌-◌, ℕ, zero, suc, Bool, true, false, cond, eqb, get_or, List, [], ◌∷◌, length, replicate, Option, Some, None, Ok, Err, refl, ap, sym, ◌∙◌, subst, arith}
+use Rattle.std.proofs.Common.{◌≡◌, ◌≤◌, ◌+◌, ◌++◌, ◌-◌, ℕ, zero, suc, Bool, true, false, cond, eqb, get_or, List, [], ◌∷◌, length, replicate, Option, Some, None, refl, ap, sym, ◌∙◌, subst, arith}
 use Rattle.std.specs.Prelude.{IfSome}
 use Rattle.std.specs.List.{cons_option, slice_get}
 use Rattle.std.specs.Option.{option_map}
 use Rattle.std.proofs.lemmas.Bool.Decides.{nat_tests}
 use Rattle.std.proofs.lemmas.List.{length-replicate}
-use Rattle.std.proofs.lemmas.List.Elements.{All-replicate}
 use Rattle.std.proofs.lemmas.Option.{get_or_from_slice_get}
 use Rattle.std.proofs.Math.Seq.{map-set_same}
 use Rattle.hid_layout.specs.Layout.{Contents}
@@ -13,10 +12,8 @@ use Rattle.hid_layout.specs.Controls.{Item, items_of}
 use Rattle.hid_snapshots.specs.declared.control_state.ControlState.{ControlState}
 use Rattle.hid_snapshots.specs.ControlStates.{FitsSnapshot, blank}
 use Rattle.hid_snapshots.specs.Parts.{has_zeros}
-use Rattle.hid_snapshots.specs.Snapshots.{OrFault, snapshot_after}
 use Rattle.hid_snapshots.proofs.BlankLemmas.{blank_fits}
 use Rattle.hid_snapshots.proofs.FillLemmas.{set_length}
-use Rattle.usb_transact.specs.declared.host.Took.{Took}
 use Rattle.usb_transact.specs.declared.host.Took.TheVariants.{Again, Fresh, Nak, Silent}
 use Rattle.usb_transact.specs.declared.transaction.Fate.{Fate}
 use Rattle.usb_transact.specs.declared.transaction.Fate.TheVariants.{Clean, TokenLost, ReplyLost, AckLost}
@@ -28,17 +25,18 @@ use Rattle.hid_bus.specs.declared.start.Start.TheVariants as starts
 use Rattle.hid_bus.specs.declared.step.Step.{Step}
 use Rattle.hid_bus.specs.declared.step.Step.TheVariants.{Poll}
 use Rattle.hid_bus.specs.declared.step.Told.{Told}
-use Rattle.hid_bus.specs.ReportState.{ReportState, due_where, initial_reports, with_abort}
-use Rattle.hid_bus.specs.Rounds.{OwnStep, Changes, Frame, Polls}
-use Rattle.hid_bus.specs.LinkState.{LinkState, OpenRound, initial_link, open_report, state_after_answer, state_after_step, state_after_steps, state_at_token, state_before_answer, with_open_report}
-use Rattle.hid_bus.specs.DeviceHistory.{BusEvent, Own, Idles, Configures, state_after, state_after_all}
-use Rattle.hid_bus.specs.DeviceHistory as bus
+use Rattle.hid_bus.specs.ReportState.{ReportState, due_where, initial_reports}
+use Rattle.hid_bus.specs.Rounds.{OwnStep, Changes, Frame, Polls, closed_count}
+use Rattle.hid_bus.specs.LinkState.{LinkState, OpenRound, initial_link, state_after_steps, state_at_token, with_open_report}
+use Rattle.hid_bus.specs.DeviceHistory.{BusEvent, state_after_all}
 use Rattle.hid_bus.specs.Agreement.{HasNothingToSend, AnswersNak, Agrees, AreSentIn, SetsEach, AllSetEach}
 use Rattle.hid_bus.specs.Convergence.{AreSendable, AreStill, IsAtRest, fates_of, polls_needed}
-use Rattle.hid_bus.specs.Fairness.{IsFair}
 use Rattle.hid_bus.proofs.HistoryLemmas.{link}
-use Rattle.hid_bus.proofs.AgreementLemmas.{agrees_at_nak, items_are_sent, nak_says_nothing, unmoved}
-use Rattle.hid_bus.proofs.RoundLemmas.{agrees_in_time, blank_sendable}
+use Rattle.hid_bus.proofs.AgreementLemmas.{agrees_at_nak, items_are_sent}
+use Rattle.hid_bus.proofs.NakLemmas.{nak_says_nothing, unmoved}
+use Rattle.hid_bus.proofs.IdleLemmas.{event_idle}
+use Rattle.hid_bus.proofs.FairnessLemmas.{clean_in_time}
+use Rattle.hid_bus.proofs.RoundLemmas.{agrees_after_clean_polls, blank_sendable}
 use Rattle.hid_device.specs.Inputs.{input_count, AreInputsFirst}
 use Rattle.hid_device.specs.Core.{CoreState}
 use Rattle.hid_device.specs.declared.config.Config.{Config}
@@ -50,69 +48,16 @@ use Rattle.hid_host.specs.declared.host.Transfer.{Transfer}
 use Rattle.hid_host.specs.Host.{request_aborts_round, running}
 use Rattle.hid_stack.specs.Attaching.{CanAttach, member_at_start}
 use Rattle.hid_stack.specs.Members.{Member, MemberStep, Scheduled, Begins, Controls, Halts, Resets, bus_event_of_step, bus_events_of_steps, control_of_member, effect_bus_event, halt_bus_event_of, member_after, member_after_all, member_out_of_memory, out_of_memory_bus_event, poll_bus_event, polls_it, state_after_event_if, try_bus_event, try_bus_event_of, write_bus_event}
-use Rattle.hid_stack.specs.Rig.{bus_after, bus_after_all, bus_after_try_out_of_memory, device_steps, is_scheduled, member_at, member_step, member_steps, with_member}
+use Rattle.hid_stack.specs.Rig.{HasOnlySchedule, bus_after, bus_after_all, bus_after_try_out_of_memory, device_steps, member_at, member_step, member_steps, with_member}
 use Rattle.hid_stack.specs.BusHistory.{Action, Attached, DeviceAction, Taken, Takes, Unconcluded, Unconcludes, bus_after_actions, bus_event_of_action, bus_events_of_actions, device_action, member_after_action, member_after_actions}
-use Rattle.hid_stack.specs.StepResult.{PollReturns, StepReturns, piece_shown, took_at_poll}
-use Rattle.hid_stack.specs.Agreement.{AgreeAtNak, AgreeFromAttach, AgreeIfNakIsReceived, AgreesIfSilent, AllStartUnpolled, AreEnoughPolls, ComeToRest, IsLeftAlone, IsUnpolled, ReceivesNak, RestFromAttach, RestsIn, StartsUnpolled}
+use Rattle.hid_stack.specs.StepResult.{PollReturns, piece_shown, took_at_poll}
+use Rattle.hid_stack.specs.Agreement.{AgreeAtNak, AgreeFromAttach, AgreeIfNakIsReceived, AgreesIfSilent, AllStartUnpolled, ComeToRest, IsUnpolled, ReceivesNak, RestFromAttach, RestsIn, StartsUnpolled}
 use Rattle.hid_stack.proofs.AttachLemmas.{stands_still}
 use Rattle.hid_stack.proofs.BusHistoryLemmas.{actions_layout, actions_links, after_own_act, taken_state, unconcluded_state}
 use Rattle.hid_stack.proofs.MemberLemmas.{layouts_stay, links, ready_stands, unconcluded_layout}
 use Rattle.hid_stack.proofs.Isolation.{only_schedule, states, step_state}
 use Rattle.hid_stack.proofs.RoomLemmas.{bus_layouts, layout_of_member, layouts}
 use Rattle.hid_stack.proofs.SlotLemmas.{laid_by}
-
--- ---- each report has its idle time
-
-answer_stays : (items : List Item) (d : ReportState) (current : Option OpenRound) (odd : Bool) (view : List ControlState) (halted : Bool) (fate : Fate)
-    → (state_after_answer items (link d current odd view halted) fate).reports ≡ d
-answer_stays items d None odd view halted fate = refl
-answer_stays items d (Some round) odd view halted Clean = refl
-answer_stays items d (Some round) odd view halted TokenLost = refl
-answer_stays items d (Some round) odd view halted ReplyLost = refl
-answer_stays items d (Some round) odd view halted AckLost = refl
-
-opened_idle : (items : List Item) (d : ReportState) (odd : Bool) (view : List ControlState) (halted : Bool) (due : Option ℕ)
-    → (with_open_report items (link d None odd view halted) due).reports.idle ≡ d.idle
-opened_idle items d odd view halted None = refl
-opened_idle items d odd view halted (Some r) = refl
-
-token_idle : (items : List Item) (d : ReportState) (current : Option OpenRound) (odd : Bool) (view : List ControlState) (halted : Bool)
-    → (state_at_token items (link d current odd view halted)).reports.idle ≡ d.idle
-token_idle items d (Some round) odd view halted = refl
-token_idle items d None odd view halted = opened_idle items d odd view halted (due_where items halted d)
-
-arrival_idle : (items : List Item) (s : LinkState) (fate : Fate) → (state_before_answer items s fate).reports.idle ≡ s.reports.idle
-arrival_idle items s TokenLost = refl
-arrival_idle items s Clean = token_idle items s.reports s.current s.toggle s.view s.halted
-arrival_idle items s ReplyLost = token_idle items s.reports s.current s.toggle s.view s.halted
-arrival_idle items s AckLost = token_idle items s.reports s.current s.toggle s.view s.halted
-
-step_idle : (items : List Item) (s : LinkState) (x : OwnStep) → (state_after_step items s x).reports.idle ≡ s.reports.idle
-step_idle items s (Changes change) = by_change (snapshot_after items s.reports.snapshot change)
-  where
-    by_change : (o : OrFault (List ControlState)) → (let d : ReportState = elim o as (λ _. ReportState) [
-      | Ok now ↦ record { snapshot = now; fixed = s.reports.fixed; frames = s.reports.frames; idle = s.reports.idle; aborted = s.reports.aborted }
-      | Err fault ↦ s.reports
-    ] in d.idle ≡ s.reports.idle)
-    by_change (Ok now) = refl
-    by_change (Err fault) = refl
-step_idle items s Frame = refl
-step_idle items s (Polls fate) =
-    let t : LinkState = state_before_answer items s fate in
-    ap (λ (d : ReportState). d.idle) (answer_stays items t.reports t.current t.toggle t.view t.halted fate) ∙ arrival_idle items s fate
-
-abort_idle : (o : Option ℕ) (d : ReportState) → (with_abort o d).idle ≡ d.idle
-abort_idle None d = refl
-abort_idle (Some r) d = refl
-
-event_idle : (items : List Item) (n : ℕ) (s : LinkState) (x : BusEvent) → SetsEach n x → length s.reports.idle ≡ n
-    → length (state_after items s x).reports.idle ≡ n
-event_idle items n s (Own x) sets long = ap (λ (idle : List ℕ). length idle) (step_idle items s x) ∙ long
-event_idle items n s (Idles idle) sets long = sets
-event_idle items n s Configures sets long = long
-event_idle items n s bus.Halts sets long = ap (λ (idle : List ℕ). length idle) (abort_idle (open_report s.current) s.reports) ∙ long
-event_idle items n s bus.Clears sets long = ap (λ (idle : List ℕ). length idle) (abort_idle (open_report s.current) s.reports) ∙ long
-event_idle items n s bus.Resets sets long = length-replicate (length s.reports.idle) 0 ∙ long
 
 -- ---- the idle times that a request sets
 
@@ -233,19 +178,19 @@ agrees_by m n snapshot idle bus_events became =
     (agrees_at_nak items snapshot idle bus_events became.unpolled.fits (each_sent m snapshot idle became.unpolled)
     (each_set m n snapshot idle bus_events became)))
 
--- it rests after enough of these own steps
-abbrev RestsBy : ℕ → List Item → LinkState → List OwnStep → Type 0
-RestsBy k items s xs =
-    s.halted ≡ false → AreStill s.reports.idle xs → IsFair k (fates_of xs) → (k + 1) * polls_needed items s ≤ length (fates_of xs)
+-- it rests after these own steps if enough of its polls lose nothing
+abbrev pub RestsBy : List Item → LinkState → List OwnStep → Type 0
+RestsBy items s xs =
+    s.halted ≡ false → AreStill s.reports.idle xs → polls_needed items s ≤ closed_count (fates_of xs)
     → IsAtRest items (state_after_steps items s xs)
 
-rests_by : (k : ℕ) (m n : Member) (snapshot : List ControlState) (idle : List ℕ) (bus_events : List BusEvent) (xs : List OwnStep)
+rests_by : (m n : Member) (snapshot : List ControlState) (idle : List ℕ) (bus_events : List BusEvent) (xs : List OwnStep)
     → Became m n snapshot idle bus_events → has_zeros (items_of m.layout) ≡ true → AreSendable (items_of m.layout) snapshot
-    → RestsBy k (items_of n.layout) n.link xs
-rests_by k m n snapshot idle bus_events xs became zeros sendable =
+    → RestsBy (items_of n.layout) n.link xs
+rests_by m n snapshot idle bus_events xs became zeros sendable =
     let items : List Item = items_of m.layout in
-    let rests : RestsBy k items (state_after_all items (initial_link items snapshot idle) bus_events) xs =
-    λ going still fair few. agrees_in_time k items snapshot idle bus_events xs
+    let rests : RestsBy items (state_after_all items (initial_link items snapshot idle) bus_events) xs =
+    λ going still few. agrees_after_clean_polls items snapshot idle bus_events xs
     (record {
       fits = became.unpolled.fits;
       zeros = zeros;
@@ -254,19 +199,26 @@ rests_by k m n snapshot idle bus_events xs became zeros sendable =
       each = each_set m n snapshot idle bus_events became;
       going = going;
       still = still;
-    }) fair few in
-    subst (λ (l : Contents). RestsBy k (items_of l) n.link xs) (sym became.layout)
-    (subst (λ (s : LinkState). RestsBy k items s xs) (sym (became_link m n snapshot idle bus_events became)) rests)
+    }) few in
+    subst (λ (l : Contents). RestsBy (items_of l) n.link xs) (sym became.layout)
+    (subst (λ (s : LinkState). RestsBy items s xs) (sym (became_link m n snapshot idle bus_events became)) rests)
+
+-- a device that its host polls, after steps at which neither a request of it nor a halt or a reset comes
+pub stands_after : (device : ℕ) (n : Member) (steps : List Step) (bus : List Member) → member_at bus device ≡ Some n → polls_it n ≡ true
+    → HasOnlySchedule device steps
+    → member_at (bus_after_all bus steps) device ≡ Some (record n { link = state_after_steps (items_of n.layout) n.link (device_steps device steps) })
+stands_after device n steps bus there polled only =
+    states steps bus device n there
+    ∙ ap (λ (own : List MemberStep). Some (member_after_all n own)) (only_schedule device steps only)
+    ∙ ap (λ (o : Member). Some o) (ready_stands (device_steps device steps) n polled)
 
 rests_in : (k device : ℕ) (n : Member) (steps : List Step) (bus : List Member) → member_at bus device ≡ Some n
-    → RestsBy k (items_of n.layout) n.link (device_steps device steps) → RestsIn k device n steps (bus_after_all bus steps)
+    → RestsBy (items_of n.layout) n.link (device_steps device steps) → RestsIn k device n steps (bus_after_all bus steps)
 rests_in k device n steps bus there rests alone enough =
     let xs : List OwnStep = device_steps device steps in (
       record n { link = state_after_steps (items_of n.layout) n.link xs },
-      states steps bus device n there
-          ∙ ap (λ (own : List MemberStep). Some (member_after_all n own)) (only_schedule device steps alone.only)
-          ∙ ap (λ (o : Member). Some o) (ready_stands xs n alone.polled),
-      rests alone.going alone.still enough.0 enough.1,
+      stands_after device n steps bus there alone.polled alone.only,
+      rests alone.going alone.still (clean_in_time k (polls_needed (items_of n.layout) n.link) (fates_of xs) enough.0 enough.1),
     )
 
 -- ---- on a bus
@@ -302,7 +254,7 @@ come_to_rest k before earlier later after is device m snapshot idle there unpoll
       here,
       subst (λ (bus : List Member). RestsIn k device n later bus) (sym (is ∙ all_append earlier later before))
           (rests_in k device n later (bus_after_all before earlier) here
-          (rests_by k m n snapshot idle (bus_events_of_steps m own) (device_steps device later)
+          (rests_by m n snapshot idle (bus_events_of_steps m own) (device_steps device later)
           (became_by_steps device m snapshot idle earlier unpolled) zeros sendable)),
     )
 
@@ -552,45 +504,14 @@ agree_from_attach acts starts dev n there =
     agrees_by lived.start n (blank (items_of lived.start.layout)) (replicate (input_count lived.start.layout.reports) 0)
     (bus_events_of_actions lived.start lived.acts) (became_lived n lived)
 
+-- a device that was attached rests after any own steps from here on, if enough of its polls lose nothing
+pub attached_rests_by : (acts : List Action) → AllStartUnpolled acts → (dev : ℕ) (n : Member) (xs : List OwnStep)
+    → member_at (bus_after_actions [] acts) dev ≡ Some n → RestsBy (items_of n.layout) n.link xs
+attached_rests_by acts starts dev n xs there =
+    let lived : Lived n = all_lived acts [] starts none_there dev n there in
+    rests_by lived.start n (blank (items_of lived.start.layout)) (replicate (input_count lived.start.layout.reports) 0)
+    (bus_events_of_actions lived.start lived.acts) xs (became_lived n lived) lived.starts.zeros lived.starts.sendable
+
 pub rest_from_attach : (k : ℕ) (acts : List Action) (later : List Step) → RestFromAttach k acts later
 rest_from_attach k acts later starts dev n there =
-    let lived : Lived n = all_lived acts [] starts none_there dev n there in
-    rests_in k dev n later (bus_after_actions [] acts) there
-    (rests_by k lived.start n (blank (items_of lived.start.layout)) (replicate (input_count lived.start.layout.reports) 0)
-    (bus_events_of_actions lived.start lived.acts) (device_steps dev later) (became_lived n lived) lived.starts.zeros lived.starts.sendable)
-
--- ---- clean polls alone
-
-own_polls : (dev : ℕ) (fate : Fate) (count : ℕ) → device_steps dev (replicate count (Poll dev fate)) ≡ replicate count (Polls fate)
-own_polls dev fate zero = refl
-own_polls dev fate (suc count) =
-    ap (λ (b : Bool). cons_option (cond b (Some (Polls fate)) None) (device_steps dev (replicate count (Poll dev fate)))) (eqb_same dev)
-    ∙ ap (λ (xs : List OwnStep). Polls fate ∷ xs) (own_polls dev fate count)
-
-polls_still : (idle : List ℕ) (fate : Fate) (count : ℕ) → AreStill idle (replicate count (Polls fate))
-polls_still idle fate zero = tt
-polls_still idle fate (suc count) = (tt, polls_still idle fate count)
-
-polls_fair : (count : ℕ) → IsFair 0 (fates_of (replicate count (Polls Clean)))
-polls_fair zero = tt
-polls_fair (suc count) = polls_fair count
-
-polls_many : (count : ℕ) → length (fates_of (replicate count (Polls Clean))) ≡ count
-polls_many zero = refl
-polls_many (suc count) = omega (arith, polls_many count)
-
--- a device that is polled cleanly, and nothing else, is left alone
-pub polls_alone : (dev : ℕ) (n : Member) (count : ℕ) → polls_it n ≡ true → n.link.halted ≡ false
-    → IsLeftAlone dev n (replicate count (Poll dev Clean))
-polls_alone dev n count polled going = record {
-  polled = polled;
-  going = going;
-  only = All-replicate (λ (x : Step). is_scheduled dev x ≡ true) count (Poll dev Clean) refl;
-  still = subst (AreStill n.link.reports.idle) (sym (own_polls dev Clean count)) (polls_still n.link.reports.idle Clean count);
-}
-
-pub polls_enough : (dev : ℕ) (n : Member) (count : ℕ) → polls_needed (items_of n.layout) n.link ≤ count
-    → AreEnoughPolls 0 dev n (replicate count (Poll dev Clean))
-polls_enough dev n count enough =
-    subst (λ (xs : List OwnStep). IsFair 0 (fates_of xs) × ((0 + 1) * polls_needed (items_of n.layout) n.link ≤ length (fates_of xs)))
-    (sym (own_polls dev Clean count)) (polls_fair count, omega (arith, enough, polls_many count))
+    rests_in k dev n later (bus_after_actions [] acts) there (attached_rests_by acts starts dev n (device_steps dev later) there)

@@ -1,4 +1,5 @@
-use Rattle.hid_bus.proofs.AgreementLemmas.{agrees_at_nak, nak_says_nothing, nothing_is_nak, unmoved}
+use Rattle.hid_bus.proofs.AgreementLemmas.{agrees_at_nak}
+use Rattle.hid_bus.proofs.NakLemmas.{nak_says_nothing, nothing_is_nak, unmoved}
 use Rattle.hid_bus.proofs.laws.no_key_is_left_stuck.Goals as goal
 
 pub returns-clause-nak : goal.returns-clause-nak
