@@ -12,7 +12,8 @@ use Rattle.hid_bus.specs.Rounds.{OwnStep}
 use Rattle.hid_bus.specs.LinkState.{LinkState, initial_link}
 use Rattle.hid_bus.specs.DeviceHistory.{AreWithinEpoch, BusEvent, state_after_all, steps_as_events}
 use Rattle.hid_bus.specs.Agreement.{AllSetEach, AnswersNak, AreSentIn, Agrees, HasNothingToSend}
-use Rattle.hid_bus.proofs.AgreementLemmas.{agrees_at_nak, items_are_sent, nak_says_nothing}
+use Rattle.hid_bus.proofs.AgreementLemmas.{agrees_at_nak, items_are_sent}
+use Rattle.hid_bus.proofs.NakLemmas.{nak_says_nothing}
 use Rattle.hid_device.specs.declared.decisions.PendingWrite.{PendingWrite}
 use Rattle.hid_device.specs.declared.decisions.PendingWrite.TheVariants as pendings
 use Rattle.hid_device.specs.Inputs.{input_count}
@@ -21,7 +22,7 @@ use Rattle.hid_device.specs.RequestTable.{with_idle_time}
 use Rattle.hid_gadget.specs.declared.outcomes.Poll.{Poll}
 use Rattle.hid_gadget.specs.declared.outcomes.Poll.TheVariants.{Done, Nothing, Stalled, TooSmall}
 use Rattle.hid_gadget.specs.WholeReports.{bytes_fitting, end_of_pieces, end_of_round, pieces_fitting, pieces_taken, report_result}
-use Rattle.hid_gadget.specs.ReceivedReports.{AreInStep, Asks, Changes, Frame, GadgetStep, GivesEvents, Transfers, bus_events, bus_events_of, core_after_step, core_after_steps, events_of_write, link_with, new_receiver, polls_of, receiver_after_step, receiver_after_steps, write_of_transfer}
+use Rattle.hid_gadget.specs.ReceivedReports.{AreInStep, Asks, Changes, Frame, GadgetStep, GivesEvents, IsFresh, Transfers, bus_events, bus_events_of, core_after_step, core_after_steps, events_of_write, link_with, new_receiver, polls_of, receiver_after_step, receiver_after_steps, write_of_transfer}
 use Rattle.hid_gadget.specs.Agreement.{AgreesAfterSteps}
 use Rattle.hid_gadget.proofs.ReceiveLemmas.{fresh_in_step, fresh_is, gives_events, step_in_step, token_at, within_parts}
 
@@ -83,7 +84,7 @@ none_of_round room c None is = (by_halt c.halted is, refl)
     by_halt true wrong = absurd (cc)
     by_halt false right = refl
 
-at_poll_halted : (core : CoreState) (o : Option ℕ) → (core_after_due core o).halted ≡ core.halted
+pub at_poll_halted : (core : CoreState) (o : Option ℕ) → (core_after_due core o).halted ≡ core.halted
 at_poll_halted core (Some r) = refl
 at_poll_halted core None = by_due (due_where (items_of core.layout) core.halted core.reports)
   where
@@ -105,38 +106,54 @@ nothing_is_nak core room view configured is =
 
 -- ---- after any steps
 
-pub agrees_after_steps : (core : CoreState) (snapshot : List ControlState) (idle : List ℕ) (steps : List GadgetStep)
-    → AgreesAfterSteps core snapshot idle steps
-agrees_after_steps core snapshot idle steps fresh within room is =
+-- the layout stays
+pub layouts_stay : (core : CoreState) (steps : List GadgetStep) (receiving : ReceiverState) → AreInStep core receiving
+    → AreWithinEpoch (bus_events core steps) → (core_after_steps core steps).layout ≡ core.layout
+layouts_stay core [] receiving stands within = refl
+layouts_stay core (step ∷ rest) receiving stands within =
+    let next : CoreState = core_after_step core step in
+    let parts = within_parts (bus_events_of core step) (bus_events next rest) within in
+    let one = step_in_step core step receiving stands parts.0 in
+    layouts_stay next rest (receiver_after_step core step receiving) one.in_step parts.1 ∙ one.same
+
+-- what holds of a gadget that was just configured, and of a new receiver, after steps within the epoch
+pub record AfterSteps (core : CoreState) (snapshot : List ControlState) (idle : List ℕ) (steps : List GadgetStep) : Type 0 where
+  pub fits : FitsSnapshot (items_of core.layout) snapshot
+  pub sent : AreSentIn (length idle) (items_of core.layout)
+  pub sets : AllSetEach (length idle) (bus_events core steps)
+  pub same : (core_after_steps core steps).layout ≡ core.layout
+  pub stands : link_with (core_after_steps core steps) (receiver_after_steps core steps (new_receiver core.layout)).view
+      ≡ state_after_all (items_of core.layout) (initial_link (items_of core.layout) snapshot idle) (bus_events core steps)
+  pub in_step : AreInStep (core_after_steps core steps) (receiver_after_steps core steps (new_receiver core.layout))
+
+pub after_steps : (core : CoreState) (snapshot : List ControlState) (idle : List ℕ) (steps : List GadgetStep) → IsFresh core snapshot idle
+    → AreWithinEpoch (bus_events core steps) → AfterSteps core snapshot idle steps
+after_steps core snapshot idle steps fresh within =
     let items : List Item = items_of core.layout in
     let receiving : ReceiverState = new_receiver core.layout in
     let in_step : AreInStep core receiving = fresh_in_step core snapshot idle fresh in
     let gives : GivesEvents core steps receiving = gives_events core steps receiving in_step within in
-    let last : CoreState = core_after_steps core steps in
-    let view : List ControlState = (receiver_after_steps core steps receiving).view in
     let long : length idle ≡ input_count core.layout.reports =
     sym (ap (λ (d : ReportState). length d.idle) fresh.reports) ∙ fresh.sound.each_idle in
-    let fits : FitsSnapshot items snapshot =
-    subst (λ (d : ReportState). FitsSnapshot items d.snapshot) fresh.reports fresh.sound.snapshot in
-    let sent : AreSentIn (length idle) items =
-    items_are_sent core.layout (length idle) (subst (λ (k : ℕ). (r : ℕ) → is_input core.layout.reports r ≡ true → r < k) (sym long) fresh.sound.inputs_first.no_others) in
-    let sets : AllSetEach (length idle) (bus_events core steps) =
-    subst (λ (k : ℕ). AllSetEach k (bus_events core steps)) (sym long) (steps_set core steps receiving in_step within) in
-    let same : last.layout ≡ core.layout = layouts_stay core steps receiving in_step within in
-    let stands : link_with last view ≡ state_after_all items (initial_link items snapshot idle) (bus_events core steps) =
-    gives.stands ∙ ap (λ (s : LinkState). state_after_all items s (bus_events core steps)) (fresh_is core snapshot idle fresh) in
+    record {
+      fits = subst (λ (d : ReportState). FitsSnapshot items d.snapshot) fresh.reports fresh.sound.snapshot;
+      sent = items_are_sent core.layout (length idle) (subst (λ (k : ℕ). (r : ℕ) → is_input core.layout.reports r ≡ true → r < k) (sym long) fresh.sound.inputs_first.no_others);
+      sets = subst (λ (k : ℕ). AllSetEach k (bus_events core steps)) (sym long) (steps_set core steps receiving in_step within);
+      same = layouts_stay core steps receiving in_step within;
+      stands = gives.stands ∙ ap (λ (s : LinkState). state_after_all items s (bus_events core steps)) (fresh_is core snapshot idle fresh);
+      in_step = gives.in_step;
+    }
+
+pub agrees_after_steps : (core : CoreState) (snapshot : List ControlState) (idle : List ℕ) (steps : List GadgetStep)
+    → AgreesAfterSteps core snapshot idle steps
+agrees_after_steps core snapshot idle steps fresh within room is =
+    let items : List Item = items_of core.layout in
+    let after : AfterSteps core snapshot idle steps = after_steps core snapshot idle steps fresh within in
+    let last : CoreState = core_after_steps core steps in
+    let view : List ControlState = (receiver_after_steps core steps (new_receiver core.layout)).view in
     let nothing : HasNothingToSend (items_of last.layout) (link_with last view) =
-    nak_says_nothing (items_of last.layout) (link_with last view) (nothing_is_nak last room view gives.in_step.configured is) in
+    nak_says_nothing (items_of last.layout) (link_with last view) (nothing_is_nak last room view after.in_step.configured is) in
     let agrees : HasNothingToSend items (link_with last view) → Agrees items (link_with last view) =
-    subst (λ (s : LinkState). HasNothingToSend items s → Agrees items s) (sym stands)
-    (agrees_at_nak items snapshot idle (bus_events core steps) fits sent sets) in
-    subst (λ (l : Contents). HasNothingToSend (items_of l) (link_with last view) → Agrees (items_of l) (link_with last view)) (sym same) agrees nothing
-  where
-    layouts_stay : (c : CoreState) (rest : List GadgetStep) (r : ReceiverState) → AreInStep c r → AreWithinEpoch (bus_events c rest)
-        → (core_after_steps c rest).layout ≡ c.layout
-    layouts_stay c [] r stands w = refl
-    layouts_stay c (step ∷ rest) r stands w =
-        let next : CoreState = core_after_step c step in
-        let parts = within_parts (bus_events_of c step) (bus_events next rest) w in
-        let one = step_in_step c step r stands parts.0 in
-        layouts_stay next rest (receiver_after_step c step r) one.in_step parts.1 ∙ one.same
+    subst (λ (s : LinkState). HasNothingToSend items s → Agrees items s) (sym after.stands)
+    (agrees_at_nak items snapshot idle (bus_events core steps) after.fits after.sent after.sets) in
+    subst (λ (l : Contents). HasNothingToSend (items_of l) (link_with last view) → Agrees (items_of l) (link_with last view)) (sym after.same) agrees nothing

@@ -7,5 +7,6 @@ pub mod TakeLemmas
 pub mod ResultLemmas
 pub mod ReceiveLemmas
 pub mod AgreementLemmas
+pub mod RestLemmas
 pub mod ReadLemmas
 mod Vectors

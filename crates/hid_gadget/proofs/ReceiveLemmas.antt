@@ -744,7 +744,7 @@ gives_rounds core snapshot idle gadget_steps fresh within =
     gives_history core snapshot idle gadget_steps fresh within
     ∙ epoch_is_told (items_of core.layout) (initial_link (items_of core.layout) snapshot idle) (bus_events core gadget_steps) refl within
 
-own_within : (steps : List OwnStep) → AreWithinEpoch (steps_as_events steps)
+pub own_within : (steps : List OwnStep) → AreWithinEpoch (steps_as_events steps)
 own_within [] = tt
 own_within (x ∷ steps) = (tt, own_within steps)
 

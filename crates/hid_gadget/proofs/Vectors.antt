@@ -1,8 +1,8 @@
 -- Worked values of rooms, transfers and reports: each is worked out by hand, and a wrong one fails the check.
-use Rattle.std.specs.Prelude.{◌≡◌, ℕ, true, false, [], ◌∷◌, replicate, Some, None, refl}
+use Rattle.std.specs.Prelude.{◌≡◌, ℕ, true, false, [], ◌∷◌, replicate, Some, None, pos, refl}
 use Rattle.hid_layout.specs.declared.boot.TheConstants.{MOUSE}
 use Rattle.hid_layout.specs.Controls.{items_from, spread_usages}
-use Rattle.hid_snapshots.specs.declared.change.Change.TheVariants.{Press, Release}
+use Rattle.hid_snapshots.specs.declared.change.Change.TheVariants.{Press, Release, Move}
 use Rattle.hid_snapshots.specs.declared.event.Event.TheVariants as event
 use Rattle.hid_snapshots.specs.Events.{control_at}
 use Rattle.hid_snapshots.specs.PartBytes.{part_bytes}
@@ -17,9 +17,12 @@ use Rattle.usb_control.specs.declared.setup.Setup.{Setup}
 use Rattle.usb_control.specs.SetupBytes.{setup_of}
 use Rattle.usb_control.specs.Transfer.{Shape, Refused, Accepted}
 use Rattle.hid_gadget.specs.declared.outcomes.Control.TheVariants.{Done, Stalled}
+use Rattle.hid_gadget.specs.declared.outcomes.Poll.TheVariants as poll
+use Rattle.hid_gadget.specs.declared.outcomes.Poll.TheVariants.{Nothing}
+use Rattle.hid_gadget.specs.Agreement.{packets_asked, packets_needed}
 use Rattle.hid_gadget.specs.Rooms.{with_front}
-use Rattle.hid_gadget.specs.ReceivedReports.{Asks, Changes, Transfers, events_received, new_receiver}
-use Rattle.hid_gadget.specs.WholeReports.{fitting_pieces}
+use Rattle.hid_gadget.specs.ReceivedReports.{Asks, Changes, Transfers, core_after_steps, events_received, new_receiver}
+use Rattle.hid_gadget.specs.WholeReports.{fitting_pieces, report_result}
 use Rattle.hid_gadget.specs.WholeTransfers.{after_transfer, control_result, end_with, given_bytes, tries_needed}
 
 two_in_four : with_front (1 ∷ 2 ∷ []) (0 ∷ 0 ∷ 0 ∷ 0 ∷ []) ≡ 1 ∷ 2 ∷ 0 ∷ 0 ∷ []
@@ -116,3 +119,31 @@ configuration_1 = refl
 configuration_2 : after_transfer core_table new_mouse (setup_of (0x00 ∷ 0x09 ∷ 0x02 ∷ 0x00 ∷ 0x00 ∷ 0x00 ∷ 0x00 ∷ 0x00 ∷ [])) [] ≡ new_mouse
 unfolding decide request_kind_of
 configuration_2 = refl
+
+-- ---- coming to rest
+
+-- button 1 went down, and the mouse moved 200 to the right, of which a report carries 127
+abbrev moved_mouse : CoreState
+moved_mouse = core_after_steps (configured_core new_mouse) (Changes (Press (control_at 0 0)) ∷ Changes (Move (control_at 2 0) (pos 200)) ∷ [])
+
+two_packets : packets_needed moved_mouse ≡ 2
+unfolding items_from spread_usages
+two_packets = refl
+
+-- of three transfers the first has no room, and doesn't count
+two_counted : packets_asked moved_mouse (Asks 2 ∷ Asks 3 ∷ Asks 64 ∷ []) ≡ 2
+unfolding part_bytes items_from spread_usages
+two_counted = refl
+
+nothing_then : report_result (core_after_steps moved_mouse (Asks 2 ∷ Asks 3 ∷ Asks 64 ∷ [])) 64 ≡ Nothing
+unfolding part_bytes items_from spread_usages
+nothing_then = refl
+
+more_after_one : report_result (core_after_steps moved_mouse (Asks 64 ∷ [])) 64 ≡ poll.Done 3
+unfolding part_bytes items_from spread_usages
+more_after_one = refl
+
+-- what finds nothing to report counts for one
+one_counted : packets_asked (configured_core new_mouse) (Asks 64 ∷ []) ≡ 1
+unfolding part_bytes items_from spread_usages
+one_counted = refl

@@ -1,5 +1,5 @@
 //! What follows of whole transfers.
-ghost use Rattle.std.specs.Prelude.{◌≡◌, ◌≤◌, ◌++◌, ℕ, List, [], length, true, false, Some, None, Result};
+ghost use Rattle.std.specs.Prelude.{◌≡◌, ◌≢◌, ◌<◌, ◌≤◌, ◌++◌, ℕ, List, [], length, true, false, Some, None, Result};
 ghost use Rattle.hid_report_descriptor.specs.declared.limits.TheConstants.{MAX_REPORT_BYTES};
 ghost use Rattle.hid_layout.specs.Layout.{Contents};
 ghost use Rattle.hid_layout.specs.Controls.{items_of};
@@ -22,8 +22,8 @@ ghost use Rattle.hid_device.specs.RequestTable.{core_table};
 ghost use Rattle.hid_gadget.specs.WholeTransfers.{IsOfTries, after_transfer};
 ghost use Rattle.hid_gadget.specs.WholeReports.{IsOfPolls, IsTakenWhole, TakesNothing, report_result};
 ghost use Rattle.hid_gadget.specs.declared.outcomes.Poll.{Poll};
-ghost use Rattle.hid_gadget.specs.ReceivedReports.{AreInStep, GadgetStep, GivesEvents, IsFresh, bus_events, events_of_crossed, events_received, new_receiver, set_configuration_1};
-ghost use Rattle.hid_gadget.specs.Agreement.{AgreesAfterSteps};
+ghost use Rattle.hid_gadget.specs.ReceivedReports.{AreInStep, Asks, GadgetStep, GivesEvents, IsFresh, bus_events, events_of_crossed, events_received, new_receiver, set_configuration_1};
+ghost use Rattle.hid_gadget.specs.Agreement.{AgreesAfterSteps, RestsAfterTransfers, packets_at};
 ghost use Rattle.hid_gadget.specs.ReadReports.{AreWhole, HoldsEach, ReadsAlike, events_read, receiver_of};
 
 /// A control transfer of which nothing is lost is the tries of its pieces: after as many of them as it needs, wherever
@@ -79,6 +79,13 @@ pub fn receivers_give_events()
     // No key is left stuck: if an interrupt transfer returns `Nothing` after these steps, the receiver has what is pressed.
     ensures agrees { (core : CoreState) (snapshot : List ControlState) (idle : List ℕ)
         (steps : List GadgetStep) → AgreesAfterSteps core snapshot idle steps }
+    // Once nothing changes, the gadget comes to rest, and the receiver has what is pressed, after as many packets as it needs.
+    ensures rests { (core : CoreState) (snapshot : List ControlState) (idle : List ℕ)
+        (earlier later : List GadgetStep)
+        → RestsAfterTransfers core snapshot idle earlier later }
+    // A transfer whose room isn't too small is one packet at least.
+    ensures each { (core : CoreState) (room : ℕ) → core.halted ≡ false
+        → report_result core room ≢ Poll.TooSmall → 0 < packets_at core (Asks room) }
     // A gadget whose host just configured it is one of the headline, and in step with a new receiver.
     ensures fresh { (core : CoreState) → IsSound core
         → IsFresh (after_transfer core_table core set_configuration_1 [])

@@ -1,5 +1,6 @@
 use Rattle.hid_gadget.proofs.ReceiveLemmas.{fresh_in_step, gives_events, gives_rounds, gives_schedule, goes_on_again, is_fresh}
 use Rattle.hid_gadget.proofs.AgreementLemmas.{agrees_after_steps}
+use Rattle.hid_gadget.proofs.RestLemmas.{rests_after_transfers, some_packets}
 use Rattle.hid_gadget.proofs.laws.receivers_give_events.Goals as goal
 
 pub returns-clause-given : goal.returns-clause-given
@@ -22,3 +23,9 @@ returns-clause-again c = goes_on_again
 
 pub returns-clause-agrees : goal.returns-clause-agrees
 returns-clause-agrees c = agrees_after_steps
+
+pub returns-clause-rests : goal.returns-clause-rests
+returns-clause-rests c = rests_after_transfers
+
+pub returns-clause-each : goal.returns-clause-each
+returns-clause-each c = some_packets
