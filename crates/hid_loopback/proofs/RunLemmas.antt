@@ -17,6 +17,7 @@ use Rattle.hid_usages.specs.Reading.{first_byte, report_begun}
 use Rattle.hid_usages.specs.Receiving.{ReceiverState, after_packet, bytes_with, events_of_report, events_with, is_whole, view_after_report, without_collected}
 use Rattle.hid_interfaces.specs.declared.interface.InterfaceInfo.{InterfaceInfo}
 use Rattle.hid_bus.specs.ReportState.{due_where, no_idle}
+use Rattle.hid_bus.specs.Convergence.{AreSendable}
 use Rattle.hid_bus.specs.Rounds.{OwnStep, events_of_epoch}
 use Rattle.hid_bus.specs.LinkState.{LinkState}
 use Rattle.hid_bus.specs.DeviceHistory.{AreWithinEpoch, state_after_all, steps_as_events}
@@ -37,13 +38,14 @@ use Rattle.hid_gadget.specs.declared.outcomes.Poll.{Poll}
 use Rattle.hid_gadget.specs.declared.outcomes.Poll.TheVariants.{Done, Nothing, Stalled, TooSmall}
 use Rattle.hid_gadget.specs.WholeReports.{bytes_fitting, bytes_left, bytes_taken, core_after_poll, core_after_polls, end_of_pieces, end_of_round, fitting_pieces, pieces_taken, report_result}
 use Rattle.hid_gadget.specs.ReceivedReports.{AreInStep, Asks, Changes, Frame, GadgetStep, Transfers, bus_events, bus_events_of, bytes_before, core_after_step, core_after_steps, events_after, events_at_step, events_of_crossed, events_of_write, events_received, link_with, new_receiver, receiver_after, receiver_after_step, receiver_after_steps, write_of_transfer}
-use Rattle.hid_gadget.specs.Agreement.{AgreesAtNothing}
+use Rattle.hid_gadget.specs.Agreement.{AgreesAtNothing, RestsWith}
 use Rattle.hid_gadget.proofs.AgreementLemmas.{agrees_after_steps}
-use Rattle.hid_gadget.proofs.ReceiveLemmas.{OpenFacts, fresh_in_step, gives_events, gives_rounds, gives_schedule, open_facts, step_in_step, within_parts}
+use Rattle.hid_gadget.proofs.RestLemmas.{rests_after_transfers, still_within}
+use Rattle.hid_gadget.proofs.ReceiveLemmas.{OpenFacts, fresh_in_step, gives_events, gives_rounds, gives_schedule, open_facts, own_within, step_in_step, within_parts}
 use Rattle.hid_gadget.proofs.SoundLemmas.{at_poll_layout, sound_at_poll}
 use Rattle.hid_loopback.specs.BringUp.{core_brought_up, device_of}
 use Rattle.hid_loopback.specs.InterruptTransfers.{Hears}
-use Rattle.hid_loopback.specs.Runs.{Delivers, DriverAgrees, IsBeside, Runs, RunsStep, live_interface}
+use Rattle.hid_loopback.specs.Runs.{Delivers, DriverAgrees, DriverComesToRest, IsBeside, Runs, RunsStep, live_interface}
 use Rattle.hid_loopback.proofs.BringUpLemmas.{fresh_up, layout_up}
 
 -- ---- a transfer that the driver receives as a receiver of packets does
@@ -419,10 +421,6 @@ cross_once core gadget_steps later events sound within runs =
     ∙ ap (map (event_of 0)) (gives_rounds up snapshot idle gadget_steps (fresh_up core sound) within)
     ∙ ap (λ (l : Contents). map (event_of 0) (events_of_crossed (items_of l) snapshot idle (bus_events up gadget_steps))) (layout_up core)
 
-own_within : (steps : List OwnStep) → AreWithinEpoch (steps_as_events steps)
-own_within [] = tt
-own_within (x ∷ steps) = (tt, own_within steps)
-
 pub cross_by_schedule : (core : CoreState) (gadget_steps : List GadgetStep) (later : DriverValue) (events : List DriverEvent) (own : List OwnStep)
     → IsSound core → bus_events (core_brought_up core) gadget_steps ≡ steps_as_events own
     → Runs (core_brought_up core) gadget_steps (ready_for (device_of core) core.layout) later events
@@ -449,4 +447,25 @@ agrees_up core gadget_steps later events sound within runs =
       subst (λ (l : Contents). AgreesAtNothing (core_after_steps up gadget_steps) (receiver_after_steps up gadget_steps (new_receiver l)).view)
           (layout_up core)
           (agrees_after_steps up core.reports.snapshot (no_idle core.reports.idle) gadget_steps (fresh_up core sound) within),
+    )
+
+-- both come to rest once nothing changes
+pub rests_up : (core : CoreState) (earlier gadget_steps : List GadgetStep) (driver later : DriverValue) (events more : List DriverEvent) → IsSound core
+    → AreSendable (items_of core.layout) core.reports.snapshot → AreWithinEpoch (bus_events (core_brought_up core) earlier)
+    → Runs (core_brought_up core) earlier (ready_for (device_of core) core.layout) driver events
+    → DriverComesToRest (core_after_steps (core_brought_up core) earlier) (virtual_interface (device_of core)) gadget_steps driver later more
+rests_up core earlier gadget_steps driver later events more sound sendable within runs still enough more_runs =
+    let up : CoreState = core_brought_up core in
+    let info : InterfaceInfo = virtual_interface (device_of core) in
+    let now : CoreState = core_after_steps up earlier in
+    let seen : ReceiverState = receiver_after_steps up earlier (new_receiver core.layout) in
+    let first = runs_alike up info (new_receiver core.layout) earlier (ready_for (device_of core) core.layout) driver events (beside_up core sound) within runs in
+    let second = runs_alike now info seen gadget_steps driver later more first.beside
+    (still_within now gadget_steps seen first.beside.in_step still) more_runs in (
+      receiver_after_steps now gadget_steps seen,
+      second.beside.interface,
+      subst (λ (l : Contents). RestsWith (core_after_steps now gadget_steps) (receiver_after_steps now gadget_steps (receiver_after_steps up earlier (new_receiver l))).view)
+          (layout_up core)
+          (rests_after_transfers up core.reports.snapshot (no_idle core.reports.idle) earlier gadget_steps (fresh_up core sound)
+          (subst (λ (l : Contents). AreSendable (items_of l) core.reports.snapshot) (sym (layout_up core)) sendable) within still enough),
     )

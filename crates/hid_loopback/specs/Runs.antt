@@ -1,5 +1,5 @@
 -- A gadget and the driver of its reports, step by step (USB 2.0, 8.5.4; HID 1.11, 5.6 and 8).
-use Rattle.std.specs.Prelude.{◌≡◌, ℕ, false, List, [], ◌∷◌, ◌++◌, map, Result}
+use Rattle.std.specs.Prelude.{◌≡◌, ◌≤◌, ℕ, false, List, [], ◌∷◌, ◌++◌, map, Result}
 use Rattle.hid_layout.specs.Controls.{items_of}
 use Rattle.hid_usages.specs.Receiving.{ReceiverState}
 use Rattle.hid_interfaces.specs.declared.interface.InterfaceInfo.{InterfaceInfo}
@@ -13,7 +13,7 @@ use Rattle.hid_driver.specs.Driver.{DriverValue}
 use Rattle.hid_driver.specs.Pipe.{event_of, pipe_of_receiver}
 use Rattle.hid_gadget.specs.declared.outcomes.Poll.{Poll}
 use Rattle.hid_gadget.specs.ReceivedReports.{AreInStep, Asks, Changes, Frame, GadgetStep, Transfers, bus_events, core_after_step, core_after_steps, link_with}
-use Rattle.hid_gadget.specs.Agreement.{AgreesAtNothing}
+use Rattle.hid_gadget.specs.Agreement.{AgreesAtNothing, AreStillSteps, RestsWith, packets_asked, packets_needed}
 use Rattle.hid_gadget.specs.WholeReports.{bytes_taken, report_result}
 use Rattle.hid_loopback.specs.InterruptTransfers.{Hears}
 
@@ -77,3 +77,16 @@ abbrev pub DriverAgrees : CoreState → InterfaceInfo → DriverValue → Type 0
 DriverAgrees core info driver =
     (receiving : ReceiverState) × (driver.interfaces ≡ live_interface info receiving ∷ [])
     × AgreesAtNothing core receiving.view
+
+-- An interrupt transfer would return `Nothing`, whatever its room, and the driver's view has what is pressed at the gadget
+-- and each value, and no motion is left to report.
+abbrev pub DriverRests : CoreState → InterfaceInfo → DriverValue → Type 0
+DriverRests core info driver =
+    (receiving : ReceiverState) × (driver.interfaces ≡ live_interface info receiving ∷ []) × RestsWith core receiving.view
+
+-- Once nothing changes at the gadget, the driver and the gadget come to rest after interrupt transfers that count for as many
+-- packets as the gadget needs.
+abbrev pub DriverComesToRest : CoreState → InterfaceInfo → List GadgetStep → DriverValue → DriverValue → List DriverEvent → Type 0
+DriverComesToRest core info gadget_steps driver later events =
+    AreStillSteps core gadget_steps → packets_needed core ≤ packets_asked core gadget_steps
+    → Runs core gadget_steps driver later events → DriverRests (core_after_steps core gadget_steps) info later

@@ -5,6 +5,7 @@ ghost use Rattle.hid_usages.specs.Receiving.{ReceiverState};
 ghost use Rattle.hid_interfaces.specs.declared.interface.InterfaceInfo.{InterfaceInfo};
 ghost use Rattle.usb_control.specs.declared.setup.Setup.{Setup};
 ghost use Rattle.hid_bus.specs.ReportState.{no_idle};
+ghost use Rattle.hid_bus.specs.Convergence.{AreSendable};
 ghost use Rattle.hid_bus.specs.Rounds.{OwnStep, events_of_epoch};
 ghost use Rattle.hid_bus.specs.DeviceHistory.{AreWithinEpoch, steps_as_events};
 ghost use Rattle.hid_device.specs.Core.{CoreState, IsSound};
@@ -19,7 +20,7 @@ ghost use Rattle.hid_driver.specs.VirtualDevices.{ready_for, virtual_interface};
 ghost use Rattle.hid_gadget.specs.ReceivedReports.{GadgetStep, IsFresh, Transfers, bus_events, core_after_step, core_after_steps, events_of_crossed};
 ghost use Rattle.hid_loopback.specs.BringUp.{core_brought_up, device_of};
 ghost use Rattle.hid_loopback.specs.ControlTransfers.{MakesTransfer};
-ghost use Rattle.hid_loopback.specs.Runs.{Delivers, DriverAgrees, IsBeside, IsQuiet, Runs};
+ghost use Rattle.hid_loopback.specs.Runs.{Delivers, DriverAgrees, DriverComesToRest, IsBeside, IsQuiet, Runs};
 
 /// Once a driver is up beside a gadget, its events are the changes between the reports of the gadget's rounds that crossed, in
 /// order, none twice: for every list of changes, frames, interrupt transfers with any room, and control transfers that
@@ -44,6 +45,15 @@ pub fn events_cross_once()
         → Runs (core_brought_up core) steps (ready_for (device_of core) core.layout) later events
         → DriverAgrees (core_after_steps (core_brought_up core) steps)
         (virtual_interface (device_of core)) later }
+    // Once nothing changes after these steps, both come to rest, and the driver's view has what is pressed at the gadget, after as
+    // many packets as the gadget needs.
+    ensures rests { (core : CoreState) (earlier steps : List GadgetStep) (driver later : DriverValue)
+        (events more : List DriverEvent) → IsSound core
+        → AreSendable (items_of core.layout) core.reports.snapshot
+        → AreWithinEpoch (bus_events (core_brought_up core) earlier)
+        → Runs (core_brought_up core) earlier (ready_for (device_of core) core.layout) driver events
+        → DriverComesToRest (core_after_steps (core_brought_up core) earlier)
+        (virtual_interface (device_of core)) steps driver later more }
     // The gadget was just configured then, with no idle time, and its snapshot is as it was.
     ensures fresh { (core : CoreState) → IsSound core
         → IsFresh (core_brought_up core) core.reports.snapshot (no_idle core.reports.idle) }

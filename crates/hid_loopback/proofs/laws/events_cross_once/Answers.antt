@@ -1,5 +1,5 @@
 use Rattle.hid_loopback.proofs.BringUpLemmas.{fresh_up}
-use Rattle.hid_loopback.proofs.RunLemmas.{agrees_up, cross_by_schedule, cross_once, delivers}
+use Rattle.hid_loopback.proofs.RunLemmas.{agrees_up, cross_by_schedule, cross_once, delivers, rests_up}
 use Rattle.hid_loopback.proofs.laws.events_cross_once.Goals as goal
 
 pub returns-clause-headline : goal.returns-clause-headline
@@ -16,3 +16,6 @@ returns-clause-given c = delivers
 
 pub returns-clause-agrees : goal.returns-clause-agrees
 returns-clause-agrees c = agrees_up
+
+pub returns-clause-rests : goal.returns-clause-rests
+returns-clause-rests c = rests_up
