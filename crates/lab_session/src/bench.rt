@@ -30,14 +30,9 @@ use hid_requests::Boot;
 use hid_script::{Cause, Interpreter, Options, Sink};
 use hid_stack::{StackFault, Start, Step};
 use hid_text::{ChangeKind, Line, ShortLine, read_line, read_short};
-use lab_lines::{
-    ControlName, Key, LEFT_SHIFT, LabLine, TypedText, find_control, key_of, read_hex, read_longer,
-};
+use lab_lines::{ControlName, LabLine, find_control, read_hex, read_longer};
 use std::alloc::Global;
 use usb_transact::Fate;
-
-/// How often a change is polled for until the device has nothing to send.
-const MOST_POLLS: u16 = 100;
 
 /// The interpreter of scripts, how fates are drawn, what is printed and expected, and room that is used again.
 #[derive(Drop)]
@@ -72,7 +67,7 @@ impl Bench {
     ghost use Rattle.hid_stack.specs.Attaching.{Finds};
     ghost use Rattle.hid_stack.specs.Rig.{member_at};
     ghost use Rattle.hid_script.specs.LineOutput.{stack_cause};
-    ghost use Rattle.lab_session.specs.Lines.{Clicks, ClicksKey, ClicksShifted, DoesBytes, DoesPart, IsOnePart, Loses, NamesControl, Often, PollLineDoes, Polls, PollsOnce, ScriptLineDoes, LineUnsettled, Settles, SettlesChange, ShortLineDoes, StaysUnsettled, Tries, Types, seed_by};
+    ghost use Rattle.lab_session.specs.Lines.{DoesBytes, DoesPart, IsOnePart, Loses, NamesControl, Often, PollLineDoes, Polls, PollsOnce, ScriptLineDoes, LineUnsettled, ShortLineDoes, StaysUnsettled, Tries, seed_by};
     ghost use Rattle.lab_lines.specs.ControlNames.{named_of};
     ghost use Rattle.lab_lines.specs.LabLines.{lab_meaning, said_of};
 
@@ -572,7 +567,12 @@ impl Bench {
 
     /// Polls a device once. Whether it answered that it has nothing to send.
     #[inline(always)] // a poll of a device that has nothing to send does little
-    fn poll<W: Sink>(&mut self, dev: u8, said: Fate, writer: &mut W) -> Result<bool, Cause>
+    pub(super) fn poll<W: Sink>(
+        &mut self,
+        dev: u8,
+        said: Fate,
+        writer: &mut W,
+    ) -> Result<bool, Cause>
         ensures does { IfOk result (λ idle. Does (PollsOnce dev said idle) self.old self.new
             (W.contents writer.old) (W.contents writer.new)) }
         ensures calls { EndsStep W.calls writer.old writer.new result }
@@ -672,7 +672,7 @@ impl Bench {
     }
 
     /// Changes a control.
-    fn change<W: Sink>(
+    pub(super) fn change<W: Sink>(
         &mut self,
         dev: u8,
         control: ControlId,
@@ -699,56 +699,8 @@ impl Bench {
         )
     }
 
-    /// Polls until the device answers that it has nothing to send: all its changes have crossed then.
-    fn settle<W: Sink>(&mut self, dev: u8, writer: &mut W) -> Result<(), LabCause>
-        ensures does { OnOk result (Does (Settles dev) self.old self.new
-            (W.contents writer.old) (W.contents writer.new)) }
-        ensures unsettled { result ≡ Err LabCause.Unsettled → StaysUnsettled dev (moment_of self.new) }
-        ensures calls { EndsLab W.calls writer.old writer.new result }
-    {
-        for _ in 0..MOST_POLLS {
-            if self.poll(dev, Fate::Clean, writer)? {
-                return Ok(());
-            }
-        }
-        Err(LabCause::Unsettled)
-    }
-
-    /// Changes a control, and polls until the device has nothing to send.
-    fn settle_change<W: Sink>(
-        &mut self,
-        dev: u8,
-        control: ControlId,
-        wanted: ChangeKind,
-        writer: &mut W,
-    ) -> Result<(), LabCause>
-        ensures does { OnOk result (Does (SettlesChange dev control wanted) self.old self.new
-            (W.contents writer.old) (W.contents writer.new)) }
-        ensures unsettled { result ≡ Err LabCause.Unsettled → StaysUnsettled dev (moment_of self.new) }
-        ensures calls { EndsLab W.calls writer.old writer.new result }
-    {
-        self.change(dev, control, wanted, writer)?;
-        self.settle(dev, writer)
-    }
-
-    /// Presses a control, and lets it go once that has crossed.
-    fn click<W: Sink>(
-        &mut self,
-        dev: u8,
-        control: ControlId,
-        writer: &mut W,
-    ) -> Result<(), LabCause>
-        ensures does { OnOk result (Does (Clicks dev control) self.old self.new
-            (W.contents writer.old) (W.contents writer.new)) }
-        ensures unsettled { result ≡ Err LabCause.Unsettled → StaysUnsettled dev (moment_of self.new) }
-        ensures calls { EndsLab W.calls writer.old writer.new result }
-    {
-        self.settle_change(dev, control, ChangeKind::Press, writer)?;
-        self.settle_change(dev, control, ChangeKind::Release, writer)
-    }
-
     /// The least control with a usage.
-    fn find_usage(&self, dev: u8, usage: Usage) -> Result<ControlId, LabCause>
+    pub(super) fn find_usage(&self, dev: u8, usage: Usage) -> Result<ControlId, LabCause>
         ensures found { IfOk result
             (λ control. Finds (session_of self.now.interpreter).members dev usage (Ok control)) }
         ensures err { result ≡ Err LabCause.Unsettled → ⊥ }
@@ -758,62 +710,6 @@ impl Bench {
             Ok(control) => Ok(control),
             Err(fault) => Err(LabCause::Script(Cause::from(fault))),
         }
-    }
-
-    /// Clicks a key while Shift is held.
-    fn click_shifted<W: Sink>(
-        &mut self,
-        dev: u8,
-        shift: ControlId,
-        control: ControlId,
-        writer: &mut W,
-    ) -> Result<(), LabCause>
-        ensures does { OnOk result (Does (ClicksShifted dev shift control) self.old self.new
-            (W.contents writer.old) (W.contents writer.new)) }
-        ensures unsettled { result ≡ Err LabCause.Unsettled → StaysUnsettled dev (moment_of self.new) }
-        ensures calls { EndsLab W.calls writer.old writer.new result }
-    {
-        self.settle_change(dev, shift, ChangeKind::Press, writer)?;
-        self.click(dev, control, writer)?;
-        self.settle_change(dev, shift, ChangeKind::Release, writer)
-    }
-
-    /// Clicks a key, with Shift around it where it is needed.
-    fn click_key<W: Sink>(&mut self, dev: u8, key: Key, writer: &mut W) -> Result<(), LabCause>
-        ensures does { OnOk result (Does (ClicksKey dev key) self.old self.new
-            (W.contents writer.old) (W.contents writer.new)) }
-        ensures unsettled { result ≡ Err LabCause.Unsettled → StaysUnsettled dev (moment_of self.new) }
-        ensures calls { EndsLab W.calls writer.old writer.new result }
-    {
-        let control = self.find_usage(dev, key.usage)?;
-        if key.is_shifted {
-            let shift = self.find_usage(dev, LEFT_SHIFT)?;
-            self.click_shifted(dev, shift, control, writer)
-        } else {
-            self.click(dev, control, writer)
-        }
-    }
-
-    /// Types a text.
-    fn type_text<W: Sink>(
-        &mut self,
-        dev: u8,
-        text: TypedText<'_>,
-        writer: &mut W,
-    ) -> Result<(), LabCause>
-        ensures does { OnOk result (Does (Types dev text.entry.rest.now) self.old self.new
-            (W.contents writer.old) (W.contents writer.new)) }
-        ensures unsettled { result ≡ Err LabCause.Unsettled → StaysUnsettled dev (moment_of self.new) }
-        ensures calls { EndsLab W.calls writer.old writer.new result }
-    {
-        let mut text = text;
-        while let Some(character) = text.next_character() {
-            let Some(key) = key_of(character) else {
-                return Err(LabCause::Script(Cause::Syntax));
-            };
-            self.click_key(dev, key, writer)?;
-        }
-        Ok(())
     }
 
     /// From now on draws what is lost of a device's polls and tries.

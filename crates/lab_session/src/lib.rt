@@ -32,6 +32,7 @@ mod printer;
 mod runs;
 mod scripted;
 mod shown;
+mod typing;
 mod watch;
 mod words;
 
