@@ -1,17 +1,19 @@
 -- Rows and lines of a dump, one after the other.
-use Rattle.std.proofs.Common.{◌≡◌, ℕ, ◌+◌, ◌<◌, ◌≤◌, Bool, true, false, List, [], ◌∷◌, ◌++◌, length, take, drop, Option, None, Some, Result, Ok, Err, inl, inr, subst, refl, sym, ap, ◌∙◌, arith, ⊎_elim}
-use Rattle.std.specs.Prelude.{◌||◌, nat_le, if◌then◌else◌, MatchResult}
+use Rattle.std.proofs.Common.{◌≡◌, ℕ, ◌+◌, ◌<◌, ◌≤◌, Bool, true, false, List, [], ◌∷◌, ◌++◌, length, take, drop, Option, None, Some, Result, Ok, Err, inl, inr, refl, sym, ap, ◌∙◌, arith, ⊎_elim}
+use Rattle.std.specs.Prelude.{◌||◌, nat_le, if◌then◌else◌, IfErr, MatchResult}
 use Rattle.std.proofs.lemmas.Bool.{cases_Bool, cond-true, cond-false}
 use Rattle.std.specs.Char.{is_ascii_whitespace}
 use Rattle.hid_input.specs.declared.fault.InputCause.{InputCause}
 use Rattle.hid_input.specs.declared.fault.InputCause.TheVariants.{DumpLine, WordOrder, Memory}
 use Rattle.hid_input.specs.declared.fault.InputFault.{InputFault}
-use Rattle.hid_input.specs.declared.found.Place.{Place}
+use Rattle.hid_input.specs.declared.found.Found.{Found}
+use Rattle.hid_input.specs.declared.found.Shape.TheVariants.{Dump}
+use Rattle.hid_input.specs.Answer.{Reads, answer_of}
 use Rattle.hid_input.specs.Descriptor.{IsDescriptor}
 use Rattle.hid_input.specs.Faults.{of_text}
 use Rattle.hid_input.specs.Text.{without_space}
 use Rattle.hid_input.specs.Words.{byte_of_pair}
-use Rattle.hid_input.specs.Dump.{shows, begins_word, row_bytes, line_bytes, rows_bytes, further, based_bytes, dump_bytes, last_line, IsDump, IsNotWhole, IsDumpFault}
+use Rattle.hid_input.specs.Dump.{shows, begins_word, row_bytes, line_bytes, rows_bytes, further, based_bytes, dump_bytes, dump_answer, IsNotWhole, IsDumpFault}
 use Rattle.hid_input.proofs.SpaceLemmas.{space_first, other_first, first_is_other}
 
 pub row_behind_space : (long : Bool) (bytes text : List ℕ) → row_bytes long bytes (without_space text) ≡ row_bytes long bytes text
@@ -98,13 +100,15 @@ base_read furthest base bases bytes lines is =
     ]) is
 
 -- the bytes of a base were read: they are a descriptor, or not
-pub read_whole : (text bytes : List ℕ) (base : ℕ) (read : Result Place InputFault) → dump_bytes text ≡ Ok (base, bytes)
-    → MatchResult read (λ place. (place.bytes.items ≡ bytes) × IsDescriptor bytes × (place.lines ≡ (1, last_line text))) (λ fault. IsNotWhole text base bytes fault)
-    → MatchResult read (λ place. (b : ℕ) × IsDump text b place) (λ fault. IsDumpFault text fault (dump_bytes text))
-read_whole text bytes base (Ok place) is found =
-    (base, (is ∙ ap (λ (b : List ℕ). Ok (base, b)) (sym found.0), subst IsDescriptor (sym found.0) found.1, found.2))
-read_whole text bytes base (Err fault) is refused =
-    subst (λ (all : Result (ℕ × List ℕ) (ℕ × InputCause)). IsDumpFault text fault all) (sym is) (inr refused)
+pub read_whole : (text bytes : List ℕ) (base : ℕ) (read : Result Found InputFault) → dump_bytes text ≡ Ok (base, bytes)
+    → MatchResult read (λ found. (answer_of found ≡ (Dump, (bytes, None))) × IsDescriptor bytes) (λ fault. IsNotWhole text base bytes fault)
+    → Reads (dump_answer text) read × IfErr read (λ fault. IsDumpFault text fault (dump_bytes text))
+read_whole text bytes base (Ok found) is whole = (rw is (whole.0, λ other. whole.1), tt)
+read_whole text bytes base (Err fault) is refused = (rw is (inr (refl, (refused.0, (ap (λ (f : InputFault). f.cause) refused.1.1, refused.1.0)))), rw is (inr refused))
+
+-- a line is refused
+pub read_none : (text : List ℕ) (why : ℕ × InputCause) (fault : InputFault) → dump_bytes text ≡ Err why → Reads (dump_answer text) (Err fault)
+read_none text why fault is = rw is tt
 
 -- memory ran out
 pub no_memory : (text : List ℕ) (fault : InputFault) (all : Result (ℕ × List ℕ) (ℕ × InputCause)) → fault ≡ of_text Memory → IsDumpFault text fault all

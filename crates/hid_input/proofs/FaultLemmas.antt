@@ -1,17 +1,16 @@
 -- Bytes with a fault are no descriptor.
-use Rattle.std.proofs.Common.{◌≡◌, ℕ, ◌+◌, ◌<◌, Bool, true, false, List, [], ◌∷◌, ◌++◌, length, All, Option, None, Some, inl, inr, refl, sym, ap, subst, ◌∙◌, arith, length-append}
-use Rattle.std.specs.Prelude.{◌==◌, ◌&&◌, ◌⊎◌, not, cond}
+use Rattle.std.proofs.Common.{◌≡◌, ℕ, ◌<◌, Bool, true, false, List, [], ◌∷◌, ◌++◌, length, All, Option, None, Some, inl, inr, refl, sym, ap, subst, ◌∙◌, arith, length-append}
+use Rattle.std.specs.Prelude.{◌==◌, ◌&&◌, not, cond, nat_lt}
 use Rattle.std.specs.List.{flat_map, list_all}
 use Rattle.std.specs.Option.{option_and_then}
 use Rattle.std.proofs.lemmas.Bool.{and_parts, eqb-true}
 use Rattle.std.proofs.lemmas.Option.{option_and_then_some}
 use Rattle.std.proofs.lemmas.List.{append_assoc, append_cancel_left}
 use Rattle.std.proofs.lemmas.List.Elements.{All-head, All-tail}
-use Rattle.hid_items.specs.ItemEncoding.{IsItemEncoding, IsCut}
+use Rattle.hid_items.specs.ItemEncoding.{IsItemEncoding}
 use Rattle.hid_input.specs.declared.whole.DescriptorCause.{DescriptorCause}
-use Rattle.hid_input.specs.declared.whole.DescriptorFault.{DescriptorFault}
 use Rattle.hid_input.specs.declared.whole.Progress.{Progress}
-use Rattle.hid_input.specs.Descriptor.{start, after_item, after_items, IsDescriptor, IsRefused, IsWrong, IsFault}
+use Rattle.hid_input.specs.Descriptor.{after_prefix, after_item, after_items, IsWrong}
 
 -- no item is the beginning of another
 abbrev pub PrefixFree : Type 0
@@ -24,16 +23,17 @@ some_byte (first ∷ rest) encoded = omega arith
 abbrev nothing : Option Progress
 nothing = None
 
-none_either : (b : Bool) → cond b None None ≡ nothing
-none_either true = refl
-none_either false = refl
+never : (is_begun has_data : Bool) (next : Progress) → cond (cond is_begun (has_data && false) false) (Some next) None ≡ nothing
+never false has_data next = refl
+never true false next = refl
+never true true next = refl
 
 -- an item of zeros comes nowhere
 no_zero_item : (p : Progress) (item more : List ℕ) → IsItemEncoding item → list_all (λ byte. byte == 0) (item ++ more) ≡ true → after_item p item ≡ None
 no_zero_item p [] more encoded zeros = absurd encoded
 no_zero_item p (first ∷ rest) more encoded zeros =
     let zero : first ≡ 0 = eqb-true first 0 (and_parts (first == 0) _ zeros).0 in
-    ap (λ (byte : ℕ). after_item p (byte ∷ rest)) zero ∙ none_either ((p.depth == 0) && ((length (0 ∷ rest) == 1) && not (0 == 0xC0)))
+    ap (λ (byte : ℕ). after_item p (byte ∷ rest)) zero ∙ never p.is_begun (not (not (nat_lt 0 p.depth) && (length (0 ∷ rest) == 1))) (after_prefix p 0)
 
 none_after : (p q : Progress) (item : List ℕ) (items : List (List ℕ)) → after_item p item ≡ None → after_items p (item ∷ items) ≡ Some q → ⊥
 none_after p q item items none some =

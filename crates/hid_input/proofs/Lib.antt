@@ -1,12 +1,12 @@
+mod AnswerLemmas
 mod DescriptorLemmas
 mod DumpLemmas
 mod FaultLemmas
 mod ItemsLemmas
-mod MarkedLemmas
 mod NumberLemmas
 mod PartLemmas
 mod RecordedLemmas
-mod ShapeLemmas
 mod SpaceLemmas
 mod SplitLemmas
+mod StringLemmas
 mod WordLemmas

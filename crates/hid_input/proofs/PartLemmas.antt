@@ -11,18 +11,18 @@ use Rattle.std.specs.Prelude.{filter, position}
 use Rattle.std.specs.Option.{unwrap_or}
 use Rattle.std.specs.List.{slice_split, onto_first, position_or_len}
 use Rattle.hid_input.proofs.SplitLemmas.{part_end}
-use Rattle.hid_input.specs.declared.words.Reading.{Reading}
+use Rattle.hid_input.specs.declared.words.Parting.{Parting}
 use Rattle.hid_input.specs.Words.{is_separator, is_no_separator, words_of}
 
 -- blanks before the first word are none of it
-behind_separators : (r : Reading) → (text : List ℕ) → words_of r text ≡ words_of r (drop (position_or_len (is_no_separator r) text) text)
+behind_separators : (r : Parting) → (text : List ℕ) → words_of r text ≡ words_of r (drop (position_or_len (is_no_separator r) text) text)
 behind_separators r [] = refl
 behind_separators r (b ∷ text) = ⊎_elim
     (λ (blank : is_separator r b ≡ true). rw blank (behind_separators r text ∙ ap (λ k. words_of r (drop k (b ∷ text))) (sym (one-add (position_or_len (is_no_separator r) text)))))
     (λ (byte : is_separator r b ≡ false). rw byte (rw byte refl)) (cases_Bool (is_separator r b))
 
 -- the part up to the first blank, and the words after that
-pub first_part : (r : Reading) → (text : List ℕ) → (parts : List (List ℕ)) × (slice_split (is_separator r) text ≡ take (position_or_len (is_separator r) text) text ∷ parts)
+pub first_part : (r : Parting) → (text : List ℕ) → (parts : List (List ℕ)) × (slice_split (is_separator r) text ≡ take (position_or_len (is_separator r) text) text ∷ parts)
     × (filter (λ word. not (nat_eq (length word) 0)) parts ≡ words_of r (drop (position_or_len (is_separator r) text) text))
 first_part r [] = ([], refl, refl)
 first_part r (b ∷ text) = ⊎_elim
@@ -41,14 +41,14 @@ none_passes true n e = cc
 none_passes false n e = refl
 
 -- a text of blanks has no word
-pub no_word : (r : Reading) → (text : List ℕ) → position (is_no_separator r) text ≡ None → words_of r text ≡ []
+pub no_word : (r : Parting) → (text : List ℕ) → position (is_no_separator r) text ≡ None → words_of r text ≡ []
 no_word r text none =
     let n = position_or_len (is_no_separator r) text in
     let all : length text ≤ n = ⊎_elim (λ (below : n < length text). absurd (true≢false (sym (lt-ltb n (length text) below) ∙ none_passes _ n none))) (λ h. h) (cases_lt n (length text)) in
     behind_separators r text ∙ ap (λ rest. words_of r rest) (drop_of_length-le text all)
 
 -- a first byte that is no blank begins a word
-some_part : (r : Reading) → (text : List ℕ) → 0 < length text → (is_no_separator r) (get_or text 0 0) ≡ true → 0 < position_or_len (is_separator r) text
+some_part : (r : Parting) → (text : List ℕ) → 0 < length text → (is_no_separator r) (get_or text 0 0) ≡ true → 0 < position_or_len (is_separator r) text
 some_part r [] some byte = absurd (omega arith)
 some_part r (b ∷ text) some byte = ⊎_elim
     (λ (blank : is_separator r b ≡ true). cc)
@@ -59,7 +59,7 @@ some_byte [] some = absurd (omega arith)
 some_byte (b ∷ word) some = rw (ne_eqb (length (b ∷ word)) 0 (λ e. omega (arith, some, e))) refl
 
 -- the first word, where a text has one, and the words after it
-pub one_word : (r : Reading) → (text rest : List ℕ) (start : ℕ) → position (is_no_separator r) text ≡ Some start → rest ≡ drop start text
+pub one_word : (r : Parting) → (text rest : List ℕ) (start : ℕ) → position (is_no_separator r) text ≡ Some start → rest ≡ drop start text
     → (words_of r text ≡ take (position_or_len (is_separator r) rest) rest ∷ words_of r (drop (position_or_len (is_separator r) rest) rest)) × (0 < position_or_len (is_separator r) rest)
 one_word r text rest start found is =
     let n = position_or_len (is_no_separator r) text in
@@ -77,7 +77,7 @@ one_word r text rest start found is =
     )
 
 -- a word that is found by the place of its first byte and by the blank after it
-pub found_word : (r : Reading) → (text part : List ℕ) (start end : ℕ) → position (is_no_separator r) text ≡ Some start → part ≡ take (length text - start) (drop start text)
+pub found_word : (r : Parting) → (text part : List ℕ) (start end : ℕ) → position (is_no_separator r) text ≡ Some start → part ≡ take (length text - start) (drop start text)
     → end ≡ unwrap_or (position (is_separator r) part) (length part)
     → (words_of r text ≡ take end part ∷ words_of r (take (length part - end) (drop end part))) × (0 < length (take end part))
 found_word r text part start end found is ends =

@@ -1,5 +1,5 @@
 -- The parts of a text, by the place of what ends the first one.
-use Rattle.std.proofs.Common.{◌≡◌, ℕ, ◌+◌, ◌-◌, ◌<◌, ◌≤◌, Bool, true, false, List, [], ◌∷◌, length, take, drop, nat_lt, refl, sym, ap, subst, ◌∙◌, arith, None, Some, ⊎_elim}
+use Rattle.std.proofs.Common.{◌≡◌, ℕ, ◌+◌, ◌-◌, ◌<◌, ◌≤◌, Bool, true, false, List, [], ◌∷◌, length, take, drop, nat_lt, refl, sym, ap, subst, ◌∙◌, arith, Option, None, Some, ⊎_elim}
 use Rattle.std.proofs.lemmas.Bool.{cases_Bool, cases_lt, cond-true, cond-false, lt-ltb, le-ltb, ltb-true, true≢false}
 use Rattle.std.proofs.lemmas.Option.{cond_some}
 use Rattle.std.proofs.lemmas.List.{take_all, length-drop}
@@ -48,3 +48,8 @@ part_end p text end is =
 -- the rest of a text from a place on
 pub rest_from : (text : List ℕ) (i : ℕ) → take (length text - i) (drop i text) ≡ drop i text
 rest_from text i = take_all (length text - i) (drop i text) (omega (arith, length-drop i text))
+
+-- how long a text is, with one more if there is one
+abbrev pub length_of : Option (List ℕ) → ℕ
+length_of None = 0
+length_of (Some text) = length text + 1

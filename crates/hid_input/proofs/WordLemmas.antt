@@ -1,8 +1,8 @@
 -- Bytes of words, one word after the other.
-use Rattle.std.proofs.Common.{◌≡◌, ℕ, ◌+◌, ◌<◌, ◌≤◌, List, [], ◌∷◌, ◌++◌, length, take, drop, Option, None, Some, refl, sym, ap, ◌∙◌, arith}
-use Rattle.std.specs.Prelude.{◌==◌, if◌then◌else◌}
+use Rattle.std.proofs.Common.{◌≡◌, ℕ, Bool, true, ◌<◌, ◌≤◌, List, [], ◌∷◌, ◌++◌, length, take, drop, Option, None, Some, refl, sym, ap, ◌∙◌, arith}
+use Rattle.std.specs.Prelude.{◌==◌, if◌then◌else◌, slice_index}
 use Rattle.std.proofs.lemmas.List.{append-nil, append_assoc}
-use Rattle.hid_input.specs.Words.{both, all_bytes, single_byte, byte_of_pair, run_bytes}
+use Rattle.hid_input.specs.Words.{both, all_bytes, single_byte, byte_of_pair, run_bytes, is_joint, pairs_bytes}
 
 pub both_assoc : (a b c : Option (List ℕ)) → both (both a b) c ≡ both a (both b c)
 both_assoc None b c = refl
@@ -61,3 +61,15 @@ pub run_end : (run : List ℕ) (before : List ℕ) (all : Option (List ℕ)) →
 run_end [] before all few so_far = sym so_far ∙ ap Some (append-nil before)
 run_end (digit ∷ []) before all few so_far = sym so_far
 run_end (high ∷ low ∷ more) before all few so_far = absurd (omega arith)
+
+-- pairs with joints, one after the other
+pub joined_added : (word : List ℕ) (byte : ℕ) (before : List ℕ) (all : Option (List ℕ)) → 3 ≤ length word → byte_of_pair (take 2 word) ≡ Some byte
+    → is_joint (slice_index (drop 2 word) 0) ≡ true → both (Some before) (pairs_bytes word) ≡ all
+    → both (Some (before ++ byte ∷ [])) (pairs_bytes (drop 1 (drop 2 word))) ≡ all
+joined_added [] byte before all some is joint so_far = absurd (omega arith)
+joined_added (high ∷ []) byte before all some is joint so_far = absurd (omega arith)
+joined_added (high ∷ low ∷ []) byte before all some is joint so_far = absurd (omega arith)
+joined_added (high ∷ low ∷ between ∷ more) byte before all some is joint so_far =
+    both_assoc (Some before) (Some (byte ∷ [])) (pairs_bytes more)
+    ∙ (ap (λ (o : Option ℕ). both (Some before) (both (single_byte o) (pairs_bytes more))) (sym is)
+    ∙ (ap (λ (b : Bool). both (Some before) (if b then both (single_byte (byte_of_pair (high ∷ low ∷ []))) (pairs_bytes more) else None)) (sym joint) ∙ so_far))

@@ -12,58 +12,62 @@ use Rattle.hid_input.specs.declared.whole.Progress.{Progress}
 
 -- nothing stands in front of the first item
 abbrev pub start : Progress
-start = record { depth = 0; has_page = false; has_usage = false; is_closed = false }
+start = record { depth = 0; is_begun = false; has_usage = false; is_page = false; is_closed = false }
 
--- Input, Output or Feature (6.2.2.4)
-abbrev pub is_field : ℕ → Bool
-is_field prefix = (prefix == 0x80) || ((prefix == 0x90) || (prefix == 0xB0))
+-- a descriptor begins with a Usage Page of one or two bytes, or with a Usage of four, which has a page in it (6.2.2.7, 6.2.2.8; our choice)
+abbrev pub is_first : ℕ → ℕ → Bool
+is_first prefix size =
+    ((prefix == 0x04) && ((size == 2) || (size == 3))) || ((prefix == 0x08) && (size == 5))
 
--- an item of tables 6.2.2.7 and 6.2.2.8 other than Usage Page, Push, Pop, Usage and Usage Minimum
+-- Input, Output, Feature and End Collection (6.2.2.4)
+abbrev pub is_inner : ℕ → Bool
+is_inner prefix = (prefix == 0x80) || ((prefix == 0x90) || ((prefix == 0xB0) || (prefix == 0xC0)))
+
+-- Push and Pop (6.2.2.7)
+abbrev pub is_stack : ℕ → Bool
+is_stack prefix = (prefix == 0xA4) || (prefix == 0xB4)
+
+-- an item of tables 6.2.2.7 and 6.2.2.8 other than Usage Page, Push and Pop
 abbrev pub is_other : ℕ → Bool
 is_other prefix =
-    (prefix == 0x14) || ((prefix == 0x24) || ((prefix == 0x34) || ((prefix == 0x44) || ((prefix == 0x54) || ((prefix == 0x64)
-    || ((prefix == 0x74) || ((prefix == 0x84) || ((prefix == 0x94) || ((prefix == 0x28)
-    || ((prefix == 0x38) || ((prefix == 0x48) || ((prefix == 0x58) || ((prefix == 0x78) || ((prefix == 0x88) || ((prefix == 0x98)
-    || (prefix == 0xA8))))))))))))))))
+    (prefix == 0x08) || ((prefix == 0x14) || ((prefix == 0x18) || ((prefix == 0x24) || ((prefix == 0x28) || ((prefix == 0x34)
+    || ((prefix == 0x38) || ((prefix == 0x44) || ((prefix == 0x48) || ((prefix == 0x54) || ((prefix == 0x58) || ((prefix == 0x64)
+    || ((prefix == 0x74) || ((prefix == 0x78) || ((prefix == 0x84) || ((prefix == 0x88) || ((prefix == 0x94) || ((prefix == 0x98)
+    || (prefix == 0xA8))))))))))))))))))
 
--- Input, Output and Feature items stand in a collection
-abbrev pub after_field : Progress → Option Progress
-after_field p =
-    if p.depth == 0 then None
-    else Some (record { depth = p.depth; has_page = p.has_page; has_usage = false; is_closed = false })
+-- an item of HID 1.11 stands where it may: fields and End Collections in a collection, a Usage in front of a collection that is in no
+-- other (6.2.2.6), and outside of collections no Usage Page after another
+abbrev pub is_placed : Progress → ℕ → ℕ → Bool
+is_placed p prefix size =
+    if is_inner prefix then nat_lt 0 p.depth
+    else (if prefix == 0xA0 then nat_lt 0 p.depth || p.has_usage
+    else (if is_stack prefix then size == 1
+    else (if prefix == 0x04 then nat_lt 0 p.depth || not p.is_page else is_other prefix)))
 
--- a Usage Page stands in front of a collection, and a Usage in front of one that is in no other (6.2.2.6)
-abbrev pub after_collection : Progress → Option Progress
-after_collection p =
-    if not p.has_page || ((p.depth == 0) && not p.has_usage) then None
-    else Some (record { depth = min (p.depth + 1) (2 ^ 64 - 1); has_page = true; has_usage = false; is_closed = false })
+-- a short item may come next: outside of collections each has data
+abbrev pub may_follow : Progress → ℕ → ℕ → Bool
+may_follow p prefix size =
+    if p.is_begun then not (not (nat_lt 0 p.depth) && (size == 1)) && is_placed p prefix size else is_first prefix size
 
--- an End Collection closes a collection
-abbrev pub after_end : Progress → Option Progress
-after_end p =
-    if p.depth == 0 then None
-    else Some (record { depth = p.depth - 1; has_page = p.has_page; has_usage = false; is_closed = p.depth == 1 })
+-- how many collections are open after a short item
+abbrev pub depth_after : ℕ → ℕ → ℕ
+depth_after depth prefix = if prefix == 0xA0 then min (depth + 1) (2 ^ 64 - 1) else (if prefix == 0xC0 then depth - 1 else depth)
 
--- a Global or a Local item, which may name a Usage Page or a Usage
-abbrev pub after_other : Bool → Bool → Progress → Progress
-after_other is_page is_usage p =
-    record { depth = p.depth; has_page = p.has_page || is_page; has_usage = p.has_usage || is_usage; is_closed = false }
+-- after a short item, of which a Main item ends the usages
+abbrev pub after_prefix : Progress → ℕ → Progress
+after_prefix p prefix = record {
+  depth = depth_after p.depth prefix;
+  is_begun = true;
+  has_usage = not (prefix % 16 == 0) && (p.has_usage || ((prefix == 0x08) || (prefix == 0x18)));
+  is_page = prefix == 0x04;
+  is_closed = (prefix == 0xC0) && (depth_after p.depth prefix == 0);
+}
 
--- an item by its prefix and its length: outside of collections each has data; one of five bytes has room for a page beside a usage, and Push and Pop have no data
-abbrev pub after_prefix : ℕ → ℕ → Progress → Option Progress
-after_prefix prefix size p =
-    if (p.depth == 0) && ((size == 1) && not (prefix == 0xC0)) then None
-    else (if is_field prefix then after_field p
-    else (if prefix == 0xA0 then after_collection p
-    else (if prefix == 0xC0 then after_end p
-    else (if prefix == 0x04 then Some (after_other true false p)
-    else (if (prefix == 0x08) || (prefix == 0x18) then Some (after_other (size == 5) true p)
-    else (if is_other prefix || (((prefix == 0xA4) || (prefix == 0xB4)) && (size == 1)) then Some (after_other false false p) else None))))))
-
--- an item, of which a long one (6.2.2.3) says nothing here
+-- after an item, if it may come next; a long one (6.2.2.3) may not
 abbrev pub after_item : Progress → List ℕ → Option Progress
 after_item p item =
-    if slice_index item 0 == 0xFE then Some (after_other false false p) else after_prefix (prefix_of item) (length item) p
+    if slice_index item 0 == 0xFE then None
+    else (if may_follow p (prefix_of item) (length item) then Some (after_prefix p (prefix_of item)) else None)
 
 abbrev pub after_items : Progress → List (List ℕ) → Option Progress
 after_items p [] = Some p

@@ -1,16 +1,17 @@
 -- Dumps of xxd, hexdump -C, od -t x1 and tshark (our choice: docs/INPUT-FORMS.md).
-use Rattle.std.specs.Prelude.{◌≡◌, ℕ, ◌==◌, ◌+◌, ◌-◌, Bool, true, false, not, ◌&&◌, ◌||◌, nat_le, nat_lt, List, [], ◌∷◌, ◌++◌, length, slice_index, take, drop, if◌then◌else◌, Option, None, Some, Result, Ok, Err, codes, ◌⊎◌}
-use Rattle.std.specs.List.{list_all, zip, suffix_len}
-use Rattle.std.specs.Option.{unwrap_or, option_map}
+use Rattle.std.specs.Prelude.{◌≡◌, ℕ, ◌==◌, ◌+◌, ◌-◌, Bool, false, not, ◌&&◌, ◌||◌, nat_le, nat_lt, List, [], ◌∷◌, ◌++◌, length, slice_index, take, drop, if◌then◌else◌, Option, None, Some, Result, Ok, Err, codes, ◌⊎◌}
+use Rattle.std.specs.List.{list_all, zip}
+use Rattle.std.specs.Option.{unwrap_or}
 use Rattle.std.specs.Char.{is_ascii_whitespace}
 use Rattle.hid_input.specs.declared.fault.InputCause.{InputCause}
 use Rattle.hid_input.specs.declared.fault.InputCause.TheVariants.{DumpLine, WordOrder, Offset, NotWhole, Memory}
 use Rattle.hid_input.specs.declared.fault.InputFault.{InputFault}
 use Rattle.hid_input.specs.declared.whole.DescriptorFault.{DescriptorFault}
-use Rattle.hid_input.specs.declared.found.Place.{Place}
-use Rattle.hid_input.specs.Descriptor.{IsDescriptor, IsFault}
+use Rattle.hid_input.specs.declared.found.Shape.TheVariants.{Dump}
+use Rattle.hid_input.specs.Answer.{Answer}
+use Rattle.hid_input.specs.Descriptor.{IsFault}
 use Rattle.hid_input.specs.Faults.{of_text, of_line}
-use Rattle.hid_input.specs.Text.{lines_of, line_at, is_empty_line, without_space, before_space, from_space, first_word, behind_part}
+use Rattle.hid_input.specs.Text.{lines_of, is_empty_line, without_space, before_space, from_space, first_word, behind_part}
 use Rattle.hid_input.specs.Words.{number_of, byte_of_pair}
 
 -- a text without a byte at its end
@@ -142,14 +143,13 @@ bases word = take (base_count word) (16 ∷ 10 ∷ 8 ∷ [])
 abbrev pub dump_bytes : List ℕ → Result (ℕ × List ℕ) (ℕ × InputCause)
 dump_bytes text = based_bytes (0, DumpLine) (bases (first_word text)) (lines_of text)
 
--- the last line that isn't empty
-abbrev pub last_line : List ℕ → ℕ
-last_line text = line_at text (length text - suffix_len is_ascii_whitespace text)
+-- what is to be read of a dump
+abbrev pub answer_by : Result (ℕ × List ℕ) (ℕ × InputCause) → Option Answer
+answer_by (Ok read) = Some (Dump, (read.1, None))
+answer_by (Err refused) = None
 
--- bytes are those of a dump and one whole descriptor; their lines are the first to the last that isn't empty
-abbrev pub IsDump : List ℕ → ℕ → Place → Type 0
-IsDump text base place =
-    (dump_bytes text ≡ Ok (base, place.bytes.items)) × IsDescriptor place.bytes.items × (place.lines ≡ (1, last_line text))
+abbrev pub dump_answer : List ℕ → Option Answer
+dump_answer text = answer_by (dump_bytes text)
 
 -- the bytes of a dump aren't one whole descriptor, which is seen at a byte of this line
 abbrev pub IsNotWhole : List ℕ → ℕ → List ℕ → InputFault → Type 0

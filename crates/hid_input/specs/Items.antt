@@ -1,10 +1,11 @@
 -- The items of a report descriptor as lsusb -v prints them (our choice: docs/INPUT-FORMS.md).
-use Rattle.std.specs.Prelude.{◌≡◌, ℕ, ◌==◌, ◌+◌, ◌-◌, ◌*◌, Bool, true, ◌&&◌, ◌||◌, nat_le, nat_eq, bit_or, map, List, [], ◌∷◌, ◌++◌, length, slice_index, drop, if◌then◌else◌, Option, None, Some, is_some, codes}
+use Rattle.std.specs.Prelude.{ℕ, ◌==◌, ◌+◌, ◌-◌, ◌*◌, Bool, ◌&&◌, ◌||◌, nat_le, nat_eq, bit_or, map, List, [], ◌∷◌, length, slice_index, drop, if◌then◌else◌, Option, None, Some, is_some, codes}
 use Rattle.std.specs.List.{list_any, find, ends_with}
 use Rattle.std.specs.Option.{option_map, option_and_then}
 use Rattle.std.specs.Str.{bytes_eq}
 use Rattle.hid_input.specs.declared.items.TheConstants.{NAMES}
 use Rattle.hid_input.specs.declared.words.Reading.TheVariants.{Elements}
+use Rattle.hid_input.specs.declared.words.Parting.TheVariants.{Space}
 use Rattle.hid_input.specs.Text.{lines_of, trimmed_text, behind_part, split_at}
 use Rattle.hid_input.specs.Words.{number_of, text_bytes}
 
@@ -51,7 +52,7 @@ item_parts item =
 abbrev pub item_bytes : List ℕ → Option (List ℕ)
 item_bytes item =
     option_and_then (λ parts. option_and_then (λ bytes. option_map (λ size. bit_or parts.0 size ∷ bytes) (size_if bytes parts.2))
-    (text_bytes Elements parts.1)) (item_parts item)
+    (text_bytes Elements Space parts.1)) (item_parts item)
 
 -- the bytes of an item, if there is one
 abbrev pub bytes_of_item : Option (List ℕ) → Option (List ℕ)

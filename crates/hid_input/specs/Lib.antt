@@ -1,3 +1,5 @@
+pub mod Answer
+pub mod Beside
 pub mod Descriptor
 pub mod Dump
 pub mod Faults

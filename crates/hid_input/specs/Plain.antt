@@ -1,7 +1,7 @@
 -- Text without the marks of quoted lines and without comments (our choice: docs/INPUT-FORMS.md). They become blanks, so that places stay.
 use Rattle.std.specs.Prelude.{ℕ, ◌==◌, Bool, true, false, not, ◌&&◌, ◌||◌, List, [], ◌∷◌, if◌then◌else◌, Option, None, Some}
 use Rattle.std.specs.List.{list_all, slice_get}
-use Rattle.std.specs.Char.{is_ascii_whitespace}
+use Rattle.std.specs.Char.{is_ascii_alphanumeric, is_ascii_whitespace}
 use Rattle.hid_input.specs.declared.plain.Scene.{Scene}
 use Rattle.hid_input.specs.declared.plain.Scene.TheVariants.{Blank, Text, Quoted, Escaped, Line, Backslash, Opening, Block, Closing, Unclear}
 use Rattle.hid_input.specs.Text.{lines_of}
@@ -39,6 +39,11 @@ abbrev pub is_space : Option ℕ → Bool
 is_space None = true
 is_space (Some byte) = is_ascii_whitespace byte
 
+-- a letter or a digit
+abbrev pub is_word : Option ℕ → Bool
+is_word None = false
+is_word (Some byte) = is_ascii_alphanumeric byte
+
 -- where the next character stands after one of text: comments are # between white space, // and /*
 abbrev pub scene_after_text : Bool → ℕ → Option ℕ → Scene
 scene_after_text is_blank byte next =
@@ -49,7 +54,8 @@ scene_after_text is_blank byte next =
     else (if (byte == 34) || (byte == 39) then Quoted byte
     else (if is_ascii_whitespace byte then Blank else Text)))))
 
--- where the next character stands, after this one and in front of the one that follows: a comment ends with its line, or with */
+-- where the next character stands, after this one and in front of the one that follows: a comment ends with its line, or with */ that no
+-- letter or digit follows, as in the names of files
 abbrev pub scene_after : Scene → ℕ → Option ℕ → Scene
 scene_after Blank byte next = scene_after_text true byte next
 scene_after Text byte next = scene_after_text false byte next
@@ -61,7 +67,7 @@ scene_after Backslash byte next =
     if byte == 10 then Unclear else (if (byte == 92) || is_ascii_whitespace byte then Backslash else Line)
 scene_after Opening byte next = if is_byte 47 next then Unclear else Block
 scene_after Block byte next = if (byte == 42) && is_byte 47 next then Closing else Block
-scene_after Closing byte next = Blank
+scene_after Closing byte next = if is_word next then Unclear else Blank
 scene_after Unclear byte next = Unclear
 
 -- characters of text or of a string, and not of a comment

@@ -3,12 +3,13 @@ use Rattle.std.specs.Prelude.{◌≡◌, ◌⊎◌, ℕ, ◌==◌, ◌+◌, Bool
 use Rattle.std.specs.List.{list_any, find, ends_with}
 use Rattle.std.specs.Str.{bytes_eq}
 use Rattle.std.specs.Option.{option_map, option_and_then}
-use Rattle.std.specs.Char.{is_ascii_whitespace, is_ascii_alphabetic}
+use Rattle.std.specs.Char.{is_ascii_whitespace}
 use Rattle.hid_input.specs.declared.recorded.RecordedFault.{RecordedFault}
 use Rattle.hid_input.specs.declared.recorded.RecordedFault.TheVariants.{NoCount, BadHex, BadCount, Memory}
-use Rattle.hid_input.specs.declared.words.Reading.TheVariants.{Plain}
+use Rattle.hid_input.specs.declared.words.Reading.TheVariants.{Runs}
+use Rattle.hid_input.specs.declared.words.Parting.TheVariants.{Space}
 use Rattle.hid_input.specs.Known.{begins_text}
-use Rattle.hid_input.specs.Text.{is_text, without_mark, lines_of, is_empty_line, without_space, before_space, from_space, first_word, behind_part, split_at}
+use Rattle.hid_input.specs.Text.{is_text, without_mark, lines_of, is_empty_line, without_space, from_space, first_word, behind_part, split_at}
 use Rattle.hid_input.specs.Words.{number_of, byte_of_pair, text_bytes}
 
 -- how many pairs of hex digits a text has in front of what is none
@@ -26,7 +27,7 @@ bytes_or_bad at (Some bytes) = Ok bytes
 
 -- the bytes of words of hex. Example: 05 01 and 0501 are 05 01
 abbrev pub hex_of : List ℕ → Result (List ℕ) RecordedFault
-hex_of text = bytes_or_bad (pairs_before text) (text_bytes Plain text)
+hex_of text = bytes_or_bad (pairs_before text) (text_bytes Runs Space text)
 
 -- bytes are as many as a number says
 abbrev pub if_counted : Option ℕ → Result (List ℕ) RecordedFault → Result (List ℕ) RecordedFault
@@ -46,9 +47,9 @@ IsFault fault meant = (fault ≡ Memory) ⊎ (meant ≡ Err fault)
 abbrev pub after_letter : List ℕ → Option (List ℕ)
 after_letter line = behind_part (codes "R:") (without_space line)
 
--- what stands after H: report_descriptor= of a line of umockdev
+-- what stands after H: report_descriptor= of a line of umockdev, whatever white space is in front
 abbrev pub after_property : List ℕ → Option (List ℕ)
-after_property line = behind_part (codes "H: report_descriptor=") line
+after_property line = behind_part (codes "H: report_descriptor=") (without_space line)
 
 -- a letter of hid-recorder's lines: D, E, I, N, P or R
 abbrev pub is_record_letter : ℕ → Bool
@@ -74,9 +75,14 @@ has_record text = list_any is_record (lines_of text)
 abbrev pub is_passed : List ℕ → Bool
 is_passed line = is_empty_line line || (nat_le 1 (length line) && (slice_index line 0 == 35))
 
--- a line may be beside an R: line: it says nothing, or begins with a letter and a colon
+-- a letter of a line beside an R: line or one of umockdev: also A, H, L or S
+abbrev pub is_beside_letter : ℕ → Bool
+is_beside_letter byte =
+    is_record_letter byte || ((byte == 65) || ((byte == 72) || ((byte == 76) || (byte == 83))))
+
+-- a line may be beside an R: line: it says nothing, or begins with such a letter and a colon
 abbrev pub is_beside : List ℕ → Bool
-is_beside line = is_passed line || begins_with_letter is_ascii_alphabetic (without_space line)
+is_beside line = is_passed line || begins_with_letter is_beside_letter (without_space line)
 
 -- a line, if there is one, is one of a recording
 abbrev pub is_record_or_none : Option (List ℕ) → Bool
@@ -103,4 +109,4 @@ is_descriptor_word (Some word) = bytes_eq word (codes "DESCRIPTOR")
 -- a line begins with BUS:DEVICE:INTERFACE:DESCRIPTOR, as usbhid-dump prints it in front of a descriptor
 abbrev pub is_heading : List ℕ → Bool
 is_heading line =
-    is_descriptor_word (option_and_then behind_number (option_and_then behind_number (behind_number (before_space line))))
+    is_descriptor_word (option_and_then behind_number (option_and_then behind_number (behind_number (first_word line))))

@@ -2,47 +2,30 @@
 use Rattle.std.specs.Prelude.{ℕ, ◌==◌, Bool, not, ◌&&◌, ◌||◌, List, [], ◌∷◌, if◌then◌else◌, Option, None, false}
 use Rattle.std.specs.List.{list_any}
 use Rattle.std.specs.Option.{option_or}
-use Rattle.std.specs.Char.{is_ascii_hexdigit, is_ascii_whitespace}
-use Rattle.hid_input.specs.declared.words.Reading.TheVariants.{Hex, Elements}
+use Rattle.std.specs.Char.{is_ascii_whitespace}
+use Rattle.hid_input.specs.declared.words.Reading.TheVariants.{Runs, Joined, Elements}
+use Rattle.hid_input.specs.declared.words.Parting.TheVariants.{Commas}
 use Rattle.hid_input.specs.Words.{text_bytes}
 
--- a colon or a hyphen
-abbrev pub is_joint : ℕ → Bool
-is_joint byte = (byte == 58) || (byte == 45)
+-- a character of a word
+abbrev pub is_part : ℕ → Bool
+is_part byte = not (byte == 44) && not (is_ascii_whitespace byte)
 
--- what can't stand after one character and, without white space between, after another: a joint between others than hex digits, or a
--- comma without bytes in front of it
-abbrev pub is_loose : ℕ → ℕ → ℕ → Bool
-is_loose before last byte =
-    (is_joint byte && not (is_ascii_hexdigit before))
-    || ((is_joint before && not (is_ascii_hexdigit byte)) || ((byte == 44) && (last == 44)))
+-- a comma comes without a word since the last one, or a word without a comma since the last one: after a character of a word, or not; and
+-- with a word since the last comma, or not
+abbrev pub is_loose_from : Bool → Bool → List ℕ → Bool
+is_loose_from is_word has_word [] = false
+is_loose_from is_word has_word (byte ∷ text) =
+    ((byte == 44) && not has_word)
+    || ((is_part byte && (has_word && not is_word)) || is_loose_from (is_part byte) (not (byte == 44) && (has_word || is_part byte)) text)
 
--- a loose joint or comma stands in a text after these two characters
-abbrev pub loose_from : ℕ → ℕ → List ℕ → Bool
-loose_from before last [] = is_joint before
-loose_from before last (byte ∷ text) =
-    is_loose before last byte || loose_from byte (if is_ascii_whitespace byte then last else byte) text
+-- a text with commas doesn't have one between each two words. Its last word may have one after it
+abbrev pub is_loose : List ℕ → Bool
+is_loose text = list_any (λ byte. byte == 44) text && is_loose_from false false text
 
--- a loose joint or comma stands in a text
-abbrev pub has_loose : List ℕ → Bool
-has_loose text = loose_from 32 44 text
-
--- a character begins a word after another one, with white space and no comma between
-abbrev pub is_parted : ℕ → ℕ → ℕ → Bool
-is_parted before last byte =
-    not (is_ascii_whitespace byte) && (not (byte == 44) && (is_ascii_whitespace before && not (last == 44)))
-
--- a word of a text is parted so from the one in front of it
-abbrev pub parted_from : ℕ → ℕ → List ℕ → Bool
-parted_from before last [] = false
-parted_from before last (byte ∷ text) =
-    is_parted before last byte || parted_from byte (if is_ascii_whitespace byte then last else byte) text
-
--- a text with commas misses one between two words
-abbrev pub misses_comma : List ℕ → Bool
-misses_comma text = list_any (λ byte. byte == 44) text && parted_from 32 44 text
-
--- the bytes of a text of bytes and separators alone: in hex if each word is hex, else as elements of a list.
+-- the bytes of a text of bytes and separators alone, each word in the same reading.
 -- Example: 05 01, 0501, 05:01 and 0x5, 1 are 05 01
 abbrev pub spelled_bytes : List ℕ → Option (List ℕ)
-spelled_bytes text = if has_loose text || misses_comma text then None else option_or (text_bytes Hex text) (text_bytes Elements text)
+spelled_bytes text =
+    if is_loose text then None
+    else option_or (text_bytes Runs Commas text) (option_or (text_bytes Joined Commas text) (text_bytes Elements Commas text))

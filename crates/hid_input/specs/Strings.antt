@@ -1,16 +1,35 @@
 -- Strings of escapes, among words (our choice: docs/INPUT-FORMS.md).
-use Rattle.std.specs.Prelude.{◌≡◌, ◌≤◌, slice_range, take, drop, ℕ, ◌==◌, ◌-◌, Bool, true, false, not, ◌&&◌, ◌||◌, nat_le, nat_lt, List, [], ◌∷◌, length, slice_index, if◌then◌else◌, Option, None, Some, option_to_list}
-use Rattle.std.specs.Char.{is_ascii_hexdigit, is_ascii_whitespace, is_ascii_alphanumeric}
+use Rattle.std.specs.Prelude.{ℕ, ◌==◌, ◌-◌, ◌+◌, min, Bool, false, true, not, ◌&&◌, ◌||◌, nat_eq, nat_le, nat_lt, List, [], ◌∷◌, ◌++◌, length, slice_index, take, drop, if◌then◌else◌, option_to_list, Option, None, Some, zero, suc}
+use Rattle.std.specs.List.{starts_with}
+use Rattle.std.specs.Char.{is_ascii_alphanumeric, is_ascii_hexdigit, is_ascii_whitespace}
+use Rattle.std.specs.Option.{option_map}
+use Rattle.hid_input.specs.declared.found.Shape.TheVariants.{Escapes}
 use Rattle.hid_input.specs.declared.strings.Enclosure.{Enclosure}
 use Rattle.hid_input.specs.declared.strings.Enclosure.TheVariants.{Bare, Text, Bytes}
-use Rattle.hid_input.specs.declared.strings.State.{State}
-use Rattle.hid_input.specs.declared.strings.State.TheVariants.{Between, Slash, Slashes, X, Digit, Escape, Gap, Prefix}
-use Rattle.hid_input.specs.Words.{both, byte_of_pair}
-use Rattle.hid_input.specs.Text.{line_at}
-use Rattle.hid_input.specs.Descriptor.{IsDescriptor}
-use Rattle.hid_input.specs.Lists.{has_bytes}
+use Rattle.hid_input.specs.Answer.{Answer}
+use Rattle.hid_input.specs.Beside.{stands_alone}
+use Rattle.hid_input.specs.Text.{line_at, without_space}
+use Rattle.hid_input.specs.Words.{byte_of_pair}
 
--- the byte of an escape of one letter: t, n, r, and backslashes and quotation marks themselves
+-- the front of an escape of hex: \x, and \\x for a shell
+abbrev pub escape : List ℕ
+escape = 92 ∷ 120 ∷ []
+
+abbrev pub shell_escape : List ℕ
+shell_escape = 92 ∷ 92 ∷ 120 ∷ []
+
+abbrev pub begins_escape : List ℕ → Bool
+begins_escape text = starts_with nat_eq text escape || starts_with nat_eq text shell_escape
+
+-- where the first escape of hex begins, in a text that stands at a place
+abbrev pub escape_from : ℕ → List ℕ → Option ℕ
+escape_from at [] = None
+escape_from at (byte ∷ text) = if begins_escape (byte ∷ text) then Some at else escape_from (at + 1) text
+
+abbrev pub escape_place : List ℕ → Option ℕ
+escape_place text = escape_from 0 text
+
+-- the byte of an escape of one letter, as C and Python have it: \t, \n, \r, \\, \" and \'
 abbrev pub letter_byte : ℕ → Option ℕ
 letter_byte letter =
     if letter == 116 then Some 9
@@ -18,99 +37,59 @@ letter_byte letter =
     else (if letter == 114 then Some 13
     else (if (letter == 92) || ((letter == 34) || (letter == 39)) then Some letter else None)))
 
--- what a character gives: where the next one stands, and perhaps a byte
-abbrev pub Step : Type 0
-Step = Option (State × Option ℕ)
+-- a string of text, in which an escape of hex has as many digits as follow (C11, 6.4.4.4)
+abbrev pub is_text : Enclosure → Bool
+is_text (Text quote) = true
+is_text enclosure = false
 
--- a printed character of a string
-abbrev pub quoted_step : ℕ → ℕ → Step
-quoted_step quote byte =
-    if byte == quote then Some (Gap, None)
-    else (if nat_le 32 byte && nat_le byte 126 then Some (Between, Some byte) else None)
+-- the byte of an escape of hex, after its x
+abbrev pub hex_byte : Enclosure → List ℕ → Option ℕ
+hex_byte enclosure digits =
+    if is_text enclosure && (nat_le 3 (length digits) && is_ascii_hexdigit (slice_index digits 2)) then None else byte_of_pair (take 2 digits)
 
--- a character between others
-abbrev pub between_by : Enclosure → ℕ → Step
-between_by Bare byte = None
-between_by (Text quote) byte = quoted_step quote byte
-between_by (Bytes quote) byte = quoted_step quote byte
+-- the start of a string after white space: its quotation mark, perhaps with b in front
+abbrev pub joint_before : Enclosure → ℕ → List ℕ → Option ℕ
+joint_before (Text quote) blanks (first ∷ more) = if first == quote then Some (blanks + 2) else None
+joint_before (Bytes quote) blanks (letter ∷ first ∷ more) = if (letter == 98) && (first == quote) then Some (blanks + 3) else None
+joint_before enclosure blanks text = None
 
-abbrev pub between : ℕ → Enclosure → Step
-between byte enclosure = if byte == 92 then Some (Slash, None) else between_by enclosure byte
+-- how long the end of a string and the start of the next one are, by the text after the first quotation mark
+abbrev pub joint_length : Enclosure → List ℕ → Option ℕ
+joint_length enclosure text = joint_before enclosure (length text - length (without_space text)) (without_space text)
 
--- a character after a backslash
-abbrev pub letter_step : Option ℕ → Step
-letter_step None = None
-letter_step (Some byte) = Some (Between, Some byte)
+-- a character in a string: its byte, and how long it is; or a joint of two strings, which has no byte
+abbrev pub string_character : Enclosure → ℕ → List ℕ → Option (Option ℕ × ℕ)
+string_character enclosure quote [] = None
+string_character enclosure quote (first ∷ more) =
+    if first == 92 then (if length more == 0 then None else option_map (λ byte. (Some byte, 2)) (letter_byte (slice_index more 0)))
+    else (if first == quote then option_map (λ size. (None, size)) (joint_length enclosure more)
+    else (if nat_le 32 first && nat_le first 126 then Some (Some first, 1) else None))
 
-abbrev pub after_slash_by : Enclosure → ℕ → Step
-after_slash_by Bare byte = if byte == 92 then Some (Slashes, None) else None
-after_slash_by (Text quote) byte = letter_step (letter_byte byte)
-after_slash_by (Bytes quote) byte = letter_step (letter_byte byte)
+-- what is enclosed by nothing has escapes of a shell
+abbrev pub other_character : Enclosure → List ℕ → Option (Option ℕ × ℕ)
+other_character Bare text =
+    if starts_with nat_eq text shell_escape then option_map (λ byte. (Some byte, 5)) (hex_byte Bare (drop 3 text)) else None
+other_character (Text quote) text = string_character (Text quote) quote text
+other_character (Bytes quote) text = string_character (Bytes quote) quote text
 
-abbrev pub after_slash : ℕ → Enclosure → Step
-after_slash byte enclosure = if byte == 120 then Some (X, None) else after_slash_by enclosure byte
+-- the first character of a text. Example: \x05 is the byte 05, four characters long
+abbrev pub first_character : Enclosure → List ℕ → Option (Option ℕ × ℕ)
+first_character enclosure text =
+    if starts_with nat_eq text escape then option_map (λ byte. (Some byte, 4)) (hex_byte enclosure (drop 2 text)) else other_character enclosure text
 
--- a character after an escape of hex: in text no digit follows it, of which C would read more (C11, 6.4.4.4)
-abbrev pub after_escape : ℕ → Enclosure → Step
-after_escape byte (Text quote) = if is_ascii_hexdigit byte then None else between byte (Text quote)
-after_escape byte enclosure = between byte enclosure
+-- a byte and a length in front of those of a text
+abbrev pub ahead : List ℕ → ℕ → List ℕ × ℕ → List ℕ × ℕ
+ahead bytes size rest = (bytes ++ rest.0, size + rest.1)
 
--- a character between two strings
-abbrev pub after_gap_by : Enclosure → ℕ → Step
-after_gap_by Bare byte = None
-after_gap_by (Text quote) byte = if byte == quote then Some (Between, None) else None
-after_gap_by (Bytes quote) byte = if byte == 98 then Some (Prefix, None) else None
-
-abbrev pub after_gap : ℕ → Enclosure → Step
-after_gap byte enclosure = if (byte == 92) || is_ascii_whitespace byte then Some (Gap, None) else after_gap_by enclosure byte
-
--- the quotation mark after b
-abbrev pub after_prefix : ℕ → Enclosure → Step
-after_prefix byte (Bytes quote) = if byte == quote then Some (Between, None) else None
-after_prefix byte enclosure = None
-
--- the byte of an escape
-abbrev pub digits_step : Option ℕ → Step
-digits_step None = None
-digits_step (Some byte) = Some (Escape, Some byte)
-
--- what a character gives, by where it stands
-abbrev pub next_state : State → ℕ → Enclosure → Step
-next_state Between byte enclosure = between byte enclosure
-next_state Slash byte enclosure = after_slash byte enclosure
-next_state Slashes byte enclosure = if byte == 120 then Some (X, None) else None
-next_state X byte enclosure = Some (Digit byte, None)
-next_state (Digit high) byte enclosure = digits_step (byte_of_pair (high ∷ byte ∷ []))
-next_state Escape byte enclosure = after_escape byte enclosure
-next_state Gap byte enclosure = after_gap byte enclosure
-next_state Prefix byte enclosure = after_prefix byte enclosure
-
--- characters end with an escape of hex
-abbrev pub is_end : State → Bool
-is_end Escape = true
-is_end state = false
-
--- the byte of a step in front of those of the steps after it
-abbrev pub after_step : Step → (State → Option (List ℕ)) → Option (List ℕ)
-after_step None rest = None
-after_step (Some step) rest = both (Some (option_to_list step.1)) (rest step.0)
-
--- the bytes of characters from a state on
-abbrev pub escaped_from : Enclosure → List ℕ → State → Option (List ℕ)
-escaped_from enclosure [] state = if is_end state then Some [] else None
-escaped_from enclosure (byte ∷ text) state = after_step (next_state state byte enclosure) (escaped_from enclosure text)
-
--- the bytes of characters: escapes, and in strings also printed characters. Example: \x05\x01 and, in strings, \x05" "\x01 are 05 01
-abbrev pub escaped_bytes : Enclosure → List ℕ → Option (List ℕ)
-escaped_bytes enclosure text = escaped_from enclosure text Between
-
--- a backslash and an x stand side by side
-abbrev pub has_escape_from : ℕ → List ℕ → Bool
-has_escape_from before [] = false
-has_escape_from before (byte ∷ text) = ((before == 92) && (byte == 120)) || has_escape_from byte text
-
-abbrev pub has_escape : List ℕ → Bool
-has_escape text = has_escape_from 32 text
+-- the bytes of the characters at the front of a text, of which so many letters belong to the last one, and how long they are
+abbrev pub characters_from : Enclosure → ℕ → List ℕ → List ℕ × ℕ
+characters_from enclosure skip [] = ([], 0)
+characters_from enclosure (suc skip) (letter ∷ text) = ahead [] 1 (characters_from enclosure skip text)
+characters_from enclosure zero (letter ∷ text) =
+    elim (first_character enclosure (letter ∷ text)) [
+      | None ↦ ([], 0)
+      | Some found ↦ ahead (option_to_list found.0) 1 (characters_from enclosure (found.1 - 1) text)
+    ]
 
 -- the character so many in front of the end of a text, or a blank
 abbrev pub character_back : List ℕ → ℕ → ℕ
@@ -124,7 +103,7 @@ abbrev pub enclosure_of : List ℕ → Option Enclosure
 enclosure_of text =
     if (character_back text 0 == 34) || (character_back text 0 == 39)
     then (if not (is_word_byte (character_back text 1)) then Some (Text (character_back text 0))
-    else (if ((character_back text 1 == 98) || (character_back text 1 == 66)) && not (is_word_byte (character_back text 2))
+    else (if (character_back text 1 == 98) && not (is_word_byte (character_back text 2))
     then Some (Bytes (character_back text 0)) else None))
     else (if is_ascii_whitespace (character_back text 0) || (character_back text 0 == 61) then Some Bare else None)
 
@@ -132,21 +111,28 @@ enclosure_of text =
 abbrev pub first_or_blank : List ℕ → ℕ
 first_or_blank text = if length text == 0 then 32 else slice_index text 0
 
-abbrev pub is_closed : List ℕ → Enclosure → Bool
-is_closed text Bare = is_ascii_whitespace (first_or_blank text)
-is_closed text (Text quote) = first_or_blank text == quote
-is_closed text (Bytes quote) = first_or_blank text == quote
+abbrev pub is_closed : Enclosure → List ℕ → Bool
+is_closed Bare text = is_ascii_whitespace (first_or_blank text)
+is_closed (Text quote) text = first_or_blank text == quote
+is_closed (Bytes quote) text = first_or_blank text == quote
 
--- A text has this descriptor in escapes, and no other bytes outside.
-pub record IsStrings (text found_bytes : List ℕ) (found_lines : Option (ℕ × ℕ)) : Type 0 where
-  pub from : ℕ
-  pub to : ℕ
-  pub within : (from ≤ to) × (to ≤ length text)
-  pub enclosure : Enclosure
-  pub opened : enclosure_of (take from text) ≡ Some enclosure
-  pub closed : is_closed (drop to text) enclosure ≡ true
-  pub bytes : escaped_bytes enclosure (slice_range text from to) ≡ Some found_bytes
-  pub whole : IsDescriptor found_bytes
-  pub lines : found_lines ≡ Some (line_at text from, line_at text to)
-  pub alone_before : (has_escape (take from text) ≡ false) × (has_bytes (take from text) ≡ false)
-  pub alone_after : (has_escape (drop to text) ≡ false) × (has_bytes (drop to text) ≡ false)
+-- how many quotation marks enclose, at either end
+abbrev pub quotes_of : Enclosure → ℕ
+quotes_of Bare = 0
+quotes_of (Text quote) = 1
+quotes_of (Bytes quote) = 1
+
+-- the bytes of characters between two places, if they are enclosed and alone
+abbrev pub enclosed_answer : List ℕ → ℕ → Enclosure → List ℕ → ℕ → Option Answer
+enclosed_answer text from enclosure bytes to =
+    if is_closed enclosure (drop to text) && stands_alone true text (from - quotes_of enclosure) (min (to + quotes_of enclosure) (length text))
+    then Some (Escapes, (bytes, Some (line_at text from, line_at text to))) else None
+
+-- the descriptor in the strings of a text, whose first escape of hex begins at a place
+abbrev pub strings_by : List ℕ → ℕ → Option Enclosure → Option Answer
+strings_by text from None = None
+strings_by text from (Some enclosure) =
+    enclosed_answer text from enclosure (characters_from enclosure 0 (drop from text)).0 (from + (characters_from enclosure 0 (drop from text)).1)
+
+abbrev pub strings_answer : List ℕ → ℕ → Option Answer
+strings_answer text from = strings_by text from (enclosure_of (take from text))

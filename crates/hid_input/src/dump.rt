@@ -7,18 +7,18 @@
 //! An offset is the number of bytes in front of its line, in hex, decimal or octal: the same in each line. Each byte is written, so
 //! `*` for repeated lines isn't read.
 
-ghost use Rattle.std.specs.Prelude.{◌≡◌, ◌==◌, ◌≤◌, ◌||◌, ℕ, [], false, IfOk, MatchResult};
+ghost use Rattle.std.specs.Prelude.{◌≡◌, ◌==◌, ◌≤◌, ◌||◌, ℕ, [], false, IfErr, IfOk, MatchResult, None};
 ghost use Rattle.std.specs.List.{list_all, zip};
 ghost use Rattle.std.specs.Option.{option_copied};
 ghost use Rattle.hid_input.specs.Text.{lines_of};
+ghost use Rattle.hid_input.specs.declared.found.Shape.TheVariants.{Dump};
+ghost use Rattle.hid_input.specs.Answer.{Reads, answer_of};
 ghost use Rattle.hid_input.specs.Descriptor.{IsDescriptor};
-ghost use Rattle.hid_input.specs.Dump.{base_count, without_last, offset_digits, is_dump, character_of, are_shown, inside_bars, shows_in_bars, shows, begins_word, row_bytes, line_bytes, rows_bytes, begins_by, byte_line, further, dump_bytes, last_line, IsDump, IsNotWhole, IsDumpFault};
+ghost use Rattle.hid_input.specs.Dump.{base_count, without_last, offset_digits, is_dump, character_of, are_shown, inside_bars, shows_in_bars, shows, begins_word, row_bytes, line_bytes, rows_bytes, begins_by, byte_line, further, dump_bytes, dump_answer, IsNotWhole, IsDumpFault};
 
 use crate::fault::{InputCause, InputFault};
-use crate::found::Place;
-use crate::text::{
-    behind_part, first_word, is_empty_line, line_at, split_line, split_word, without_space,
-};
+use crate::found::{Found, Shape};
+use crate::text::{behind_part, first_word, is_empty_line, split_line, split_word, without_space};
 use crate::whole::descriptor_fault;
 use crate::words::{byte_of_pair, number_of};
 use std::alloc::{AllocError, Global};
@@ -250,17 +250,18 @@ fn line_of_byte(text: &[u8], at: u64, base: u32) -> u64
 }
 
 /// The descriptor that these bytes of a dump are.
-fn whole_dump(text: &[u8], base: u32, bytes: Vec<u8>) -> Result<Place, InputFault>
-    ensures { MatchResult result (λ place. (place.bytes.items ≡ bytes.items) × IsDescriptor bytes.items × (place.lines ≡ (1, last_line text.now)))
+fn whole_dump(text: &[u8], base: u32, bytes: Vec<u8>) -> Result<Found, InputFault>
+    ensures { MatchResult result (λ found. (answer_of found ≡ (Dump, (bytes.items, None))) × IsDescriptor bytes.items)
         (λ fault. IsNotWhole text.now base bytes.items fault) }
 {
     if let Some(fault) = descriptor_fault(bytes.as_slice()) {
         let line = line_of_byte(text, fault.at as u64, base);
         return Err(InputFault::of_line(line, InputCause::NotWhole(fault)));
     }
-    Ok(Place {
+    Ok(Found {
         bytes,
-        lines: (1, line_at(text, text.trim_ascii_end().len())),
+        shape: Shape::Dump,
+        lines: None,
     })
 }
 
@@ -276,8 +277,9 @@ fn further(one: (u64, InputCause), other: (u64, InputCause)) -> (u64, InputCause
 /// # Errors
 /// [`InputCause::Offset`], [`InputCause::DumpLine`] or [`InputCause::WordOrder`] of a line; [`InputCause::NotWhole`];
 /// [`InputCause::Memory`].
-pub fn read_dump(alloc: Global, text: &[u8]) -> Result<Place, InputFault>
-    ensures { MatchResult result (λ place. (base : ℕ) × IsDump text.now base place) (λ fault. IsDumpFault text.now fault (dump_bytes text.now)) }
+pub fn read_dump(alloc: Global, text: &[u8]) -> Result<Found, InputFault>
+    ensures answer { Reads (dump_answer text.now) result }
+    ensures fault { IfErr result (λ fault. IsDumpFault text.now fault (dump_bytes text.now)) }
 {
     let mut furthest = (0, InputCause::DumpLine);
     let bases = &BASES[..base_count(first_word(text))];

@@ -1,7 +1,5 @@
 //! What is found in a file, and where.
 
-ghost use Rattle.std.specs.Prelude.{◌≡◌, Some};
-
 /// How a file has its descriptor.
 #[derive(Clone, Copy, Debug, PartialEq, Eq)]
 pub enum Shape {
@@ -30,28 +28,6 @@ pub struct Found {
     pub bytes: Vec<u8>,
     /// How the file has them.
     pub shape: Shape,
-    /// The first and the last line that they were read from, from 1 on; none of binary.
+    /// The first and the last line that they were read from, from 1 on, of a shape among other lines.
     pub lines: Option<(u64, u64)>,
-}
-
-/// Bytes, with the first and the last line that they were read from.
-#[derive(Drop)]
-pub struct Place {
-    /// The bytes.
-    pub bytes: Vec<u8>,
-    /// The lines.
-    pub lines: (u64, u64),
-}
-
-impl Place {
-    /// These bytes as the descriptor of a file.
-    pub fn found(self, shape: Shape) -> Found
-        ensures { result ≡ record { bytes = self.bytes; shape = shape; lines = Some self.lines } }
-    {
-        Found {
-            bytes: self.bytes,
-            shape,
-            lines: Some(self.lines),
-        }
-    }
 }

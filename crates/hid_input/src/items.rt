@@ -10,7 +10,7 @@ ghost use Rattle.hid_input.specs.Words.{IsAdded};
 ghost use Rattle.hid_input.specs.Items.{prefix_in, prefix_of, size_and_value, size_if, data_parts, item_parts, item_bytes, item_line_bytes, length_in, is_unavailable, has_unavailable, ends_items};
 
 use crate::text::{behind_part, split_at_character, trimmed_text};
-use crate::words::{Reading, add_words, number_of};
+use crate::words::{Parting, Reading, add_words, number_of};
 use std::alloc::{AllocError, Global};
 
 /// The names of items in lsusb, after `Item(` up to the comma, and their prefixes without the size of their data
@@ -108,7 +108,7 @@ fn add_item(alloc: Global, bytes: &mut Vec<u8>, item: &[u8]) -> Result<bool, All
         return Ok(false);
     };
     let mut data = Vec::new(alloc);
-    if add_words(&mut data, words, Reading::Elements)?.is_some() {
+    if add_words(&mut data, words, Reading::Elements, Parting::Space)?.is_some() {
         return Ok(false);
     }
     let Some(size) = size_if(data.as_slice(), number) else {

@@ -2,7 +2,7 @@
 
 ghost use Rattle.std.specs.Prelude.{◌≡◌};
 ghost use Rattle.std.specs.List.{list_all};
-ghost use Rattle.hid_input.specs.Known.{is_capture, are_usb_descriptors, is_compressed, is_program, known_file, is_printed, is_written, begins_text};
+ghost use Rattle.hid_input.specs.Known.{known_file, is_printed, is_written, begins_text};
 
 use std::fmt;
 
@@ -41,60 +41,27 @@ impl fmt::Display for KnownFile {
     }
 }
 
-/// Whether bytes begin as a capture of pcap, in either order of bytes and either unit of time, or of pcapng.
-fn is_capture(bytes: &[u8]) -> bool
-    ensures { result ≡ is_capture bytes.now }
-{
-    bytes.starts_with(&[0xD4, 0xC3, 0xB2, 0xA1])
-        || bytes.starts_with(&[0xA1, 0xB2, 0xC3, 0xD4])
-        || bytes.starts_with(&[0x4D, 0x3C, 0xB2, 0xA1])
-        || bytes.starts_with(&[0xA1, 0xB2, 0x3C, 0x4D])
-        || bytes.starts_with(&[0x0A, 0x0D, 0x0D, 0x0A])
-}
-
-/// Whether bytes begin with the descriptor of a device, or with those of a configuration and an interface.
-fn are_usb_descriptors(bytes: &[u8]) -> bool
-    ensures { result ≡ are_usb_descriptors bytes.now }
-{
-    if bytes.len() < 18 {
-        return false;
-    }
-    bytes.starts_with(&[0x12, 0x01])
-        || (bytes.starts_with(&[0x09, 0x02]) && bytes[9..].starts_with(&[0x09, 0x04]))
-}
-
-/// Whether bytes begin as a file of gzip, xz, zstd or zip.
-fn is_compressed(bytes: &[u8]) -> bool
-    ensures { result ≡ is_compressed bytes.now }
-{
-    bytes.starts_with(&[0x1F, 0x8B])
-        || bytes.starts_with(&[0xFD, 0x37, 0x7A, 0x58, 0x5A, 0x00])
-        || bytes.starts_with(&[0x28, 0xB5, 0x2F, 0xFD])
-        || bytes.starts_with(&[0x50, 0x4B, 0x03, 0x04])
-}
-
-/// Whether bytes begin as a program of ELF.
-fn is_program(bytes: &[u8]) -> bool
-    ensures { result ≡ is_program bytes.now }
-{
-    bytes.starts_with(&[0x7F, 0x45, 0x4C, 0x46])
-}
-
-/// What a file is by its first bytes, if it is none that has a report descriptor. A descriptor may begin with these bytes too: one
-/// that can be read is one.
+/// What a file is by its first bytes, if it is none that has a report descriptor: pcap and pcapng, descriptors of a device or of a
+/// configuration (USB 2.0, 9.6), gzip, xz, zstd and zip, or ELF. A descriptor may begin with these bytes too: one that can be read is one.
 pub fn known_file(bytes: &[u8]) -> Option<KnownFile>
     ensures { result ≡ known_file bytes.now }
 {
-    if is_capture(bytes) {
-        Some(KnownFile::Capture)
-    } else if are_usb_descriptors(bytes) {
-        Some(KnownFile::UsbDescriptors)
-    } else if is_compressed(bytes) {
-        Some(KnownFile::Compressed)
-    } else if is_program(bytes) {
-        Some(KnownFile::Program)
-    } else {
-        None
+    match bytes {
+        [0xD4, 0xC3, 0xB2, 0xA1, ..]
+        | [0xA1, 0xB2, 0xC3, 0xD4, ..]
+        | [0x4D, 0x3C, 0xB2, 0xA1, ..]
+        | [0xA1, 0xB2, 0x3C, 0x4D, ..]
+        | [0x0A, 0x0D, 0x0D, 0x0A, ..] => Some(KnownFile::Capture),
+        [0x12, 0x01, ..] if bytes.len() >= 18 => Some(KnownFile::UsbDescriptors),
+        [0x09, 0x02, ..] if bytes.len() >= 18 && bytes[9] == 0x09 && bytes[10] == 0x04 => {
+            Some(KnownFile::UsbDescriptors)
+        }
+        [0x1F, 0x8B, ..]
+        | [0xFD, 0x37, 0x7A, 0x58, 0x5A, 0x00, ..]
+        | [0x28, 0xB5, 0x2F, 0xFD, ..]
+        | [0x50, 0x4B, 0x03, 0x04, ..] => Some(KnownFile::Compressed),
+        [0x7F, 0x45, 0x4C, 0x46, ..] => Some(KnownFile::Program),
+        _ => None,
     }
 }
 

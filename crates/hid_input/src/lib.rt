@@ -16,6 +16,7 @@
 //! The promise: `whole`, `shown`, `recorded`, `read`, `binary` and `refused` on [`descriptor_in`]. Time and memory are in proportion to the text.
 #![tactic(auto)]
 
+mod beside;
 mod dump;
 mod fault;
 mod found;
@@ -37,4 +38,4 @@ pub use found::{Found, Shape};
 pub use known::{KnownFile, begins_text, known_file};
 pub use reading::descriptor_in;
 pub use recorded::{RecordedFault, begins_recording, is_recording, read_recorded};
-pub use whole::{DescriptorCause, DescriptorFault};
+pub use whole::{DescriptorCause, DescriptorFault, descriptor_fault};

@@ -1,22 +1,24 @@
 //! Descriptors that a line of the text names: of hid-recorder, umockdev, usbhid-dump and lsusb.
 
-ghost use Rattle.std.specs.Prelude.{◌≡◌, ◌++◌, ℕ, List, [], None, Ok, Some, false, true, IfOk, IfSome, IfNone, MatchOption, MatchResult, is_some};
-ghost use Rattle.std.specs.List.{list_all, list_any};
-ghost use Rattle.hid_input.specs.Items.{has_unavailable};
-ghost use Rattle.hid_input.specs.Shapes.{FindsRecord, from_mark, has_mark, record_at, record_of};
+ghost use Rattle.std.specs.Prelude.{◌≡◌, [], Ok, Some, None, IfOk, IfSome, MatchResult, false, true, is_none, length, ◌≤◌, drop};
+ghost use Rattle.std.specs.Option.{option_copied, option_map};
+ghost use Rattle.std.specs.Result.{result_ok};
+ghost use Rattle.hid_input.specs.Answer.{Reads, names_itself};
+ghost use Rattle.hid_input.specs.Items.{length_in};
 ghost use Rattle.hid_input.specs.Recorded.{IsFault};
 ghost use Rattle.hid_input.specs.Words.{IsAdded};
-ghost use Rattle.hid_input.specs.Text.{lines_of};
-ghost use Rattle.hid_input.specs.Marked.{mark_of, line_bytes, is_below, shape_bytes, below_bytes, Names, agrees, others_of, IsNamed, is_named};
+ghost use Rattle.hid_input.specs.Text.{is_newline, lines_of, parts_below};
+ghost use Rattle.hid_input.specs.Marked.{mark_of, mark_place, line_bytes, is_below, shape_bytes, is_last, count_after, below_from, agrees_by, agree_from, agree, is_counted, others_below, record_answer, below_answer, marked_answer, fault_of, record_fault, HasFault};
 
+use crate::beside::find_bytes;
 use crate::fault::{InputCause, InputFault};
-use crate::found::{Found, Place, Shape};
-use crate::items::{add_item_line, ends_items, has_unavailable, length_in};
+use crate::found::{Found, Shape};
+use crate::items::{add_item_line, ends_items, length_in};
 use crate::recorded::{
     RecordedFault, after_letter, after_property, is_beside, is_heading, read_hex, read_recorded,
 };
-use crate::text::{is_empty_line, line_at, split_line};
-use crate::words::{Reading, add_words};
+use crate::text::{first_word, is_empty_line, line_at, split_line};
+use crate::words::{Parting, Reading, add_words};
 use std::alloc::{AllocError, Global};
 
 /// The shape of the descriptor that a line names.
@@ -34,18 +36,19 @@ fn mark_of(line: &[u8]) -> Option<Shape>
     }
 }
 
-/// The text from the first line on that names a descriptor.
-fn find_mark(text: &[u8]) -> Option<&[u8]>
-    ensures above { IfSome result (λ rest. (above : List (List ℕ)) × (lines_of text.now ≡ above ++ lines_of rest.now)) }
-    ensures first { MatchOption result (from_mark (lines_of text.now) ≡ []) (λ rest. lines_of rest.now ≡ from_mark (lines_of text.now)) }
-    ensures is_there { is_some result ≡ list_any has_mark (lines_of text.now) }
+/// Where the first line begins that names a descriptor.
+pub fn mark_place(text: &[u8]) -> Option<usize>
+    ensures place { result ≡ mark_place 0 (lines_of text.now) }
+    ensures bound { IfSome result (λ place. place ≤ length text.now) }
 {
     let mut rest = text;
+    let mut at = 0usize;
     loop {
         let (line, below) = split_line(rest);
         if mark_of(line).is_some() {
-            return Some(rest);
+            return Some(at);
         }
+        at = at + line.len() + 1;
         rest = below?;
     }
 }
@@ -73,107 +76,120 @@ fn is_below(line: &[u8], shape: Shape) -> bool
     }
 }
 
-/// Adds the bytes of a line of a descriptor; false where it has none.
-fn add_line(
-    alloc: Global,
-    bytes: &mut Vec<u8>,
-    line: &[u8],
-    shape: Shape,
-) -> Result<bool, AllocError>
-    ensures { IfOk result (λ is_read. IsAdded bytes.old.items (shape_bytes shape line.now) is_read bytes.new.items) }
-{
-    match shape {
-        Shape::Items => add_item_line(alloc, bytes, line),
-        _ => Ok(add_words(bytes, line, Reading::Plain)?.is_none()),
-    }
-}
-
-/// How many bytes usbhid-dump prints in each line but the last.
-const ROW: usize = 16;
-
-/// The bytes of the lines at the front of a text, and how many lines they are; or how many stand in front of one that has none, and
-/// how many bytes in front of what is none.
-fn read_lines(
-    alloc: Global,
-    text: &[u8],
-    shape: Shape,
-) -> Result<Result<(Vec<u8>, u64), (u64, u64)>, AllocError>
-    ensures { IfOk result (λ read. IfOk read (λ found. below_bytes shape (lines_of text.now) ≡ Some found.0.items)) }
+/// The bytes of a line of a descriptor; or how many stand in front of what is none.
+fn read_row(alloc: Global, line: &[u8], shape: Shape) -> Result<Result<Vec<u8>, u64>, AllocError>
+    ensures { IfOk result (λ read. MatchResult read (λ bytes. shape_bytes shape line.now ≡ Some bytes.items) (λ _. shape_bytes shape line.now ≡ None)) }
 {
     let mut bytes = Vec::new(alloc);
-    let mut count = 0u64;
-    let mut last = 0u64;
-    let mut is_short = false;
-    let mut rest = text;
-    loop {
-        let (line, below) = split_line(rest);
-        if is_below(line, shape) {
-            return Ok(Ok((bytes, last)));
-        }
-        let before = bytes.len();
-        if is_short || !add_line(alloc, &mut bytes, line, shape)? {
-            return Ok(Err((count, bytes.len().saturating_sub(before) as u64)));
-        }
-        is_short = shape == Shape::Block && bytes.len() - before != ROW;
-        count = count.saturating_add(1);
-        if bytes.len() > before {
-            last = count;
-        }
-        match below {
-            Some(below) => rest = below,
-            None => return Ok(Ok((bytes, last))),
-        }
+    let is_read = match shape {
+        Shape::Items => add_item_line(alloc, &mut bytes, line)?,
+        _ => add_words(&mut bytes, line, Reading::Runs, Parting::Space)?.is_none(),
+    };
+    if is_read {
+        Ok(Ok(bytes))
+    } else {
+        Ok(Err(bytes.len() as u64))
     }
 }
 
-/// The cause of a line that has no bytes.
-fn bad_line(shape: Shape, at: u64) -> InputCause {
+/// Whether the bytes of a line are those of a last line: usbhid-dump writes 16 in each other.
+fn is_last(bytes: &[u8], shape: Shape) -> bool
+    ensures { result ≡ is_last shape bytes.now }
+{
     match shape {
-        Shape::Items => InputCause::BadItem,
-        _ => InputCause::BadHex { at },
+        Shape::Items => false,
+        _ => bytes.len() != 16,
     }
 }
 
-/// The bytes in the lines below the one with this number, which says how many they are if it is of lsusb.
-fn read_below(
+/// The number of the last line with bytes.
+fn count_after(count: u64, number: u64, bytes: &[u8]) -> u64
+    ensures { result ≡ count_after count number bytes.now }
+{
+    if bytes.len() == 0 { count } else { number }
+}
+
+/// The lines of a descriptor.
+#[derive(Drop)]
+struct Lines<'a> {
+    /// Their bytes.
+    bytes: Vec<u8>,
+    /// The number of the last line with bytes, from 1 on.
+    count: u64,
+    /// The text below them, if there are more lines.
+    below: Option<&'a [u8]>,
+}
+
+/// The lines of a descriptor at the front of a text, if there is one; or how many stand in front of one that has no bytes, and how many
+/// bytes in front of what is none.
+fn read_lines<'a>(
+    alloc: Global,
+    text: Option<&'a [u8]>,
+    shape: Shape,
+) -> Result<Result<Lines<'a>, (u64, u64)>, AllocError>
+    ensures { IfOk result (λ read. option_map (λ lines. (lines.bytes.items, (lines.count, parts_below is_newline (option_copied lines.below)))) (result_ok read)
+        ≡ below_from shape false [] 0 0 (parts_below is_newline (option_copied text.entry))) }
+{
+    let mut bytes = Vec::new(alloc);
+    let mut number = 0u64;
+    let mut count = 0u64;
+    let mut was_last = false;
+    let mut below = text;
+    while let Some(rest) = below {
+        let (line, more) = split_line(rest);
+        if is_below(line, shape) {
+            return Ok(Ok(Lines {
+                bytes,
+                count,
+                below,
+            }));
+        }
+        if was_last {
+            return Ok(Err((number, 0)));
+        }
+        let row = match read_row(alloc, line, shape)? {
+            Ok(row) => row,
+            Err(at) => return Ok(Err((number, at))),
+        };
+        number = number.saturating_add(1);
+        count = count_after(count, number, row.as_slice());
+        was_last = is_last(row.as_slice(), shape);
+        bytes.extend_from_slice(row.as_slice())?;
+        below = more;
+    }
+    Ok(Ok(Lines {
+        bytes,
+        count,
+        below,
+    }))
+}
+
+/// Whether bytes of lines are as many as the line in front of them says, and there are some.
+fn is_counted(bytes: &[u8], said: Option<u64>) -> bool
+    ensures { result ≡ is_counted said bytes.now }
+{
+    match said {
+        Some(said) => bytes.len() as u64 == said && bytes.len() != 0,
+        None => bytes.len() != 0,
+    }
+}
+
+/// Whether a line may stand beside a descriptor: it names no other, and has no other bytes unless it is one of reports; beside an `R:` line
+/// it is of a recording.
+fn agrees(
     alloc: Global,
     line: &[u8],
-    text: &[u8],
-    number: u64,
     shape: Shape,
-) -> Result<Place, InputFault>
-    ensures { IfOk result (λ found. below_bytes shape (lines_of text.now) ≡ Some found.bytes.items) }
+    bytes: &[u8],
+    is_stream: bool,
+) -> Result<bool, AllocError>
+    ensures { IfOk result (λ is_so. is_so ≡ agrees_by (mark_of line.now) shape bytes.now is_stream line.now) }
 {
-    let first = number.saturating_add(1);
-    let (bytes, count) = match read_lines(alloc, text, shape)? {
-        Ok(read) => read,
-        Err((before, at)) => {
-            let bad = first.saturating_add(before);
-            return Err(InputFault::of_line(bad, bad_line(shape, at)));
-        }
-    };
-    let found = bytes.len() as u64;
-    if let Some(said) = length_in(line) {
-        if said != found {
-            return Err(InputFault::of_line(number, InputCause::BadCount { said, found }));
-        }
-    }
-    if found == 0 {
-        return Err(InputFault::of_line(number, InputCause::NoDescriptor));
-    }
-    let lines = (first, number.saturating_add(count));
-    Ok(Place { bytes, lines })
-}
-
-/// Whether a line may stand beside a descriptor: it names no other, and beside an `R:` line it is of a recording.
-fn agrees(alloc: Global, line: &[u8], found: &Found) -> Result<bool, AllocError>
-    ensures { IfOk result (λ is_so. is_so ≡ agrees found.now.shape found.now.bytes.items line.now) }
-{
-    match (mark_of(line), found.shape) {
+    match (mark_of(line), shape) {
         (None, Shape::Recording) => Ok(is_beside(line)),
-        (None, _) => Ok(true),
+        (None, _) => Ok(is_stream || find_bytes(alloc, line)?.is_none()),
         (Some(Shape::Recording), Shape::Recording) => match read_line(alloc, line) {
-            Ok(bytes) => Ok(bytes.as_slice() == found.bytes.as_slice()),
+            Ok(others) => Ok(others.as_slice() == bytes),
             Err(RecordedFault::Memory) => Err(AllocError),
             Err(_) => Ok(false),
         },
@@ -181,113 +197,170 @@ fn agrees(alloc: Global, line: &[u8], found: &Found) -> Result<bool, AllocError>
     }
 }
 
-/// The text from the first line on that may not stand beside the descriptor that was found.
+/// The text from the first line on that may not stand beside a descriptor.
 fn find_other<'a>(
     alloc: Global,
-    text: &'a [u8],
-    found: &Found,
+    text: Option<&'a [u8]>,
+    shape: Shape,
+    bytes: &[u8],
 ) -> Result<Option<&'a [u8]>, AllocError>
-    ensures { IfOk result (λ other. MatchOption other (list_all (agrees found.now.shape found.now.bytes.items) (lines_of text.now) ≡ true)
-        (λ _. list_all (agrees found.now.shape found.now.bytes.items) (lines_of text.now) ≡ false)) }
+    ensures { IfOk result (λ other. is_none other ≡ agree_from shape bytes.now false (parts_below is_newline (option_copied text.entry))) }
 {
     let mut rest = text;
-    loop {
-        let (line, below) = split_line(rest);
-        if !agrees(alloc, line, found)? {
-            return Ok(Some(rest));
+    let mut is_stream = false;
+    while let Some(here) = rest {
+        let (line, below) = split_line(here);
+        if !agrees(alloc, line, shape, bytes, is_stream)? {
+            return Ok(Some(here));
         }
-        match below {
-            Some(below) => rest = below,
-            None => return Ok(None),
-        }
+        is_stream = is_stream || first_word(line).ends_with(b":STREAM");
+        rest = below;
     }
+    Ok(None)
 }
 
 /// The fault of a line that may not stand there: another descriptor, or no line of a recording.
-fn other_fault(text: &[u8], first: u64, other: &[u8]) -> InputFault {
-    let second = line_at(text, text.len().saturating_sub(other.len()));
-    let (line, _) = split_line(other);
-    match mark_of(line) {
-        Some(_) => InputFault::of_text(InputCause::Several { first, second }),
-        None => InputFault::of_line(second, InputCause::OtherLine),
+fn other_fault(text: &[u8], number: u64, other: &[u8], shape: Shape) -> InputFault {
+    let line = line_at(text, text.len().saturating_sub(other.len()));
+    let (front, _) = split_line(other);
+    if shape == Shape::Recording && mark_of(front).is_none() {
+        return InputFault::of_line(line, InputCause::OtherLine);
     }
+    let (first, second) = (line.min(number), line.max(number));
+    InputFault::of_text(InputCause::Several { first, second })
 }
 
-/// The descriptor that the first line of a text names, if it does. The line has this number.
-fn read_named(alloc: Global, rest: &[u8], number: u64) -> Result<Option<Found>, InputFault>
-    ensures named { IfOk result (λ read. IfSome read (λ found. Names found.shape (lines_of rest.now) found.bytes.items)) }
-    ensures itself { IfOk result (λ read. IfSome read (λ found. is_named found.shape ≡ true)) }
-    ensures recorded { FindsRecord (record_at (lines_of rest.now)) result }
-{
-    let (line, below) = split_line(rest);
-    match (mark_of(line), below) {
-        (Some(Shape::Recording), _) => match read_line(alloc, line) {
-            Ok(bytes) => Ok(Some(Found {
-                bytes,
-                shape: Shape::Recording,
-                lines: Some((number, number)),
-            })),
-            Err(fault) => Err(InputFault::of_line(number, InputCause::from(fault))),
-        },
-        (Some(Shape::Block), Some(below)) => {
-            let found = read_below(alloc, line, below, number, Shape::Block)?;
-            Ok(Some(found.found(Shape::Block)))
-        }
-        (Some(Shape::Items), Some(below)) => {
-            let found = read_below(alloc, line, below, number, Shape::Items)?;
-            Ok(Some(found.found(Shape::Items)))
-        }
-        _ => Ok(None),
-    }
-}
-
-/// The fault of the first line that may not stand beside a descriptor, which begins in the line with this number.
-fn fault_of_others<'a>(
+/// The fault of the first of the lines above and below a descriptor that may not stand there; its line has this number.
+fn fault_of_others(
     alloc: Global,
-    text: &'a [u8],
-    rest: &'a [u8],
+    text: &[u8],
     number: u64,
-    found: &Found,
+    sides: (Option<&[u8]>, Option<&[u8]>),
+    shape: Shape,
+    bytes: &[u8],
 ) -> Result<Option<InputFault>, AllocError>
-    ensures { IfOk result (λ fault. MatchOption fault (list_all (agrees found.now.shape found.now.bytes.items)
-        (others_of found.now.shape (lines_of text.now) (lines_of rest.now)) ≡ true)
-        (λ _. found.now.shape ≡ Shape.Recording → list_all (agrees found.now.shape found.now.bytes.items) (lines_of text.now) ≡ false)) }
+    ensures { IfOk result (λ fault. is_none fault ≡ agree shape bytes.now (parts_below is_newline (option_copied sides.entry.0)) (parts_below is_newline (option_copied sides.entry.1))) }
 {
-    let (_, below) = split_line(rest);
-    let other = match (found.shape, below) {
-        (Shape::Recording, _) => find_other(alloc, text, found)?,
-        (_, Some(below)) => find_other(alloc, below, found)?,
-        (_, None) => None,
-    };
-    match other {
-        Some(other) => Ok(Some(other_fault(text, number, other))),
+    if let Some(other) = find_other(alloc, sides.0, shape, bytes)? {
+        return Ok(Some(other_fault(text, number, other, shape)));
+    }
+    match find_other(alloc, sides.1, shape, bytes)? {
+        Some(other) => Ok(Some(other_fault(text, number, other, shape))),
         None => Ok(None),
     }
 }
 
-/// The descriptor that a line of a text names, if one does.
+/// The descriptor that a line with this number has by `R:` or `H:`, with these lines above and below it.
+fn read_record(
+    alloc: Global,
+    text: &[u8],
+    number: u64,
+    line: &[u8],
+    sides: (Option<&[u8]>, Option<&[u8]>),
+) -> Result<Found, InputFault>
+    ensures answer { Reads (record_answer (parts_below is_newline (option_copied sides.entry.0)) (parts_below is_newline (option_copied sides.entry.1)) (line_bytes line.now)) result }
+    ensures fault { HasFault (fault_of (line_bytes line.now)) result }
+{
+    let bytes = match read_line(alloc, line) {
+        Ok(bytes) => bytes,
+        Err(RecordedFault::Memory) => return Err(InputFault::of_text(InputCause::Memory)),
+        Err(fault) => return Err(InputFault::of_line(number, InputCause::from(fault))),
+    };
+    let shape = Shape::Recording;
+    if let Some(fault) = fault_of_others(alloc, text, number, sides, shape, bytes.as_slice())? {
+        return Err(fault);
+    }
+    Ok(Found {
+        bytes,
+        shape,
+        lines: None,
+    })
+}
+
+/// The fault of a line of a descriptor, below so many others, that has no bytes, or so many in front of what is none.
+fn bad_line(number: u64, place: (u64, u64), shape: Shape) -> InputFault {
+    let line = number.saturating_add(place.0).saturating_add(1);
+    match shape {
+        Shape::Items => InputFault::of_line(line, InputCause::BadItem),
+        _ => InputFault::of_line(line, InputCause::BadHex { at: place.1 }),
+    }
+}
+
+/// The fault of a line that says how many bytes there are, but not right, or that has none below it.
+fn bad_count(number: u64, said: Option<u64>, found: u64) -> InputFault {
+    let cause = match said {
+        Some(said) if said != found => InputCause::BadCount { said, found },
+        _ => InputCause::NoDescriptor,
+    };
+    InputFault::of_line(number, cause)
+}
+
+/// The lines beside those of a descriptor: of usbhid-dump those below them, of lsusb all.
+fn others_below<'a>(
+    below: Option<&'a [u8]>,
+    rest: Option<&'a [u8]>,
+    shape: Shape,
+) -> Option<&'a [u8]>
+    ensures { parts_below is_newline (option_copied result) ≡ others_below shape (parts_below is_newline (option_copied below.entry)) (parts_below is_newline (option_copied rest.entry)) }
+{
+    match shape {
+        Shape::Items => below,
+        _ => rest,
+    }
+}
+
+/// The descriptor in the lines below one with this number.
+fn read_below(
+    alloc: Global,
+    text: &[u8],
+    number: u64,
+    line: &[u8],
+    sides: (Option<&[u8]>, Option<&[u8]>),
+    shape: Shape,
+) -> Result<Found, InputFault>
+    requires { names_itself shape ≡ true }
+    ensures { Reads (below_answer shape number (length_in line.now) (parts_below is_newline (option_copied sides.entry.0)) (parts_below is_newline (option_copied sides.entry.1))
+        (below_from shape false [] 0 0 (parts_below is_newline (option_copied sides.entry.1)))) result }
+{
+    let said = length_in(line);
+    let read = match read_lines(alloc, sides.1, shape)? {
+        Ok(read) => read,
+        Err(place) => return Err(bad_line(number, place, shape)),
+    };
+    let bytes = read.bytes;
+    if !is_counted(bytes.as_slice(), said) {
+        return Err(bad_count(number, said, bytes.len() as u64));
+    }
+    let others = (sides.0, others_below(sides.1, read.below, shape));
+    if let Some(fault) = fault_of_others(alloc, text, number, others, shape, bytes.as_slice())? {
+        return Err(fault);
+    }
+    let first = number.saturating_add(1);
+    let last = number.saturating_add(read.count);
+    Ok(Found {
+        bytes,
+        shape,
+        lines: Some((first, last)),
+    })
+}
+
+/// The descriptor that a line of a text names, which begins at this place.
 ///
 /// # Errors
 /// [`InputCause::NoCount`], [`InputCause::BadCount`], [`InputCause::BadHex`] and [`InputCause::BadItem`] with the line;
-/// [`InputCause::Several`], [`InputCause::OtherLine`], [`InputCause::Unavailable`], [`InputCause::Memory`].
-pub fn find_marked(alloc: Global, text: &[u8]) -> Result<Option<Found>, InputFault>
-    ensures named { IfOk result (λ read. IfSome read (λ found. IsNamed text.now found.shape found.bytes.items)) }
-    ensures itself { IfOk result (λ read. IfSome read (λ found. is_named found.shape ≡ true)) }
-    ensures recorded { FindsRecord (record_of text.now) result }
-    ensures none { list_any has_mark (lines_of text.now) ≡ false → has_unavailable text.now ≡ false → result ≡ Ok None }
+/// [`InputCause::Several`], [`InputCause::OtherLine`], [`InputCause::Memory`].
+pub fn read_marked(alloc: Global, text: &[u8], place: usize) -> Result<Found, InputFault>
+    requires { place ≤ length text.now }
+    ensures answer { Reads (marked_answer text.now place) result }
+    ensures fault { HasFault (record_fault (lines_of (drop place text.now))) result }
 {
-    let Some(rest) = find_mark(text) else {
-        if has_unavailable(text) {
-            return Err(InputFault::of_text(InputCause::Unavailable));
-        }
-        return Ok(None);
-    };
-    let number = line_at(text, text.len().saturating_sub(rest.len()));
-    let Some(found) = read_named(alloc, rest, number)? else {
-        return Ok(None);
-    };
-    match fault_of_others(alloc, text, rest, number, &found)? {
-        Some(fault) => Err(fault),
-        None => Ok(Some(found)),
+    let number = line_at(text, place);
+    let (line, below) = split_line(&text[place..]);
+    let sides = (Some(&text[..place]), below);
+    match mark_of(line) {
+        Some(Shape::Recording) => read_record(alloc, text, number, line, sides),
+        Some(Shape::Block) => read_below(alloc, text, number, line, sides, Shape::Block),
+        Some(Shape::Items) => read_below(alloc, text, number, line, sides, Shape::Items),
+        _ => Err(InputFault::of_text(InputCause::NoDescriptor)),
     }
 }

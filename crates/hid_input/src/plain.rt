@@ -4,7 +4,7 @@ ghost use Rattle.std.specs.Prelude.{◌≡◌, true, IfOk};
 ghost use Rattle.std.specs.List.{list_all};
 ghost use Rattle.hid_input.specs.Text.{lines_of};
 ghost use Rattle.hid_input.specs.declared.plain.Scene.TheVariants.{Blank};
-ghost use Rattle.hid_input.specs.Plain.{is_marked, is_quoted, unmarked_from, is_byte, is_space, scene_after_text, scene_after, are_text, is_shown, plain, end_from, is_clear};
+ghost use Rattle.hid_input.specs.Plain.{is_marked, is_quoted, unmarked_from, is_byte, is_space, is_word, scene_after_text, scene_after, are_text, is_shown, plain, end_from, is_clear};
 
 use std::alloc::{AllocError, Global};
 
@@ -101,6 +101,16 @@ fn is_space(byte: Option<u8>) -> bool
     }
 }
 
+/// Whether a character is a letter or a digit.
+fn is_word(byte: Option<u8>) -> bool
+    ensures { result ≡ is_word byte }
+{
+    match byte {
+        Some(byte) => byte.is_ascii_alphanumeric(),
+        None => false,
+    }
+}
+
 /// Where the next character stands after one of text. A `#` begins a comment between white space alone.
 fn scene_after_text(is_blank: bool, byte: u8, next: Option<u8>) -> Scene
     ensures { result ≡ scene_after_text is_blank byte next }
@@ -133,6 +143,7 @@ fn scene_after(scene: Scene, byte: u8, next: Option<u8>) -> Scene
         Scene::Opening if is_byte(b'/', next) => Scene::Unclear,
         Scene::Opening => Scene::Block,
         Scene::Block if byte == b'*' && is_byte(b'/', next) => Scene::Closing,
+        Scene::Closing if is_word(next) => Scene::Unclear,
         Scene::Closing => Scene::Blank,
         _ => scene,
     }

@@ -1,54 +1,32 @@
 //! The descriptor of a file, whatever its shape.
 
-ghost use Rattle.std.specs.Prelude.{◌≡◌, Err, IfErr, IfOk, IfSome, Some, false, true};
+ghost use Rattle.std.specs.Prelude.{◌≡◌, ◌⊎◌, Err, IfErr, IfOk, None, Some, [], false, true};
 ghost use Rattle.std.specs.List.{list_any};
+ghost use Rattle.hid_input.specs.Answer.{Reads, names_itself};
 ghost use Rattle.hid_input.specs.Descriptor.{IsDescriptor};
 ghost use Rattle.hid_input.specs.Faults.{of_text};
-ghost use Rattle.hid_input.specs.Shapes.{IsBareFile, IsBareText, Reads, ReadsHex, ReadsPlain, ReadsRecord, Spells, is_directive, names_directive, record_of, text_of};
-ghost use Rattle.hid_input.specs.Dump.{is_dump};
-ghost use Rattle.hid_input.specs.Marked.{names_itself};
-ghost use Rattle.hid_input.specs.Text.{has_other_ends, is_text, is_utf16, lines_of, without_mark};
+ghost use Rattle.hid_input.specs.Shapes.{IsEmpty, IsFileOfLines, answer_in, hex_answer, is_bare, is_directive, names_directive, other_answer, plain_answer, record_fault_in, text_answer, text_of};
+ghost use Rattle.hid_input.specs.Marked.{HasFault};
 ghost use Rattle.hid_input.specs.Plain.{plain, without_quotes};
 ghost use Rattle.hid_input.specs.Spelled.{spelled_bytes};
+ghost use Rattle.hid_input.specs.Text.{has_other_ends, is_text, is_utf16, lines_of, without_mark};
 
 use crate::dump::{is_dump, read_dump};
 use crate::fault::{InputCause, InputFault};
-use crate::found::{Found, Place, Shape};
-use crate::lists::find_list;
-use crate::marked::find_marked;
+use crate::found::{Found, Shape};
+use crate::items::has_unavailable;
+use crate::lists::read_list;
+use crate::marked::{mark_place, read_marked};
 use crate::plain::{is_clear, is_quoted, without_comments, without_marks};
 use crate::spelled::{Spelled, read_spelled, whole_fault};
-use crate::strings::find_strings;
-use crate::text::{
-    first_word, has_other_ends, is_text, is_utf16, line_at, without_mark, without_space,
-};
+use crate::strings::{escape_place, read_strings};
+use crate::text::{first_word, has_other_ends, is_text, is_utf16, without_mark, without_space};
 use std::alloc::Global;
-
-/// The fault of two descriptors.
-fn two_of(list: &Place, strings: &Place) -> InputFault {
-    let (first, second) = (list.lines.0, strings.lines.0);
-    InputFault::of_text(InputCause::Several { first, second })
-}
-
-/// The descriptor in a list or in strings.
-fn find_among_words(alloc: Global, plain: &[u8]) -> Result<Option<Found>, InputFault>
-    ensures { IfOk result (λ read. IfSome read (ReadsPlain plain.now)) }
-{
-    let list = find_list(alloc, plain)?;
-    let strings = find_strings(alloc, plain)?;
-    match (list, strings) {
-        (Some(list), Some(strings)) => Err(two_of(&list, &strings)),
-        (Some(list), None) => Ok(Some(list.found(Shape::List))),
-        (None, Some(strings)) => Ok(Some(strings.found(Shape::Escapes))),
-        (None, None) => Ok(None),
-    }
-}
 
 /// The descriptor that a text of bytes and separators alone spells.
 fn read_whole(plain: &[u8], read: Spelled) -> Result<Found, InputFault>
-    requires { spelled_bytes plain.now ≡ Some read.bytes.items }
-    ensures found { IfOk result (ReadsPlain plain.now) }
-    ensures read { ReadsHex (spelled_bytes plain.now) result }
+    ensures answer { Reads (hex_answer read.bytes.items) result }
+    ensures empty { read.bytes.items ≡ [] → result ≡ Err (of_text InputCause.NoDescriptor) }
 {
     if read.bytes.is_empty() {
         return Err(InputFault::of_text(InputCause::NoDescriptor));
@@ -56,12 +34,10 @@ fn read_whole(plain: &[u8], read: Spelled) -> Result<Found, InputFault>
     if let Some(fault) = whole_fault(plain, 0, plain, &read) {
         return Err(fault);
     }
-    let first = plain.len().saturating_sub(plain.trim_ascii_start().len());
-    let last = plain.trim_ascii_end().len();
     Ok(Found {
         bytes: read.bytes,
         shape: Shape::Hex,
-        lines: Some((line_at(plain, first), line_at(plain, last))),
+        lines: None,
     })
 }
 
@@ -75,18 +51,19 @@ fn no_byte(plain: &[u8], place: usize) -> InputFault {
     }
 }
 
-/// The descriptor in text without comments.
+/// The descriptor in text without comments: of bytes alone, in strings, or in a list.
 fn read_plain(alloc: Global, plain: &[u8]) -> Result<Found, InputFault>
-    ensures found { IfOk result (ReadsPlain plain.now) }
-    ensures read { ReadsHex (spelled_bytes plain.now) result }
+    ensures answer { Reads (plain_answer plain.now) result }
+    ensures empty { spelled_bytes plain.now ≡ Some [] → IfErr result (λ fault. (fault ≡ of_text InputCause.Memory) ⊎ (fault ≡ of_text InputCause.NoDescriptor)) }
 {
-    match read_spelled(alloc, plain)? {
-        Ok(read) => read_whole(plain, read),
-        Err(place) => match find_among_words(alloc, plain)? {
-            Some(found) => Ok(found),
-            None => Err(no_byte(plain, place)),
-        },
+    let place = match read_spelled(alloc, plain)? {
+        Ok(read) => return read_whole(plain, read),
+        Err(place) => place,
+    };
+    if let Some(start) = escape_place(plain) {
+        return read_strings(alloc, plain, start);
     }
+    read_list(alloc, plain, no_byte(plain, place))
 }
 
 /// Whether a word names a directive of C.
@@ -122,17 +99,14 @@ fn has_directive(text: &[u8]) -> bool
         .any(|line| is_directive(line))
 }
 
-/// The descriptor in text that nothing quotes.
-fn read_text(alloc: Global, text: &[u8]) -> Result<Found, InputFault>
-    ensures found { IfOk result (Reads text.now) }
-    ensures recorded { is_dump text.now ≡ false → ReadsRecord (record_of text.now) result }
-    ensures read { IsBareText text.now → ReadsHex (spelled_bytes (plain text.now)) result }
+/// The descriptor in text that is no dump and in which no line names one.
+fn read_bare(alloc: Global, text: &[u8]) -> Result<Found, InputFault>
+    ensures answer { Reads (other_answer text.now None) result }
+    ensures empty { spelled_bytes (plain text.now) ≡ Some [] → is_bare text.now ≡ true
+        → IfErr result (λ fault. (fault ≡ of_text InputCause.Memory) ⊎ (fault ≡ of_text InputCause.NoDescriptor)) }
 {
-    if is_dump(text) {
-        return Ok(read_dump(alloc, text)?.found(Shape::Dump));
-    }
-    if let Some(found) = find_marked(alloc, text)? {
-        return Ok(found);
+    if has_unavailable(text) {
+        return Err(InputFault::of_text(InputCause::Unavailable));
     }
     let (plain, end) = without_comments(alloc, text)?;
     if !is_clear(end) || has_directive(text) {
@@ -141,11 +115,27 @@ fn read_text(alloc: Global, text: &[u8]) -> Result<Found, InputFault>
     read_plain(alloc, plain.as_slice())
 }
 
+/// The descriptor in text that nothing quotes.
+#[tactic(auto, unfolding(crate::specs::Shapes::text_answer, crate::specs::Shapes::record_fault_in))]
+fn read_text(alloc: Global, text: &[u8]) -> Result<Found, InputFault>
+    ensures answer { Reads (text_answer text.now) result }
+    ensures recorded { HasFault (record_fault_in text.now) result }
+    ensures empty { IsEmpty text.now → IfErr result (λ fault. (fault ≡ of_text InputCause.Memory) ⊎ (fault ≡ of_text InputCause.NoDescriptor)) }
+{
+    if is_dump(text) {
+        return read_dump(alloc, text);
+    }
+    match mark_place(text) {
+        Some(place) => read_marked(alloc, text, place),
+        None => read_bare(alloc, text),
+    }
+}
+
 /// The text in bytes with a mark of quoted lines in front of each line, or without.
 fn read_quoted(alloc: Global, text: &[u8]) -> Result<Found, InputFault>
-    ensures found { IfOk result (Reads (without_quotes text.now)) }
-    ensures recorded { is_dump (without_quotes text.now) ≡ false → ReadsRecord (record_of (without_quotes text.now)) result }
-    ensures read { IsBareText (without_quotes text.now) → ReadsHex (spelled_bytes (plain (without_quotes text.now))) result }
+    ensures answer { Reads (text_answer (without_quotes text.now)) result }
+    ensures recorded { HasFault (record_fault_in (without_quotes text.now)) result }
+    ensures empty { IsEmpty (without_quotes text.now) → IfErr result (λ fault. (fault ≡ of_text InputCause.Memory) ⊎ (fault ≡ of_text InputCause.NoDescriptor)) }
 {
     if is_quoted(text) {
         return read_text(alloc, without_marks(alloc, text)?.as_slice());
@@ -157,21 +147,21 @@ fn read_quoted(alloc: Global, text: &[u8]) -> Result<Found, InputFault>
 ///
 /// # Errors
 /// An [`InputFault`]: the line and the character that isn't explained, or why the bytes aren't one whole descriptor.
+#[tactic(auto, using(crate::proofs::AnswerLemmas::whole_if_read))]
 pub fn descriptor_in(alloc: Global, bytes: &[u8]) -> Result<Found, InputFault>
+    // What the file spells is read, with its shape and its lines, and nothing else; memory aside.
+    ensures read { Reads (answer_in bytes.now) result }
     // The bytes are one whole report descriptor, where the shape doesn't name itself.
     ensures whole { IfOk result (λ found. names_itself found.shape ≡ false → IsDescriptor found.bytes.items) }
-    // The text spells them, and no others.
-    ensures shown { is_text (without_mark bytes.now) ≡ true → IfOk result (λ found. Spells (text_of bytes.now) found.bytes.items found.shape found.lines) }
-    // Other bytes are the descriptor, and are refused for memory alone.
+    // Other bytes than text are the descriptor, and are refused for memory alone.
     ensures binary { is_text (without_mark bytes.now) ≡ false → IfOk result (λ found. found.bytes.items ≡ bytes.now) }
-    ensures utf16 { is_utf16 bytes.now ≡ true → result ≡ Err (of_text InputCause.Utf16) }
     ensures refused { is_utf16 bytes.now ≡ false → is_text (without_mark bytes.now) ≡ false
         → IfErr result (λ fault. fault ≡ of_text InputCause.Memory) }
-    // The first line that names a descriptor by R: gives its bytes, or why it has none.
-    ensures recorded { is_utf16 bytes.now ≡ false → is_text (without_mark bytes.now) ≡ true → has_other_ends (without_mark bytes.now) ≡ false
-        → is_dump (text_of bytes.now) ≡ false → ReadsRecord (record_of (text_of bytes.now)) result }
-    // Text of bytes in hex alone is read, and refused if they are no whole descriptor.
-    ensures read { IsBareFile bytes.now → ReadsHex (spelled_bytes (plain (text_of bytes.now))) result }
+    // Why other files are refused.
+    ensures utf16 { is_utf16 bytes.now ≡ true → result ≡ Err (of_text InputCause.Utf16) }
+    ensures recorded { IsFileOfLines bytes.now → HasFault (record_fault_in (text_of bytes.now)) result }
+    ensures empty { IsFileOfLines bytes.now → IsEmpty (text_of bytes.now)
+        → IfErr result (λ fault. (fault ≡ of_text InputCause.Memory) ⊎ (fault ≡ of_text InputCause.NoDescriptor)) }
 {
     if is_utf16(bytes) {
         return Err(InputFault::of_text(InputCause::Utf16));

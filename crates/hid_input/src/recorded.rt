@@ -4,14 +4,14 @@ ghost use Rattle.std.specs.Prelude.{◌≡◌, not, MatchResult};
 ghost use Rattle.std.specs.List.{find};
 ghost use Rattle.std.specs.Option.{option_copied, option_and_then};
 ghost use Rattle.hid_input.specs.Text.{lines_of};
-ghost use Rattle.hid_input.specs.Recorded.{pairs_before, hex_of, recorded_bytes, IsFault, after_letter, after_property, is_record_letter, begins_with_letter, is_head, is_record, is_passed, is_beside, begins_recording, has_record, is_recording, behind_number, is_heading};
+ghost use Rattle.hid_input.specs.Recorded.{pairs_before, hex_of, recorded_bytes, IsFault, after_letter, after_property, is_record_letter, begins_with_letter, is_head, is_record, is_passed, is_beside_letter, is_beside, begins_recording, has_record, is_recording, behind_number, is_heading};
 
 use crate::known::begins_text;
 use crate::text::{
     behind_part, first_word, is_empty_line, is_text, split_at_character, split_word, without_mark,
     without_space,
 };
-use crate::words::{Reading, add_words, byte_of_pair, number_of};
+use crate::words::{Parting, Reading, add_words, byte_of_pair, number_of};
 use std::alloc::{AllocError, Global};
 
 /// Why the bytes of `COUNT HEX` can't be read.
@@ -62,7 +62,7 @@ pub fn read_hex(alloc: Global, text: &[u8]) -> Result<Vec<u8>, RecordedFault>
     ensures { MatchResult result (λ bytes. hex_of text.now ≡ Ok bytes.items) (λ fault. IsFault fault (hex_of text.now)) }
 {
     let mut bytes = Vec::new(alloc);
-    match add_words(&mut bytes, text, Reading::Plain)? {
+    match add_words(&mut bytes, text, Reading::Runs, Parting::Space)? {
         None => Ok(bytes),
         Some(_) => Err(RecordedFault::BadHex {
             at: pairs_before(text),
@@ -100,7 +100,7 @@ pub fn after_letter(line: &[u8]) -> Option<&[u8]>
 pub fn after_property(line: &[u8]) -> Option<&[u8]>
     ensures { option_copied result ≡ after_property line.now }
 {
-    behind_part(line, b"H: report_descriptor=")
+    behind_part(without_space(line), b"H: report_descriptor=")
 }
 
 /// Whether a byte is the letter of a line of hid-recorder.
@@ -129,12 +129,19 @@ fn is_passed(line: &[u8]) -> bool
     is_empty_line(line) || (line.len() >= 1 && line[0] == b'#')
 }
 
+/// Whether a byte is the letter of a line of hid-recorder or umockdev.
+fn is_beside_letter(byte: u8) -> bool
+    ensures { result ≡ is_beside_letter byte }
+{
+    is_record_letter(byte) || matches!(byte, b'A' | b'H' | b'L' | b'S')
+}
+
 /// Whether a line may be beside an `R:` line: it begins with a letter and a colon, or says nothing.
 pub fn is_beside(line: &[u8]) -> bool
     ensures { result ≡ is_beside line.now }
 {
     let text = without_space(line);
-    is_passed(line) || (text.len() >= 2 && text[0].is_ascii_alphabetic() && text[1] == b':')
+    is_passed(line) || (text.len() >= 2 && is_beside_letter(text[0]) && text[1] == b':')
 }
 
 /// The first line that is neither empty nor a comment.
@@ -196,8 +203,7 @@ fn behind_address(text: &[u8]) -> Option<&[u8]>
 pub fn is_heading(line: &[u8]) -> bool
     ensures { result ≡ is_heading line.now }
 {
-    let (word, _) = split_word(line);
-    match behind_address(word) {
+    match behind_address(first_word(line)) {
         Some(word) => word == b"DESCRIPTOR".as_slice(),
         None => false,
     }

@@ -1,17 +1,17 @@
 //! Text of bytes and separators alone.
 
-ghost use Rattle.std.specs.Prelude.{◌≡◌, ◌≤◌, false, true, None, Some, IfOk, IfNone, IfSome, MatchResult, is_some, length, ◌||◌, ◌==◌};
+ghost use Rattle.std.specs.Prelude.{◌≡◌, ◌==◌, None, Some, IfOk, IfNone, IfSome, MatchResult, is_some, false};
 ghost use Rattle.std.specs.List.{list_any};
-ghost use Rattle.std.specs.Option.{option_or};
+ghost use Rattle.hid_input.specs.declared.words.Parting.TheVariants.{Commas};
 ghost use Rattle.hid_input.specs.Words.{text_bytes};
+ghost use Rattle.hid_input.specs.Answer.{IsWholeFault};
 ghost use Rattle.hid_input.specs.Descriptor.{IsDescriptor};
-ghost use Rattle.hid_input.specs.Shapes.{IsWholeFault};
-ghost use Rattle.hid_input.specs.Spelled.{is_joint, is_loose, has_loose, is_parted, parted_from, misses_comma, spelled_bytes};
+ghost use Rattle.hid_input.specs.Spelled.{is_part, is_loose_from, is_loose, spelled_bytes};
 
 use crate::fault::{InputCause, InputFault};
 use crate::text::line_at;
 use crate::whole::descriptor_fault;
-use crate::words::{Reading, add_words, next_word};
+use crate::words::{Parting, Reading, add_words, next_word};
 use std::alloc::{AllocError, Global};
 
 /// The bytes of a text, and how its words spell them.
@@ -23,70 +23,26 @@ pub struct Spelled {
     pub reading: Reading,
 }
 
-/// Whether a byte is a colon or a hyphen.
-fn is_joint(byte: u8) -> bool
-    ensures { result ≡ is_joint byte }
+/// Whether a byte may be part of a word.
+fn is_part(byte: u8) -> bool
+    ensures { result ≡ is_part byte }
 {
-    byte == b':' || byte == b'-'
+    byte != b',' && !byte.is_ascii_whitespace()
 }
 
-/// Whether a character can't stand after this one and, without white space between, after that one: a joint between others than hex
-/// digits, or a comma without bytes in front of it.
-fn is_loose(before: u8, last: u8, byte: u8) -> bool
-    ensures { result ≡ is_loose before last byte }
+/// Where a text with commas doesn't have one between each two words: none, or several. Its last word may have one after it.
+fn comma_place(text: &[u8]) -> Option<usize>
+    ensures { is_some result ≡ is_loose_from false false text.now }
 {
-    (is_joint(byte) && !before.is_ascii_hexdigit())
-        || (is_joint(before) && !byte.is_ascii_hexdigit())
-        || (byte == b',' && last == b',')
-}
-
-/// Where such a character stands in a text.
-fn loose_place(text: &[u8]) -> Option<usize>
-    ensures { is_some result ≡ has_loose text.now }
-{
-    let mut before = b' ';
-    let mut last = b',';
+    let mut is_word = false;
+    let mut has_word = false;
     for (at, byte) in text.iter().enumerate() {
-        if is_loose(before, last, *byte) {
+        let is_new = is_part(*byte);
+        if (*byte == b',' && !has_word) || (is_new && has_word && !is_word) {
             return Some(at);
         }
-        before = *byte;
-        last = if byte.is_ascii_whitespace() {
-            last
-        } else {
-            *byte
-        };
-    }
-    if is_joint(before) {
-        Some(text.len())
-    } else {
-        None
-    }
-}
-
-/// Whether a character begins a word after another one, with white space and no comma between.
-fn is_parted(before: u8, last: u8, byte: u8) -> bool
-    ensures { result ≡ is_parted before last byte }
-{
-    !byte.is_ascii_whitespace() && byte != b',' && before.is_ascii_whitespace() && last != b','
-}
-
-/// Where a word begins that no comma parts from the one in front of it.
-fn parted_place(text: &[u8]) -> Option<usize>
-    ensures { is_some result ≡ parted_from 32 44 text.now }
-{
-    let mut before = b' ';
-    let mut last = b',';
-    for (at, byte) in text.iter().enumerate() {
-        if is_parted(before, last, *byte) {
-            return Some(at);
-        }
-        before = *byte;
-        last = if byte.is_ascii_whitespace() {
-            last
-        } else {
-            *byte
-        };
+        is_word = is_new;
+        has_word = *byte != b',' && (has_word || is_new);
     }
     None
 }
@@ -98,66 +54,68 @@ fn has_comma(text: &[u8]) -> bool
     text.iter().any(|byte| *byte == b',')
 }
 
-/// Where a text with commas misses one.
-fn missing_place(text: &[u8]) -> Option<usize>
-    ensures { is_some result ≡ misses_comma text.now }
+/// Where the commas of a text, if it has some, don't part its words.
+fn loose_place(text: &[u8]) -> Option<usize>
+    ensures { is_some result ≡ is_loose text.now }
 {
     if has_comma(text) {
-        parted_place(text)
+        comma_place(text)
     } else {
         None
     }
 }
 
-/// Where the separators of a text aren't those of one list.
-fn bad_place(text: &[u8]) -> Option<usize>
-    ensures { is_some result ≡ (has_loose text.now || misses_comma text.now) }
+/// The bytes that a text spells in one reading, or the place of the first word that has none.
+fn read_as(
+    alloc: Global,
+    text: &[u8],
+    reading: Reading,
+) -> Result<Result<Spelled, usize>, AllocError>
+    ensures { IfOk result (λ read. MatchResult read (λ found. text_bytes reading Commas text.now ≡ Some found.bytes.items) (λ _. text_bytes reading Commas text.now ≡ None)) }
 {
-    match loose_place(text) {
-        Some(place) => Some(place),
-        None => missing_place(text),
+    let mut bytes = Vec::new(alloc);
+    match add_words(&mut bytes, text, reading, Parting::Commas)? {
+        None => Ok(Ok(Spelled { bytes, reading })),
+        Some(left) => Ok(Err(text.len().saturating_sub(left))),
     }
 }
 
-/// The bytes that a text spells: in hex if each word is hex, else as elements of a list. Or the place from which on neither reads it.
+/// The bytes that a text spells, each word in the same reading, or the place from which on none reads it.
 ///
 /// # Errors
 /// Out of memory.
-#[tactic(auto, using(crate::proofs::WordLemmas::both_nothing))]
 pub fn read_spelled(alloc: Global, text: &[u8]) -> Result<Result<Spelled, usize>, AllocError>
     ensures { IfOk result (λ read. MatchResult read (λ found. spelled_bytes text.now ≡ Some found.bytes.items) (λ _. spelled_bytes text.now ≡ None)) }
 {
-    let loose = bad_place(text);
-    let mut bytes = Vec::new(alloc);
-    let hex = add_words(&mut bytes, text, Reading::Hex)?;
-    if loose.is_none() && hex.is_none() {
-        let reading = Reading::Hex;
-        return Ok(Ok(Spelled { bytes, reading }));
+    if let Some(place) = loose_place(text) {
+        return Ok(Err(place));
     }
-    let mut bytes = Vec::new(alloc);
-    let elements = add_words(&mut bytes, text, Reading::Elements)?;
-    if loose.is_none() && elements.is_none() {
-        let reading = Reading::Elements;
-        return Ok(Ok(Spelled { bytes, reading }));
+    let runs = match read_as(alloc, text, Reading::Runs)? {
+        Ok(read) => return Ok(Ok(read)),
+        Err(place) => place,
+    };
+    let joined = match read_as(alloc, text, Reading::Joined)? {
+        Ok(read) => return Ok(Ok(read)),
+        Err(place) => place,
+    };
+    match read_as(alloc, text, Reading::Elements)? {
+        Ok(read) => Ok(Ok(read)),
+        Err(place) => Ok(Err(place.max(runs).max(joined))),
     }
-    let left = hex.unwrap_or(0).min(elements.unwrap_or(0));
-    let place = text.len().saturating_sub(left);
-    Ok(Err(place.min(loose.unwrap_or(text.len()))))
 }
 
 /// The place of the word that has the byte after so many others.
 fn byte_place(text: &[u8], at: usize, reading: Reading) -> usize {
     let mut rest = text;
     let mut count = 0usize;
-    while let Some((word, more)) = next_word(rest, reading) {
+    while let Some((word, more)) = next_word(rest, Parting::Commas) {
         count = count.saturating_add(match reading {
+            Reading::Runs => word.len() / 2,
+            Reading::Joined => word.len() / 3 + 1,
             Reading::Elements => 1,
-            _ => word.len() / 2,
         });
         if count > at {
-            return text
-                .len()
-                .saturating_sub(word.len().saturating_add(more.len()));
+            return text.len().saturating_sub(more.len()).saturating_sub(1);
         }
         rest = more;
     }

@@ -2,16 +2,16 @@
 //! ```text
 //!   b'\x05\x01\t\x02..'                "\x05\x01" "\x09\x02"     echo -ne \\x05\\x01\\x09..
 //! ```
-//! All escapes of hex in a text are those of the descriptor: from the first to the last one there are only bytes, and the ends of
-//! strings side by side.
+//! The strings begin with the first escape of hex, and go on as long as characters follow, or another string with white space between.
 
-ghost use Rattle.std.specs.Prelude.{◌≡◌, IfOk, IfSome, Some};
-ghost use Rattle.hid_input.specs.Strings.{letter_byte, between, after_slash, after_escape, after_gap, after_prefix, next_state, is_end, escaped_bytes, has_escape, character_back, is_word_byte, enclosure_of, is_closed, IsStrings};
+ghost use Rattle.std.specs.Prelude.{◌≡◌, ◌+◌, ◌<◌, ◌≤◌, ◌++◌, IfOk, IfSome, OnOk, length, option_to_list};
+ghost use Rattle.hid_input.specs.Answer.{Reads};
+ghost use Rattle.hid_input.specs.Strings.{begins_escape, escape_place, letter_byte, hex_byte, joint_length, string_character, other_character, first_character, characters_from, character_back, is_word_byte, enclosure_of, is_closed, quotes_of, enclosed_answer, strings_answer};
 
+use crate::beside::fault_beside;
 use crate::fault::{InputCause, InputFault};
-use crate::found::Place;
-use crate::lists::fault_beside;
-use crate::text::line_at;
+use crate::found::{Found, Shape};
+use crate::text::{line_at, without_space};
 use crate::whole::descriptor_fault;
 use crate::words::byte_of_pair;
 use std::alloc::{AllocError, Global};
@@ -27,29 +27,27 @@ pub enum Enclosure {
     Bytes(u8),
 }
 
-/// Where a character of escapes stands.
-#[derive(Clone, Copy, Debug, PartialEq, Eq)]
-pub enum State {
-    /// After a character or at the start of a string.
-    Between,
-    /// After a backslash.
-    Slash,
-    /// After two backslashes.
-    Slashes,
-    /// After `\x`.
-    X,
-    /// After `\x` and this digit.
-    Digit(u8),
-    /// After an escape of hex.
-    Escape,
-    /// After the end of a string.
-    Gap,
-    /// After `b` there.
-    Prefix,
+/// Whether an escape of hex begins a text: a backslash, or two for a shell, and `x`.
+fn begins_escape(text: &[u8]) -> bool
+    ensures { result ≡ begins_escape text.now }
+{
+    text.starts_with(b"\\x") || text.starts_with(b"\\\\x")
 }
 
-/// What a character of escapes gives: where the next one stands, and perhaps a byte.
-type Step = Option<(State, Option<u8>)>;
+/// Where the first escape of hex begins.
+pub fn escape_place(text: &[u8]) -> Option<usize>
+    ensures place { result ≡ escape_place text.now }
+    ensures bound { IfSome result (λ place. place < length text.now) }
+{
+    let mut at = 0usize;
+    while at < text.len() {
+        if begins_escape(&text[at..]) {
+            return Some(at);
+        }
+        at += 1;
+    }
+    None
+}
 
 /// The byte of an escape of one letter.
 fn letter_byte(letter: u8) -> Option<u8>
@@ -64,143 +62,100 @@ fn letter_byte(letter: u8) -> Option<u8>
     }
 }
 
-/// What a character between others gives.
-fn between(byte: u8, enclosure: Enclosure) -> Step
-    ensures { result ≡ between byte enclosure }
+/// The byte of an escape of hex, after its `x`. In strings of text no digit follows it, of which C would read more (C11, 6.4.4.4).
+fn hex_byte(digits: &[u8], enclosure: Enclosure) -> Option<u8>
+    ensures byte { result ≡ hex_byte enclosure digits.now }
+    ensures room { IfSome result (λ _. 2 ≤ length digits.now) }
 {
-    match enclosure {
-        _ if byte == b'\\' => Some((State::Slash, None)),
-        Enclosure::Bare => None,
-        Enclosure::Text(quote) | Enclosure::Bytes(quote) if byte == quote => {
-            Some((State::Gap, None))
+    if let Enclosure::Text(_) = enclosure {
+        if digits.len() >= 3 && digits[2].is_ascii_hexdigit() {
+            return None;
         }
-        _ if b' ' <= byte && byte <= b'~' => Some((State::Between, Some(byte))),
+    }
+    byte_of_pair(&digits[..digits.len().min(2)])
+}
+
+/// How long the end of a string and the start of the next one are, with white space between, by the text after the first quotation mark.
+fn joint_length(text: &[u8], enclosure: Enclosure) -> Option<usize>
+    ensures length { result ≡ joint_length enclosure text.now }
+    ensures room { IfSome result (λ size. (0 < size) × (size ≤ length text.now + 1)) }
+{
+    let next = without_space(text);
+    let blanks = text.len() - next.len();
+    match (enclosure, next) {
+        (Enclosure::Text(quote), [first, ..]) if *first == quote => Some(blanks + 2),
+        (Enclosure::Bytes(quote), [b'b', first, ..]) if *first == quote => Some(blanks + 3),
         _ => None,
     }
 }
 
-/// What a character after a backslash gives.
-fn after_slash(byte: u8, enclosure: Enclosure) -> Step
-    ensures { result ≡ after_slash byte enclosure }
+/// A character in a string: its byte, and how long it is; or a joint of two strings, which has no byte.
+fn string_character(text: &[u8], quote: u8, enclosure: Enclosure) -> Option<(Option<u8>, usize)>
+    ensures character { result ≡ string_character enclosure quote text.now }
+    ensures room { IfSome result (λ found. (0 < found.1) × (found.1 ≤ length text.now)) }
+{
+    match text {
+        [b'\\', letter, ..] => Some((Some(letter_byte(*letter)?), 2)),
+        [b'\\'] => None,
+        [first, more @ ..] if *first == quote => Some((None, joint_length(more, enclosure)?)),
+        [first, ..] if b' ' <= *first && *first <= b'~' => Some((Some(*first), 1)),
+        _ => None,
+    }
+}
+
+/// A character that begins with no escape of hex: of a string, or an escape of a shell.
+fn other_character(text: &[u8], enclosure: Enclosure) -> Option<(Option<u8>, usize)>
+    ensures character { result ≡ other_character enclosure text.now }
+    ensures room { IfSome result (λ found. (0 < found.1) × (found.1 ≤ length text.now)) }
 {
     match enclosure {
-        _ if byte == b'x' => Some((State::X, None)),
-        Enclosure::Bare if byte == b'\\' => Some((State::Slashes, None)),
+        Enclosure::Text(quote) | Enclosure::Bytes(quote) => string_character(
+            text, quote, enclosure,
+        ),
+        Enclosure::Bare if text.starts_with(b"\\\\x") => Some((
+            Some(hex_byte(&text[3..], enclosure)?),
+            5,
+        )),
         Enclosure::Bare => None,
-        _ => Some((State::Between, Some(letter_byte(byte)?))),
     }
 }
 
-/// What a character after an escape of hex gives: in text no digit follows it, of which C would read more.
-fn after_escape(byte: u8, enclosure: Enclosure) -> Step
-    ensures { result ≡ after_escape byte enclosure }
+/// The first character of a text: its byte, and how long it is.
+fn first_character(text: &[u8], enclosure: Enclosure) -> Option<(Option<u8>, usize)>
+    ensures character { result ≡ first_character enclosure text.now }
+    ensures room { IfSome result (λ found. (0 < found.1) × (found.1 ≤ length text.now)) }
 {
-    match enclosure {
-        Enclosure::Text(_) if byte.is_ascii_hexdigit() => None,
-        _ => between(byte, enclosure),
+    if text.starts_with(b"\\x") {
+        return Some((Some(hex_byte(&text[2..], enclosure)?), 4));
     }
+    other_character(text, enclosure)
 }
 
-/// What a character between two strings gives: white space, or a backslash at the end of a line.
-fn after_gap(byte: u8, enclosure: Enclosure) -> Step
-    ensures { result ≡ after_gap byte enclosure }
+/// Adds a byte, if there is one.
+fn add_some(bytes: &mut Vec<u8>, byte: Option<u8>) -> Result<(), AllocError>
+    ensures { OnOk result (bytes.new.items ≡ bytes.old.items ++ option_to_list byte) }
 {
-    match enclosure {
-        _ if byte == b'\\' || byte.is_ascii_whitespace() => Some((State::Gap, None)),
-        Enclosure::Text(quote) if byte == quote => Some((State::Between, None)),
-        Enclosure::Bytes(_) if byte == b'b' => Some((State::Prefix, None)),
-        _ => None,
+    if let Some(byte) = byte {
+        bytes.push(byte)?;
     }
+    Ok(())
 }
 
-/// What comes after the `b` of a string.
-fn after_prefix(byte: u8, enclosure: Enclosure) -> Step
-    ensures { result ≡ after_prefix byte enclosure }
-{
-    match enclosure {
-        Enclosure::Bytes(quote) if byte == quote => Some((State::Between, None)),
-        _ => None,
-    }
-}
-
-/// What a character gives.
-fn next_state(state: State, byte: u8, enclosure: Enclosure) -> Step
-    ensures { result ≡ next_state state byte enclosure }
-{
-    match state {
-        State::Between => between(byte, enclosure),
-        State::Slash => after_slash(byte, enclosure),
-        State::Slashes if byte == b'x' => Some((State::X, None)),
-        State::Slashes => None,
-        State::X => Some((State::Digit(byte), None)),
-        State::Digit(high) => Some((State::Escape, Some(byte_of_pair(&[high, byte])?))),
-        State::Escape => after_escape(byte, enclosure),
-        State::Gap => after_gap(byte, enclosure),
-        State::Prefix => after_prefix(byte, enclosure),
-    }
-}
-
-/// Whether characters may end there.
-fn is_end(state: State) -> bool
-    ensures { result ≡ is_end state }
-{
-    matches!(state, State::Escape)
-}
-
-/// The bytes of characters, of which the last one ends an escape of hex; or the place from which on they are none.
-fn read_escapes(
+/// The bytes of the characters at the front of a text, and how long they are.
+fn read_characters(
     alloc: Global,
     text: &[u8],
     enclosure: Enclosure,
-) -> Result<Result<Vec<u8>, usize>, AllocError>
-    ensures { IfOk result (λ read. IfOk read (λ bytes. escaped_bytes enclosure text.now ≡ Some bytes.items)) }
+) -> Result<(Vec<u8>, usize), AllocError>
+    ensures { IfOk result (λ read. ((read.0.items, read.1) ≡ characters_from enclosure 0 text.now) × (read.1 ≤ length text.now)) }
 {
     let mut bytes = Vec::new(alloc);
-    let mut state = State::Between;
-    for (at, byte) in text.iter().enumerate() {
-        let Some((next, value)) = next_state(state, *byte, enclosure) else {
-            return Ok(Err(at));
-        };
-        if let Some(value) = value {
-            bytes.push(value)?;
-        }
-        state = next;
+    let mut rest = text;
+    while let Some((byte, size)) = first_character(rest, enclosure) {
+        add_some(&mut bytes, byte)?;
+        rest = &rest[size..];
     }
-    if is_end(state) {
-        Ok(Ok(bytes))
-    } else {
-        Ok(Err(text.len()))
-    }
-}
-
-/// Whether a text has an escape of hex.
-fn has_escape(text: &[u8]) -> bool
-    ensures { result ≡ has_escape text.now }
-{
-    let mut before = b' ';
-    for byte in text {
-        if before == b'\\' && *byte == b'x' {
-            return true;
-        }
-        before = *byte;
-    }
-    false
-}
-
-/// Where the escapes of a text begin, and where they end.
-fn escapes_place(text: &[u8]) -> Option<(usize, usize)> {
-    let first = text
-        .windows(2)
-        .position(|pair| pair[0] == b'\\' && pair[1] == b'x')?;
-    let last = text
-        .windows(2)
-        .rposition(|pair| pair[0] == b'\\' && pair[1] == b'x')?;
-    let start = if first > 0 && text[first - 1] == b'\\' {
-        first - 1
-    } else {
-        first
-    };
-    Some((start, last.saturating_add(4)))
+    Ok((bytes, text.len() - rest.len()))
 }
 
 /// The character so many in front of the end of a text, or a blank.
@@ -230,7 +185,7 @@ fn enclosure_of(text: &[u8]) -> Option<Enclosure>
     if last == b'"' || last == b'\'' {
         if !is_word_byte(prefix) {
             Some(Enclosure::Text(last))
-        } else if (prefix == b'b' || prefix == b'B') && !is_word_byte(character_back(text, 2)) {
+        } else if prefix == b'b' && !is_word_byte(character_back(text, 2)) {
             Some(Enclosure::Bytes(last))
         } else {
             None
@@ -244,7 +199,7 @@ fn enclosure_of(text: &[u8]) -> Option<Enclosure>
 
 /// Whether a text ends what is enclosed in front of it.
 fn is_closed(text: &[u8], enclosure: Enclosure) -> bool
-    ensures { result ≡ is_closed text.now enclosure }
+    ensures { result ≡ is_closed enclosure text.now }
 {
     let first = if text.is_empty() { b' ' } else { text[0] };
     match enclosure {
@@ -253,39 +208,58 @@ fn is_closed(text: &[u8], enclosure: Enclosure) -> bool
     }
 }
 
-/// The descriptor in the escapes of a text, if it has some.
-///
-/// # Errors
-/// [`InputCause::NoByte`], [`InputCause::NotWhole`], [`InputCause::Several`], [`InputCause::Operator`], [`InputCause::Memory`].
-pub fn find_strings(alloc: Global, text: &[u8]) -> Result<Option<Place>, InputFault>
-    ensures { IfOk result (λ read. IfSome read (λ found. IsStrings text.now found.bytes.items (Some found.lines))) }
+/// How many quotation marks enclose, at either end.
+fn quotes_of(enclosure: Enclosure) -> usize
+    ensures count { result ≡ quotes_of enclosure }
+    ensures few { result ≤ 1 }
 {
-    let Some((start, end)) = escapes_place(text) else {
-        return Ok(None);
-    };
-    if start > end || end > text.len() {
-        return Ok(None);
+    match enclosure {
+        Enclosure::Bare => 0,
+        Enclosure::Text(_) | Enclosure::Bytes(_) => 1,
     }
-    let (before, inside, after) = (&text[..start], &text[start..end], &text[end..]);
-    let Some(enclosure) = enclosure_of(before) else {
-        return Err(InputFault::no_byte(text, start));
-    };
-    let bytes = match read_escapes(alloc, inside, enclosure)? {
-        Ok(bytes) => bytes,
-        Err(place) => return Err(InputFault::no_byte(text, start.saturating_add(place))),
-    };
-    let quotes = if enclosure == Enclosure::Bare { 0 } else { 1 };
-    if has_escape(before) || has_escape(after) || !is_closed(after, enclosure) {
-        return Err(InputFault::no_byte(text, end));
+}
+
+/// The descriptor in characters between two places of a text, which have these bytes.
+fn read_enclosed(
+    alloc: Global,
+    text: &[u8],
+    from: usize,
+    enclosure: Enclosure,
+    bytes: Vec<u8>,
+    to: usize,
+) -> Result<Found, InputFault>
+    requires { (from ≤ to) × (to ≤ length text.now) }
+    ensures { Reads (enclosed_answer text.now from enclosure bytes.items to) result }
+{
+    if !is_closed(&text[to..], enclosure) {
+        return Err(InputFault::no_byte(text, to));
     }
-    if let Some(fault) = fault_beside(alloc, text, before, after, Some(quotes))? {
+    let quotes = quotes_of(enclosure);
+    let end = to.saturating_add(quotes).min(text.len());
+    if let Some(fault) = fault_beside(alloc, text, from.saturating_sub(quotes), end, true)? {
         return Err(fault);
     }
     if let Some(fault) = descriptor_fault(bytes.as_slice()) {
-        return Err(InputFault::of_line(line_at(text, start), InputCause::NotWhole(fault)));
+        return Err(InputFault::of_line(line_at(text, from), InputCause::NotWhole(fault)));
     }
-    Ok(Some(Place {
+    Ok(Found {
         bytes,
-        lines: (line_at(text, start), line_at(text, end)),
-    }))
+        shape: Shape::Escapes,
+        lines: Some((line_at(text, from), line_at(text, to))),
+    })
+}
+
+/// The descriptor in the strings of a text, of which the first escape of hex begins at this place.
+///
+/// # Errors
+/// [`InputCause::NoByte`], [`InputCause::NotWhole`], [`InputCause::Several`], [`InputCause::Operator`], [`InputCause::Memory`].
+pub fn read_strings(alloc: Global, text: &[u8], from: usize) -> Result<Found, InputFault>
+    requires { from < length text.now }
+    ensures { Reads (strings_answer text.now from) result }
+{
+    let Some(enclosure) = enclosure_of(&text[..from]) else {
+        return Err(InputFault::no_byte(text, from));
+    };
+    let (bytes, length) = read_characters(alloc, &text[from..], enclosure)?;
+    read_enclosed(alloc, text, from, enclosure, bytes, from + length)
 }

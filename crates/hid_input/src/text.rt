@@ -1,6 +1,6 @@
 //! Which bytes are text, and the parts of a text.
 
-ghost use Rattle.std.specs.Prelude.{◌≡◌, ◌∷◌, ◌==◌, position, IfSome, length, ◌<◌};
+ghost use Rattle.std.specs.Prelude.{◌≡◌, ◌∷◌, ◌==◌, ◌+◌, position, IfSome, length, ◌<◌};
 ghost use Rattle.std.specs.List.{slice_split, list_all, position_or_len};
 ghost use Rattle.std.specs.Option.{option_map, option_copied};
 ghost use Rattle.std.specs.Char.{is_ascii_whitespace};
@@ -146,7 +146,7 @@ pub fn split_at_character(text: &[u8], wanted: u8) -> Option<(&[u8], &[u8])>
 /// The first line of a text, without its end, and the text below it, if a line feed ends it.
 pub fn split_line(text: &[u8]) -> (&[u8], Option<&[u8]>)
     ensures lines { lines_of text.now ≡ result.0.now ∷ parts_below is_newline (option_copied result.1) }
-    ensures room { IfSome result.1 (λ below. length below.now < length text.now) }
+    ensures room { IfSome result.1 (λ below. length result.0.now + 1 + length below.now ≡ length text.now) }
 {
     match place_of(text, b'\n') {
         Some(end) => (&text[..end], Some(&text[end + 1..])),

@@ -5,7 +5,7 @@ ghost use Rattle.hid_input.specs.declared.whole.DescriptorFault.{DescriptorFault
 ghost use Rattle.std.specs.List.{list_all};
 ghost use Rattle.std.specs.Result.{result_ok};
 ghost use Rattle.hid_items.specs.Reading.{first_kind};
-ghost use Rattle.hid_input.specs.Descriptor.{IsDescriptor, IsFault, cut_place, start};
+ghost use Rattle.hid_input.specs.Descriptor.{IsDescriptor, IsFault, cut_place, is_first};
 
 use hid_items::{Item, ItemFault, ItemKind, Items};
 use std::fmt;
@@ -56,10 +56,12 @@ impl fmt::Display for DescriptorFault {
 pub struct Progress {
     /// How many collections are open.
     pub depth: u64,
-    /// Whether a Usage Page was there, or a Usage with a page in it.
-    pub has_page: bool,
+    /// Whether there was an item.
+    pub is_begun: bool,
     /// Whether a Usage was there since the last Main item.
     pub has_usage: bool,
+    /// Whether the last item is a Usage Page.
+    pub is_page: bool,
     /// Whether the last item is an End Collection that closes all collections.
     pub is_closed: bool,
 }
@@ -67,120 +69,92 @@ pub struct Progress {
 /// Nothing stands in front of the first item.
 const START: Progress = Progress {
     depth: 0,
-    has_page: false,
+    is_begun: false,
     has_usage: false,
+    is_page: false,
     is_closed: false,
 };
 
+/// Whether a descriptor may begin with a short item: a Usage Page of one or two bytes, or a Usage of four.
+fn is_first(prefix: u8, length: usize) -> bool
+    ensures { result ≡ is_first prefix length }
+{
+    (prefix == 0x04 && (length == 2 || length == 3)) || (prefix == 0x08 && length == 5)
+}
+
 impl Progress {
-    ghost use Rattle.hid_input.specs.Descriptor.{after_field, after_collection, after_end, after_other, after_prefix, after_item, item_cause};
     ghost use Rattle.hid_items.specs.ItemEncoding.{prefix_of};
+    ghost use Rattle.hid_input.specs.Descriptor.{may_follow, after_prefix, after_item, item_cause};
 
-    /// After an Input, Output or Feature item.
-    fn field(self) -> Result<Progress, DescriptorCause>
-        ensures next { result_ok result ≡ after_field self }
-        ensures cause { IfErr result (λ cause. cause ≡ DescriptorCause.Other) }
+    /// Whether a short item may come next. Outside of collections each has data, and no Usage Page follows another.
+    fn may_follow(self, prefix: u8, length: usize) -> bool
+        ensures { result ≡ may_follow self prefix length }
     {
-        if self.depth == 0 {
-            return Err(DescriptorCause::Other);
+        if !self.is_begun {
+            return is_first(prefix, length);
         }
-        Ok(Progress {
-            depth: self.depth,
-            has_page: self.has_page,
-            has_usage: false,
-            is_closed: false,
-        })
-    }
-
-    /// After a Collection.
-    fn open(self) -> Result<Progress, DescriptorCause>
-        ensures next { result_ok result ≡ after_collection self }
-        ensures cause { IfErr result (λ cause. cause ≡ DescriptorCause.Other) }
-    {
-        if !self.has_page || (self.depth == 0 && !self.has_usage) {
-            return Err(DescriptorCause::Other);
-        }
-        Ok(Progress {
-            depth: self.depth.saturating_add(1),
-            has_page: true,
-            has_usage: false,
-            is_closed: false,
-        })
-    }
-
-    /// After an End Collection.
-    fn close(self) -> Result<Progress, DescriptorCause>
-        ensures next { result_ok result ≡ after_end self }
-        ensures cause { IfErr result (λ cause. cause ≡ DescriptorCause.EndWithout) }
-    {
-        if self.depth == 0 {
-            return Err(DescriptorCause::EndWithout);
-        }
-        Ok(Progress {
-            depth: self.depth - 1,
-            has_page: self.has_page,
-            has_usage: false,
-            is_closed: self.depth == 1,
-        })
-    }
-
-    /// After a Global or a Local item, or a long one.
-    fn other(self, is_page: bool, is_usage: bool) -> Progress
-        ensures { result ≡ after_other is_page is_usage self }
-    {
-        Progress {
-            depth: self.depth,
-            has_page: self.has_page || is_page,
-            has_usage: self.has_usage || is_usage,
-            is_closed: false,
-        }
-    }
-
-    /// After a short item, by its prefix and its length.
-    fn short(self, prefix: u8, length: usize) -> Result<Progress, DescriptorCause>
-        ensures next { result_ok result ≡ after_prefix prefix length self }
-        ensures cause { IfErr result (λ cause. cause ≡ item_cause prefix) }
-    {
-        if self.depth == 0 && length == 1 && prefix != 0xC0 {
-            return Err(DescriptorCause::Other);
+        let is_inside = self.depth > 0;
+        if !is_inside && length == 1 {
+            return false;
         }
         match prefix {
-            0x80 | 0x90 | 0xB0 => self.field(),
-            0xA0 => self.open(),
-            0xC0 => self.close(),
-            0x04 => Ok(self.other(true, false)),
-            0x08 | 0x18 => Ok(self.other(length == 5, true)),
-            0xA4 | 0xB4 if length == 1 => Ok(self.other(false, false)),
-            0x14
+            0x80 | 0x90 | 0xB0 | 0xC0 => is_inside,
+            0xA0 => is_inside || self.has_usage,
+            0xA4 | 0xB4 => length == 1,
+            0x04 => is_inside || !self.is_page,
+            0x08
+            | 0x14
+            | 0x18
             | 0x24
+            | 0x28
             | 0x34
+            | 0x38
             | 0x44
+            | 0x48
             | 0x54
+            | 0x58
             | 0x64
             | 0x74
-            | 0x84
-            | 0x94
-            | 0x28
-            | 0x38
-            | 0x48
-            | 0x58
             | 0x78
+            | 0x84
             | 0x88
+            | 0x94
             | 0x98
-            | 0xA8 => Ok(self.other(false, false)),
-            _ => Err(DescriptorCause::Other),
+            | 0xA8 => true,
+            _ => false,
         }
     }
 
-    /// After an item.
+    /// After a short item.
+    fn after_prefix(self, prefix: u8) -> Progress
+        ensures { result ≡ after_prefix self prefix }
+    {
+        let depth = match prefix {
+            0xA0 => self.depth.saturating_add(1),
+            0xC0 => self.depth.saturating_sub(1),
+            _ => self.depth,
+        };
+        Progress {
+            depth,
+            is_begun: true,
+            has_usage: prefix % 16 != 0 && (self.has_usage || prefix == 0x08 || prefix == 0x18),
+            is_page: prefix == 0x04,
+            is_closed: prefix == 0xC0 && depth == 0,
+        }
+    }
+
+    /// After an item, or why it can't come next. Long items (HID 1.11, 6.2.2.3) have no meaning yet.
     fn after(self, item: &Item<'_>) -> Result<Progress, DescriptorCause>
         requires { item.now.kind ≡ first_kind item.now.bytes.now }
         ensures next { result_ok result ≡ after_item self item.now.bytes.now }
         ensures cause { IfErr result (λ cause. cause ≡ item_cause (prefix_of item.now.bytes.now)) }
     {
         match item.kind {
-            ItemKind::Short { prefix } => self.short(prefix, item.bytes.len()),
-            ItemKind::Long { .. } => Ok(self.other(false, false)),
+            ItemKind::Short { prefix } if self.may_follow(prefix, item.bytes.len()) => {
+                Ok(self.after_prefix(prefix))
+            }
+            ItemKind::Short { prefix: 0xC0 } => Err(DescriptorCause::EndWithout),
+            _ => Err(DescriptorCause::Other),
         }
     }
 }

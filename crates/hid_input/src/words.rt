@@ -1,21 +1,32 @@
 //! Words of digits, and the bytes that they spell.
 
-ghost use Rattle.std.specs.Prelude.{◌≡◌, ◌<◌, ◌≤◌, ◌+◌, ◌-◌, length, take, position, if◌then◌else◌, IfOk, IfSome, is_none, false};
+ghost use Rattle.std.specs.Prelude.{◌≡◌, ◌<◌, ◌≤◌, ◌+◌, length, if◌then◌else◌, IfOk, IfSome, Some, is_none, false, position};
 ghost use Rattle.std.specs.Option.{option_map};
 ghost use Rattle.std.specs.Char.{digit_value};
-ghost use Rattle.hid_input.specs.Words.{is_digit_of, number_of, as_byte, byte_in_base, byte_of_pair, is_prefixed, ends_in, same_byte, number_byte, element_byte, single_byte, run_bytes, word_bytes, is_separator, is_no_separator, words_of, text_bytes, IsAdded, Parts};
+ghost use Rattle.hid_input.specs.Words.{is_digit_of, number_of, byte_in_base, byte_of_pair, element_byte, single_byte, run_bytes, is_joint, joined_bytes, word_bytes, is_separator, is_no_separator, words_of, text_bytes, IsAdded, Parts};
 
 use std::alloc::AllocError;
 
-/// How words spell bytes.
+/// How a word spells bytes.
 #[derive(Clone, Copy, Debug, PartialEq, Eq)]
 pub enum Reading {
-    /// Two hex digits for each byte, between white space: `05`, `0501`.
-    Plain,
-    /// Two hex digits for each byte, between white space, `,` `:` or `-`.
-    Hex,
-    /// One byte each, between white space or commas: `0x05`, `05h`, or a decimal number.
+    /// Two hex digits for each byte: `05`, `0501`.
+    Runs,
+    /// Two hex digits for each byte, with colons or hyphens between, of two bytes or more: `05:01`, `05-01`.
+    Joined,
+    /// One byte: `0x05`, `05h`, or a decimal number.
     Elements,
+}
+
+/// What parts words.
+#[derive(Clone, Copy, Debug, PartialEq, Eq)]
+pub enum Parting {
+    /// White space.
+    Space,
+    /// White space and commas.
+    Commas,
+    /// Each character but letters, digits and `_`.
+    Marks,
 }
 
 /// The value of a digit, if it is one in this base.
@@ -47,22 +58,16 @@ pub fn number_of(word: &[u8], base: u32) -> Option<u64>
     Some(number)
 }
 
-/// A number that is a byte.
-fn as_byte(number: u64) -> Option<u8>
-    ensures { result ≡ as_byte number }
+/// The byte that digits spell.
+fn byte_of(word: &[u8], base: u32) -> Option<u8>
+    ensures { result ≡ byte_in_base base word.now }
 {
+    let number = number_of(word, base)?;
     if number <= 255 {
         Some(number as u8)
     } else {
         None
     }
-}
-
-/// The byte that digits spell.
-fn byte_of(word: &[u8], base: u32) -> Option<u8>
-    ensures { result ≡ byte_in_base base word.now }
-{
-    as_byte(number_of(word, base)?)
 }
 
 /// The byte that two hex digits spell.
@@ -77,54 +82,18 @@ pub fn byte_of_pair(word: &[u8]) -> Option<u8>
     Some((high * 16 + low) as u8)
 }
 
-/// Whether a word has `0x` in front.
-fn is_prefixed(word: &[u8]) -> bool
-    ensures { result ≡ is_prefixed word.now }
-{
-    word.len() >= 2 && word[0] == b'0' && (word[1] == b'x' || word[1] == b'X')
-}
-
-/// Whether a word has this letter at its end.
-fn ends_in(word: &[u8], small: u8, capital: u8) -> bool
-    ensures { result ≡ ends_in small capital word.now }
-{
-    word.len() >= 1 && (word[word.len() - 1] == small || word[word.len() - 1] == capital)
-}
-
-/// A byte that two readings give.
-fn same_byte(one: Option<u8>, other: Option<u8>) -> Option<u8>
-    ensures { result ≡ same_byte one other }
-{
-    match (one, other) {
-        (Some(one), Some(other)) if one == other => Some(one),
-        _ => None,
-    }
-}
-
-/// The byte of a number: in hex by `0x` or `h`, else in decimal. One that begins with 0 is octal in C, and is taken if it is the same
-/// in decimal (C11, 6.4.4.1).
-fn number_byte(word: &[u8]) -> Option<u8>
-    ensures { result ≡ number_byte word.now }
-{
-    if is_prefixed(word) {
-        byte_of(&word[2..], 16)
-    } else if ends_in(word, b'h', b'H') && (word.len() == 3 || word[0].is_ascii_digit()) {
-        byte_of(&word[..word.len() - 1], 16)
-    } else if word.len() >= 1 && word[0] == b'0' {
-        same_byte(byte_of(word, 8), byte_of(word, 10))
-    } else {
-        byte_of(word, 10)
-    }
-}
-
-/// The byte of an element of a list, perhaps with `u` or `U` after it.
+/// The byte of an element of a list: in hex by `0x`, or by `h` after a digit or two characters; else in decimal, without zeros in front,
+/// which C takes for octal (C11, 6.4.4.1).
 pub fn element_byte(word: &[u8]) -> Option<u8>
     ensures { result ≡ element_byte word.now }
 {
-    if ends_in(word, b'u', b'U') {
-        number_byte(&word[..word.len() - 1])
-    } else {
-        number_byte(word)
+    match word {
+        [b'0', b'x' | b'X', digits @ ..] => byte_of(digits, 16),
+        [first, .., b'h' | b'H'] if word.len() == 3 || first.is_ascii_digit() => {
+            byte_of(&word[..word.len() - 1], 16)
+        }
+        [b'0', _, ..] => None,
+        _ => byte_of(word, 10),
     }
 }
 
@@ -142,10 +111,7 @@ fn add_byte(bytes: &mut Vec<u8>, byte: Option<u8>) -> Result<bool, AllocError>
 }
 
 /// Adds the bytes of a run of hex digits, two for each; false where it is none.
-///
-/// # Errors
-/// Out of memory.
-pub fn add_run(bytes: &mut Vec<u8>, run: &[u8]) -> Result<bool, AllocError>
+fn add_run(bytes: &mut Vec<u8>, run: &[u8]) -> Result<bool, AllocError>
     ensures { IfOk result (λ is_read. IsAdded bytes.old.items (run_bytes run.now) is_read bytes.new.items) }
 {
     let mut rest = run;
@@ -160,42 +126,66 @@ pub fn add_run(bytes: &mut Vec<u8>, run: &[u8]) -> Result<bool, AllocError>
     Ok(rest.is_empty())
 }
 
-/// Whether a byte parts words.
-fn is_separator(byte: u8, reading: Reading) -> bool
-    ensures { result ≡ is_separator reading byte }
+/// Whether a byte may join two bytes in hex: a colon or a hyphen.
+fn is_joint(byte: u8) -> bool
+    ensures { result ≡ is_joint byte }
 {
-    match reading {
-        Reading::Plain => byte.is_ascii_whitespace(),
-        Reading::Hex => {
-            byte.is_ascii_whitespace() || byte == b',' || byte == b':' || byte == b'-'
+    byte == b':' || byte == b'-'
+}
+
+/// Adds the bytes of pairs of hex digits with a colon or a hyphen between each two; false where they are none.
+fn add_joined(bytes: &mut Vec<u8>, word: &[u8]) -> Result<bool, AllocError>
+    ensures { IfOk result (λ is_read. IsAdded bytes.old.items (joined_bytes word.now) is_read bytes.new.items) }
+{
+    if word.len() < 3 {
+        return Ok(false);
+    }
+    let mut rest = word;
+    while rest.len() >= 3 {
+        let (pair, more) = rest.split_at(2);
+        match byte_of_pair(pair) {
+            Some(byte) if is_joint(more[0]) => bytes.push(byte)?,
+            _ => return Ok(false),
         }
-        Reading::Elements => byte.is_ascii_whitespace() || byte == b',',
+        rest = &more[1..];
+    }
+    add_byte(bytes, byte_of_pair(rest))
+}
+
+/// Whether a byte parts words.
+fn is_separator(byte: u8, parting: Parting) -> bool
+    ensures { result ≡ is_separator parting byte }
+{
+    match parting {
+        Parting::Space => byte.is_ascii_whitespace(),
+        Parting::Commas => byte.is_ascii_whitespace() || byte == b',',
+        Parting::Marks => !byte.is_ascii_alphanumeric() && byte != b'_',
     }
 }
 
 /// Where the first separator of a text stands.
-fn separator(text: &[u8], reading: Reading) -> Option<usize>
-    ensures { result ≡ position (is_separator reading) text.now }
+fn separator(text: &[u8], parting: Parting) -> Option<usize>
+    ensures { result ≡ position (is_separator parting) text.now }
 {
-    text.iter().position(|byte| is_separator(*byte, reading))
+    text.iter().position(|byte| is_separator(*byte, parting))
 }
 
 /// Where the first byte of a text stands that is no separator.
-fn no_separator(text: &[u8], reading: Reading) -> Option<usize>
-    ensures { result ≡ position (is_no_separator reading) text.now }
+fn no_separator(text: &[u8], parting: Parting) -> Option<usize>
+    ensures { result ≡ position (is_no_separator parting) text.now }
 {
-    text.iter().position(|byte| !is_separator(*byte, reading))
+    text.iter().position(|byte| !is_separator(*byte, parting))
 }
 
 /// The next word of a text and what stands after it, if it has one.
-pub fn next_word(text: &[u8], reading: Reading) -> Option<(&[u8], &[u8])>
-    ensures words { Parts reading (words_of reading text.now) (option_map (λ found. (found.0.now, found.1.now)) result) }
+pub fn next_word(text: &[u8], parting: Parting) -> Option<(&[u8], &[u8])>
+    ensures words { Parts parting (words_of parting text.now) (option_map (λ found. (found.0.now, found.1.now)) result) }
     ensures room { IfSome result (λ found. length found.0.now + length found.1.now ≤ length text.now) }
     ensures some { IfSome result (λ found. 0 < length found.0.now) }
 {
-    let start = no_separator(text, reading)?;
+    let start = no_separator(text, parting)?;
     let text = &text[start..];
-    let end = separator(text, reading).unwrap_or(text.len());
+    let end = separator(text, parting).unwrap_or(text.len());
     Some((&text[..end], &text[end..]))
 }
 
@@ -204,7 +194,8 @@ fn add_word(bytes: &mut Vec<u8>, word: &[u8], reading: Reading) -> Result<bool, 
     ensures { IfOk result (λ is_read. IsAdded bytes.old.items (word_bytes reading word.now) is_read bytes.new.items) }
 {
     match reading {
-        Reading::Plain | Reading::Hex => add_run(bytes, word),
+        Reading::Runs => add_run(bytes, word),
+        Reading::Joined => add_joined(bytes, word),
         Reading::Elements => add_byte(bytes, element_byte(word)),
     }
 }
@@ -217,11 +208,12 @@ pub fn add_words(
     bytes: &mut Vec<u8>,
     text: &[u8],
     reading: Reading,
+    parting: Parting,
 ) -> Result<Option<usize>, AllocError>
-    ensures { IfOk result (λ left. IsAdded bytes.old.items (text_bytes reading text.now) (is_none left) bytes.new.items) }
+    ensures { IfOk result (λ left. IsAdded bytes.old.items (text_bytes reading parting text.now) (is_none left) bytes.new.items) }
 {
     let mut rest = text;
-    while let Some((word, more)) = next_word(rest, reading) {
+    while let Some((word, more)) = next_word(rest, parting) {
         if !add_word(bytes, word, reading)? {
             return Ok(Some(word.len().saturating_add(more.len())));
         }

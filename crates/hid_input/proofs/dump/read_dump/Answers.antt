@@ -1,4 +1,4 @@
-use Rattle.std.proofs.Common.{◌≡◌, ◌∷◌, ◌+◌, ◌<◌, ◌≤◌, ℕ, List, [], Result, Ok, Err, length, get_or, take, drop, inr, subst, sym, ap, ◌∙◌, arith}
+use Rattle.std.proofs.Common.{◌≡◌, ◌+◌, ◌<◌, ◌≤◌, ℕ, List, [], Result, Ok, Err, length, get_or, take, drop, inr, subst, sym, ap, ◌∙◌}
 use Rattle.std.proofs.lemmas.List.{drop_more}
 use Rattle.std.proofs.Math.ListN.{drop_of_length-le}
 use Rattle.hid_input.specs.declared.dump.TheConstants.{BASES}
@@ -6,7 +6,7 @@ use Rattle.hid_input.specs.declared.fault.InputCause.{InputCause}
 use Rattle.hid_input.specs.declared.fault.InputCause.TheVariants.{DumpLine}
 use Rattle.hid_input.specs.Text.{lines_of}
 use Rattle.hid_input.specs.Dump.{base_count, rows_bytes, based_bytes, dump_bytes, IsDumpFault}
-use Rattle.hid_input.proofs.DumpLemmas.{base_refused, base_read, read_whole}
+use Rattle.hid_input.proofs.DumpLemmas.{base_refused, base_read, read_none, read_whole}
 use Rattle.hid_input.proofs.dump.read_dump.Goals as goal
 
 pub loop-base-init : goal.loop-base-init
@@ -31,7 +31,11 @@ returns c =
     let lines = lines_of c.args.text.now in
     let past : length bases ≤ i = c.loop-base-test.false in
     let none : based_bytes c.loop-base.furthest (drop i bases) lines ≡ Err c.loop-base.furthest = ap (λ (more : List ℕ). based_bytes c.loop-base.furthest more lines) (drop_of_length-le bases past) in
-    subst (λ (all : Result (ℕ × List ℕ) (ℕ × InputCause)). IsDumpFault c.args.text.now c.of_line.result all) (sym none ∙ c.loop-base.invariant) (inr c.of_line.ensures)
+    let refused : dump_bytes c.args.text.now ≡ Err c.loop-base.furthest = sym c.loop-base.invariant ∙ none in
+    record {
+      answer = read_none c.args.text.now c.loop-base.furthest c.of_line.result refused;
+      fault = subst (λ (all : Result (ℕ × List ℕ) (ℕ × InputCause)). IsDumpFault c.args.text.now c.of_line.result all) (sym refused) (inr c.of_line.ensures);
+    }
 
 pub returns-in-Ok : goal.returns-in-Ok
 returns-in-Ok c =
@@ -43,4 +47,8 @@ returns-in-Ok c =
     let found : dump_bytes c.args.text.now ≡ Ok (get_or bases i 0, c.in-Ok.bytes.items) =
     sym c.loop-base.invariant ∙ (ap (λ (more : List ℕ). based_bytes c.loop-base.furthest more lines) (drop_more bases i 0 below)
     ∙ base_read c.loop-base.furthest (get_or bases i 0) (drop (i + 1) bases) c.in-Ok.bytes.items lines read) in
-    read_whole c.args.text.now c.in-Ok.bytes.items (get_or bases i 0) c.whole_dump.result found c.whole_dump.ensures
+    let whole = read_whole c.args.text.now c.in-Ok.bytes.items (get_or bases i 0) c.whole_dump.result found c.whole_dump.ensures in
+    record {
+      answer = whole.0;
+      fault = whole.1;
+    }

@@ -1,10 +1,9 @@
-use Rattle.std.proofs.Common.{◌≡◌, ◌++◌, [], ◌∷◌, ℕ, List, Some, Err, Ok, true, false, take, drop, length, sym, ap, ◌∙◌, arith}
+use Rattle.std.proofs.Common.{◌≡◌, [], Some, true, false, take, drop, sym, ap, ◌∙◌}
 use Rattle.std.specs.Prelude.{◌||◌}
 use Rattle.hid_input.specs.Words.{byte_of_pair}
-use Rattle.hid_input.specs.Text.{without_space}
-use Rattle.hid_input.specs.Dump.{shows, begins_word, row_bytes}
-use Rattle.hid_input.proofs.SpaceLemmas.{space_again, length-without_space}
-use Rattle.hid_input.proofs.DumpLemmas.{row_behind_space, by_pair, row_pair, row_shown, row_more, row_end}
+use Rattle.hid_input.specs.Dump.{shows, begins_word}
+use Rattle.hid_input.proofs.SpaceLemmas.{space_again}
+use Rattle.hid_input.proofs.DumpLemmas.{row_behind_space, row_shown, row_more}
 use Rattle.hid_input.proofs.dump.read_row.Goals as goal
 
 pub loop-rest-init : goal.loop-rest-init

@@ -1,7 +1,7 @@
-use Rattle.std.proofs.Common.{◌≡◌, ◌∷◌, ◌++◌, ◌+◌, ◌<◌, ◌≤◌, ℕ, List, Ok, Err, length, sym, ap, ◌∙◌, arith}
+use Rattle.std.proofs.Common.{◌≡◌, ◌∷◌, ◌++◌, ◌+◌, Ok, length, sym, ap, ◌∙◌, arith}
 use Rattle.hid_input.specs.Text.{lines_of}
 use Rattle.hid_input.specs.Dump.{line_bytes, rows_bytes}
-use Rattle.hid_input.proofs.DumpLemmas.{rows_step, rows_refused}
+use Rattle.hid_input.proofs.DumpLemmas.{rows_step}
 use Rattle.hid_input.proofs.dump.read_rows.Goals as goal
 
 pub loop-bytes-preserved : goal.loop-bytes-preserved
@@ -15,7 +15,7 @@ loop-bytes-preserved c =
     let read : line_bytes base c.len.result line ≡ Ok row = rw c.in-Ok.is at c.in_ok-row.ensures in
     let is : line_bytes base (length bytes) line ≡ Ok row = cc (read, c.len.ensures) in
     let lines : lines_of c.loop-bytes.rest.now ≡ line ∷ lines_of below = rw c.in-Some.is at c.split_line.ensures.lines in
-    let shorter : length below < length c.loop-bytes.rest.now = rw c.in-Some.is at c.split_line.ensures.room in
+    let shorter : length line + 1 + length below ≡ length c.loop-bytes.rest.now = rw c.in-Some.is at c.split_line.ensures.room in
     let added : c.extend_from_slice.new.self.items ≡ bytes ++ row = cc (c.in_ok-extend_from_slice-in-Ok.ensures.items, c.as_slice.ensures.value) in
     rw added (record {
       all = sym (rows_step base number bytes line row (lines_of below) is) ∙ (ap (rows_bytes base number bytes) (sym lines) ∙ c.loop-bytes.invariant.all);

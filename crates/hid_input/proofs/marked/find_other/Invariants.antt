@@ -1,13 +1,13 @@
-use Rattle.std.proofs.Common.{◌≡◌, length}
-use Rattle.std.specs.List.{list_all}
-use Rattle.hid_input.specs.Text.{lines_of}
-use Rattle.hid_input.specs.Marked.{agrees}
+use Rattle.std.proofs.Common.{◌≡◌, false}
+use Rattle.std.specs.Option.{option_copied}
+use Rattle.hid_input.specs.Text.{is_newline, parts_below}
+use Rattle.hid_input.proofs.SplitLemmas.{length_of}
+use Rattle.hid_input.specs.Marked.{agree_from}
 use Rattle.hid_input.proofs.marked.find_other.Given as goal
 
 -- all lines so far agree
-abbrev pub invariant-loop-below : goal.invariant-loop-below
-invariant-loop-below l =
-    list_all (agrees l.found.shape l.found.bytes.items) (lines_of l.rest) ≡ list_all (agrees l.found.shape l.found.bytes.items) (lines_of l.text)
+abbrev pub invariant-loop-rest : goal.invariant-loop-rest
+invariant-loop-rest l = agree_from l.shape l.bytes l.is_stream (parts_below is_newline (option_copied l.rest)) ≡ agree_from l.shape l.bytes false (parts_below is_newline (option_copied l.text))
 
-abbrev pub decreases-loop-below : goal.decreases-loop-below
-decreases-loop-below l = length l.rest
+abbrev pub decreases-loop-rest : goal.decreases-loop-rest
+decreases-loop-rest l = length_of (option_copied l.rest)

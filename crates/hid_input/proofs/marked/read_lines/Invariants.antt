@@ -1,12 +1,13 @@
-use Rattle.std.proofs.Common.{◌≡◌, length, Some}
-use Rattle.hid_input.specs.Words.{both}
-use Rattle.hid_input.specs.Text.{lines_of}
-use Rattle.hid_input.specs.Marked.{below_bytes}
+use Rattle.std.proofs.Common.{◌≡◌, [], false}
+use Rattle.std.specs.Option.{option_copied}
+use Rattle.hid_input.specs.Text.{is_newline, parts_below}
+use Rattle.hid_input.proofs.SplitLemmas.{length_of}
+use Rattle.hid_input.specs.Marked.{below_from}
 use Rattle.hid_input.proofs.marked.read_lines.Given as goal
 
--- the bytes so far, and those of the rest, are those of the text
-abbrev pub invariant-loop-line : goal.invariant-loop-line
-invariant-loop-line l = both (Some l.bytes.items) (below_bytes l.shape (lines_of l.rest)) ≡ below_bytes l.shape (lines_of l.text)
+-- the lines so far, and the rest
+abbrev pub invariant-loop-below : goal.invariant-loop-below
+invariant-loop-below l = below_from l.shape l.was_last l.bytes.items l.number l.count (parts_below is_newline (option_copied l.below)) ≡ below_from l.shape false [] 0 0 (parts_below is_newline (option_copied l.text))
 
-abbrev pub decreases-loop-line : goal.decreases-loop-line
-decreases-loop-line l = length l.rest
+abbrev pub decreases-loop-below : goal.decreases-loop-below
+decreases-loop-below l = length_of (option_copied l.below)

@@ -1,9 +1,7 @@
-use Rattle.std.proofs.Common.{◌≡◌, ◌+◌, ◌≤◌, length, take, drop, true, false, sym, ap, ◌∙◌, arith}
+use Rattle.std.proofs.Common.{◌≡◌, take, drop, true, arith}
 use Rattle.std.proofs.lemmas.List.{length-drop}
 use Rattle.std.specs.Prelude.{is_some}
 use Rattle.hid_input.specs.Words.{byte_of_pair}
-use Rattle.hid_input.specs.Text.{without_space}
-use Rattle.hid_input.specs.Recorded.{pairs_before}
 use Rattle.hid_input.proofs.SpaceLemmas.{space_again, length-without_space}
 use Rattle.hid_input.proofs.RecordedLemmas.{pairs_behind_space, pair_more}
 use Rattle.hid_input.proofs.recorded.pairs_before.Goals as goal

@@ -1,5 +1,5 @@
 use Rattle.std.proofs.Common.{sym, ◌∙◌}
-use Rattle.hid_input.specs.Descriptor.{start, IsDescriptor, IsFault}
+use Rattle.hid_input.specs.Descriptor.{start}
 use Rattle.hid_input.proofs.FaultLemmas.{refuted}
 use Rattle.hid_input.proofs.whole.faults_are_true.Goals as goal
 

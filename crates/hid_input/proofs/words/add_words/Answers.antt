@@ -11,4 +11,4 @@ loop-word-preserved c =
     let after = c.add_word.new.bytes.items in
     let added : both (Some before) (word_bytes r c.in-Some.word.now) ≡ Some after =
     c.in_ok-add_word.ensures ∙ ap (λ (b : Bool). if b then Some after else None) c.if-not-branch.false in
-    word_added (word_bytes r) (words_of r c.loop-word.rest.now) c.in-Some.word.now (words_of r c.in-Some.more.now) before after _ c.in-Some.ensures.words added c.loop-word.invariant
+    word_added (word_bytes r) (words_of c.args.parting c.loop-word.rest.now) c.in-Some.word.now (words_of c.args.parting c.in-Some.more.now) before after _ c.in-Some.ensures.words added c.loop-word.invariant
