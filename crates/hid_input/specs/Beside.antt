@@ -106,11 +106,11 @@ is_begun_from is_string is_begun before [] = is_begun
 is_begun_from is_string is_begun before (byte ∷ text) =
     is_begun_from is_string (if is_joining is_string byte then is_begun else is_start before byte) byte text
 
--- a line below bytes that it doesn't change may begin so: with a letter, a digit, _, #, @ or $, and below a list with a quotation mark
+-- a line below bytes that it doesn't change may begin so: with a letter, a digit, _, #, @ or $, and below a list with a capital letter or "
 abbrev pub begins_line : Bool → ℕ → Bool
 begins_line is_string byte =
-    is_ascii_lowercase byte || (is_ascii_digit byte || (nat_le 128 byte || ((byte == 95) || ((byte == 35) || ((byte == 64) || ((byte == 36)
-    || (not is_string && (is_ascii_uppercase byte || (byte == 34)))))))))
+    (byte == 95) || ((byte == 35) || ((byte == 64) || ((byte == 36) || ((nat_le 48 byte && nat_le byte 57) || ((nat_le 97 byte && nat_le byte 122)
+    || (nat_le 128 byte || (not is_string && ((byte == 34) || (nat_le 65 byte && nat_le byte 90)))))))))
 
 -- a bracket that closes, of a list, a call or a block
 abbrev pub is_closer : ℕ → Bool

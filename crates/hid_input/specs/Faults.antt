@@ -36,7 +36,7 @@ descriptor_words Other at = codes "byte " ++ (decimal at ++ codes ": no report d
 abbrev pub descriptor_text : DescriptorFault → List ℕ
 descriptor_text fault = descriptor_words fault.cause fault.at
 
--- the way out of each refusal
+-- the way out of each refusal but those of dumps, of which it would take the offsets for bytes
 abbrev pub way_out : List ℕ
 way_out = codes "; convert it: xxd -r -p FILE | hidmap"
 
@@ -61,9 +61,9 @@ cause_text (Several first second) =
 cause_text Operator = codes "an operator or an index beside it: give the bytes alone" ++ way_out
 cause_text Unclear = codes "a comment without its end, or with a backslash at its end" ++ way_out
 cause_text LineEnds = codes "lines that end with CR or FF alone: end each with LF" ++ way_out
-cause_text WordOrder = codes "the order of bytes isn't known (try xxd or od -t x1)" ++ way_out
-cause_text Offset = codes "the offset isn't the number of bytes in front of it" ++ way_out
-cause_text DumpLine = codes "neither an offset with bytes nor their characters (try xxd or od -v -A x -t x1)" ++ way_out
+cause_text WordOrder = codes "the order of bytes isn't known: try xxd or od -v -A x -t x1"
+cause_text Offset = codes "the offset isn't the number of bytes in front of it"
+cause_text DumpLine = codes "neither an offset with bytes nor their characters: try xxd or od -v -A x -t x1"
 cause_text OtherLine = codes "neither a line of a recording nor a comment" ++ way_out
 cause_text BadItem = codes "no item as lsusb prints them" ++ way_out
 cause_text Unavailable = codes "lsusb couldn't read the descriptor: /sys/class/hidraw has it" ++ way_out

@@ -5,7 +5,7 @@ ghost use Rattle.std.specs.List.{list_all, list_any, slice_split};
 ghost use Rattle.std.specs.Char.{is_ascii_hexdigit};
 ghost use Rattle.std.specs.Option.{option_copied};
 ghost use Rattle.hid_input.specs.declared.words.Parting.TheVariants.{Marks};
-ghost use Rattle.hid_input.specs.Beside.{opens, closes, inside_from, inside_of, outside_of, is_list, first_byte, begins_descriptor, count_with, has_run, has_escape_from, part_has_bytes, has_bytes, is_joining, is_operator, is_start, is_begun_from, begins_line, is_closer, ends_statement, is_ended_from, stands_alone};
+ghost use Rattle.hid_input.specs.Beside.{opens, closes, inside_from, inside_of, outside_of, is_list, first_byte, begins_descriptor, count_with, has_run, has_escape_from, part_has_bytes, has_bytes, is_joining, is_start, is_begun_from, is_closer, ends_statement, is_ended_from, stands_alone};
 ghost use Rattle.hid_input.specs.Descriptor.{has_collection};
 ghost use Rattle.hid_input.specs.Text.{parts_below, without_space};
 ghost use Rattle.hid_input.specs.Words.{words_of};
@@ -222,35 +222,19 @@ fn is_joining(byte: u8, is_string: bool) -> bool
         )
 }
 
-/// Whether a character is one of an operator.
-fn is_operator(byte: u8) -> bool
-    ensures { result ≡ is_operator byte }
-{
-    matches!(
-        byte,
-        b'+' | b'-'
-            | b'*'
-            | b'/'
-            | b'%'
-            | b'&'
-            | b'|'
-            | b'^'
-            | b'~'
-            | b'!'
-            | b'<'
-            | b'>'
-            | b'='
-            | b'@'
-    )
-}
-
 /// Whether what follows a character, which stands after another one, is a statement of its own, or a part of one.
 fn is_start(before: u8, byte: u8) -> bool
     ensures { result ≡ is_start before byte }
 {
-    matches!(byte, b':' | b';' | b'}' | b'`')
-        || (byte == b',' && !closes(before))
-        || (byte == b'=' && !is_operator(before))
+    match byte {
+        b':' | b';' | b'}' | b'`' => true,
+        b',' => !closes(before),
+        b'=' => !matches!(
+            before,
+            b'+' | b'-' | b'*' | b'/' | b'%' | b'&' | b'|' | b'^' | b'~' | b'!' | b'<' | b'>' | b'=' | b'@'
+        ),
+        _ => false,
+    }
 }
 
 /// Whether nothing in front of bytes changes them: the last character that isn't of words and calls starts a statement.
@@ -268,36 +252,20 @@ fn is_begun(text: &[u8], is_string: bool) -> bool
     is_begun
 }
 
-/// Whether a line may begin with a character, below bytes that it doesn't change.
-fn begins_line(byte: u8, is_string: bool) -> bool
-    ensures { result ≡ begins_line is_string byte }
-{
-    byte.is_ascii_lowercase()
-        || byte.is_ascii_digit()
-        || byte >= 128
-        || matches!(byte, b'_' | b'#' | b'@' | b'$')
-        || (!is_string && (byte.is_ascii_uppercase() || byte == b'"'))
-}
-
-/// Whether a text begins, after white space, with a bracket that opens.
-fn begins_list(text: &[u8]) -> bool
-    ensures { result ≡ list_any opens (take 1 (without_space text.now)) }
-{
-    match without_space(text) {
-        [first, ..] => opens(*first),
-        [] => false,
-    }
-}
-
 /// Whether a character, with this text after it, ends a statement, or a part of one; or begins a line below one.
 fn ends_statement(byte: u8, text: &[u8], is_string: bool, is_below: bool) -> bool
     ensures { result ≡ ends_statement is_string is_below byte text.now }
 {
     match byte {
         b';' | b'`' => true,
-        b',' => !begins_list(text),
+        b',' => match without_space(text) {
+            [first, ..] => !opens(*first),
+            [] => true,
+        },
         b'|' | b'>' if is_string => true,
-        _ => is_below && begins_line(byte, is_string),
+        b'_' | b'#' | b'@' | b'$' | b'0'..=b'9' | b'a'..=b'z' | 128.. => is_below,
+        b'"' | b'A'..=b'Z' => is_below && !is_string,
+        _ => false,
     }
 }
 

@@ -156,15 +156,21 @@ impl fmt::Display for InputCause {
                 );
             }
             InputCause::Memory => return f.write_str("out of memory"),
+            InputCause::WordOrder => {
+                return f.write_str("the order of bytes isn't known: try xxd or od -v -A x -t x1");
+            }
+            InputCause::Offset => {
+                return f.write_str("the offset isn't the number of bytes in front of it");
+            }
+            InputCause::DumpLine => {
+                return f.write_str(
+                    "neither an offset with bytes nor their characters: try xxd or od -v -A x -t x1",
+                );
+            }
             InputCause::NoCount => "the count is missing, or no number",
             InputCause::Operator => "an operator or an index beside it: give the bytes alone",
             InputCause::Unclear => "a comment without its end, or with a backslash at its end",
             InputCause::LineEnds => "lines that end with CR or FF alone: end each with LF",
-            InputCause::WordOrder => "the order of bytes isn't known (try xxd or od -t x1)",
-            InputCause::Offset => "the offset isn't the number of bytes in front of it",
-            InputCause::DumpLine => {
-                "neither an offset with bytes nor their characters (try xxd or od -v -A x -t x1)"
-            }
             InputCause::OtherLine => "neither a line of a recording nor a comment",
             InputCause::BadItem => "no item as lsusb prints them",
             InputCause::Unavailable => {

@@ -9,7 +9,7 @@ use super::words::{
     word_shown,
 };
 use command_words::{FileName, ReadLines};
-use hid_input::{Found, InputCause, InputFault, KnownFile, Shape, descriptor_in, known_file};
+use hid_input::{Found, InputCause, InputFault, KnownFile, descriptor_in, known_file};
 use hid_layout::{Layout, Limits};
 use hid_script::{Cause, StepFault};
 use hid_snapshots::ChangeFault;
@@ -391,10 +391,7 @@ fn known_as(alloc: Global, descriptor: &[u8]) -> Option<KnownFile> {
 
 /// Prints which lines of a file were read, if it doesn't name them itself.
 fn print_lines(rt: &HostRuntime, path: &str, found: &Found) {
-    let (Shape::Block | Shape::Items | Shape::List | Shape::Escapes, Some((first, last))) = (
-        found.shape,
-        found.lines,
-    ) else {
+    let Some((first, last)) = found.lines else {
         return;
     };
     let name = FileName(path);

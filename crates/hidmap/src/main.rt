@@ -24,7 +24,8 @@ use command_words::{
     FileName, NamedFile, ReadLines, print_refused_words, print_unread_words, words_of_files,
 };
 use hid_input::{
-    Found, InputCause, InputFault, KnownFile, Shape, begins_text, descriptor_in, known_file,
+    Found, InputCause, InputFault, KnownFile, Shape, begins_text, descriptor_fault,
+    descriptor_in, known_file,
 };
 use hid_layout::{Cause, Layout, LayoutFault, Limits, MAX_DESCRIPTOR, long_report};
 use hid_notation::RefusalText;
@@ -124,7 +125,7 @@ fn draw_file(rt: &HostRuntime, asked: &CliArgs<'_>) -> u8 {
     match descriptor_in(rt.alloc(), bytes.as_slice()) {
         Ok(found) => {
             print_lines(rt, name, &found);
-            draw_bytes(rt, asked, found.bytes.as_slice())
+            draw_found(rt, asked, &found)
         }
         Err(
             InputFault {
@@ -142,10 +143,7 @@ fn draw_file(rt: &HostRuntime, asked: &CliArgs<'_>) -> u8 {
 
 /// Prints which lines were read, of a text that doesn't name them itself.
 fn print_lines(rt: &HostRuntime, name: &str, found: &Found) {
-    let (Shape::Block | Shape::Items | Shape::List | Shape::Escapes, Some((first, last))) = (
-        found.shape,
-        found.lines,
-    ) else {
+    let Some((first, last)) = found.lines else {
         return;
     };
     let name = FileName(name);
@@ -167,8 +165,20 @@ fn known_words(rt: &HostRuntime, name: &str, bytes: &[u8]) -> Option<u8> {
     None
 }
 
+/// Prints why the bytes of a binary file are no whole descriptor, if they aren't. Text with such bytes is refused, or has its own mark.
+fn print_not_whole(rt: &HostRuntime, name: &str, found: &Found) {
+    if found.shape != Shape::Binary {
+        return;
+    }
+    if let Some(fault) = descriptor_fault(found.bytes.as_slice()) {
+        let name = FileName(name);
+        let _ = eprintln!(rt; "hidmap: {name}: no whole descriptor: {fault}");
+    }
+}
+
 /// Draws a descriptor, or what it is refused for.
-fn draw_bytes(rt: &HostRuntime, asked: &CliArgs<'_>, descriptor: &[u8]) -> u8 {
+fn draw_found(rt: &HostRuntime, asked: &CliArgs<'_>, found: &Found) -> u8 {
+    let descriptor = found.bytes.as_slice();
     let descriptor = &descriptor[..descriptor.len().min(MOST)];
     match Layout::parse_within(rt.alloc(), Limits::Real, descriptor) {
         Ok(layout) => {
@@ -178,6 +188,8 @@ fn draw_bytes(rt: &HostRuntime, asked: &CliArgs<'_>, descriptor: &[u8]) -> u8 {
                 }
                 let name = FileName(asked.file.name);
                 let _ = eprintln!(rt; "hidmap: {name}: no reports");
+            } else {
+                print_not_whole(rt, asked.file.name, found);
             }
             draw_layout(rt, &layout, descriptor, asked.form)
         }

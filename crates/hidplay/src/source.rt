@@ -7,7 +7,7 @@ use super::fault::{FileFault, before_all, other_file, unread_descriptor};
 use super::other::{OtherFile, is_script, is_umockdev, other_of, says_nothing};
 use command_words::ReadLines;
 use hid_capture::UndescribedEndpoint;
-use hid_input::{Found, InputCause, Shape, begins_recording, descriptor_in, is_recording};
+use hid_input::{Found, InputCause, begins_recording, descriptor_in, is_recording};
 use hid_recording::{
     Cause, GivenDescriptor, Options, Summary, Watch, descriptor_line, play, play_capture,
 };
@@ -183,14 +183,11 @@ fn known_for_itself(alloc: Global, found: Found) -> Result<Found, FileFault> {
 /// Which lines were read, of a text that doesn't name them itself.
 pub fn lines_of(found: &Found) -> Option<ReadLines> {
     let (first, last) = found.lines?;
-    match found.shape {
-        Shape::Binary | Shape::Dump | Shape::Hex | Shape::Recording => None,
-        Shape::Block | Shape::Items | Shape::List | Shape::Escapes => Some(ReadLines {
-            count: found.bytes.len(),
-            first,
-            last,
-        }),
-    }
+    Some(ReadLines {
+        count: found.bytes.len(),
+        first,
+        last,
+    })
 }
 
 /// Plays a binary descriptor.
