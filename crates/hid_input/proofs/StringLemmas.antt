@@ -5,37 +5,37 @@ use Rattle.std.proofs.lemmas.Bool.{cond-false}
 use Rattle.std.proofs.lemmas.List.{append-nil, append_assoc}
 use Rattle.std.proofs.Math.Seq.{drop-cons}
 use Rattle.hid_input.specs.declared.strings.Enclosure.{Enclosure}
-use Rattle.hid_input.specs.Strings.{ahead, characters_from, first_character, begins_escape, escape_from}
+use Rattle.hid_input.specs.Strings.{with_front, characters_from, first_character, begins_escape, escape_from}
 
-pub ahead_nothing : (r : List ℕ × ℕ) → ahead [] 0 r ≡ r
-ahead_nothing r = ap (λ (n : ℕ). (r.0, n)) (omega arith)
+pub front_of_nothing : (r : List ℕ × ℕ) → with_front [] 0 r ≡ r
+front_of_nothing r = ap (λ (n : ℕ). (r.0, n)) (omega arith)
 
-pub ahead_ahead : (a b : List ℕ) (m n : ℕ) (r : List ℕ × ℕ) → ahead a m (ahead b n r) ≡ ahead (a ++ b) (m + n) r
-ahead_ahead a b m n r =
+pub front_of_front : (a b : List ℕ) (m n : ℕ) (r : List ℕ × ℕ) → with_front a m (with_front b n r) ≡ with_front (a ++ b) (m + n) r
+front_of_front a b m n r =
     ap (λ (bytes : List ℕ). (bytes, m + (n + r.1))) (sym (append_assoc a b r.0)) ∙ ap (λ (k : ℕ). ((a ++ b) ++ r.0, k)) (omega arith)
 
 -- letters of a character are passed over
-pub letters_passed : (e : Enclosure) (skip : ℕ) (text : List ℕ) → skip ≤ length text → characters_from e skip text ≡ ahead [] skip (characters_from e 0 (drop skip text))
-letters_passed e zero text within = sym (ahead_nothing (characters_from e 0 text))
+pub letters_passed : (e : Enclosure) (skip : ℕ) (text : List ℕ) → skip ≤ length text → characters_from e skip text ≡ with_front [] skip (characters_from e 0 (drop skip text))
+letters_passed e zero text within = sym (front_of_nothing (characters_from e 0 text))
 letters_passed e (suc skip) [] within = absurd (omega arith)
 letters_passed e (suc skip) (letter ∷ text) within =
-    ap (ahead [] 1) (letters_passed e skip text (omega arith)) ∙ (ahead_ahead [] [] 1 skip (characters_from e 0 (drop skip text)) ∙ ap (λ (k : ℕ). ahead [] k (characters_from e 0 (drop skip text))) (omega arith))
+    ap (with_front [] 1) (letters_passed e skip text (omega arith)) ∙ (front_of_front [] [] 1 skip (characters_from e 0 (drop skip text)) ∙ ap (λ (k : ℕ). with_front [] k (characters_from e 0 (drop skip text))) (omega arith))
 
 -- one more character
 pub character_read : (e : Enclosure) (text : List ℕ) (byte : Option ℕ) (size : ℕ) → first_character e text ≡ Some (byte, size) → 0 < size → size ≤ length text
-    → characters_from e 0 text ≡ ahead (option_to_list byte) size (characters_from e 0 (drop size text))
+    → characters_from e 0 text ≡ with_front (option_to_list byte) size (characters_from e 0 (drop size text))
 character_read e [] byte size is some within = absurd (omega arith)
 character_read e (letter ∷ more) byte zero is some within = absurd (omega arith)
 character_read e (letter ∷ more) byte (suc size) is some within =
     ap (λ (o : Option (Option ℕ × ℕ)). elim o as (λ o. List ℕ × ℕ) [
       | None ↦ ([], 0)
-      | Some found ↦ ahead (option_to_list found.0) 1 (characters_from e (found.1 - 1) more)
+      | Some found ↦ with_front (option_to_list found.0) 1 (characters_from e (found.1 - 1) more)
     ]) is
-    ∙ (ap (λ (k : ℕ). ahead (option_to_list byte) 1 (characters_from e k more)) (omega arith)
-    ∙ (ap (ahead (option_to_list byte) 1) (letters_passed e size more (omega arith))
-    ∙ (ahead_ahead (option_to_list byte) [] 1 size (characters_from e 0 (drop size more))
-    ∙ (ap (λ (bytes : List ℕ). ahead bytes (1 + size) (characters_from e 0 (drop size more))) (append-nil (option_to_list byte))
-    ∙ ap (λ (k : ℕ). ahead (option_to_list byte) k (characters_from e 0 (drop size more))) (omega arith)))))
+    ∙ (ap (λ (k : ℕ). with_front (option_to_list byte) 1 (characters_from e k more)) (omega arith)
+    ∙ (ap (with_front (option_to_list byte) 1) (letters_passed e size more (omega arith))
+    ∙ (front_of_front (option_to_list byte) [] 1 size (characters_from e 0 (drop size more))
+    ∙ (ap (λ (bytes : List ℕ). with_front bytes (1 + size) (characters_from e 0 (drop size more))) (append-nil (option_to_list byte))
+    ∙ ap (λ (k : ℕ). with_front (option_to_list byte) k (characters_from e 0 (drop size more))) (omega arith)))))
 
 suc_is : (i : ℕ) → suc i ≡ i + 1
 suc_is i = omega arith

@@ -148,6 +148,7 @@ abbrev pub answer_by : Result (ℕ × List ℕ) (ℕ × InputCause) → Option A
 answer_by (Ok read) = Some (Dump, (read.1, None))
 answer_by (Err refused) = None
 
+-- what is to be read of a text that is a dump
 abbrev pub dump_answer : List ℕ → Option Answer
 dump_answer text = answer_by (dump_bytes text)
 

@@ -37,5 +37,6 @@ abbrev pub list_at : List ℕ → Option (ℕ × ℕ) → Option Answer
 list_at text None = None
 list_at text (Some place) = list_between text place.0 place.1
 
+-- the descriptor in the first list of a text that has a Collection and an End Collection
 abbrev pub list_answer : List ℕ → Option Answer
 list_answer text = list_at text (first_list 0 (slice_split closes text))

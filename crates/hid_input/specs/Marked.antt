@@ -143,11 +143,12 @@ abbrev pub record_fault : List (List ℕ) → Option RecordedFault
 record_fault [] = None
 record_fault (line ∷ below) = fault_in (mark_of line) line
 
--- a refusal has this cause, or memory ran out
+-- a refusal has the cause of a fault of R: or H:, or memory ran out
 abbrev pub IsRecordFault : RecordedFault → Result Found InputFault → Type 0
 IsRecordFault cause (Ok found) = ⊥
 IsRecordFault cause (Err fault) = (fault.cause ≡ Memory) ⊎ (fault.cause ≡ cause_of cause)
 
+-- a refusal has a cause, if one is meant, or memory ran out
 abbrev pub HasFault : Option RecordedFault → Result Found InputFault → Type 0
 HasFault None result = ⊤
 HasFault (Some cause) result = IsRecordFault cause result

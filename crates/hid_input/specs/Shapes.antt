@@ -71,11 +71,12 @@ answer_in bytes =
     else (if not (is_text (without_mark bytes)) then Some (Binary, (bytes, None))
     else (if has_other_ends (without_mark bytes) then None else text_answer (text_of bytes)))
 
--- why the first line of a text that names a descriptor has none by R: or H:
+-- why a line of a text, which begins at a place, has none by R: or H:
 abbrev pub record_fault_at : List ℕ → Option ℕ → Option RecordedFault
 record_fault_at text None = None
 record_fault_at text (Some place) = record_fault (lines_of (drop place text))
 
+-- why the first line of a text that names a descriptor has none by R: or H:
 unfoldable pub record_fault_in : List ℕ → Option RecordedFault
 record_fault_in text = if is_dump text then None else record_fault_at text (mark_place 0 (lines_of text))
 

@@ -78,17 +78,17 @@ first_character enclosure text =
     if starts_with nat_eq text escape then option_map (λ byte. (Some byte, 4)) (hex_byte enclosure (drop 2 text)) else other_character enclosure text
 
 -- a byte and a length in front of those of a text
-abbrev pub ahead : List ℕ → ℕ → List ℕ × ℕ → List ℕ × ℕ
-ahead bytes size rest = (bytes ++ rest.0, size + rest.1)
+abbrev pub with_front : List ℕ → ℕ → List ℕ × ℕ → List ℕ × ℕ
+with_front bytes size rest = (bytes ++ rest.0, size + rest.1)
 
 -- the bytes of the characters at the front of a text, of which so many letters belong to the last one, and how long they are
 abbrev pub characters_from : Enclosure → ℕ → List ℕ → List ℕ × ℕ
 characters_from enclosure skip [] = ([], 0)
-characters_from enclosure (suc skip) (letter ∷ text) = ahead [] 1 (characters_from enclosure skip text)
+characters_from enclosure (suc skip) (letter ∷ text) = with_front [] 1 (characters_from enclosure skip text)
 characters_from enclosure zero (letter ∷ text) =
     elim (first_character enclosure (letter ∷ text)) [
       | None ↦ ([], 0)
-      | Some found ↦ ahead (option_to_list found.0) 1 (characters_from enclosure (found.1 - 1) text)
+      | Some found ↦ with_front (option_to_list found.0) 1 (characters_from enclosure (found.1 - 1) text)
     ]
 
 -- the character so many in front of the end of a text, or a blank
@@ -134,5 +134,6 @@ strings_by text from None = None
 strings_by text from (Some enclosure) =
     enclosed_answer text from enclosure (characters_from enclosure 0 (drop from text)).0 (from + (characters_from enclosure 0 (drop from text)).1)
 
+-- the descriptor in the strings of a text, by how their first escape of hex is enclosed
 abbrev pub strings_answer : List ℕ → ℕ → Option Answer
 strings_answer text from = strings_by text from (enclosure_of (take from text))

@@ -93,6 +93,9 @@ fn has_collection(bytes: &[u8]) -> bool
 }
 
 /// Whether a text spells bytes with a Collection and an End Collection.
+///
+/// # Errors
+/// Out of memory.
 pub fn is_list(alloc: Global, text: &[u8]) -> Result<bool, AllocError>
     ensures { IfOk result (λ is_one. is_one ≡ is_list text.now) }
 {

@@ -13,7 +13,7 @@
 //! order of bytes was taken for the descriptor isn't one. **Every character of the text is explained**: it is of a byte, an offset, a
 //! separator or a comment; beside a list or strings only words may appear, and no second descriptor.
 //!
-//! The promise: `whole`, `shown`, `recorded`, `read`, `binary` and `refused` on [`descriptor_in`]. Time and memory are in proportion to the text.
+//! The promise: `read`, `whole`, `recorded`, `binary` and `refused` on [`descriptor_in`]. Time and memory are in proportion to the text.
 #![tactic(auto)]
 
 mod beside;
