@@ -81,12 +81,12 @@ agrees_by None shape bytes is_stream line = is_stream || not (has_bytes line)
 agrees_by (Some Recording) Recording bytes is_stream line = has_same (line_bytes line) bytes
 agrees_by (Some other) shape bytes is_stream line = false
 
--- each of lines may stand there, and those below a heading of reports are reports
+-- each of lines may stand there, and those below a heading of reports, up to an empty one, are reports
 abbrev pub agree_from : Shape → List ℕ → Bool → List (List ℕ) → Bool
 agree_from shape bytes is_stream [] = true
 agree_from shape bytes is_stream (line ∷ lines) =
     agrees_by (mark_of line) shape bytes is_stream line
-    && agree_from shape bytes (is_stream || ends_with nat_eq (first_word line) (codes ":STREAM")) lines
+    && agree_from shape bytes (ends_with nat_eq (first_word line) (codes ":STREAM") || (is_stream && not (is_empty_line line))) lines
 
 -- bytes of lines are as many as the line in front of them says, and there are some
 abbrev pub is_counted : Option ℕ → List ℕ → Bool

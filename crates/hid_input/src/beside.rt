@@ -5,7 +5,7 @@ ghost use Rattle.std.specs.List.{list_all, list_any, slice_split};
 ghost use Rattle.std.specs.Char.{is_ascii_hexdigit};
 ghost use Rattle.std.specs.Option.{option_copied};
 ghost use Rattle.hid_input.specs.declared.words.Parting.TheVariants.{Marks};
-ghost use Rattle.hid_input.specs.Beside.{opens, closes, inside_from, inside_of, outside_of, is_list, first_byte, begins_descriptor, count_with, has_run, has_escape_from, part_has_bytes, has_bytes, is_joining, is_start, is_begun_from, is_closer, ends_statement, is_ended_from, stands_alone};
+ghost use Rattle.hid_input.specs.Beside.{opens, closes, inside_from, inside_of, is_quote, unquoted, outside_of, is_list, first_byte, begins_descriptor, count_with, has_run, has_escape_from, part_has_bytes, has_bytes, is_joining, is_start, is_begun_from, is_closer, ends_statement, is_ended_from, stands_alone};
 ghost use Rattle.hid_input.specs.Descriptor.{has_collection};
 ghost use Rattle.hid_input.specs.Text.{parts_below, without_space};
 ghost use Rattle.hid_input.specs.Words.{words_of};
@@ -166,8 +166,27 @@ fn has_escape(text: &[u8]) -> bool
     false
 }
 
+/// A text without the quotation marks at its ends, if it has some there.
+fn unquoted(text: &[u8]) -> &[u8]
+    ensures text { result.now ≡ unquoted text.now }
+{
+    let length = text.len();
+    if length >= 2 && is_quote(text[0]) && is_quote(text[length - 1]) {
+        &text[1..length - 1]
+    } else {
+        text
+    }
+}
+
+/// Whether a character is a quotation mark.
+fn is_quote(byte: u8) -> bool
+    ensures { result ≡ is_quote byte }
+{
+    byte == b'"' || byte == b'\''
+}
+
 /// How much of a text up to a bracket that closes stands from bytes on that may be of a descriptor: escapes; outside of brackets bytes
-/// side by side; or a list.
+/// side by side; or a list, perhaps in quotation marks.
 fn find_part_bytes(alloc: Global, part: &[u8]) -> Result<Option<usize>, AllocError>
     ensures { IfOk result (λ found. is_some found ≡ part_has_bytes part.now) }
 {
@@ -182,7 +201,7 @@ fn find_part_bytes(alloc: Global, part: &[u8]) -> Result<Option<usize>, AllocErr
         ));
     }
     match inside_of(part) {
-        Some(inside) if is_list(alloc, inside)? => Ok(Some(inside.len())),
+        Some(inside) if is_list(alloc, unquoted(inside))? => Ok(Some(inside.len())),
         _ => Ok(None),
     }
 }

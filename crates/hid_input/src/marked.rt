@@ -213,7 +213,7 @@ fn find_other<'a>(
         if !agrees(alloc, line, shape, bytes, is_stream)? {
             return Ok(Some(here));
         }
-        is_stream = is_stream || first_word(line).ends_with(b":STREAM");
+        is_stream = first_word(line).ends_with(b":STREAM") || (is_stream && !is_empty_line(line));
         rest = below;
     }
     Ok(None)
