@@ -45,7 +45,8 @@ pub fn histories_are_printed()
 {}
 
 /// No key is left stuck in a script. After lines that are all accepted, the host of each device that has nothing to send has
-/// what is pressed. A last line that polls a device cleanly as often as it needs brings it there.
+/// what is pressed. Last lines that poll a device cleanly as often as it needs bring it there; in between they may lose polls of
+/// it, step other devices, and pass frames if it has no idle time.
 pub fn devices_agree_after_lines()
     ensures agree { LinesAgree }
     ensures rest { PollsBringToRest }
