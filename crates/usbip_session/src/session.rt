@@ -1,5 +1,5 @@
 //! What stands between two reads or writes of a program.
-ghost use Rattle.std.specs.Prelude.{◌≡◌, ◌≤◌, length, drop, OnOk};
+ghost use Rattle.std.specs.Prelude.{◌≡◌, ◌≤◌, length, drop, IfErr, OnOk};
 ghost use Rattle.hid_driver.specs.Asking.{is_report};
 ghost use Rattle.hid_driver.specs.Interfaces.{all_back_events};
 ghost use Rattle.usbip_import.specs.Sending.{Sent};
@@ -103,6 +103,7 @@ fn lay(
 fn end_import(import: &mut Import, events: &mut Vec<DriverEvent>) -> Result<(), ImportFault>
     ensures ok { OnOk result (events.new.items ≡ all_back_events 0 import.old.driver.interfaces) }
     ensures ended { OnOk result (import.new ≡ import_ended import.old) }
+    ensures memory { IfErr result (λ fault. fault ≡ ImportFault.Memory) }
 {
     events.clear();
     if events.reserve(import.driver().max_events()).is_err() {
@@ -468,7 +469,8 @@ impl Session {
     /// # Errors
     /// [`ImportFault::Memory`] where there is no room for the events.
     pub fn release(&mut self) -> Result<(), ImportFault>
-        ensures { OnOk result (self.new ≡ session_at_end self.old) }
+        ensures released { OnOk result (self.new ≡ session_at_end self.old) }
+        ensures memory { IfErr result (λ fault. fault ≡ ImportFault.Memory) }
     {
         match end_import(&mut self.import, &mut self.events) {
             Ok(()) => {
