@@ -1,7 +1,7 @@
 -- What may stand beside a list or strings (our choice: docs/INPUT-FORMS.md).
 use Rattle.std.specs.Prelude.{ℕ, ◌==◌, ◌+◌, ◌-◌, ◌%◌, Bool, true, false, not, ◌&&◌, ◌||◌, nat_le, nat_lt, min, List, [], ◌∷◌, length, slice_index, take, drop, if◌then◌else◌, Option, None, Some}
 use Rattle.std.specs.List.{list_all, list_any, slice_split, position_or_len}
-use Rattle.std.specs.Char.{is_ascii_alphanumeric, is_ascii_digit, is_ascii_hexdigit, is_ascii_lowercase, is_ascii_uppercase, is_ascii_whitespace}
+use Rattle.std.specs.Char.{is_ascii_alphanumeric, is_ascii_digit, is_ascii_hexdigit, is_ascii_uppercase, is_ascii_whitespace}
 use Rattle.hid_input.specs.declared.words.Parting.TheVariants.{Marks}
 use Rattle.hid_input.specs.Descriptor.{has_collection}
 use Rattle.hid_input.specs.Spelled.{spelled_bytes}
@@ -40,15 +40,15 @@ is_list text = have_collection (spelled_bytes text)
 abbrev pub is_quote : ℕ → Bool
 is_quote byte = (byte == 34) || (byte == 39)
 
-abbrev pub unquoted : List ℕ → List ℕ
-unquoted text =
+abbrev pub without_quotation : List ℕ → List ℕ
+without_quotation text =
     if nat_le 2 (length text) && (is_quote (slice_index text 0) && is_quote (slice_index text (length text - 1)))
     then take (length text - 2) (drop 1 text) else text
 
 -- a text, if there is one, does so, perhaps in quotation marks
 abbrev pub is_list_in : Option (List ℕ) → Bool
 is_list_in None = false
-is_list_in (Some text) = is_list (unquoted text)
+is_list_in (Some text) = is_list (without_quotation text)
 
 -- the first byte of a word of digits: pairs of hex digits, or one byte
 abbrev pub first_byte : List ℕ → Option ℕ

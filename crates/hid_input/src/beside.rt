@@ -5,7 +5,7 @@ ghost use Rattle.std.specs.List.{list_all, list_any, slice_split};
 ghost use Rattle.std.specs.Char.{is_ascii_hexdigit};
 ghost use Rattle.std.specs.Option.{option_copied};
 ghost use Rattle.hid_input.specs.declared.words.Parting.TheVariants.{Marks};
-ghost use Rattle.hid_input.specs.Beside.{opens, closes, inside_from, inside_of, is_quote, unquoted, outside_of, is_list, first_byte, begins_descriptor, count_with, has_run, has_escape_from, part_has_bytes, has_bytes, is_joining, is_start, is_begun_from, is_closer, ends_statement, is_ended_from, stands_alone};
+ghost use Rattle.hid_input.specs.Beside.{opens, closes, inside_from, inside_of, is_quote, without_quotation, outside_of, is_list, first_byte, begins_descriptor, count_with, has_run, has_escape_from, part_has_bytes, has_bytes, is_joining, is_start, is_begun_from, is_closer, ends_statement, is_ended_from, stands_alone};
 ghost use Rattle.hid_input.specs.Descriptor.{has_collection};
 ghost use Rattle.hid_input.specs.Text.{parts_below, without_space};
 ghost use Rattle.hid_input.specs.Words.{words_of};
@@ -167,8 +167,8 @@ fn has_escape(text: &[u8]) -> bool
 }
 
 /// A text without the quotation marks at its ends, if it has some there.
-fn unquoted(text: &[u8]) -> &[u8]
-    ensures text { result.now ≡ unquoted text.now }
+fn without_quotation(text: &[u8]) -> &[u8]
+    ensures text { result.now ≡ without_quotation text.now }
 {
     let length = text.len();
     if length >= 2 && is_quote(text[0]) && is_quote(text[length - 1]) {
@@ -201,7 +201,7 @@ fn find_part_bytes(alloc: Global, part: &[u8]) -> Result<Option<usize>, AllocErr
         ));
     }
     match inside_of(part) {
-        Some(inside) if is_list(alloc, unquoted(inside))? => Ok(Some(inside.len())),
+        Some(inside) if is_list(alloc, without_quotation(inside))? => Ok(Some(inside.len())),
         _ => Ok(None),
     }
 }
@@ -253,7 +253,19 @@ fn is_start(before: u8, byte: u8) -> bool
         b',' => !closes(before),
         b'=' => !matches!(
             before,
-            b'+' | b'-' | b'*' | b'/' | b'%' | b'&' | b'|' | b'^' | b'~' | b'!' | b'<' | b'>' | b'=' | b'@'
+            b'+' | b'-'
+                | b'*'
+                | b'/'
+                | b'%'
+                | b'&'
+                | b'|'
+                | b'^'
+                | b'~'
+                | b'!'
+                | b'<'
+                | b'>'
+                | b'='
+                | b'@'
         ),
         _ => false,
     }
