@@ -24,8 +24,8 @@ use command_words::{
     FileName, NamedFile, ReadLines, print_refused_words, print_unread_words, words_of_files,
 };
 use hid_input::{
-    Found, InputCause, InputFault, KnownFile, Shape, begins_text, descriptor_fault,
-    descriptor_in, known_file,
+    Found, InputCause, InputFault, KnownFile, Shape, begins_text, descriptor_fault, descriptor_in,
+    known_file,
 };
 use hid_layout::{Cause, Layout, LayoutFault, Limits, MAX_DESCRIPTOR, long_report};
 use hid_notation::RefusalText;
