@@ -13,32 +13,9 @@ use Rattle.hid_capture.specs.declared.tracker.Content.TheVariants as contents
 use Rattle.hid_recording.specs.declared.fault.Cause.{Cause}
 use Rattle.hid_recording.specs.declared.fault.Cause.TheVariants as causes
 use Rattle.hid_recording.specs.Session.{Session, Outcome, success, failure}
-use Rattle.hid_recording.specs.LineOutput.{DescriptorGives, DescriptionGives, text_back, without_named}
-use Rattle.hid_recording.specs.Gathering.{EndsIn}
+use Rattle.hid_recording.specs.Gathering.{StopsIn}
 use Rattle.hid_recording.specs.Acts.{Act, ActGives, ActsGive, FirstActGives, FirstActEnds, ActsEnd, AppendsActs}
 use Rattle.hid_recording.specs.FrameActs.{Given, Said, acts_of_content, content_of_data, described_number, acts_of_given_by, acts_of_given, disconnection_in, first_disconnections, disconnections, said_of_content, said_of_urb, AppendsSaid}
-
--- ---- descriptors
-
--- one that is accepted, or refused and told
-pub described : (bytes : List ℕ) (session now next : Session) (back text all : List ℕ) → now ≡ without_named session (Some session.current)
-    → back ≡ text_back session session.current → all ≡ back ++ text
-    → DescriptorGives bytes now (success text next) → DescriptionGives bytes session (success all next)
-described bytes session now next back text all at is whole told =
-    let here = subst (λ (s : Session). DescriptorGives bytes s (success text next)) at told in
-    (success text next, here, ap (λ t. success t next) (whole ∙ ap (λ b. b ++ text) is))
-
--- one that ends the run
-pub description_ends : (bytes : List ℕ) (session now : Session) (cause : Cause) → now ≡ without_named session (Some session.current)
-    → EndsIn (DescriptorGives bytes now) cause → EndsIn (DescriptionGives bytes session) cause
-description_ends bytes session now causes.Memory at h = tt
-description_ends bytes session now (causes.Refused why) at h =
-    (failure (causes.Refused why), subst (λ (s : Session). DescriptorGives bytes s (failure (causes.Refused why))) at h, refl)
-description_ends bytes session now causes.LineTooLong at h = absurd h
-description_ends bytes session now causes.Read at h = absurd h
-description_ends bytes session now causes.Write at h = absurd h
-description_ends bytes session now causes.TooManyReads at h = absurd h
-description_ends bytes session now causes.Unended at h = absurd h
 
 -- ---- acts, one after the other
 
@@ -75,7 +52,8 @@ first_before time now (act ∷ others) more o h = h
 ends_before_by : (time : List ℕ) (now : Session) (others more : List Act) (part : List ℕ) (cause : Cause)
     → FirstActEnds time now others part cause → FirstActEnds time now (others ++ more) part cause
 ends_before_by time now others more part (causes.Refused why) h = (h.0, first_before time now others more (failure (causes.Refused why)) h.1)
-ends_before_by time now others more part causes.Memory h = h
+ends_before_by time now others more part causes.Memory (inl none, lines) = (inl none, lines)
+ends_before_by time now others more part causes.Memory (inr h, lines) = (inr (h.0, h.1, first_before time now others more (success h.0 h.1) h.2, h.3), lines)
 ends_before_by time now others more part causes.Write (inl h) = inl h
 ends_before_by time now others more part causes.Write (inr h) = inr (h.0, h.1, first_before time now others more (success h.0 h.1) h.2, h.3)
 ends_before_by time now others more part causes.LineTooLong h = absurd h
@@ -105,16 +83,16 @@ pub nothing_said : (old : Option (List ℕ)) (time : List ℕ) (session : Sessio
     → AppendsActs old old time session acts (Ok tt) session
 nothing_said old time session acts none = ([], Appends-nil old, subst (λ a. ActsGive time session a [] session) (sym none) (refl, refl))
 
--- an act of which nothing was gathered
-first_ends : (time : List ℕ) (session : Session) (act : Act) (cause : Cause) → EndsIn (ActGives time session act) cause
-    → FirstActEnds time session (act ∷ []) [] cause
-first_ends time session act causes.Memory h = refl
-first_ends time session act (causes.Refused why) h = (refl, h)
-first_ends time session act causes.LineTooLong h = absurd h
-first_ends time session act causes.Read h = absurd h
-first_ends time session act causes.Write h = absurd h
-first_ends time session act causes.TooManyReads h = absurd h
-first_ends time session act causes.Unended h = absurd h
+-- an act that wasn't played to its end
+first_ends : (a b : Option (List ℕ)) (time : List ℕ) (session : Session) (act : Act) (cause : Cause) → StopsIn a b (ActGives time session act) cause
+    → (x : List ℕ) × Appends a b x × FirstActEnds time session (act ∷ []) x cause
+first_ends a b time session act causes.Memory h = (h.0, h.1, (h.2, h.3))
+first_ends a b time session act (causes.Refused why) h = ([], subst (λ w. Appends a w []) (sym h.0) (Appends-nil a), (refl, h.1))
+first_ends a b time session act causes.Write h = (h.0, h.3, inr (h.1, h.2, h.4, h.5))
+first_ends a b time session act causes.LineTooLong h = absurd h
+first_ends a b time session act causes.Read h = absurd h
+first_ends a b time session act causes.TooManyReads h = absurd h
+first_ends a b time session act causes.Unended h = absurd h
 
 -- a run that ended in the first act, with this part of its text
 at_first_act : (time : List ℕ) (session : Session) (acts : List Act) (part : List ℕ) (cause : Cause)
@@ -131,16 +109,17 @@ at_first_act time session acts part cause h = record {
   whole = refl;
 }
 
-pub act_ends : (old : Option (List ℕ)) (time : List ℕ) (session : Session) (act : Act) (cause : Cause)
-    (r : Result (Unit {0}) Cause) (next : Session) → EndsIn (ActGives time session act) cause → IsErrAnd r (λ e. e ≡ cause)
-    → AppendsActs old old time session (act ∷ []) r next
-act_ends old time session act cause (Ok u) next h is = absurd is
-act_ends old time session act cause (Err e) next h is = (
-  [],
-  Appends-nil old,
-  at_first_act time session (act ∷ []) [] e
-      (subst (λ c. FirstActEnds time session (act ∷ []) [] c) (sym is) (first_ends time session act cause h)),
-)
+pub act_ends : (a b : Option (List ℕ)) (time : List ℕ) (session : Session) (act : Act) (cause : Cause)
+    (r : Result (Unit {0}) Cause) (next : Session) → StopsIn a b (ActGives time session act) cause → IsErrAnd r (λ e. e ≡ cause)
+    → AppendsActs a b time session (act ∷ []) r next
+act_ends a b time session act cause (Ok u) next h is = absurd is
+act_ends a b time session act cause (Err e) next h is =
+    let ends = first_ends a b time session act cause h in (
+      ends.0,
+      ends.1,
+      at_first_act time session (act ∷ []) ends.0 e
+          (subst (λ c. FirstActEnds time session (act ∷ []) ends.0 c) (sym is) ends.2),
+    )
 
 -- memory ran out before the first act
 pub memory_ends : (old : Option (List ℕ)) (time : List ℕ) (session : Session) (acts : List Act)
@@ -150,25 +129,42 @@ memory_ends old time session acts (Ok u) next is = absurd is
 memory_ends old time session acts (Err e) next is = (
   [],
   Appends-nil old,
-  at_first_act time session acts [] e (subst (λ c. FirstActEnds time session acts [] c) (sym is) refl),
+  at_first_act time session acts [] e (subst (λ c. FirstActEnds time session acts [] c) (sym is) (inl refl, inl refl)),
 )
 
--- an act whose output was gathered is written, or a prefix of it
-pub act_written : (old new : Option (List ℕ)) (time : List ℕ) (session : Session) (act : Act) (gathered text : List ℕ)
-    (r : Result (Unit {0}) Cause) (next : Session) → ActGives time session act (success gathered next) → text ≡ gathered
-    → OnOk r (Appends old new text) → IfErr r (λ cause. cause ≡ causes.Write) → AppendsPrefix old new text
-    → AppendsActs old new time session (act ∷ []) r next
-act_written old new time session act gathered text (Ok u) next told same ok cause prefix = (
-  text,
-  ok,
-  (text, next, [], subst (λ t. ActGives time session act (success t next)) (sym same) told, (refl, refl), sym (append-nil text)),
+-- what was gathered of an act, and what was written before
+pub act_written : (a b c : Option (List ℕ)) (time : List ℕ) (session : Session) (act : Act) (written gathered text : List ℕ)
+    (next : Session) → Appends a b written → ActGives time session act (success (written ++ gathered) next) → text ≡ gathered
+    → Appends b c text → AppendsActs a c time session (act ∷ []) (Ok tt) next
+act_written a b c time session act written gathered text next before told same grew = (
+  written ++ text,
+  Appends-trans a b c written text before grew,
+  (
+    written ++ text,
+    next,
+    [],
+    subst (λ t. ActGives time session act (success (written ++ t) next)) (sym same) told,
+    (refl, refl),
+    sym (append-nil (written ++ text)),
+  ),
 )
-act_written old new time session act gathered text (Err e) next told same ok cause prefix = (
-  prefix.0,
-  prefix.2,
-  at_first_act time session (act ∷ []) prefix.0 e
-      (subst (λ c. FirstActEnds time session (act ∷ []) prefix.0 c) (sym cause)
-      (inr (text, next, subst (λ t. ActGives time session act (success t next)) (sym same) told, prefix.1))),
+
+-- the writer took a prefix of that
+pub act_unwritten : (a b c : Option (List ℕ)) (time : List ℕ) (session : Session) (act : Act) (written gathered text : List ℕ)
+    (r : Result (Unit {0}) Cause) (next last : Session) → Appends a b written
+    → ActGives time session act (success (written ++ gathered) next) → text ≡ gathered → AppendsPrefix b c text
+    → IsErrAnd r (λ e. e ≡ causes.Write) → AppendsActs a c time session (act ∷ []) r last
+act_unwritten a b c time session act written gathered text (Ok u) next last before told same prefix is = absurd is
+act_unwritten a b c time session act written gathered text (Err e) next last before told same prefix is = (
+  written ++ prefix.0,
+  Appends-trans a b c written prefix.0 before prefix.2,
+  at_first_act time session (act ∷ []) (written ++ prefix.0) e
+      (subst (λ x. FirstActEnds time session (act ∷ []) (written ++ prefix.0) x) (sym is) (inr (
+        written ++ gathered,
+        next,
+        told,
+        (prefix.1.0, ap (λ t. written ++ t) (sym same ∙ prefix.1.1) ∙ sym (append_assoc written prefix.0 prefix.1.0)),
+      ))),
 )
 
 -- acts after others that were told whole

@@ -318,7 +318,7 @@ piece_ends given start a b e c d f read written text piece now fault (Err x) end
 cut_act : (time : List ℕ) (now : Session) (others : List Act) (part : List ℕ) (cause : Cause) → FirstActEnds time now others part cause
     → FirstActEnds time now others part causes.Write
 cut_act time now others part (causes.Refused why) h = inl h.0
-cut_act time now others part causes.Memory h = inl h
+cut_act time now others part causes.Memory h = h.0
 cut_act time now others part causes.Write h = h
 cut_act time now others part causes.LineTooLong h = absurd h
 cut_act time now others part causes.Read h = absurd h

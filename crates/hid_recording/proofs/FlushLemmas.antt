@@ -196,7 +196,7 @@ cut_there : (ending : Ending) (session : Session) (recording : List (List ℕ)) 
 cut_there RefusedLine session [] part cause h = absurd h
 cut_there RefusedLine session (bytes ∷ more) part cause h =
     (part, line_begins session bytes part cause h, ([], sym (append-nil part)))
-cut_there OutOfMemory session recording part cause h = (part, h, ([], sym (append-nil part)))
+cut_there OutOfMemory session recording part cause h = (h.0, h.1, h.2)
 cut_there PartlyWritten session recording part cause h = h
 cut_there NotRun session recording part cause h = ([], first_begins session recording, rw h ([], refl))
 cut_there Never session recording part cause h = absurd h

@@ -1,4 +1,6 @@
 pub mod OutputLemmas
+pub mod PieceLemmas
+pub mod ValueLemmas
 pub mod PlaceLemmas
 pub mod FlushLemmas
 pub mod WordLemmas

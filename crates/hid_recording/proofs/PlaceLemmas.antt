@@ -294,7 +294,7 @@ no_line_run options recording fault at is played = inl (record {
   ends = subst
       (λ c. Ends (FirstGives (at_first options Lines) (lines recording))
       (FirstBegins (at_first options Lines) (lines recording)) [] c) (sym is)
-      (first_begins (at_first options Lines) (lines recording));
+      ([], first_begins (at_first options Lines) (lines recording), ([], refl), inl refl);
   whole = refl;
 })
 

@@ -7,6 +7,7 @@ use Rattle.hid_recording.specs.declared.act.Act.TheVariants as variants
 use Rattle.hid_recording.specs.declared.fault.Cause.{Cause}
 use Rattle.hid_recording.specs.declared.fault.Cause.TheVariants as causes
 use Rattle.hid_recording.specs.declared.fault.Refusal as refusals
+use Rattle.hid_recording.specs.Pieces.{IsWholeLines}
 use Rattle.hid_recording.specs.Session.{Session, Outcome, success, failure}
 use Rattle.hid_recording.specs.LineOutput.{DescriptionGives, report_outcome, outcome_of_refusal, outcome_of_release}
 
@@ -58,11 +59,12 @@ IsPartOfFirst time session acts part =
     (part ≡ []) ⊎ ((text : List ℕ) × (next : Session)
     × FirstActGives time session acts (success text next) × IsPrefix part text)
 
--- what is written of the first of these acts, where a run ended in it: nothing, or what the writer took
+-- What is written of the first of these acts, where a run ended in it: nothing of a refusal, whole lines if memory ran out, or
+-- what the writer took.
 abbrev pub FirstActEnds : List ℕ → Session → List Act → List ℕ → Cause → Type 0
 FirstActEnds time session acts part (causes.Refused refusal) =
     (part ≡ []) × FirstActGives time session acts (failure (causes.Refused refusal))
-FirstActEnds time session acts part causes.Memory = part ≡ []
+FirstActEnds time session acts part causes.Memory = IsPartOfFirst time session acts part × IsWholeLines part
 FirstActEnds time session acts part causes.Write = IsPartOfFirst time session acts part
 FirstActEnds time session acts part causes.LineTooLong = ⊥
 FirstActEnds time session acts part causes.Read = ⊥

@@ -4,6 +4,7 @@ pub mod Records
 pub mod Refusals
 pub mod EventJson
 pub mod EventLines
+pub mod Pieces
 pub mod Session
 pub mod Taking
 pub mod Joining

@@ -12,8 +12,8 @@ use Rattle.hid_layout.specs.Layout.{Contents, layout_of}
 use Rattle.hid_snapshots.specs.declared.fault.ReportFault.{ReportFault}
 use Rattle.hid_usages.specs.Reading.{report_named}
 use Rattle.hid_text.specs.LayoutText.{layout_text}
-use Rattle.hid_text.specs.ValuesText.{values_text}
-use Rattle.hid_text.specs.NamedText.{named_layout, named_values}
+use Rattle.hid_text.specs.ValuesText.{value_at, values_at, values_text}
+use Rattle.hid_text.specs.NamedText.{named_layout, named_value_at, named_values_at, named_values}
 use Rattle.hid_recording.specs.declared.dump.Address.{Address}
 use Rattle.hid_recording.specs.declared.dump.Content.{Content}
 use Rattle.hid_recording.specs.declared.dump.Content.TheVariants as contents
@@ -70,14 +70,17 @@ abbrev pub described_text : Options → ℕ → Contents → List ℕ
 described_text options device layout =
     if options.layout then codes "device " ++ decimal device ++ 10 ∷ layout_shown options.names layout else []
 
+-- the current device has an accepted descriptor
+abbrev pub with_descriptor : Session → PlayedDevice → Session
+with_descriptor session member = record session {
+  devices = set session.devices session.current (Some member);
+  descriptors = saturating_sum session.descriptors 1;
+}
+
 -- a device whose descriptor is accepted
 abbrev pub outcome_of_device : Session → PlayedDevice → Outcome
 outcome_of_device session member =
-    success (described_text session.options session.current member.layout)
-    (record session {
-      devices = set session.devices session.current (Some member);
-      descriptors = saturating_sum session.descriptors 1;
-    })
+    success (described_text session.options session.current member.layout) (with_descriptor session member)
 
 -- a descriptor is refused, and the device has none
 abbrev pub DescriptorIsRefused : List ℕ → LayoutFault → Session → Outcome → Type 0
@@ -149,13 +152,26 @@ after_text_by text rest (Err cause) = record { text = rest; end = Err cause }
 abbrev pub after_text : List ℕ → Outcome → Outcome
 after_text text o = after_text_by text o.text o.end
 
--- a descriptor of the current device, which may have had another one: it lets go of what it held before
-abbrev pub DescriptionGives : List ℕ → Session → Outcome → Type 0
-DescriptionGives bytes session o =
-    (described : Outcome) × DescriptorGives bytes (without_named session (Some session.current)) described
+-- an outcome after the current device let go of what it held
+abbrev pub AfterRelease : Session → (Session → Outcome → Type 0) → Outcome → Type 0
+AfterRelease session Tells o =
+    (described : Outcome) × Tells (without_named session (Some session.current)) described
     × (o ≡ after_text (text_back session session.current) described)
 
+-- a descriptor of the current device, which may have had another one: it lets go of what it held before
+abbrev pub DescriptionGives : List ℕ → Session → Outcome → Type 0
+DescriptionGives bytes session o = AfterRelease session (DescriptorGives bytes) o
+
 -- ---- reports
+
+-- the line of an element, with --names that of its usage
+abbrev pub value_shown : Bool → Contents → List ℕ → ℕ → ℕ → List ℕ
+value_shown names layout bytes i j = if names then named_value_at layout bytes i j else value_at layout bytes i j
+
+-- the lines of an item's elements, with --names those of their usages
+abbrev pub values_shown_at : Bool → Contents → ℕ → List ℕ → ℕ → List ℕ
+values_shown_at names layout report bytes i =
+    if names then named_values_at layout report bytes i else values_at layout report bytes i
 
 -- a line for each value of a report, with --names that of its usage
 abbrev pub values_shown : Bool → Contents → ℕ → List ℕ → List ℕ
@@ -389,6 +405,6 @@ GivesByLength false session line o = MeaningGives (with_line_counted session) (r
 unfoldable pub LineGives : Session → List ℕ → Outcome → Type 0
 LineGives session line o = GivesByLength (nat_lt 65536 (length line)) session line o
 
--- what may be printed of a line that running out of memory or the writer ends: nothing, or all
+-- what a line prints that running out of memory or the writer ends: nothing, or all its text, of which a prefix is written
 unfoldable pub LineBegins : Session → List ℕ → List ℕ → Type 0
 LineBegins session line text = (text ≡ []) ⊎ ((next : Session) × LineGives session line (success text next))

@@ -1,16 +1,15 @@
 -- A recording of which some bytes have come: for proofs (our choice).
-use Rattle.std.specs.Prelude.{◌≡◌, ◌⊎◌, ℕ, ◌+◌, true, List, [], ◌++◌, length, IfSome, Option, None, is_some, Result, Ok, Err}
+use Rattle.std.specs.Prelude.{◌≡◌, ℕ, ◌+◌, true, List, [], ◌++◌, length, IfSome, Option, None, is_some, Result, Ok, Err}
 use Rattle.std.specs.Str.Lines.{lines}
 use Rattle.std.specs.Io.KnownBytes.{Appends}
 use Rattle.hid_text.specs.Lines.{GivesLines}
-use Rattle.hid_text.specs.Output.{IsPrefix}
 use Rattle.hid_recording.specs.declared.fault.Cause.{Cause}
 use Rattle.hid_recording.specs.declared.fault.Cause.TheVariants.{Unended}
 use Rattle.hid_recording.specs.declared.fault.RecordingFault.{RecordingFault}
 use Rattle.hid_recording.specs.declared.summary.Summary.{Summary}
 use Rattle.hid_recording.specs.Session.{Session, Outcome, success}
 use Rattle.hid_recording.specs.Player.{summary_of}
-use Rattle.hid_recording.specs.Runs.{Ending, RefusedLine, OutOfMemory, PartlyWritten, NotRun, Never, ending_of, AllGive, Ends, PlayedTo, RunsTo}
+use Rattle.hid_recording.specs.Runs.{AllGive, Ends, PlayedTo, RunsTo}
 
 -- what was written of a line: all of its outcome, or what its end leaves of that
 abbrev pub Writes : (Outcome → Type 0) → (List ℕ → Type 0) → List ℕ → Result (Unit {0}) Cause → Session → Type 0
@@ -22,29 +21,6 @@ abbrev pub AppendsOutput : Option (List ℕ) → Option (List ℕ) → (Outcome 
     → Result (Unit {0}) Cause → Session → Type 0
 AppendsOutput old new Tells Begun result next =
     (written : List ℕ) × Appends old new written × Writes Tells Begun written result next
-
--- what was written of a part that is reported once: nothing, or all
-abbrev pub IsBegun : (Outcome → Type 0) → List ℕ → Type 0
-IsBegun Tells text = (text ≡ []) ⊎ ((next : Session) × Tells (success text next))
-
--- what its end leaves of a part that is reported once; a read that failed doesn't end one
-abbrev pub OnceEndsAs : Ending → (Outcome → Type 0) → List ℕ → Cause → Type 0
-OnceEndsAs RefusedLine Tells written cause = Tells (record { text = written; end = Err cause })
-OnceEndsAs OutOfMemory Tells written cause = IsBegun Tells written
-OnceEndsAs PartlyWritten Tells written cause = (text : List ℕ) × IsBegun Tells text × IsPrefix written text
-OnceEndsAs NotRun Tells written cause = ⊥
-OnceEndsAs Never Tells written cause = ⊥
-
--- what was written of a part that is reported once
-abbrev pub WritesOnce : (Outcome → Type 0) → List ℕ → Result (Unit {0}) Cause → Session → Type 0
-WritesOnce Tells written (Ok _) next = Tells (success written next)
-WritesOnce Tells written (Err cause) next = OnceEndsAs (ending_of cause) Tells written cause
-
--- known bytes grew by what was written of a part that is reported once
-abbrev pub AppendsOnce : Option (List ℕ) → Option (List ℕ) → (Outcome → Type 0)
-    → Result (Unit {0}) Cause → Session → Type 0
-AppendsOnce old new Tells result next =
-    (written : List ℕ) × Appends old new written × WritesOnce Tells written result next
 
 -- the session, the line that has begun, and how many lines came before it
 pub record Place : Type 0 where

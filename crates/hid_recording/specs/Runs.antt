@@ -9,6 +9,7 @@ use Rattle.hid_recording.specs.declared.counted.Counted.TheVariants.{Lines}
 use Rattle.hid_recording.specs.declared.options.Options.{Options}
 use Rattle.hid_recording.specs.declared.fault.RecordingFault.{RecordingFault}
 use Rattle.hid_recording.specs.declared.summary.Summary.{Summary}
+use Rattle.hid_recording.specs.Pieces.{IsWholeLines}
 use Rattle.hid_recording.specs.Player.{summary_of}
 use Rattle.hid_recording.specs.Session.{Session, Outcome, success, at_first}
 use Rattle.hid_recording.specs.LineOutput.{LineGives, LineBegins}
@@ -32,11 +33,12 @@ ending_of Read = NotRun
 ending_of TooManyReads = NotRun
 ending_of Unended = Never
 
--- What was written of the line at which the run ended: its text up to its refusal; nothing or all; a prefix of that; or
--- nothing.
+-- What was written of the line at which the run ended: its text up to its refusal; whole lines at the beginning of its text; a
+-- prefix of that; or nothing.
 abbrev pub EndsAs : Ending → (Outcome → Type 0) → (List ℕ → Type 0) → List ℕ → Cause → Type 0
 EndsAs RefusedLine Tells Begun written cause = Tells (record { text = written; end = Err cause })
-EndsAs OutOfMemory Tells Begun written cause = Begun written
+EndsAs OutOfMemory Tells Begun written cause =
+    (text : List ℕ) × Begun text × IsPrefix written text × IsWholeLines written
 EndsAs PartlyWritten Tells Begun written cause = (text : List ℕ) × Begun text × IsPrefix written text
 EndsAs NotRun Tells Begun written cause = written ≡ []
 EndsAs Never Tells Begun written cause = ⊥

@@ -5,10 +5,9 @@ ghost use Rattle.std.specs.Option.{IfNone};
 ghost use Rattle.hid_report_descriptor.specs.Items.{EncodedItem};
 ghost use Rattle.hid_report_descriptor.specs.Real.{Accepts, Explains};
 ghost use Rattle.hid_layout.specs.Layout.{Contents, layout_of};
-ghost use Rattle.hid_layout.specs.Reports.{report_bytes};
 ghost use Rattle.hid_recording.specs.Session.{fresh_device};
 ghost use Rattle.hid_report_descriptor.specs.declared.fault.Cause.TheVariants.{Memory};
-ghost use Rattle.hid_recording.specs.LineOutput.{values_shown, values_output, values_asked};
+ghost use Rattle.hid_recording.specs.Pieces.{Flows};
 ghost use Rattle.hid_recording.specs.Playing.{PlaysMember};
 ghost use Rattle.hid_recording.specs.Taking.{member_events_back};
 ghost use Rattle.hid_recording.specs.EventLines.{event_lines};
@@ -16,13 +15,14 @@ ghost use Rattle.hid_recording.specs.MemoryUse.{RunsOutIf, is_joined};
 ghost use Rattle.hid_recording.specs.Joining.{is_long, has_long, member_after_doubt, Joins, IsRefusedAs};
 ghost use Rattle.hid_usages.specs.Reading.{report_named};
 
-use super::event_line::{Source, print_events, print_source};
-use super::fault::{Cause, Refusal};
+use super::event_line::{Source, print_events};
+use super::fault::{Cause, Refusal, TextFault};
+use super::values::print_asked;
 use hid_fields::WordCodec;
 use hid_layout::{Layout, LayoutFault, Limits, Report, ReportKind};
-use hid_text::{print_named_values, print_values};
-use hid_usages::{Event, MAX_PIECE, Receiver, first_view, input_report};
+use hid_usages::{Event, MAX_PIECE, Receiver, first_view};
 use std::alloc::{AllocError, Global};
+use std::io::Write;
 use std::marker::Model;
 
 /// The receiver of a device's reports, and room for the events of one of them. A contract sees all but the room.
@@ -171,23 +171,24 @@ impl RecordedDevice {
         Ok(Joined::Whole(bytes))
     }
 
-    /// Plays a report: appends the text of its events, and returns how many there were. A report that is refused leaves the
-    /// view as it was.
+    /// Plays a report: adds the text of its events, writes what is long, and returns how many events there were. A report that
+    /// is refused leaves the view as it was, and nothing is written of it.
     ///
     /// # Errors
     /// U8 or U9 if the bytes are no Input report of the device, which takes no memory; R10 if memory runs out for the text of
-    /// the events.
-    pub fn play(
+    /// the events; R9 if the writer fails.
+    pub fn play<W: Write>(
         &mut self,
         text: &mut String,
+        writer: &mut W,
         source: &Source<'_>,
         bytes: &[u8],
     ) -> Result<u64, Cause>
         ensures played { PlaysMember source.now.options source.now.time.now source.now.device bytes.now self.old
-            (string_bytes text.old) result self.new (string_bytes text.new) }
+            (W.contents writer.old) (W.contents writer.new) (string_bytes text.old) result self.new
+            (string_bytes text.new) }
         ensures memory { RunsOutIf (is_ok (report_named self.old.layout bytes.now)) result }
     {
-        print_asked(text, self.receiver.layout(), source, bytes)?;
         self.events.clear();
         match self
             .receiver
@@ -196,25 +197,34 @@ impl RecordedDevice {
             Ok(()) => {}
             Err(fault) => return Err(Cause::Refused(Refusal::Report(fault))),
         }
+        let layout = self.receiver.layout();
         let events = self.events.as_slice();
-        print_events(text, source, self.receiver.layout(), events)?;
+        print_asked(text, writer, layout, source, bytes)?;
+        print_events(text, writer, source, layout, events)?;
         Ok(events.len() as u64)
     }
 
-    /// Adds the events that lead back to the initial view, and returns how many there are. The view stays.
+    /// Adds the events that lead back to the initial view, writes what is long, and returns how many events there are. The view
+    /// stays.
     ///
     /// # Errors
-    /// [`AllocError`] if memory runs out for the text of the events.
-    pub fn play_back(&mut self, text: &mut String, source: &Source<'_>) -> Result<u64, AllocError>
-        ensures { IfOk result (λ events. (events ≡ length (member_events_back self.old))
-            × (string_bytes text.new ≡ string_bytes text.old ++ event_lines source.now.time.now
-            source.now.device source.now.options self.old.layout (member_events_back self.old))) }
+    /// R10 if memory runs out for the text of the events; R9 if the writer fails.
+    pub fn play_back<W: Write>(
+        &mut self,
+        text: &mut String,
+        writer: &mut W,
+        source: &Source<'_>,
+    ) -> Result<u64, TextFault>
+        ensures events { IfOk result (λ events. events ≡ length (member_events_back self.old)) }
+        ensures text { Flows (W.contents writer.old) (W.contents writer.new) (string_bytes text.old)
+            (event_lines source.now.time.now source.now.device source.now.options self.old.layout
+            (member_events_back self.old)) result (string_bytes text.new) }
     {
         self.events.clear();
         let layout = self.receiver.layout();
         self.receiver.view().changes_back(layout, &mut self.events);
         let events = self.events.as_slice();
-        print_events(text, source, layout, events)?;
+        print_events(text, writer, source, layout, events)?;
         Ok(events.len() as u64)
     }
 }
@@ -238,65 +248,4 @@ fn has_long(layout: &Layout) -> bool
         .reports()
         .iter()
         .any(|report| is_long(report, numbered))
-}
-
-/// Adds the values of a report, where they are asked for.
-fn print_asked(
-    text: &mut String,
-    layout: &Layout,
-    source: &Source<'_>,
-    bytes: &[u8],
-) -> Result<(), AllocError>
-    ensures printed { OnOk result (string_bytes text.new ≡ string_bytes text.old
-        ++ values_asked source.now.options source.now.time.now source.now.device layout.now
-        (report_named layout.now bytes.now) bytes.now) }
-    ensures memory { IfErr result (λ _. (source.now.options.values
-        && is_ok (report_named layout.now bytes.now)) ≡ true) }
-{
-    if source.options.values {
-        print_report(text, layout, source, bytes)
-    } else {
-        Ok(())
-    }
-}
-
-/// Adds the values of a report, where the bytes are one.
-fn print_report(
-    text: &mut String,
-    layout: &Layout,
-    source: &Source<'_>,
-    bytes: &[u8],
-) -> Result<(), AllocError>
-    ensures printed { OnOk result (string_bytes text.new ≡ string_bytes text.old
-        ++ values_output source.now.options source.now.time.now source.now.device layout.now
-        (report_named layout.now bytes.now) bytes.now) }
-    ensures memory { IfErr result (λ _. is_ok (report_named layout.now bytes.now) ≡ true) }
-{
-    match input_report(layout, bytes) {
-        Err(_) => Ok(()),
-        Ok(report) => {
-            print_source(text, source)?;
-            text.push_str(" report\n")?;
-            print_shown_values(text, source.options.names, layout, report, bytes)
-        }
-    }
-}
-
-/// Adds a line for each value of a report, with the name of its usage or without.
-fn print_shown_values(
-    text: &mut String,
-    names: bool,
-    layout: &Layout,
-    report: usize,
-    bytes: &[u8],
-) -> Result<(), AllocError>
-    requires { report_bytes layout.now report ≤ length bytes.now }
-    ensures { OnOk result (string_bytes text.new
-        ≡ string_bytes text.old ++ values_shown names layout.now report bytes.now) }
-{
-    if names {
-        print_named_values(text, layout, report, bytes)
-    } else {
-        print_values(text, layout, report, bytes)
-    }
 }

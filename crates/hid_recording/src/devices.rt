@@ -5,16 +5,18 @@ ghost use Rattle.std.specs.Option.{option_map};
 ghost use Rattle.hid_recording.specs.Session.{PlayedDevice, no_devices};
 ghost use Rattle.hid_recording.specs.Joining.{slot_after_doubt, Joins};
 ghost use Rattle.hid_recording.specs.LineOutput.{member_in_slot, slot_events_back, slot_text_back};
+ghost use Rattle.hid_recording.specs.Pieces.{Flows};
 ghost use Rattle.hid_recording.specs.Playing.{PlaysAt, PlaysReport};
 ghost use Rattle.hid_recording.specs.MemoryUse.{RunsOutIf, is_joined, names_report};
 ghost use Rattle.hid_recording.specs.declared.line_fields.TheConstants.{MAX_DEVICES};
 
 use super::device::{Joined, RecordedDevice};
 use super::event_line::Source;
-use super::fault::{Cause, Refusal};
+use super::fault::{Cause, Refusal, TextFault};
 use super::line_fields::{DeviceNumber, MAX_DEVICES};
 use super::options::Options;
 use std::alloc::{AllocError, Global};
+use std::io::Write;
 use std::mem;
 
 /// What is known of each device, and which one the next lines are of.
@@ -102,23 +104,25 @@ impl Devices {
         join_chunk(&mut self.slots[i], alloc, chunk)
     }
 
-    /// The current device lets go of what it holds, and has no descriptor then: returns the number of events.
+    /// A device lets go of what it holds, and has no descriptor then: adds the text of its events, writes what is long, and
+    /// returns the number of events.
     ///
     /// # Errors
-    /// [`AllocError`] if memory runs out for the text of the events.
-    pub fn release(
+    /// R10 if memory runs out for the text of the events; R9 if the writer fails.
+    pub fn release<W: Write>(
         &mut self,
         device: DeviceNumber,
         alloc: Global,
         text: &mut String,
+        writer: &mut W,
         time: &str,
         options: Options,
-    ) -> Result<u64, AllocError>
+    ) -> Result<u64, TextFault>
         ensures events { IfOk result (λ events. events ≡ length (slot_events_back
             (member_in_slot (slice_get self.old.slots.items device.number)))) }
-        ensures text { OnOk result (string_bytes text.new ≡ string_bytes text.old
-            ++ slot_text_back time.now device.number options
-            (member_in_slot (slice_get self.old.slots.items device.number))) }
+        ensures text { Flows (W.contents writer.old) (W.contents writer.new) (string_bytes text.old)
+            (slot_text_back time.now device.number options
+            (member_in_slot (slice_get self.old.slots.items device.number))) result (string_bytes text.new) }
         ensures memory { IfErr result (λ _.
             is_some (member_in_slot (slice_get self.old.slots.items device.number)) ≡ true) }
         ensures slots { self.new.slots.items ≡ set self.old.slots.items device.number None }
@@ -131,24 +135,26 @@ impl Devices {
             options,
         };
         let i = usize::from(device.number);
-        release_slot(&mut self.slots[i], text, &source)
+        release_slot(&mut self.slots[i], text, writer, &source)
     }
 
     /// Plays a report of the current device, and returns its number of events.
     ///
     /// # Errors
     /// R7 if there is no device; U8 or U9 if the bytes are no report of it, as [`RecordedDevice::play`] says; R10 if memory
-    /// runs out for the text of the events.
-    pub fn play(
+    /// runs out for the text of the events; R9 if the writer fails.
+    pub fn play<W: Write>(
         &mut self,
         alloc: Global,
         text: &mut String,
+        writer: &mut W,
         time: &str,
         options: Options,
         bytes: &[u8],
     ) -> Result<u64, Cause>
         ensures played { PlaysAt options time.now self.old.current bytes.now self.old.slots.items
-            (string_bytes text.old) result self.new.slots.items (string_bytes text.new) }
+            (W.contents writer.old) (W.contents writer.new) (string_bytes text.old) result self.new.slots.items
+            (string_bytes text.new) }
         ensures memory { RunsOutIf (names_report bytes.now
             (member_in_slot (slice_get self.old.slots.items self.old.current))) result }
         ensures current { self.new.current ≡ self.old.current }
@@ -160,20 +166,22 @@ impl Devices {
             options,
         };
         let i = usize::from(self.current);
-        play_report(&mut self.slots[i], text, &source, bytes)
+        play_report(&mut self.slots[i], text, writer, &source, bytes)
     }
 }
 
 /// The device in a slot, if there is one, is gone: adds the events that lead back to its initial view, and returns how many
 /// there are.
-fn release_slot(
+fn release_slot<W: Write>(
     slot: &mut Option<RecordedDevice>,
     text: &mut String,
+    writer: &mut W,
     source: &Source<'_>,
-) -> Result<u64, AllocError>
+) -> Result<u64, TextFault>
     ensures events { IfOk result (λ events. events ≡ length (slot_events_back slot.old)) }
-    ensures text { OnOk result (string_bytes text.new ≡ string_bytes text.old
-        ++ slot_text_back source.now.time.now source.now.device source.now.options slot.old) }
+    ensures text { Flows (W.contents writer.old) (W.contents writer.new) (string_bytes text.old)
+        (slot_text_back source.now.time.now source.now.device source.now.options slot.old) result
+        (string_bytes text.new) }
     ensures memory { IfErr result (λ _. is_some slot.old ≡ true) }
     ensures gone { slot.new ≡ None }
 {
@@ -181,7 +189,7 @@ fn release_slot(
         None => Ok(0),
         Some(recorded) => {
             let mut recorded = recorded;
-            let events = recorded.play_back(text, source);
+            let events = recorded.play_back(text, writer, source);
             drop(recorded);
             events
         }
@@ -229,18 +237,19 @@ fn join_chunk(
 }
 
 /// Plays a report of the device in a slot.
-fn play_report(
+fn play_report<W: Write>(
     slot: &mut Option<RecordedDevice>,
     text: &mut String,
+    writer: &mut W,
     source: &Source<'_>,
     bytes: &[u8],
 ) -> Result<u64, Cause>
-    ensures played { PlaysReport source.now bytes.now slot.old (string_bytes text.old) result slot.new
-        (string_bytes text.new) }
+    ensures played { PlaysReport source.now bytes.now slot.old (W.contents writer.old) (W.contents writer.new)
+        (string_bytes text.old) result slot.new (string_bytes text.new) }
     ensures memory { RunsOutIf (names_report bytes.now slot.old) result }
 {
     match slot {
         None => Err(Cause::Refused(Refusal::NoLayout)),
-        Some(recorded) => recorded.play(text, source, bytes),
+        Some(recorded) => recorded.play(text, writer, source, bytes),
     }
 }

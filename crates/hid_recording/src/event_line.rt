@@ -3,15 +3,19 @@
 ghost use Rattle.std.specs.Prelude.{◌≡◌, ◌++◌, ◌∷◌, [], OnOk, string_bytes};
 ghost use Rattle.std.specs.Fmt.{decimal, signed_decimal};
 ghost use Rattle.hid_recording.specs.EventJson.{event_word};
+ghost use Rattle.hid_recording.specs.Pieces.{Flows};
 ghost use Rattle.hid_recording.specs.EventLines.{name_words, place_words, amount_words, shown_words, shown_event, plain_line, event_line, event_lines};
 
 use super::event_json::{control_in, print_json, usage_in};
+use super::fault::TextFault;
 use super::options::Options;
+use super::output::write_long;
 use hid_layout::{ControlId, Layout, Usage};
 use hid_names::usage_name;
 use hid_notation::{print_number, print_signed, print_usage};
 use hid_usages::Event;
 use std::alloc::{AllocError, Global};
+use std::io::Write;
 
 /// When and of which device a report came, and what is asked for.
 #[derive(Clone, Copy)]
@@ -124,8 +128,11 @@ fn print_plain(text: &mut String, source: &Source<'_>, event: &Event) -> Result<
 }
 
 /// Adds the line of an event of a device with this layout.
+///
+/// # Errors
+/// [`AllocError`] if memory runs out for the line.
 #[tactic(auto, unfolding(crate::specs::EventLines::event_line))]
-fn print_event(
+pub fn print_event(
     text: &mut String,
     source: &Source<'_>,
     layout: &Layout,
@@ -141,21 +148,24 @@ fn print_event(
     }
 }
 
-/// Adds a line for each event of a device with this layout.
+/// Adds a line for each event of a device with this layout, and writes what is long.
 ///
 /// # Errors
-/// [`AllocError`] if memory runs out for the lines.
-pub fn print_events(
+/// R10 if memory runs out for a line, R9 if the writer fails.
+pub fn print_events<W: Write>(
     text: &mut String,
+    writer: &mut W,
     source: &Source<'_>,
     layout: &Layout,
     events: &[Event],
-) -> Result<(), AllocError>
-    ensures { OnOk result (string_bytes text.new ≡ string_bytes text.old
-        ++ event_lines source.now.time.now source.now.device source.now.options layout.now events.now) }
+) -> Result<(), TextFault>
+    ensures { Flows (W.contents writer.old) (W.contents writer.new) (string_bytes text.old)
+        (event_lines source.now.time.now source.now.device source.now.options layout.now events.now) result
+        (string_bytes text.new) }
 {
     for event in events {
         print_event(text, source, layout, event)?;
+        write_long(text, writer)?;
     }
     Ok(())
 }

@@ -70,6 +70,38 @@ impl From<AllocError> for Cause {
     }
 }
 
+/// Why a text isn't made and written to its end.
+#[derive(Clone, Copy, Debug, PartialEq, Eq)]
+pub enum TextFault {
+    /// R10: memory ran out.
+    Memory,
+    /// R9: the writer failed, or took no byte.
+    Write,
+}
+
+impl From<AllocError> for TextFault {
+    ghost use Rattle.hid_recording.specs.declared.fault.TextFault.TheVariants.{Memory};
+
+    ghost from_gives = { λ _ fault. fault ≡ Memory };
+
+    fn from(_error: AllocError) -> TextFault {
+        TextFault::Memory
+    }
+}
+
+impl From<TextFault> for Cause {
+    ghost use Rattle.hid_recording.specs.Pieces.{cause_of};
+
+    ghost from_gives = { λ fault cause. cause ≡ cause_of fault };
+
+    fn from(fault: TextFault) -> Cause {
+        match fault {
+            TextFault::Memory => Cause::Memory,
+            TextFault::Write => Cause::Write,
+        }
+    }
+}
+
 /// Where and why a run ended early, and what was played before.
 #[derive(Clone, Copy, Debug, PartialEq, Eq, Error)]
 #[error("line {line}: {cause}")]

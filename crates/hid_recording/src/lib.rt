@@ -16,7 +16,7 @@
 //!    01 05 00 00                               its bytes
 //!                                              1263214174.456 0 down 09:01, at the empty line that ends it
 //! ```
-//! A line is read whole and played, and its text is written at once. A refused line prints its number and the reason, and
+//! A line is read whole and played, and its text is written as it is made, in pieces of some 32 KB. A refused line prints its number and the reason, and
 //! the next ones go on; in a strict run it is the end. A line that can't be read drops the dump in which it stands. A device
 //! whose descriptor is refused or can't be read has none up to its next one. A report that comes in chunks is reassembled as
 //! a host reassembles packets (`specs/Joining.antt`).
@@ -64,11 +64,12 @@ mod recording;
 mod runs;
 mod spelled;
 mod summary;
+mod values;
 
 pub use binary::descriptor_line;
 pub use capture_fault::{CaptureCause, CaptureRunFault};
 pub use capture_run::play_capture;
-pub use event_line::{Source, print_events};
+pub use event_line::{Source, print_event};
 pub use fault::{Cause, RecordingFault, Refusal};
 pub use given::{EndpointAddress, GivenDescriptor};
 pub use line_fields::read_bytes;

@@ -1,16 +1,17 @@
 //! A session: what stands between two lines or frames, and how a line is played.
 
-ghost use Rattle.std.specs.Prelude.{◌≡◌, ◌≢◌, ◌++◌, [], ◌∷◌, true, None, Option, IfOk, IfErr, OnOk, is_some, string_bytes};
+ghost use Rattle.std.specs.Prelude.{◌≡◌, ◌++◌, ◌||◌, [], ◌∷◌, true, None, Some, Option, IfOk, IfErr, OnOk, is_some, string_bytes};
 ghost use Rattle.std.specs.Option.{option_map};
 ghost use Rattle.hid_report_descriptor.specs.Real.{Explains};
 ghost use Rattle.hid_recording.specs.Session.{at_first, at_time, with_options};
 ghost use Rattle.hid_recording.specs.Records.{record_of, report_record, items_of};
-ghost use Rattle.hid_recording.specs.LineOutput.{layout_shown, described_text, LineGives, LineBegins, MeaningGives, DescriptorGives, DescriptionGives, DumpEndGives, with_device, outcome_of_device, session_refusal_line, with_refusal, outcome_of_refusal, DescriptorIsRefused, named_text_back, without_named, with_dropped_dump, dropped_dump_text, outcome_of_dropped_dump, described_by, with_interface, outcome_of_unread_descriptor, outcome_of_dump_head, outcome_of_dump_bytes, outcome_of_stray_bytes, with_line_counted, chunk_outcome, stream_outcome, report_outcome};
+ghost use Rattle.hid_recording.specs.LineOutput.{layout_shown, described_text, AfterRelease, with_descriptor, LineGives, LineBegins, MeaningGives, DescriptionGives, DumpEndGives, with_device, outcome_of_device, session_refusal_line, with_refusal, outcome_of_refusal, DescriptorIsRefused, named_text_back, without_named, with_dropped_dump, dropped_dump_text, outcome_of_dropped_dump, described_by, with_interface, outcome_of_unread_descriptor, outcome_of_dump_head, outcome_of_dump_bytes, outcome_of_stray_bytes, with_line_counted, chunk_outcome, stream_outcome, report_outcome};
 ghost use Rattle.hid_recording.specs.Words.{time_of};
 ghost use Rattle.hid_recording.specs.Player.{summary_of};
 ghost use Rattle.hid_recording.specs.Refusals.{refusal_line};
-ghost use Rattle.hid_recording.specs.Gathering.{Gathers, IsCauseOfLine};
-ghost use Rattle.hid_recording.specs.MemoryUse.{RunsOutIf, refusal_allocates, layout_refusal_allocates, descriptor_allocates, holds_named, description_allocates, report_allocates, dump_head_allocates, stray_bytes_allocate, dump_bytes_allocate, chunk_allocates, stream_allocates, dump_end_allocates, short_line_allocates, line_allocates};
+ghost use Rattle.hid_recording.specs.Gathering.{Gathers, Outputs, IsCauseOfLine};
+ghost use Rattle.hid_recording.specs.Pieces.{Flows};
+ghost use Rattle.hid_recording.specs.MemoryUse.{RunsOutIf, refusal_allocates, layout_refusal_allocates, holds_named, description_allocates, report_allocates, dump_head_allocates, stray_bytes_allocate, dump_bytes_allocate, chunk_allocates, stream_allocates, dump_end_allocates, short_line_allocates, line_allocates};
 ghost use Rattle.hid_recording.specs.Dumps.{number_of_address};
 ghost use Rattle.hid_recording.specs.declared.fault.Refusal.TheVariants as refusals;
 ghost use Rattle.hid_recording.specs.Place.{AppendsOutput};
@@ -22,7 +23,7 @@ use super::device::{Joined, RecordedDevice};
 use super::devices::Devices;
 use super::dump::{Address, Addresses, Content, Dump, MAX_DUMP};
 use super::event_json::{counted_word, print_refusal_json};
-use super::fault::{Cause, Refusal};
+use super::fault::{Cause, Refusal, TextFault};
 use super::line_fields::{DeviceNumber, read_time};
 use super::options::Options;
 use super::output::write_text;
@@ -174,49 +175,54 @@ impl Player {
             return Err(Cause::LineTooLong);
         }
         self.lines = self.lines.saturating_add(1);
-        self.play_line(line)?;
-        write_text(writer, self.text.as_bytes())
+        self.play_line(line, writer)?;
+        Ok(write_text(writer, self.text.as_bytes())?)
     }
 
-    /// Gathers the output of a line, in place of that of the line before. The bytes of a report are read into room that is kept.
-    fn play_line(&mut self, line: &[u8]) -> Result<(), Cause>
-        ensures outcome { Gathers (MeaningGives (session_of self.old) (record_of line.now)) result
+    /// Gathers the output of a line, in place of that of the line before, and writes what is long. The bytes of a report are read
+    /// into room that is kept.
+    fn play_line<W: Write>(&mut self, line: &[u8], writer: &mut W) -> Result<(), Cause>
+        ensures outcome { Outputs (W.contents writer.old) (W.contents writer.new)
+            (MeaningGives (session_of self.old) (record_of line.now)) result
             (string_bytes self.new.text) (session_of self.new) }
         ensures memory { RunsOutIf (short_line_allocates (session_of self.old) line.now) result }
     {
         match line {
-            [b'E', b':', words @ ..] => self.play_report(words),
-            _ => self.play_record(line),
+            [b'E', b':', words @ ..] => self.play_report(words, writer),
+            _ => self.play_record(line, writer),
         }
     }
 
     /// Gathers the output of a report: of the text after `E:`.
-    fn play_report(&mut self, text: &[u8]) -> Result<(), Cause>
-        ensures outcome { Gathers (MeaningGives (session_of self.old) (report_record text.now))
+    fn play_report<W: Write>(&mut self, text: &[u8], writer: &mut W) -> Result<(), Cause>
+        ensures outcome { Outputs (W.contents writer.old) (W.contents writer.new)
+            (MeaningGives (session_of self.old) (report_record text.now))
             result (string_bytes self.new.text) (session_of self.new) }
     {
         let mut bytes = mem::replace(&mut self.room, Vec::new(self.alloc));
-        let played = self.play_words(&mut bytes, text);
+        let played = self.play_words(&mut bytes, text, writer);
         self.room = bytes;
         played
     }
 
     /// Gathers the output of a report, whose bytes are put in place of those that were there.
-    fn play_words(&mut self, bytes: &mut Vec<u8>, text: &[u8]) -> Result<(), Cause>
-        ensures outcome { Gathers (MeaningGives (session_of self.old) (report_record text.now))
+    fn play_words<W: Write>(&mut self, bytes: &mut Vec<u8>, text: &[u8], writer: &mut W) -> Result<(), Cause>
+        ensures outcome { Outputs (W.contents writer.old) (W.contents writer.new)
+            (MeaningGives (session_of self.old) (report_record text.now))
             result (string_bytes self.new.text) (session_of self.new) }
     {
         match read_report(self.alloc, bytes, text) {
-            Ok(time) => self.report(time, bytes.as_slice()),
-            Err(Cause::Refused(refusal)) => self.drop_dump(refusal),
+            Ok(time) => self.report(time, bytes.as_slice(), writer),
+            Err(Cause::Refused(refusal)) => self.drop_dump(refusal, writer),
             Err(cause) => Err(cause),
         }
     }
 
     /// Gathers the output of a line of any kind.
     #[inline(never)] // so that the line of a report costs less
-    fn play_record(&mut self, line: &[u8]) -> Result<(), Cause>
-        ensures outcome { Gathers (MeaningGives (session_of self.old) (record_of line.now)) result
+    fn play_record<W: Write>(&mut self, line: &[u8], writer: &mut W) -> Result<(), Cause>
+        ensures outcome { Outputs (W.contents writer.old) (W.contents writer.new)
+            (MeaningGives (session_of self.old) (record_of line.now)) result
             (string_bytes self.new.text) (session_of self.new) }
         ensures memory { RunsOutIf (short_line_allocates (session_of self.old) line.now) result }
     {
@@ -225,31 +231,34 @@ impl Player {
                 self.text.clear();
                 Ok(())
             }
-            Ok(Record::Blank) => self.end_dump(),
+            Ok(Record::Blank) => self.end_dump(writer),
             Ok(Record::Device(device)) => {
                 self.text.clear();
                 self.devices.select(device.number);
                 Ok(())
             }
-            Ok(Record::Descriptor(bytes)) => self.redescribe(bytes.as_slice()),
-            Ok(Record::Unread { interface, refusal }) => self.lose_descriptor(interface, refusal),
-            Ok(Record::Report { time, bytes }) => self.report(time, bytes.as_slice()),
+            Ok(Record::Descriptor(bytes)) => self.describe(bytes.as_slice(), writer),
+            Ok(Record::Unread { interface, refusal }) => {
+                self.lose_descriptor(interface, refusal, writer)
+            }
+            Ok(Record::Report { time, bytes }) => self.report(time, bytes.as_slice(), writer),
             Ok(
                 Record::Begins {
                     address,
                     content,
                     time,
                 },
-            ) => self.begin_dump(address, content, time),
-            Ok(Record::Bytes(bytes)) => self.gather(bytes),
-            Err(Cause::Refused(refusal)) => self.drop_dump(refusal),
+            ) => self.begin_dump(address, content, time, writer),
+            Ok(Record::Bytes(bytes)) => self.gather(bytes, writer),
+            Err(Cause::Refused(refusal)) => self.drop_dump(refusal, writer),
             Err(cause) => Err(cause),
         }
     }
 
     /// A line is refused, and with it the dump in which it stands.
-    fn drop_dump(&mut self, refusal: Refusal) -> Result<(), Cause>
-        ensures outcome { Gathers (λ o. o ≡ outcome_of_dropped_dump (session_of self.old) refusal) result
+    fn drop_dump<W: Write>(&mut self, refusal: Refusal, writer: &mut W) -> Result<(), Cause>
+        ensures outcome { Outputs (W.contents writer.old) (W.contents writer.new)
+            (λ o. o ≡ outcome_of_dropped_dump (session_of self.old) refusal) result
             (string_bytes self.new.text) (session_of self.new) }
         ensures memory { RunsOutIf (refusal_allocates (session_of self.old)) result }
     {
@@ -257,26 +266,30 @@ impl Player {
             return Err(Cause::Refused(refusal));
         }
         self.text.clear();
-        Ok(self.add_dropped_dump(refusal)?)
+        Ok(self.add_dropped_dump(refusal, writer)?)
     }
 
     /// Drops the dump that may be open, and adds what the device lets go of whose descriptor it was to be, and the refusal.
-    fn add_dropped_dump(&mut self, refusal: Refusal) -> Result<(), AllocError>
-        ensures text { OnOk result (string_bytes self.new.text
-            ≡ string_bytes self.old.text ++ dropped_dump_text (session_of self.old) refusal) }
+    fn add_dropped_dump<W: Write>(
+        &mut self,
+        refusal: Refusal,
+        writer: &mut W,
+    ) -> Result<(), TextFault>
+        ensures text { Flows (W.contents writer.old) (W.contents writer.new) (string_bytes self.old.text)
+            (dropped_dump_text (session_of self.old) refusal) result (string_bytes self.new.text) }
         ensures session { OnOk result (session_of self.new
             ≡ with_refusal (with_dropped_dump (session_of self.old))) }
     {
         let device = self.dump.described_device();
-        self.let_go(device)?;
+        self.let_go(device, writer)?;
         self.devices.doubt();
         self.dump = Dump::dropped_dump(self.alloc);
-        self.add_refusal(refusal)
+        Ok(self.add_refusal(refusal)?)
     }
 
     /// A descriptor can't be read: the device that it was for lets go of what it holds, and has none.
-    fn lose_descriptor(&mut self, interface: Option<Address>, refusal: Refusal) -> Result<(), Cause>
-        ensures outcome { Gathers
+    fn lose_descriptor<W: Write>(&mut self, interface: Option<Address>, refusal: Refusal, writer: &mut W) -> Result<(), Cause>
+        ensures outcome { Outputs (W.contents writer.old) (W.contents writer.new)
             (λ o. o ≡ outcome_of_unread_descriptor (session_of self.old) interface refusal) result
             (string_bytes self.new.text) (session_of self.new) }
         ensures memory { RunsOutIf (refusal_allocates (session_of self.old)) result }
@@ -286,8 +299,8 @@ impl Player {
         }
         self.text.clear();
         let device = self.described_by(interface)?;
-        self.let_go(device)?;
-        Ok(self.add_dropped_dump(refusal)?)
+        self.let_go(device, writer)?;
+        Ok(self.add_dropped_dump(refusal, writer)?)
     }
 
     /// The number of the device whose descriptor can't be read: the current one, or that of an interface, if it has one.
@@ -307,10 +320,15 @@ impl Player {
         }
     }
 
-    /// The device of a number that may be given lets go of what it holds, and has no descriptor then.
-    fn let_go(&mut self, device: Option<DeviceNumber>) -> Result<(), AllocError>
-        ensures text { OnOk result (string_bytes self.new.text ≡ string_bytes self.old.text
-            ++ named_text_back (session_of self.old) (option_map (λ some. some.number) device)) }
+    /// The device of a number that may be given lets go of what it holds, and has no descriptor then. What is long is written.
+    fn let_go<W: Write>(
+        &mut self,
+        device: Option<DeviceNumber>,
+        writer: &mut W,
+    ) -> Result<(), TextFault>
+        ensures text { Flows (W.contents writer.old) (W.contents writer.new) (string_bytes self.old.text)
+            (named_text_back (session_of self.old) (option_map (λ some. some.number) device)) result
+            (string_bytes self.new.text) }
         ensures session { OnOk result (session_of self.new
             ≡ without_named (session_of self.old) (option_map (λ some. some.number) device)) }
         ensures memory { IfErr result (λ _. holds_named (session_of self.old)
@@ -323,6 +341,7 @@ impl Player {
             device,
             self.alloc,
             &mut self.text,
+            writer,
             self.time.as_str(),
             self.options,
         )?;
@@ -361,49 +380,80 @@ impl Player {
         )
     }
 
-    /// Takes a report descriptor of the current device.
-    fn describe(&mut self, descriptor: &[u8]) -> Result<(), Cause>
-        ensures outcome { Gathers (DescriptorGives descriptor.now (session_of self.old)) result
+    /// Takes a report descriptor of the current device, which lets go of what it held by another one.
+    fn describe<W: Write>(&mut self, descriptor: &[u8], writer: &mut W) -> Result<(), Cause>
+        ensures outcome { Outputs (W.contents writer.old) (W.contents writer.new)
+            (DescriptionGives descriptor.now (session_of self.old)) result
             (string_bytes self.new.text) (session_of self.new) }
         ensures memory { RunsOutIf
-            (descriptor_allocates (session_of self.old) descriptor.now) result }
+            (description_allocates (session_of self.old) descriptor.now) result }
     {
         match RecordedDevice::new(self.alloc, descriptor) {
-            Ok(recorded) => self.install(recorded),
+            Ok(recorded) => self.replace(recorded, writer),
             Err(fault) => {
                 if fault.cause.is_memory() {
                     return Err(Cause::Memory);
                 }
-                self.forget(descriptor, fault)
+                self.forget(descriptor, fault, writer)
             }
         }
     }
 
     /// The descriptor of the current device is refused: it has none.
-    fn forget(&mut self, descriptor: &[u8], fault: LayoutFault) -> Result<(), Cause>
+    fn forget<W: Write>(
+        &mut self,
+        descriptor: &[u8],
+        fault: LayoutFault,
+        writer: &mut W,
+    ) -> Result<(), Cause>
         requires { Explains descriptor.now fault.cause fault.at }
-        ensures outcome { Gathers (DescriptorIsRefused descriptor.now fault (session_of self.old)) result
+        ensures outcome { Outputs (W.contents writer.old) (W.contents writer.new)
+            (AfterRelease (session_of self.old) (DescriptorIsRefused descriptor.now fault)) result
             (string_bytes self.new.text) (session_of self.new) }
-        ensures memory { RunsOutIf
-            (layout_refusal_allocates (session_of self.old) fault.cause) result }
+        ensures memory { RunsOutIf (holds_named (session_of self.old) (Some self.old.devices.current)
+            || layout_refusal_allocates (session_of self.old) fault.cause) result }
     {
-        self.devices.put(None);
         let report = long_report(self.alloc, Limits::Real, descriptor, fault)?;
-        self.refuse(Refusal::Layout(fault, report))
+        let refusal = Refusal::Layout(fault, report);
+        if self.options.strict {
+            return Err(Cause::Refused(refusal));
+        }
+        self.text.clear();
+        let device = self.devices.current_device();
+        self.let_go(Some(device), writer)?;
+        Ok(self.add_refusal(refusal)?)
+    }
+
+    /// The current device lets go of what it held, and is this one from now on.
+    fn replace<W: Write>(&mut self, recorded: RecordedDevice, writer: &mut W) -> Result<(), Cause>
+        ensures outcome { Outputs (W.contents writer.old) (W.contents writer.new)
+            (AfterRelease (session_of self.old) (λ session o. o ≡ outcome_of_device session recorded)) result
+            (string_bytes self.new.text) (session_of self.new) }
+        ensures memory { RunsOutIf (holds_named (session_of self.old) (Some self.old.devices.current)
+            || self.old.options.layout) result }
+    {
+        self.text.clear();
+        let device = self.devices.current_device();
+        if let Err(fault) = self.let_go(Some(device), writer) {
+            drop(recorded);
+            return Err(Cause::from(fault));
+        }
+        Ok(self.install(recorded)?)
     }
 
     /// The current device is this one from now on.
-    fn install(&mut self, recorded: RecordedDevice) -> Result<(), Cause>
-        ensures outcome { Gathers (λ o. o ≡ outcome_of_device (session_of self.old) recorded) result
-            (string_bytes self.new.text) (session_of self.new) }
-        ensures memory { RunsOutIf self.old.options.layout result }
+    fn install(&mut self, recorded: RecordedDevice) -> Result<(), AllocError>
+        ensures text { OnOk result (string_bytes self.new.text ≡ string_bytes self.old.text
+            ++ described_text self.old.options self.old.devices.current recorded.layout) }
+        ensures session { OnOk result (session_of self.new
+            ≡ with_descriptor (session_of self.old) recorded) }
+        ensures memory { IfErr result (λ _. self.old.options.layout ≡ true) }
     {
         let device = self.devices.current();
-        self.text.clear();
         let layout = recorded.layout();
         if let Err(error) = print_described(&mut self.text, self.options, device, layout) {
             drop(recorded);
-            return Err(Cause::from(error));
+            return Err(error);
         }
         self.devices.put(Some(recorded));
         self.descriptors = self.descriptors.saturating_add(1);
@@ -411,15 +461,16 @@ impl Player {
     }
 
     /// Takes a report of the current device.
-    fn report(&mut self, time: &str, bytes: &[u8]) -> Result<(), Cause>
-        ensures outcome { Gathers (λ o. o ≡ report_outcome time.now bytes.now (session_of self.old)) result
+    fn report<W: Write>(&mut self, time: &str, bytes: &[u8], writer: &mut W) -> Result<(), Cause>
+        ensures outcome { Outputs (W.contents writer.old) (W.contents writer.new)
+            (λ o. o ≡ report_outcome time.now bytes.now (session_of self.old)) result
             (string_bytes self.new.text) (session_of self.new) }
         ensures memory { RunsOutIf (report_allocates (session_of self.old) bytes.now) result }
     {
         self.text.clear();
         match self
             .devices
-            .play(self.alloc, &mut self.text, time, self.options, bytes)
+            .play(self.alloc, &mut self.text, writer, time, self.options, bytes)
         {
             Ok(events) => {
                 self.set_time(time)?;
@@ -442,8 +493,8 @@ impl Player {
     }
 
     /// A dump begins.
-    fn begin_dump(&mut self, address: Address, content: Content, time: &str) -> Result<(), Cause>
-        ensures outcome { Gathers
+    fn begin_dump<W: Write>(&mut self, address: Address, content: Content, time: &str, writer: &mut W) -> Result<(), Cause>
+        ensures outcome { Outputs (W.contents writer.old) (W.contents writer.new)
             (λ o. o ≡ outcome_of_dump_head (session_of self.old) address content time.now) result
             (string_bytes self.new.text) (session_of self.new) }
         ensures memory { RunsOutIf (dump_head_allocates (session_of self.old)
@@ -452,7 +503,7 @@ impl Player {
         let number = self.addresses.number(address)?;
         let device = match number.ok_or(Refusal::TooManyDevices) {
             Ok(device) => device,
-            Err(refusal) => return self.drop_dump(refusal),
+            Err(refusal) => return self.drop_dump(refusal, writer),
         };
         let begun = Dump::begin(self.alloc, content, device, time)?;
         let before = mem::replace(&mut self.dump, begun);
@@ -463,28 +514,29 @@ impl Player {
         if self.options.strict {
             return Err(Cause::Refused(Refusal::Unended));
         }
-        self.let_go(before.described_device())?;
+        self.let_go(before.described_device(), writer)?;
         self.devices.doubt();
         Ok(self.add_refusal(Refusal::Unended)?)
     }
 
     /// Takes bytes of the dump that is open.
-    fn gather(&mut self, bytes: Result<Vec<u8>, Refusal>) -> Result<(), Cause>
-        ensures outcome { Gathers (λ o. o ≡ outcome_of_dump_bytes (session_of self.old)
+    fn gather<W: Write>(&mut self, bytes: Result<Vec<u8>, Refusal>, writer: &mut W) -> Result<(), Cause>
+        ensures outcome { Outputs (W.contents writer.old) (W.contents writer.new)
+            (λ o. o ≡ outcome_of_dump_bytes (session_of self.old)
             (items_of bytes) self.old.dump.content) result
             (string_bytes self.new.text) (session_of self.new) }
         ensures memory { RunsOutIf (dump_bytes_allocate (session_of self.old)
             (items_of bytes) self.old.dump.content) result }
     {
         if self.dump.content.is_none() {
-            return self.gather_none();
+            return self.gather_none(writer);
         }
         let bytes = match bytes {
             Ok(bytes) => bytes,
-            Err(unread) => return self.drop_dump(unread),
+            Err(unread) => return self.drop_dump(unread, writer),
         };
         if self.dump.bytes.len().saturating_add(bytes.len()) > MAX_DUMP {
-            return self.drop_dump(Refusal::DumpTooLong);
+            return self.drop_dump(Refusal::DumpTooLong, writer);
         }
         self.dump.bytes.extend_from_slice(bytes.as_slice())?;
         self.text.clear();
@@ -492,21 +544,23 @@ impl Player {
     }
 
     /// Bytes, and no dump is open: they are of one that was dropped, or of none.
-    fn gather_none(&mut self) -> Result<(), Cause>
-        ensures outcome { Gathers (λ o. o ≡ outcome_of_stray_bytes (session_of self.old)) result
+    fn gather_none<W: Write>(&mut self, writer: &mut W) -> Result<(), Cause>
+        ensures outcome { Outputs (W.contents writer.old) (W.contents writer.new)
+            (λ o. o ≡ outcome_of_stray_bytes (session_of self.old)) result
             (string_bytes self.new.text) (session_of self.new) }
         ensures memory { RunsOutIf (stray_bytes_allocate (session_of self.old)) result }
     {
         if !self.dump.is_dropped {
-            return self.drop_dump(Refusal::Syntax);
+            return self.drop_dump(Refusal::Syntax, writer);
         }
         self.text.clear();
         Ok(())
     }
 
     /// An empty line: it ends the dump that is open.
-    fn end_dump(&mut self) -> Result<(), Cause>
-        ensures outcome { Gathers (DumpEndGives (session_of self.old) self.old.dump.content) result
+    fn end_dump<W: Write>(&mut self, writer: &mut W) -> Result<(), Cause>
+        ensures outcome { Outputs (W.contents writer.old) (W.contents writer.new)
+            (DumpEndGives (session_of self.old) self.old.dump.content) result
             (string_bytes self.new.text) (session_of self.new) }
         ensures memory { RunsOutIf
             (dump_end_allocates (session_of self.old) self.old.dump.content) result }
@@ -518,34 +572,37 @@ impl Player {
         };
         self.devices.select(dump.device);
         match content {
-            Content::Descriptor => self.redescribe(dump.bytes.as_slice()),
-            Content::Stream => self.stream(dump.time.as_slice(), dump.bytes.as_slice()),
+            Content::Descriptor => self.describe(dump.bytes.as_slice(), writer),
+            Content::Stream => {
+                self.stream(dump.time.as_slice(), dump.bytes.as_slice(), writer)
+            }
         }
     }
 
     /// Takes the bytes of a dump as a chunk of the current device.
-    fn stream(&mut self, time: &[u8], bytes: &[u8]) -> Result<(), Cause>
-        ensures outcome { Gathers
+    fn stream<W: Write>(&mut self, time: &[u8], bytes: &[u8], writer: &mut W) -> Result<(), Cause>
+        ensures outcome { Outputs (W.contents writer.old) (W.contents writer.new)
             (λ o. o ≡ stream_outcome (time_of time.now) bytes.now (session_of self.old)) result
             (string_bytes self.new.text) (session_of self.new) }
         ensures memory { RunsOutIf
             (stream_allocates (session_of self.old) (time_of time.now)) result }
     {
         match read_time(time) {
-            Some(time) => self.chunk(time, bytes),
+            Some(time) => self.chunk(time, bytes, writer),
             None => self.refuse(Refusal::BadTime),
         }
     }
 
     /// Takes a chunk of the current device.
-    fn chunk(&mut self, time: &str, chunk: &[u8]) -> Result<(), Cause>
-        ensures outcome { Gathers (λ o. o ≡ chunk_outcome time.now chunk.now (session_of self.old)) result
+    fn chunk<W: Write>(&mut self, time: &str, chunk: &[u8], writer: &mut W) -> Result<(), Cause>
+        ensures outcome { Outputs (W.contents writer.old) (W.contents writer.new)
+            (λ o. o ≡ chunk_outcome time.now chunk.now (session_of self.old)) result
             (string_bytes self.new.text) (session_of self.new) }
         ensures memory { RunsOutIf (chunk_allocates (session_of self.old)) result }
     {
         let joined = self.devices.join(self.alloc, chunk)?;
         match joined.into_report() {
-            Ok(Some(bytes)) => self.report(time, bytes.as_slice()),
+            Ok(Some(bytes)) => self.report(time, bytes.as_slice(), writer),
             Ok(None) => {
                 self.text.clear();
                 Ok(())
@@ -569,29 +626,30 @@ impl Player {
         ensures { AppendsActs (W.contents writer.old) (W.contents writer.new) time.now
             (session_of self.old) (act_of act.entry ∷ []) result (session_of self.new) }
     {
-        self.play_act(time, act)?;
-        write_text(writer, self.text.as_bytes())
+        self.play_act(time, act, writer)?;
+        Ok(write_text(writer, self.text.as_bytes())?)
     }
 
     /// Gathers the output of what a capture says, in place of what was gathered before.
-    fn play_act(&mut self, time: &str, act: Act<'_>) -> Result<(), Cause>
-        ensures { Gathers (ActGives time.now (session_of self.old) (act_of act.entry)) result
+    fn play_act<W: Write>(&mut self, time: &str, act: Act<'_>, writer: &mut W) -> Result<(), Cause>
+        ensures { Outputs (W.contents writer.old) (W.contents writer.new)
+            (ActGives time.now (session_of self.old) (act_of act.entry)) result
             (string_bytes self.new.text) (session_of self.new) }
     {
         match act {
             Act::Descriptor { device, bytes } => {
                 self.turn_to(device, time)?;
-                self.redescribe(bytes)
+                self.describe(bytes, writer)
             }
             Act::Report { device, bytes } => {
                 self.turn_to(device, time)?;
-                self.report(time, bytes)
+                self.report(time, bytes, writer)
             }
             Act::RefusedFrame(refusal) => self.refuse(refusal),
             Act::Disconnection { device } => {
                 self.turn_to(device, time)?;
                 self.text.clear();
-                Ok(self.let_go(Some(device))?)
+                Ok(self.let_go(Some(device), writer)?)
             }
         }
     }
@@ -603,43 +661,6 @@ impl Player {
     {
         self.devices.select(device.number);
         self.set_time(time)
-    }
-
-    /// Takes a report descriptor of the current device, which lets go of what it held by another one.
-    fn redescribe(&mut self, descriptor: &[u8]) -> Result<(), Cause>
-        ensures outcome { Gathers (DescriptionGives descriptor.now (session_of self.old)) result
-            (string_bytes self.new.text) (session_of self.new) }
-        ensures memory { RunsOutIf
-            (description_allocates (session_of self.old) descriptor.now) result }
-    {
-        self.text.clear();
-        let device = self.devices.current_device();
-        self.let_go(Some(device))?;
-        let before = mem::replace(&mut self.text, String::new(self.alloc));
-        match self.describe(descriptor) {
-            Ok(()) => Ok(self.put_before(before)?),
-            Err(cause) => {
-                drop(before);
-                Err(cause)
-            }
-        }
-    }
-
-    /// Puts a text before what was gathered. An empty one takes no memory.
-    fn put_before(&mut self, before: String) -> Result<(), AllocError>
-        ensures text { OnOk result (string_bytes self.new.text
-            ≡ string_bytes before ++ string_bytes self.old.text) }
-        ensures memory { IfErr result (λ _. string_bytes before ≢ []) }
-        ensures session { session_of self.new ≡ session_of self.old }
-    {
-        if before.is_empty() {
-            drop(before);
-            return Ok(());
-        }
-        let mut before = before;
-        let joined = before.push_str(self.text.as_str());
-        drop(mem::replace(&mut self.text, before));
-        joined
     }
 
     /// What is printed from now on.

@@ -204,9 +204,12 @@ fn print_named_value(
     text.push('\n')
 }
 
-/// Adds the line of the element j of the item i, where it is a data element.
+/// Adds the line of the element j of the item i, where it is a data element, with the name of its usage.
+///
+/// # Errors
+/// Out of memory; part of the text may be added then.
 #[tactic(auto, unfolding(crate::specs::NamedText::named_value_at))]
-fn print_named_element(
+pub fn print_named_element(
     text: &mut String,
     layout: &Layout,
     bytes: &[u8],

@@ -86,8 +86,11 @@ fn print_value(
 }
 
 /// Adds the line of the element j of the item i, where it is a data element.
+///
+/// # Errors
+/// Out of memory; part of the text may be added then.
 #[tactic(auto, unfolding(crate::specs::ValuesText::value_at))]
-fn print_element(
+pub fn print_element(
     text: &mut String,
     layout: &Layout,
     bytes: &[u8],

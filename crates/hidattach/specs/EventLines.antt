@@ -4,7 +4,7 @@ use Rattle.std.specs.List.{flat_map}
 use Rattle.hid_layout.specs.Layout.{Contents}
 use Rattle.hid_driver.specs.declared.outcome.DriverEvent.{DriverEvent}
 use Rattle.hid_recording.specs.declared.options.Options.{Options}
-use Rattle.hid_recording.specs.EventLines.{event_lines}
+use Rattle.hid_recording.specs.EventLines.{event_line}
 use Rattle.usbip_session.specs.declared.session.Laid.{Laid}
 
 -- the layout of the interface at this place, if it is known
@@ -15,7 +15,7 @@ layout_of place (one ∷ rest) = if one.interface == place then Some one.layout 
 -- the line of an event, whose device is the place of its interface
 abbrev pub line_with : List ℕ → Options → DriverEvent → Option Contents → List ℕ
 line_with time options told None = []
-line_with time options told (Some layout) = event_lines time (min told.interface 255) options layout (told.event ∷ [])
+line_with time options told (Some layout) = event_line time (min told.interface 255) options layout told.event
 
 -- the line of an event of an interface whose layout is known
 abbrev pub driver_line : List ℕ → Options → List Laid → DriverEvent → List ℕ

@@ -5,7 +5,7 @@ ghost use Rattle.std.specs.Option.{option_copied};
 ghost use Rattle.hidattach.specs.EventLines.{driver_line, driver_lines, layout_of};
 
 use hid_driver::{DriverEvent, Layout};
-use hid_recording::{Options, Source, print_events};
+use hid_recording::{Options, Source, print_event};
 use std::alloc::{AllocError, Global};
 use usbip_session::Laid;
 
@@ -47,7 +47,7 @@ fn print_driver_event(
         options: printing.options,
     };
     match layout_of(told.interface, laid) {
-        Some(layout) => print_events(text, &source, layout, &[told.event]),
+        Some(layout) => print_event(text, &source, layout, &told.event),
         None => Ok(()),
     }
 }

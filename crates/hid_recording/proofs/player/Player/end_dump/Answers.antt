@@ -4,4 +4,4 @@ use Rattle.hid_recording.proofs.PlayerLemmas.{dump_described}
 use Rattle.hid_recording.proofs.player.Player.end_dump.Goals as goal
 
 pub returns-in-Descriptor-clause-outcome : goal.returns-in-Descriptor-clause-outcome
-returns-in-Descriptor-clause-outcome c = dump_described (session_of c.args.self.now) c.args.self.now.dump.content _ _ _ _ _ c.redescribe.ensures.outcome (search rules) (search rules) (search rules)
+returns-in-Descriptor-clause-outcome g c = dump_described _ _ (session_of c.args.self.now) c.args.self.now.dump.content _ _ _ _ _ c.describe.ensures.outcome (search rules) (search rules) (search rules)
