@@ -280,3 +280,7 @@ pub outputs_so : (a b : Option (List ℕ)) (P Q : Outcome → Type 0) (r : Resul
     → ((o : Outcome) → P o → Q o) → Outputs a b P r text next → Outputs a b Q r text next
 outputs_so a b P Q (Ok u) text next f h = (h.0, h.1, f (success (h.0 ++ text) next) h.2)
 outputs_so a b P Q (Err cause) text next f h = stops_so a b P Q cause f h
+
+pub outputs_is : (a b : Option (List ℕ)) (x y : Outcome) (r : Result (Unit {0}) Cause) (text : List ℕ) (next : Session) → x ≡ y
+    → Outputs a b (λ o. o ≡ x) r text next → Outputs a b (λ o. o ≡ y) r text next
+outputs_is a b x y r text next same h = outputs_so a b (λ o. o ≡ x) (λ o. o ≡ y) r text next (λ o e. e ∙ same) h

@@ -1,6 +1,6 @@
 -- What a player gathers of a line, and what it writes.
-use Rattle.std.proofs.Common.{◌≡◌, ℕ, ◌<◌, ◌≤◌, zero, suc, Bool, true, false, List, [], ◌∷◌, ◌++◌, length, refl, sym, ap, ◌∙◌, subst, inr, append_assoc, arith, ◌-◌, get_or, take, drop, take_all, Option, None, Some, Result, Ok, Err, OnOk, inl, IfErr, IsErrAnd}
-use Rattle.std.specs.Prelude.{slice_get, set, is_some, if◌then◌else◌}
+use Rattle.std.proofs.Common.{◌≡◌, ℕ, ◌+◌, ◌<◌, ◌≤◌, nat_lt, zero, suc, Bool, true, false, List, [], ◌∷◌, ◌++◌, length, refl, sym, ap, ◌∙◌, subst, inr, append_assoc, arith, ◌-◌, get_or, take, drop, take_all, Option, None, Some, Result, Ok, Err, OnOk, inl, IfErr, IsErrAnd}
+use Rattle.std.specs.Prelude.{slice_get, set, map, is_some, if◌then◌else◌}
 use Rattle.std.specs.Io.KnownBytes.{Appends}
 use Rattle.std.proofs.KnownBytes.{Appends-nil, Appends-trans}
 use Rattle.std.proofs.lemmas.Bool.{lt-ltb, le-ltb}
@@ -35,17 +35,19 @@ use Rattle.hid_recording.specs.Records.{LineMeaning, record_of, text_record, rep
 use Rattle.hid_recording.specs.EventLines.{event_lines}
 use Rattle.hid_recording.specs.declared.device.Joined.{Joined}
 use Rattle.hid_recording.specs.declared.device.Joined.TheVariants.{Unknown, Doubtful, Begun, Whole}
-use Rattle.hid_recording.specs.Joining.{IsRefusedAs, Joins, past_chunk, bytes_with, ends_with, with_collected}
-use Rattle.hid_recording.specs.LineOutput.{AfterRelease, outcome_of_device, with_descriptor, described_text, text_back, without_named, session_refusal_line, outcome_of_dump_after, devices_after, events_without, outcome_of_refusal, with_device, DescriptorGives, DescriptionGives, after_text, outcome_after_refusal, outcome_of_dropped_dump, with_dropped_dump, dropped_dump_text, with_interface, with_dump, outcome_of_dump_of, outcome_of_dump_head, with_refusal, named_text_back, dumped_device, without_descriptor, described_by, outcome_of_unread_descriptor, DescriptorIsRefused, RecordGives, values_asked, report_text, outcome_of_named_report, outcome_of_report_of, member_in_slot, report_outcome, chunk_in, chunk_of, chunk_outcome, after_dump, DumpEndGives, MeaningGives, GivesByLength, LineGives, LineBegins}
+use Rattle.hid_recording.specs.Joining.{slot_after_doubt, IsRefusedAs, Joins, past_chunk, bytes_with, ends_with, with_collected}
+use Rattle.hid_recording.specs.LineOutput.{AfterRelease, outcome_of_device, with_descriptor, described_text, text_back, without_named, session_refusal_line, outcome_of_dump_after, devices_after, events_without, outcome_of_refusal, with_device, DescriptorGives, DescriptionGives, after_text, outcome_after_refusal, outcome_of_dropped_dump, with_dropped_dump, dropped_dump_text, with_interface, with_dump, outcome_of_dump_of, outcome_of_dump_head, outcome_of_stray_bytes, outcome_of_dump_bytes, stream_outcome, with_refusal, named_text_back, dumped_device, without_descriptor, described_by, outcome_of_unread_descriptor, DescriptorIsRefused, RecordGives, values_asked, report_text, outcome_of_named_report, outcome_of_report_of, member_in_slot, report_outcome, chunk_in, chunk_of, chunk_outcome, after_dump, DumpEndGives, MeaningGives, GivesByLength, LineGives, LineBegins}
 use Rattle.hid_recording.specs.Gathering.{Gathers, IsPartOf, StopsIn, Outputs, IsCauseOfLine}
 use Rattle.hid_recording.specs.Pieces.{Carries, CutsOff, cause_of}
 use Rattle.hid_recording.specs.Playing.{TakesOne, TakesPart, StopsPlaying, SlotStops, PlaysMember, PlaysAt}
-use Rattle.hid_recording.specs.Dumps.{number_of_address}
+use Rattle.std.specs.List.{position}
+use Rattle.hid_recording.specs.Dumps.{is_same_address, number_of_address, number_or_next, addresses_with_number, with_address}
+use Rattle.hid_recording.specs.Words.{time_of}
 use Rattle.hid_recording.specs.Refusals.{refusal_line}
 use Rattle.hid_recording.specs.Taking.{read_member, member_events}
 use Rattle.hid_recording.specs.Runs.{ending_of, Ends}
 use Rattle.hid_recording.specs.Place.{AppendsOutput}
-use Rattle.hid_recording.proofs.PieceLemmas.{no_end, carries_more, cut_there, carried_told, told_part, gathered_told, outputs_so}
+use Rattle.hid_recording.proofs.PieceLemmas.{no_end, carries_more, cut_there, carried_told, told_part, gathered_told, outputs_so, outputs_is}
 
 -- ---- descriptors
 
@@ -84,6 +86,17 @@ dump_described a b session content bytes now r text next h is same after =
     subst (λ c. Outputs a b (DumpEndGives session c) r text next) (sym is)
     (subst (λ (s : Session). Outputs a b (DescriptionGives session.gathered.bytes s) r text next) after
     (subst (λ l. Outputs a b (DescriptionGives l now) r text next) same h))
+
+-- one that is a chunk
+pub dump_streamed : (a b : Option (List ℕ)) (session : Session) (content : Option Content) (time bytes : List ℕ) (now : Session)
+    (r : Result (Unit {0}) Cause) (text : List ℕ) (next : Session) → Outputs a b (λ o. o ≡ stream_outcome (time_of time) bytes now) r text next
+    → content ≡ Some contents.Stream → time ≡ session.gathered.time → bytes ≡ session.gathered.bytes → now ≡ after_dump session
+    → Outputs a b (DumpEndGives session content) r text next
+dump_streamed a b session content time bytes now r text next h is at same after =
+    subst (λ c. Outputs a b (DumpEndGives session c) r text next) (sym is)
+    (outputs_is a b (stream_outcome (time_of time) bytes now) (stream_outcome (time_of session.gathered.time) session.gathered.bytes (after_dump session)) r text next
+    (ap (λ t. stream_outcome (time_of t) bytes now) at ∙ ap (λ l. stream_outcome (time_of session.gathered.time) l now) same
+    ∙ ap (stream_outcome (time_of session.gathered.time) session.gathered.bytes) after) h)
 
 -- ---- refusals
 
@@ -167,13 +180,54 @@ unended_told session next last (Some content) begun e options counted lines afte
     ∙ ap (λ c. success (refusal_line session.options c now.lines refusals.Unended) (with_refusal now)) counted
     ∙ ap (λ n. success (refusal_line session.options session.counted n refusals.Unended) (with_refusal now)) lines))
 
--- a dump that begins, of a device that has a number
-pub dump_begun : (session : Session) (address : Address) (content : Content) (time : List ℕ) (number : Option ℕ) (device : ℕ) (o : Outcome)
-    → number ≡ number_of_address session.addresses address → number ≡ Some device
-    → o ≡ outcome_of_dump_after session.gathered.content session (with_dump session address content time device)
-    → o ≡ outcome_of_dump_head session address content time
-dump_begun session address content time number device o known is e =
-    e ∙ sym (ap (outcome_of_dump_of session address content time) (sym known ∙ is))
+-- the session after a dump that begins while another one is open
+abbrev pub begun_after : Session → Address → Content → List ℕ → ℕ → Session
+begun_after session address content time device =
+    with_refusal (record (with_dump session address content time device) {
+      devices = devices_after session;
+      events = events_without session (dumped_device session);
+    })
+
+-- of an interface that has a number
+pub dump_begun_told : (session last : Session) (address : Address) (content : Content) (time : List ℕ) (number named : Option ℕ) (device : ℕ)
+    → number ≡ number_of_address session.addresses address → number ≡ Some device → named ≡ dumped_device session
+    → is_some session.gathered.content ≡ true → session.options.strict ≡ false → last ≡ begun_after session address content time device
+    → success (named_text_back session named ++ session_refusal_line session refusals.Unended) last
+    ≡ outcome_of_dump_head session address content time
+dump_begun_told session last address content time number named device known is same begun e after =
+    ap (λ d. success (named_text_back session d ++ session_refusal_line session refusals.Unended) last) same
+    ∙ unended_told session (with_dump session address content time device) last session.gathered.content begun e refl refl refl after
+    ∙ sym (ap (outcome_of_dump_of session address content time) (sym known ∙ is))
+
+pub begun_session : (session now next last : Session) (address : Address) (content : Content) (time : List ℕ) (device : ℕ) (named : Option ℕ)
+    → now ≡ with_dump session address content time device → named ≡ dumped_device session → next ≡ without_named now named
+    → last ≡ with_refusal (record next { devices = map slot_after_doubt next.devices })
+    → last ≡ begun_after session address content time device
+begun_session session now next last address content time device named begun same gone after =
+    let known = with_dump session address content time device in
+    after
+    ∙ ap (λ (n : Session). with_refusal (record n { devices = map slot_after_doubt n.devices })) gone
+    ∙ ap (λ (s : Session). (let n : Session = without_named s named in with_refusal (record n { devices = map slot_after_doubt n.devices }))) begun
+    ∙ ap (λ d. (let n : Session = without_named known d in with_refusal (record n { devices = map slot_after_doubt n.devices }))) same
+
+-- of an interface too many
+full_by : (room : Bool) (n : ℕ) (more known : List Address) → (if room then Some n else None) ≡ None → (if room then more else known) ≡ known
+full_by true n more known e = absurd (cc)
+full_by false n more known e = refl
+
+kept_known : (place : Option ℕ) (known : List Address) (address : Address) → number_or_next place (length known) ≡ None
+    → addresses_with_number place known address ≡ known
+kept_known (Some place) known address e = absurd (cc)
+kept_known None known address e = full_by (nat_lt (length known) 16) (length known) (known ++ address ∷ []) known e
+
+pub too_many_told : (session : Session) (address : Address) (content : Content) (time : List ℕ) (known : List Address)
+    → number_of_address session.addresses address ≡ None → known ≡ with_address session.addresses address
+    → outcome_of_dropped_dump (record session { addresses = known }) refusals.TooManyDevices
+    ≡ outcome_of_dump_head session address content time
+too_many_told session address content time known none is =
+    let same = is ∙ kept_known (position (is_same_address address) session.addresses) session.addresses address none in
+    ap (λ k. outcome_of_dropped_dump (record session { addresses = k }) refusals.TooManyDevices) same
+    ∙ sym (ap (outcome_of_dump_of session address content time) none)
 
 -- a descriptor that is refused, of a run that isn't strict: the device let go of what it held
 set_again : (devices : List (Option PlayedDevice)) (i : ℕ) (member : Option PlayedDevice)
@@ -222,6 +276,44 @@ pub said_meant : (a b : Option (List ℕ)) (session : Session) (meant : Result L
     (r : Result (Unit {0}) Cause) (text : List ℕ) (next : Session) → meant ≡ Ok said
     → Outputs a b (RecordGives session said) r text next → Outputs a b (MeaningGives session meant) r text next
 said_meant a b session meant said r text next e h = subst (λ m. Outputs a b (MeaningGives session m) r text next) (sym e) h
+
+-- one that can't be read
+pub refused_meant : (a b : Option (List ℕ)) (session : Session) (meant : Result LineMeaning Why) (why : Why)
+    (r : Result (Unit {0}) Cause) (text : List ℕ) (next : Session) → meant ≡ Err why
+    → Outputs a b (λ o. o ≡ outcome_of_dropped_dump session why) r text next → Outputs a b (MeaningGives session meant) r text next
+refused_meant a b session meant why r text next e h = subst (λ m. Outputs a b (MeaningGives session m) r text next) (sym e) h
+
+-- bytes that no dump has
+stray_by : (passed : Bool) (x y : Outcome) → passed ≡ false → y ≡ (if passed then x else y)
+stray_by true x y e = absurd (cc)
+stray_by false x y e = refl
+
+pub stray_told : (session : Session) → session.gathered.is_dropped ≡ false
+    → outcome_of_dropped_dump session refusals.Syntax ≡ outcome_of_stray_bytes session
+stray_told session e = stray_by session.gathered.is_dropped (success [] session) (outcome_of_dropped_dump session refusals.Syntax) e
+
+pub stray_given : (session : Session) (bytes : Result (List ℕ) Why) (content : Option Content) → content ≡ None
+    → outcome_of_stray_bytes session ≡ outcome_of_dump_bytes session bytes content
+stray_given session bytes content none = sym (ap (outcome_of_dump_bytes session bytes) none)
+
+-- bytes of a dump that can't be read, or are too many
+pub unread_given : (session : Session) (bytes : Result (List ℕ) Why) (why : Why) (content : Option Content) → bytes ≡ Err why
+    → is_some content ≡ true → outcome_of_dropped_dump session why ≡ outcome_of_dump_bytes session bytes content
+unread_given session bytes why None is begun = absurd (cc)
+unread_given session bytes why (Some content) is begun = sym (ap (λ b. outcome_of_dump_bytes session b (Some content)) is)
+
+long_by : (long : Bool) (x y : Outcome) → long ≡ true → x ≡ (if long then x else y)
+long_by true x y e = refl
+long_by false x y e = absurd (cc)
+
+pub long_given : (session : Session) (given : List ℕ) (bytes : Result (List ℕ) Why) (content : Option Content) → bytes ≡ Ok given
+    → is_some content ≡ true → 16384 < length session.gathered.bytes + length given
+    → outcome_of_dropped_dump session refusals.DumpTooLong ≡ outcome_of_dump_bytes session bytes content
+long_given session given bytes None is begun long = absurd (cc)
+long_given session given bytes (Some content) is begun long =
+    long_by (nat_lt 16384 (length session.gathered.bytes + length given)) (outcome_of_dropped_dump session refusals.DumpTooLong) _
+    (lt-ltb 16384 (length session.gathered.bytes + length given) long)
+    ∙ sym (ap (λ b. outcome_of_dump_bytes session b (Some content)) is)
 
 -- a line that begins with `E:` is a report
 report_line : (line rest : List ℕ) → 2 ≤ length line → get_or line 0 0 ≡ 69 → get_or line 1 0 ≡ 58 → rest ≡ take (length line - 2) (drop 2 line)
@@ -385,12 +477,61 @@ slot_stopped session time bytes (Some member) a b old faults.Memory next none h 
 slot_stopped session time bytes (Some member) a b old faults.Write next none h =
     stops_told session time bytes (Some member) member a b old faults.Write refl none h.2
 
+-- no other cause ends it
+abbrev IsNoCause : Cause → Type 0
+IsNoCause causes.LineTooLong = Unit {0}
+IsNoCause causes.Read = Unit {0}
+IsNoCause causes.TooManyReads = Unit {0}
+IsNoCause causes.Unended = Unit {0}
+IsNoCause causes.Memory = ⊥
+IsNoCause causes.Write = ⊥
+IsNoCause (causes.Refused why) = ⊥
+
+never_stops : (session : Session) (time bytes : List ℕ) (slot : Option PlayedDevice) (a b : Option (List ℕ)) (old : List ℕ) (cause : Cause)
+    (next : Option PlayedDevice) → IsNoCause cause → SlotStops session.options time session.current bytes slot a b old cause next → ⊥
+never_stops session time bytes None a b old causes.LineTooLong next is h = h
+never_stops session time bytes None a b old causes.Read next is h = h
+never_stops session time bytes None a b old causes.TooManyReads next is h = h
+never_stops session time bytes None a b old causes.Unended next is h = h
+never_stops session time bytes (Some member) a b old causes.LineTooLong next is h = h.2
+never_stops session time bytes (Some member) a b old causes.Read next is h = h.2
+never_stops session time bytes (Some member) a b old causes.TooManyReads next is h = h.2
+never_stops session time bytes (Some member) a b old causes.Unended next is h = h.2
+never_stops session time bytes slot a b old causes.Memory next is h = absurd is
+never_stops session time bytes slot a b old causes.Write next is h = absurd is
+never_stops session time bytes slot a b old (causes.Refused why) next is h = absurd is
+
 pub report_stopped : (session : Session) (time bytes : List ℕ) (a b : Option (List ℕ)) (old left : List ℕ) (fault : TextFault)
     (devices : List (Option PlayedDevice)) → old ≡ []
     → PlaysAt session.options time session.current bytes session.devices a b old (Err (cause_of fault)) devices left
     → StopsIn a b (λ o. o ≡ report_outcome time bytes session) (cause_of fault)
 report_stopped session time bytes a b old left fault devices none played =
     slot_stopped session time bytes (member_in_slot (slice_get session.devices session.current)) a b old fault played.0 none played.1
+
+pub report_other : (session : Session) (time bytes : List ℕ) (a b : Option (List ℕ)) (old left : List ℕ) (cause : Cause)
+    (devices : List (Option PlayedDevice)) → ((why : Why) → cause ≡ causes.Refused why → ⊥) → old ≡ []
+    → PlaysAt session.options time session.current bytes session.devices a b old (Err cause) devices left
+    → StopsIn a b (λ o. o ≡ report_outcome time bytes session) cause
+report_other session time bytes a b old left causes.Memory devices other none played = report_stopped session time bytes a b old left faults.Memory devices none played
+report_other session time bytes a b old left causes.Write devices other none played = report_stopped session time bytes a b old left faults.Write devices none played
+report_other session time bytes a b old left (causes.Refused why) devices other none played = absurd (other why refl)
+report_other session time bytes a b old left causes.LineTooLong devices other none played =
+    absurd (never_stops session time bytes (member_in_slot (slice_get session.devices session.current)) a b old causes.LineTooLong played.0 tt played.1)
+report_other session time bytes a b old left causes.Read devices other none played =
+    absurd (never_stops session time bytes (member_in_slot (slice_get session.devices session.current)) a b old causes.Read played.0 tt played.1)
+report_other session time bytes a b old left causes.TooManyReads devices other none played =
+    absurd (never_stops session time bytes (member_in_slot (slice_get session.devices session.current)) a b old causes.TooManyReads played.0 tt played.1)
+report_other session time bytes a b old left causes.Unended devices other none played =
+    absurd (never_stops session time bytes (member_in_slot (slice_get session.devices session.current)) a b old causes.Unended played.0 tt played.1)
+
+cause_in : Result (Unit {0}) Cause → Cause
+cause_in (Ok u) = causes.Memory
+cause_in (Err cause) = cause
+
+-- the cause of a report is that of its line
+pub played_cause : (cause why : Cause) → (let r : Result (Unit {0}) Cause = Err cause in r) ≡ Err why → (let r : Result ℕ Cause = Err cause in r) ≡ Err why
+unfolding cause_in
+played_cause cause why e = ap (λ c. (let r : Result ℕ Cause = Err c in r)) (ap cause_in e)
 
 -- one that was played to its end
 pub report_told : (session next : Session) (time bytes : List ℕ) (a b : Option (List ℕ)) (old left : List ℕ) (events : ℕ)
@@ -502,6 +643,22 @@ whole_told session time chunk bytes member after slot certain ends all behind =
     ap (λ m. report_outcome time bytes (with_device session m)) behind
     ∙ ap (λ b. report_outcome time b (with_device session (Some (with_collected member [])))) all
     ∙ sym (found_told session time chunk member false true slot certain ends)
+
+-- a chunk that ends its report
+abbrev pub IsWholeWith : Joined → List ℕ → Type 0
+IsWholeWith Unknown given = ⊥
+IsWholeWith Doubtful given = ⊥
+IsWholeWith Begun given = ⊥
+IsWholeWith (Whole bytes) given = given ≡ bytes.items
+
+pub ended_told : (session : Session) (time chunk given : List ℕ) (joined : Joined) (after : Option PlayedDevice)
+    → Joins (member_in_slot (slice_get session.devices session.current)) chunk joined after → IsWholeWith joined given
+    → report_outcome time given (with_device session after) ≡ chunk_outcome time chunk session
+ended_told session time chunk given Unknown after joins is = absurd is
+ended_told session time chunk given Doubtful after joins is = absurd is
+ended_told session time chunk given Begun after joins is = absurd is
+ended_told session time chunk given (Whole bytes) after joins is =
+    whole_told session time chunk given joins.0 after joins.1 joins.2 joins.3 (is ∙ joins.4) joins.5
 
 -- ---- lines
 

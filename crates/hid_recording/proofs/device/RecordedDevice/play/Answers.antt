@@ -1,5 +1,8 @@
 use Rattle.std.proofs.Common.{◌++◌, length, refl, ap, ◌∙◌}
 use Rattle.std.specs.Prelude.{string_bytes}
+use Rattle.hid_usages.specs.Reading.{report_named}
+use Rattle.hid_recording.specs.EventLines.{event_lines}
+use Rattle.hid_recording.specs.LineOutput.{values_asked}
 use Rattle.hid_recording.specs.contracts.device.RecordedDevice.{the_view}
 use Rattle.hid_recording.specs.Taking.{member_events}
 use Rattle.hid_recording.proofs.PieceLemmas.{cut_before, cut_after}
@@ -14,7 +17,9 @@ returns-in_err-print_asked-clause-played g c =
     rw (← c.self.view_is)
     (report_cut source.options source.time.now source.device c.args.bytes.now member _ _ _ (string_bytes c.args.text.now) _ _ taken.0 _ _ taken.1
     (report_shown source.options source.time.now source.device c.args.bytes.now member c.layout-layout.result.now c.clear.new.self.items c.as_slice-events.result.now taken.0 taken.1 (c.layout-layout.ensures.layout ∙ c.in-Ok.ensures.layout) c.clear.ensures.items (c.as_slice-events.ensures.value ∙ taken.3))
-    (cut_before _ _ _ _ _ _ c.in_err-print_asked.ensures) c.from_residual.ensures.1)
+    (cut_before _ _ (string_bytes c.args.text.now)
+    (values_asked source.options source.time.now source.device c.layout-layout.result.now (report_named c.layout-layout.result.now c.args.bytes.now) c.args.bytes.now)
+    (event_lines source.time.now source.device source.options c.layout-layout.result.now c.as_slice-events.result.now) _ c.in_err-print_asked.ensures) c.from_residual.ensures.1)
 
 pub returns-in_err-print_events-clause-played : goal.returns-in_err-print_events-clause-played
 returns-in_err-print_events-clause-played g c =

@@ -1,5 +1,6 @@
-use Rattle.std.proofs.Common.{◌++◌, rules, refl, ap, ◌∙◌, sym}
-use Rattle.hid_recording.specs.LineOutput.{session_refusal_line, named_text_back, dumped_device}
+use Rattle.std.specs.Prelude.{string_bytes}
+use Rattle.std.proofs.Common.{◌++◌, refl, ap, ◌∙◌}
+use Rattle.hid_recording.specs.LineOutput.{session_refusal_line}
 use Rattle.hid_recording.specs.Player.{session_of}
 use Rattle.hid_recording.specs.Refusals.{refusal_line}
 use Rattle.hid_recording.specs.Session.{Session}
@@ -23,4 +24,4 @@ returns-clause-text g c =
     rw (← c.described_device-device.ensures)
     (carries_more _ _ _ _ _ _ _ _ c.in_ok-let_go.ensures.text
     (carried _ _ _ _ (c.in_ok-add_refusal.ensures.text
-    ∙ ap (λ (s : Session). _ ++ refusal_line s.options s.counted s.lines c.args.refusal) c.in_ok-let_go.ensures.session)))
+    ∙ ap (λ (s : Session). string_bytes c.let_go.new.self.text ++ refusal_line s.options s.counted s.lines c.args.refusal) c.in_ok-let_go.ensures.session)))
