@@ -5,7 +5,6 @@ use Rattle.std.specs.List.{flat_map}
 use Rattle.std.proofs.lemmas.Grind.{flat_map-append}
 use Rattle.std.specs.Io.KnownBytes.{Appends}
 use Rattle.std.proofs.KnownBytes.{Appends-nil, Appends-trans}
-use Rattle.hid_text.specs.Output.{AppendsPrefix}
 use Rattle.hid_notation.specs.Text.{concat_below}
 use Rattle.hid_recording.specs.declared.fault.Cause.{Cause}
 use Rattle.hid_recording.specs.declared.fault.Cause.TheVariants as causes
@@ -31,15 +30,15 @@ lines_more a b h (inr k) = inr (a ++ k.0, ap (λ l. a ++ l) k.1 ∙ sym (append_
 
 -- ---- bytes that were added
 
--- and nothing was written
+-- bytes were added, and nothing was written
 pub carried : (a : Option (List ℕ)) (text added left : List ℕ) → left ≡ text ++ added → Carries a a text added left
 carried a text added left is = record { written = []; grew = Appends-nil a; lines = inl refl; all = is }
 
--- none were
+-- no byte was added
 pub carried_none : (a : Option (List ℕ)) (text : List ℕ) → Carries a a text [] text
 carried_none a text = carried a text [] text (sym (append-nil text))
 
--- the same bytes, named otherwise
+-- bytes that were added, named otherwise
 pub carries_same : (a b : Option (List ℕ)) (text x y left : List ℕ) → x ≡ y → Carries a b text x left → Carries a b text y left
 carries_same a b text x y left same h = subst (λ l. Carries a b text l left) same h
 
@@ -62,19 +61,6 @@ carried_lines a b text bytes sent left same some last is grew none =
       lines = inr (ends.0, sym same ∙ ends.1);
       all = ap (λ l. text ++ l) none;
     }
-
--- the writer took a prefix of the text
-pub cut_in_text : {X : Type 0} (a b : Option (List ℕ)) (text bytes sent : List ℕ) (fault : TextFault) (r : Result X TextFault) (left : List ℕ)
-    → bytes ≡ text → 1 ≤ length bytes → sent ≡ text
-    → AppendsPrefix a b sent → fault ≡ faults.Write → IsErrAnd r (λ e. e ≡ fault) → Flows a b text [] r left
-cut_in_text a b text bytes sent fault (Ok u) left same some sends prefix is ends = absurd ends
-cut_in_text a b text bytes sent fault (Err e) left same some sends prefix is ends =
-    subst (λ f. CutsOff a b (text ++ []) f) (sym (ends ∙ is)) (
-      prefix.0,
-      prefix.2,
-      (prefix.1.0, append-nil text ∙ sym sends ∙ prefix.1.1),
-      λ none. absurd (omega (arith, some, ap (λ l. length l) (same ∙ sym (append-nil text) ∙ none))),
-    )
 
 pub carries_more : (a b c : Option (List ℕ)) (text x middle y left : List ℕ) → Carries a b text x middle → Carries b c middle y left
     → Carries a c text (x ++ y) left
@@ -123,20 +109,11 @@ cut_before a b text x y faults.Write k = (
   λ none. k.3 (no_front (text ++ x) y (append_assoc text x y ∙ none)),
 )
 
--- memory ran out before anything was written
-pub cut_at_once : (a : Option (List ℕ)) (text : List ℕ) → CutsOff a a text faults.Memory
-cut_at_once a text = ([], Appends-nil a, (text, refl), inl refl)
-
 -- memory ran out after some was written
 pub cut_there : (a b : Option (List ℕ)) (text added left : List ℕ) → Carries a b text added left → CutsOff a b (text ++ added) faults.Memory
 cut_there a b text added left h = (h.written, h.grew, (left, sym h.all), h.lines)
 
 -- ---- one after the other
-
-pub flow_then : {X : Type 0} (a b c : Option (List ℕ)) (text x middle y : List ℕ) (r : Result X TextFault) (left : List ℕ)
-    → Carries a b text x middle → Flows b c middle y r left → Flows a c text (x ++ y) r left
-flow_then a b c text x middle y (Ok u) left h k = carries_more a b c text x middle y left h k
-flow_then a b c text x middle y (Err fault) left h k = cut_after a b c text x middle y fault h k
 
 -- the first one was cut off
 pub flow_cut : {X : Type 0} (a b : Option (List ℕ)) (text x y : List ℕ) (fault : TextFault) (r : Result X TextFault) (left : List ℕ)
@@ -145,7 +122,7 @@ flow_cut a b text x y fault (Ok u) left k is = absurd is
 flow_cut a b text x y fault (Err e) left k is =
     subst (λ f. CutsOff a b (text ++ (x ++ y)) f) (sym is) (cut_before a b text x y fault k)
 
--- the same bytes, named otherwise
+-- bytes of a flow, named otherwise
 pub flow_same : {X : Type 0} (a b : Option (List ℕ)) (text x y : List ℕ) (r : Result X TextFault) (left : List ℕ) → x ≡ y
     → Flows a b text x r left → Flows a b text y r left
 flow_same a b text x y r left same h = subst (λ l. Flows a b text l r left) same h
@@ -188,7 +165,7 @@ lines_of_more f xs i d there =
     ap (flat_map f) (take_more xs i d there) ∙ flat_map-append f (take i xs) (get_or xs i d ∷ [])
     ∙ ap (λ l. flat_map f (take i xs) ++ l) (append-nil (f (get_or xs i d)))
 
--- and of the others
+-- the lines of the first ones and of the others are all lines
 pub lines_of_all : {X : Type 0} (f : X → List ℕ) (xs : List X) (i : ℕ)
     → flat_map f xs ≡ flat_map f (take i xs) ++ flat_map f (drop i xs)
 lines_of_all f xs i = ap (flat_map f) (sym (take-append-drop i xs)) ∙ flat_map-append f (take i xs) (drop i xs)
@@ -214,7 +191,7 @@ texts_of_more f n = let more : n + 1 ≡ suc n = omega arith in ap (λ k. concat
 
 -- ---- the output of a line
 
--- none of it was written
+-- an output of which nothing was written
 pub told_at_once : (a : Option (List ℕ)) (Tells : Outcome → Type 0) (text : List ℕ) (next : Session) → Tells (success text next)
     → Outputs a a Tells (Ok tt) text next
 told_at_once a Tells text next h = ([], Appends-nil a, h)
@@ -230,7 +207,7 @@ cut_stops : (a b : Option (List ℕ)) (Tells : Outcome → Type 0) (all : List �
 cut_stops a b Tells all last faults.Memory k told = (k.0, k.1, inr (all, last, told, k.2), k.3)
 cut_stops a b Tells all last faults.Write k told = (k.0, all, last, k.1, told, k.2, k.3)
 
--- it was cut off
+-- an output that was cut off
 pub told_part : (a b : Option (List ℕ)) (Tells : Outcome → Type 0) (text all : List ℕ) (last : Session) (fault : TextFault)
     (r : Result (Unit {0}) Cause) (left : List ℕ) (next : Session) → CutsOff a b (text ++ all) fault → text ≡ []
     → Tells (success all last) → IsErrAnd r (λ e. e ≡ cause_of fault) → Outputs a b Tells r left next

@@ -1,5 +1,5 @@
 -- What a player gathers of a line, and what it writes.
-use Rattle.std.proofs.Common.{◌≡◌, ℕ, ◌+◌, ◌<◌, ◌≤◌, nat_lt, zero, suc, Bool, true, false, List, [], ◌∷◌, ◌++◌, length, refl, sym, ap, ◌∙◌, subst, inr, append_assoc, arith, ◌-◌, get_or, take, drop, take_all, Option, None, Some, Result, Ok, Err, OnOk, inl, IfErr, IsErrAnd}
+use Rattle.std.proofs.Common.{◌≡◌, ℕ, ◌+◌, ◌<◌, ◌≤◌, nat_lt, zero, suc, Bool, true, false, List, [], ◌∷◌, ◌++◌, length, refl, sym, ap, ◌∙◌, subst, inr, append_assoc, arith, ◌-◌, get_or, take, drop, take_all, Option, None, Some, Result, Ok, Err, inl, IfErr, IsErrAnd}
 use Rattle.std.specs.Prelude.{slice_get, set, map, is_some, if◌then◌else◌}
 use Rattle.std.specs.Io.KnownBytes.{Appends}
 use Rattle.std.proofs.KnownBytes.{Appends-nil, Appends-trans}
@@ -16,7 +16,6 @@ use Rattle.hid_report_descriptor.specs.Real.{Accepts, Explains, Refuses}
 use Rattle.hid_layout.specs.Layout.{Contents, layout_of}
 use Rattle.hid_snapshots.specs.declared.control_state.ControlState.{ControlState}
 use Rattle.hid_snapshots.specs.declared.event.Event.{Event}
-use Rattle.hid_snapshots.specs.declared.fault.ReportFault.{ReportFault}
 use Rattle.hid_usages.specs.Reading.{report_named}
 use Rattle.hid_usages.specs.Taking.{read_view, read_events}
 use Rattle.hid_text.specs.Output.{IsPrefix, AppendsPrefix}
@@ -36,7 +35,7 @@ use Rattle.hid_recording.specs.EventLines.{event_lines}
 use Rattle.hid_recording.specs.declared.device.Joined.{Joined}
 use Rattle.hid_recording.specs.declared.device.Joined.TheVariants.{Unknown, Doubtful, Begun, Whole}
 use Rattle.hid_recording.specs.Joining.{slot_after_doubt, IsRefusedAs, Joins, past_chunk, bytes_with, ends_with, with_collected}
-use Rattle.hid_recording.specs.LineOutput.{AfterRelease, outcome_of_device, with_descriptor, described_text, text_back, without_named, session_refusal_line, outcome_of_dump_after, devices_after, events_without, outcome_of_refusal, with_device, DescriptorGives, DescriptionGives, after_text, outcome_after_refusal, outcome_of_dropped_dump, with_dropped_dump, dropped_dump_text, with_interface, with_dump, outcome_of_dump_of, outcome_of_dump_head, outcome_of_stray_bytes, outcome_of_dump_bytes, stream_outcome, with_refusal, named_text_back, dumped_device, without_descriptor, described_by, outcome_of_unread_descriptor, DescriptorIsRefused, RecordGives, values_asked, report_text, outcome_of_named_report, outcome_of_report_of, member_in_slot, report_outcome, chunk_in, chunk_of, chunk_outcome, after_dump, DumpEndGives, MeaningGives, GivesByLength, LineGives, LineBegins}
+use Rattle.hid_recording.specs.LineOutput.{AfterRelease, outcome_of_device, with_descriptor, described_text, text_back, without_named, session_refusal_line, outcome_of_dump_after, devices_after, events_without, outcome_of_refusal, with_device, DescriptionGives, after_text, outcome_after_refusal, outcome_of_dropped_dump, with_dropped_dump, dropped_dump_text, with_interface, with_dump, outcome_of_dump_of, outcome_of_dump_head, outcome_of_stray_bytes, outcome_of_dump_bytes, stream_outcome, with_refusal, named_text_back, dumped_device, without_descriptor, described_by, outcome_of_unread_descriptor, DescriptorIsRefused, RecordGives, values_asked, report_text, outcome_of_named_report, outcome_of_report_of, member_in_slot, report_outcome, chunk_in, chunk_of, chunk_outcome, after_dump, DumpEndGives, MeaningGives, GivesByLength, LineGives, LineBegins}
 use Rattle.hid_recording.specs.Gathering.{Gathers, IsPartOf, StopsIn, Outputs, IsCauseOfLine}
 use Rattle.hid_recording.specs.Pieces.{Carries, CutsOff, cause_of}
 use Rattle.hid_recording.specs.Playing.{TakesOne, TakesPart, StopsPlaying, SlotStops, PlaysMember, PlaysAt}
@@ -47,7 +46,7 @@ use Rattle.hid_recording.specs.Refusals.{refusal_line}
 use Rattle.hid_recording.specs.Taking.{read_member, member_events}
 use Rattle.hid_recording.specs.Runs.{ending_of, Ends}
 use Rattle.hid_recording.specs.Place.{AppendsOutput}
-use Rattle.hid_recording.proofs.PieceLemmas.{no_end, carries_more, cut_there, carried_told, told_part, gathered_told, outputs_so, outputs_is}
+use Rattle.hid_recording.proofs.PieceLemmas.{no_end, carries_more, cut_there, told_part, gathered_told, outputs_so, outputs_is}
 
 -- ---- descriptors
 
@@ -127,12 +126,6 @@ dropped_told session next why e after =
     ap (λ (s : Session). success (dropped_dump_text session why) s) after
     ∙ sym (ap (after_text (named_text_back session (dumped_device session))) (refusal_told (with_dropped_dump session) why e))
 
--- of a strict run nothing is told of it
-pub dropped_ends : (session : Session) (why : Why) → session.options.strict ≡ true
-    → failure (causes.Refused why) ≡ outcome_of_dropped_dump session why
-dropped_ends session why e =
-    sym (ap (after_text (named_text_back session (dumped_device session))) (refusal_ends (with_dropped_dump session) why e))
-
 -- a descriptor that can't be read, of a run that isn't strict
 pub unread_told : (session next : Session) (interface : Option Address) (why : Why) → session.options.strict ≡ false
     → next ≡ with_refusal (with_dropped_dump (without_descriptor session interface))
@@ -156,13 +149,6 @@ unread_whole session now next last interface device why e named same gone after 
     ∙ ap (λ d.
     success (named_text_back known d ++ dropped_dump_text (without_named known d) why) (with_refusal (with_dropped_dump (without_named known d)))) same
     ∙ unread_told session (with_refusal (with_dropped_dump (without_descriptor session interface))) interface why e refl
-
--- of a strict run nothing is told of it
-pub unread_ends : (session : Session) (interface : Option Address) (why : Why) → session.options.strict ≡ true
-    → failure (causes.Refused why) ≡ outcome_of_unread_descriptor session interface why
-unread_ends session interface why e =
-    ap (after_text (named_text_back session (described_by session interface)))
-    (dropped_ends (without_descriptor session interface) why e)
 
 -- a dump that begins while another one is open, of a run that isn't strict
 pub unended_told : (session next last : Session) (content : Option Content) → is_some content ≡ true → session.options.strict ≡ false
@@ -533,26 +519,6 @@ pub played_cause : (cause why : Cause) → (let r : Result (Unit {0}) Cause = Er
 unfolding cause_in
 played_cause cause why e = ap (λ c. (let r : Result ℕ Cause = Err c in r)) (ap cause_in e)
 
--- one that was played to its end
-pub report_told : (session next : Session) (time bytes : List ℕ) (a b : Option (List ℕ)) (old left : List ℕ) (events : ℕ)
-    (devices : List (Option PlayedDevice)) → old ≡ []
-    → PlaysAt session.options time session.current bytes session.devices a b old (Ok events) devices left
-    → next ≡ record session {
-      devices = devices;
-      time = time;
-      reports = saturating_sum session.reports 1;
-      events = saturating_sum session.events events;
-    }
-    → Outputs a b (λ o. o ≡ report_outcome time bytes session) (Ok tt) left next
-report_told session next time bytes a b old left events devices none played after =
-    let slot = member_in_slot (slice_get session.devices session.current) in
-    let h = played.1 in
-    let kept = played.2 ∙ ap (set session.devices session.current) (h.behind ∙ ap (λ m. (let s : Option PlayedDevice = Some m in s)) h.took.read) in
-    let text = report_text session.options time session.current h.member h.took.report bytes in
-    carried_told a b (λ o. o ≡ report_outcome time bytes session) old text left next h.took.told none
-    (ap (success text) (after ∙ rw (kept, h.took.count) refl)
-    ∙ named_told session time bytes slot h.member h.took.report h.there h.took.named)
-
 -- one that was played, and memory ran out for its time
 pub report_untimed : (session next : Session) (time bytes : List ℕ) (a b : Option (List ℕ)) (old left : List ℕ) (events : ℕ)
     (devices : List (Option PlayedDevice)) (r : Result (Unit {0}) Cause) (text : List ℕ) → old ≡ []
@@ -622,16 +588,6 @@ refused_told session time chunk Doubtful refusal after joins is =
     (doubtful_told session time chunk joins.0 after joins.1 joins.2 joins.3)
 refused_told session time chunk Begun refusal after joins is = absurd is
 refused_told session time chunk (Whole bytes) refusal after joins is = absurd is
-
--- more of its report comes
-pub begun_told : (session : Session) (time chunk : List ℕ) (member : PlayedDevice) (after : Option PlayedDevice)
-    → member_in_slot (slice_get session.devices session.current) ≡ Some member → member.in_doubt ≡ false
-    → ends_with member chunk ≡ false
-    → after ≡ Some (with_collected member (bytes_with member chunk))
-    → success [] (with_device session after) ≡ chunk_outcome time chunk session
-begun_told session time chunk member after slot certain goes behind =
-    ap (λ m. success [] (with_device session m)) behind
-    ∙ sym (found_told session time chunk member false false slot certain goes)
 
 -- its report ends
 pub whole_told : (session : Session) (time chunk bytes : List ℕ) (member : PlayedDevice) (after : Option PlayedDevice)

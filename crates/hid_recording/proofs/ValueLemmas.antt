@@ -1,5 +1,5 @@
 -- The values of a report, item by item.
-use Rattle.std.proofs.Common.{◌≡◌, ◌<◌, ℕ, zero, suc, ◌∷◌, get_or, arith, Bool, true, false, List, [], length, sym, ap, ◌∙◌, refl, Option, None, Some}
+use Rattle.std.proofs.Common.{◌≡◌, ◌<◌, ℕ, zero, suc, ◌∷◌, get_or, arith, Bool, true, false, List, [], length, sym, ap, ◌∙◌, refl, Some}
 use Rattle.std.specs.Prelude.{slice_get}
 use Rattle.std.proofs.lemmas.Bool.{eq-eqb, ne_eqb}
 use Rattle.hid_layout.specs.Layout.{Contents}

@@ -1,6 +1,6 @@
 -- Times are ASCII, and the bytes of words are those of each, joined.
 use Rattle.std.proofs.Common.{◌≡◌, ℕ, ◌+◌, ◌<◌, ◌≤◌, ◌^◌, min, subst, not, Bool, true, false, cond, nat_lt, List, [], ◌∷◌, ◌++◌, ◌-◌, length, get_or, take, drop, take_all, append_assoc, append-nil, length-append, refl, sym, ap, ◌∙◌, arith, Option, None, Some, Result, Ok, Err, Bor, inl, inr, nat_eq, ⊎_elim}
-use Rattle.std.specs.Prelude.{MatchResult, filter, position, map, ◌&&◌, is_ok, is_some, ok_or}
+use Rattle.std.specs.Prelude.{MatchResult, filter, position, ◌&&◌, is_ok, is_some, ok_or}
 use Rattle.std.specs.Option.{option_map, option_and_then, unwrap_or}
 use Rattle.std.specs.List.{All, list_all, flat_map, position_or_len}
 use Rattle.hex.specs.Hex.{decode_of, hex_digit_value}

@@ -69,7 +69,7 @@ pub record SlotTakesOne (options : Options) (time : List ℕ) (device : ℕ) (by
   pub behind : after ≡ Some next
   pub took : TakesOne options time device bytes member old new text events next left
 
--- there is no device in a slot: nothing was written
+-- a slot without a device: its report is refused, and nothing was written
 abbrev pub FindsNone : Option (List ℕ) → Option (List ℕ) → Cause → Option PlayedDevice → Type 0
 FindsNone old new (Refused refusal) after = (after ≡ None) × (refusal ≡ NoLayout) × (new ≡ old)
 FindsNone old new cause after = ⊥

@@ -206,7 +206,12 @@ impl Player {
     }
 
     /// Gathers the output of a report, whose bytes are put in place of those that were there.
-    fn play_words<W: Write>(&mut self, bytes: &mut Vec<u8>, text: &[u8], writer: &mut W) -> Result<(), Cause>
+    fn play_words<W: Write>(
+        &mut self,
+        bytes: &mut Vec<u8>,
+        text: &[u8],
+        writer: &mut W,
+    ) -> Result<(), Cause>
         ensures outcome { Outputs (W.contents writer.old) (W.contents writer.new)
             (MeaningGives (session_of self.old) (report_record text.now))
             result (string_bytes self.new.text) (session_of self.new) }
@@ -288,7 +293,12 @@ impl Player {
     }
 
     /// A descriptor can't be read: the device that it was for lets go of what it holds, and has none.
-    fn lose_descriptor<W: Write>(&mut self, interface: Option<Address>, refusal: Refusal, writer: &mut W) -> Result<(), Cause>
+    fn lose_descriptor<W: Write>(
+        &mut self,
+        interface: Option<Address>,
+        refusal: Refusal,
+        writer: &mut W,
+    ) -> Result<(), Cause>
         ensures outcome { Outputs (W.contents writer.old) (W.contents writer.new)
             (λ o. o ≡ outcome_of_unread_descriptor (session_of self.old) interface refusal) result
             (string_bytes self.new.text) (session_of self.new) }
@@ -468,10 +478,14 @@ impl Player {
         ensures memory { RunsOutIf (report_allocates (session_of self.old) bytes.now) result }
     {
         self.text.clear();
-        match self
-            .devices
-            .play(self.alloc, &mut self.text, writer, time, self.options, bytes)
-        {
+        match self.devices.play(
+            self.alloc,
+            &mut self.text,
+            writer,
+            time,
+            self.options,
+            bytes,
+        ) {
             Ok(events) => {
                 self.set_time(time)?;
                 self.reports = self.reports.saturating_add(1);
@@ -493,7 +507,13 @@ impl Player {
     }
 
     /// A dump begins.
-    fn begin_dump<W: Write>(&mut self, address: Address, content: Content, time: &str, writer: &mut W) -> Result<(), Cause>
+    fn begin_dump<W: Write>(
+        &mut self,
+        address: Address,
+        content: Content,
+        time: &str,
+        writer: &mut W,
+    ) -> Result<(), Cause>
         ensures outcome { Outputs (W.contents writer.old) (W.contents writer.new)
             (λ o. o ≡ outcome_of_dump_head (session_of self.old) address content time.now) result
             (string_bytes self.new.text) (session_of self.new) }
@@ -520,7 +540,11 @@ impl Player {
     }
 
     /// Takes bytes of the dump that is open.
-    fn gather<W: Write>(&mut self, bytes: Result<Vec<u8>, Refusal>, writer: &mut W) -> Result<(), Cause>
+    fn gather<W: Write>(
+        &mut self,
+        bytes: Result<Vec<u8>, Refusal>,
+        writer: &mut W,
+    ) -> Result<(), Cause>
         ensures outcome { Outputs (W.contents writer.old) (W.contents writer.new)
             (λ o. o ≡ outcome_of_dump_bytes (session_of self.old)
             (items_of bytes) self.old.dump.content) result
@@ -573,9 +597,7 @@ impl Player {
         self.devices.select(dump.device);
         match content {
             Content::Descriptor => self.describe(dump.bytes.as_slice(), writer),
-            Content::Stream => {
-                self.stream(dump.time.as_slice(), dump.bytes.as_slice(), writer)
-            }
+            Content::Stream => { self.stream(dump.time.as_slice(), dump.bytes.as_slice(), writer) }
         }
     }
 

@@ -1,4 +1,4 @@
-use Rattle.std.proofs.Common.{◌+◌, ◌≤◌, ap, ◌∙◌, ◌++◌, sym, arith}
+use Rattle.std.proofs.Common.{◌+◌, ap, ◌∙◌, ◌++◌, sym, arith}
 use Rattle.hid_recording.specs.LineOutput.{value_shown}
 use Rattle.hid_recording.proofs.PieceLemmas.{carries_line, carries_same, line_cut, line_memory, texts_of_all, texts_of_more}
 use Rattle.hid_recording.proofs.values.print_values.Goals as goal

@@ -1,6 +1,6 @@
 use Rattle.std.specs.Prelude.{string_bytes, map}
 use Rattle.std.specs.Option.{option_map}
-use Rattle.std.proofs.Common.{◌≡◌, ◌++◌, None, rules, tests, arith, refl, ap, subst, ◌∙◌}
+use Rattle.std.proofs.Common.{◌≡◌, ◌++◌, None, rules, tests, refl, ap, subst, ◌∙◌}
 use Rattle.hid_recording.specs.declared.dump.Dump.{Dump}
 use Rattle.hid_recording.specs.declared.fault.Refusal.TheVariants as refusals
 use Rattle.hid_recording.specs.declared.fault.TextFault.TheVariants as faults
@@ -60,14 +60,14 @@ returns-clause-outcome g c =
     let line = session_refusal_line session refusals.Unended in
     let named : device ≡ dumped_device session = c.described_device.ensures ∙ ap (λ (d : Dump). described_device d.content d.device) c.replace-before.ensures.value in
     let opened : gathering_of c.replace-before.new.dest ≡ empty_dump c.args.content c.in-Ok.device.number c.args.time.now =
-        ap gathering_of c.replace-before.ensures.after ∙ rw (c.in_ok-begun.ensures.open.0, c.in_ok-begun.ensures.open.1, c.in_ok-begun.ensures.device, c.in_ok-begun.ensures.time, c.in_ok-begun.ensures.empty) refl in
+    ap gathering_of c.replace-before.ensures.after ∙ rw (c.in_ok-begun.ensures.open.0, c.in_ok-begun.ensures.open.1, c.in_ok-begun.ensures.device, c.in_ok-begun.ensures.time, c.in_ok-begun.ensures.empty) refl in
     let now : Session = record session { addresses = c.number.new.self.known.items; gathered = gathering_of c.replace-before.new.dest } in
     let begun : now ≡ with_dump session c.args.address c.args.content c.args.time.now c.in-Ok.device.number =
-        ap (λ k. (let s : Session = record session { addresses = k; gathered = gathering_of c.replace-before.new.dest } in s)) c.in_ok-number.ensures.known
-        ∙ ap (λ d. (let s : Session = record session { addresses = with_address session.addresses c.args.address; gathered = d } in s)) opened in
+    ap (λ k. (let s : Session = record session { addresses = k; gathered = gathering_of c.replace-before.new.dest } in s)) c.in_ok-number.ensures.known
+    ∙ ap (λ d. (let s : Session = record session { addresses = with_address session.addresses c.args.address; gathered = d } in s)) opened in
     let next = session_of c.let_go.new.self in
     let doubted : (let s : Session = record next { current = c.doubt.new.self.current; devices = c.doubt.new.self.slots.items } in s)
-        ≡ record next { devices = map slot_after_doubt next.devices } = rw (c.doubt.ensures.0, c.doubt.ensures.1) refl in
+    ≡ record next { devices = map slot_after_doubt next.devices } = rw (c.doubt.ensures.0, c.doubt.ensures.1) refl in
     carried_told _ _ (λ o. o ≡ outcome_of_dump_head session c.args.address c.args.content c.args.time.now) _ (back ++ line) _ _
     (carries_more _ _ _ _ _ _ _ _ c.in_ok-let_go.ensures.text (carried _ _ line _ (c.in_ok-add_refusal.ensures.text
     ∙ ap (λ (s : Session). string_bytes c.let_go.new.self.text ++ refusal_line s.options s.counted s.lines refusals.Unended) c.in_ok-let_go.ensures.session))) c.clear.ensures.bytes

@@ -1,4 +1,4 @@
-use Rattle.std.proofs.Common.{rules, tests, arith, ap, length}
+use Rattle.std.proofs.Common.{rules, tests, ap}
 use Rattle.hid_recording.specs.Player.{session_of}
 use Rattle.hid_recording.specs.Records.{items_of}
 use Rattle.hid_recording.proofs.PieceLemmas.{outputs_is}

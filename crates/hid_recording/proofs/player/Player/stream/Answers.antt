@@ -1,4 +1,4 @@
-use Rattle.std.proofs.Common.{◌≡◌, Some, rules, ap, sym}
+use Rattle.std.proofs.Common.{◌≡◌, Some, rules, ap}
 use Rattle.hid_recording.specs.LineOutput.{stream_outcome}
 use Rattle.hid_recording.specs.Player.{session_of}
 use Rattle.hid_recording.specs.Words.{time_of}
