@@ -102,18 +102,19 @@ is_operator byte =
     (byte == 43) || ((byte == 45) || ((byte == 42) || ((byte == 47) || ((byte == 37) || ((byte == 38) || ((byte == 124) || ((byte == 94)
     || ((byte == 126) || ((byte == 33) || ((byte == 60) || ((byte == 62) || ((byte == 61) || (byte == 64)))))))))))))
 
--- what follows this character, which stands after that one, is a statement of its own: : ; } or `, a comma that no bracket closes in
+-- what follows this character, which stands after that one, white space aside, is a statement of its own: a single :, ; } or `, a comma that no bracket closes in
 -- front of, or = without an operator
 abbrev pub is_start : ℕ → ℕ → Bool
 is_start before byte =
-    (byte == 58) || ((byte == 59) || ((byte == 125) || ((byte == 96)
+    ((byte == 58) && not (before == 58)) || ((byte == 59) || ((byte == 125) || ((byte == 96)
     || (((byte == 44) && not (closes before)) || ((byte == 61) && not (is_operator before))))))
 
 -- nothing in front of bytes changes them: the last character that isn't a joining one starts a statement
 abbrev pub is_begun_from : Bool → Bool → ℕ → List ℕ → Bool
 is_begun_from is_string is_begun before [] = is_begun
 is_begun_from is_string is_begun before (byte ∷ text) =
-    is_begun_from is_string (if is_joining is_string byte then is_begun else is_start before byte) byte text
+    is_begun_from is_string (if is_joining is_string byte then is_begun else is_start before byte)
+    (if is_ascii_whitespace byte then before else byte) text
 
 -- a line below bytes that it doesn't change may begin so: with a letter, a digit, _, #, @ or $, and below a list with a capital letter or "
 abbrev pub begins_line : Bool → ℕ → Bool

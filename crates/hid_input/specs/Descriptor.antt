@@ -1,5 +1,5 @@
 -- Whole report descriptors (HID 1.11, 6.2.2).
-use Rattle.std.specs.Prelude.{◌≡◌, ◌⊎◌, ℕ, ◌==◌, ◌-◌, ◌%◌, ◌+◌, ◌^◌, min, Bool, true, false, not, ◌&&◌, ◌||◌, List, [], ◌∷◌, ◌++◌, All, length, if◌then◌else◌, Option, None, Some, slice_index, nat_lt}
+use Rattle.std.specs.Prelude.{◌≡◌, ◌⊎◌, ℕ, ◌==◌, ◌-◌, ◌%◌, ◌+◌, ◌^◌, min, Bool, true, false, not, ◌&&◌, ◌||◌, List, [], ◌∷◌, ◌++◌, All, length, if◌then◌else◌, Option, None, Some, slice_index, nat_le, nat_lt}
 use Rattle.std.specs.List.{flat_map, list_all, list_any}
 use Rattle.std.specs.Option.{option_and_then}
 use Rattle.hid_items.specs.declared.fault.ItemFault.{ItemFault}
@@ -14,10 +14,13 @@ use Rattle.hid_input.specs.declared.whole.Progress.{Progress}
 abbrev pub start : Progress
 start = record { depth = 0; is_begun = false; has_usage = false; is_page = false; is_closed = false }
 
--- a descriptor begins with a Usage Page of one or two bytes, or with a Usage of four, which has a page in it (6.2.2.7, 6.2.2.8; our choice)
-abbrev pub is_first : ℕ → ℕ → Bool
-is_first prefix size =
-    ((prefix == 0x04) && ((size == 2) || (size == 3))) || ((prefix == 0x08) && (size == 5))
+-- a descriptor begins with a Usage Page of one or two bytes, or with a Usage of four, which has a page in it (6.2.2.7, 6.2.2.8; our choice).
+-- The high byte of a page is 0, or F0 or over, as makers' pages have it
+abbrev pub is_first : ℕ → List ℕ → Bool
+is_first prefix item =
+    ((prefix == 0x04) && (length item == 2))
+    || ((((prefix == 0x04) && (length item == 3)) || ((prefix == 0x08) && (length item == 5)))
+    && ((slice_index item (length item - 1) == 0) || nat_le 0xF0 (slice_index item (length item - 1))))
 
 -- Input, Output, Feature and End Collection (6.2.2.4)
 abbrev pub is_inner : ℕ → Bool
@@ -45,9 +48,9 @@ is_placed p prefix size =
     else (if prefix == 0x04 then nat_lt 0 p.depth || not p.is_page else is_other prefix)))
 
 -- a short item may come next: outside of collections each has data
-abbrev pub may_follow : Progress → ℕ → ℕ → Bool
-may_follow p prefix size =
-    if p.is_begun then not (not (nat_lt 0 p.depth) && (size == 1)) && is_placed p prefix size else is_first prefix size
+abbrev pub may_follow : Progress → ℕ → List ℕ → Bool
+may_follow p prefix item =
+    if p.is_begun then not (not (nat_lt 0 p.depth) && (length item == 1)) && is_placed p prefix (length item) else is_first prefix item
 
 -- how many collections are open after a short item
 abbrev pub depth_after : ℕ → ℕ → ℕ
@@ -67,7 +70,7 @@ after_prefix p prefix = record {
 abbrev pub after_item : Progress → List ℕ → Option Progress
 after_item p item =
     if slice_index item 0 == 0xFE then None
-    else (if may_follow p (prefix_of item) (length item) then Some (after_prefix p (prefix_of item)) else None)
+    else (if may_follow p (prefix_of item) item then Some (after_prefix p (prefix_of item)) else None)
 
 abbrev pub after_items : Progress → List (List ℕ) → Option Progress
 after_items p [] = Some p

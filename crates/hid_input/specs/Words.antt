@@ -90,11 +90,11 @@ word_bytes Runs word = run_bytes word
 word_bytes Joined word = joined_bytes word
 word_bytes Elements word = single_byte (element_byte word)
 
--- what parts words: white space; or white space and commas; or each character but letters, digits and _
+-- what parts words: white space; or white space and commas; or each character but letters, digits, _ and .
 abbrev pub is_separator : Parting → ℕ → Bool
 is_separator Space byte = is_ascii_whitespace byte
 is_separator Commas byte = is_ascii_whitespace byte || (byte == 44)
-is_separator Marks byte = not (is_ascii_alphanumeric byte) && not (byte == 95)
+is_separator Marks byte = not (is_ascii_alphanumeric byte) && (not (byte == 95) && not (byte == 46))
 
 abbrev pub is_no_separator : Parting → ℕ → Bool
 is_no_separator parting byte = not (is_separator parting byte)

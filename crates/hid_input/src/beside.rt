@@ -249,7 +249,8 @@ fn is_start(before: u8, byte: u8) -> bool
     ensures { result ≡ is_start before byte }
 {
     match byte {
-        b':' | b';' | b'}' | b'`' => true,
+        b';' | b'}' | b'`' => true,
+        b':' => before != b':',
         b',' => !closes(before),
         b'=' => !matches!(
             before,
@@ -281,7 +282,11 @@ fn is_begun(text: &[u8], is_string: bool) -> bool
         if !is_joining(*byte, is_string) {
             is_begun = is_start(before, *byte);
         }
-        before = *byte;
+        before = if byte.is_ascii_whitespace() {
+            before
+        } else {
+            *byte
+        };
     }
     is_begun
 }

@@ -242,7 +242,7 @@ fn fault_of_others(
     ensures { IfOk result (λ fault. is_none fault ≡ agree shape bytes.now (parts_below is_newline (option_copied sides.entry.0)) (parts_below is_newline (option_copied sides.entry.1))) }
 {
     if let Some(other) = find_other(alloc, sides.0, shape, bytes)? {
-        return Ok(Some(other_fault(text, number, other, shape)));
+        return Ok(Some(other_fault(sides.0.unwrap_or(text), number, other, shape)));
     }
     match find_other(alloc, sides.1, shape, bytes)? {
         Some(other) => Ok(Some(other_fault(text, number, other, shape))),

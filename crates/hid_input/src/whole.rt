@@ -75,11 +75,15 @@ const START: Progress = Progress {
     is_closed: false,
 };
 
-/// Whether a descriptor may begin with a short item: a Usage Page of one or two bytes, or a Usage of four.
-fn is_first(prefix: u8, length: usize) -> bool
-    ensures { result ≡ is_first prefix length }
+/// Whether a descriptor may begin with a short item: a Usage Page of one or two bytes, or a Usage of four. The high byte of a page is 0,
+/// or F0 or over, as makers' pages have it.
+fn is_first(prefix: u8, item: &[u8]) -> bool
+    ensures { result ≡ is_first prefix item.now }
 {
-    (prefix == 0x04 && (length == 2 || length == 3)) || (prefix == 0x08 && length == 5)
+    let length = item.len();
+    (prefix == 0x04 && length == 2)
+        || (((prefix == 0x04 && length == 3) || (prefix == 0x08 && length == 5))
+            && (item[length - 1] == 0 || item[length - 1] >= 0xF0))
 }
 
 impl Progress {
@@ -87,12 +91,13 @@ impl Progress {
     ghost use Rattle.hid_input.specs.Descriptor.{may_follow, after_prefix, after_item, item_cause};
 
     /// Whether a short item may come next. Outside of collections each has data, and no Usage Page follows another.
-    fn may_follow(self, prefix: u8, length: usize) -> bool
-        ensures { result ≡ may_follow self prefix length }
+    fn may_follow(self, prefix: u8, item: &[u8]) -> bool
+        ensures { result ≡ may_follow self prefix item.now }
     {
         if !self.is_begun {
-            return is_first(prefix, length);
+            return is_first(prefix, item);
         }
+        let length = item.len();
         let is_inside = self.depth > 0;
         if !is_inside && length == 1 {
             return false;
@@ -150,7 +155,7 @@ impl Progress {
         ensures cause { IfErr result (λ cause. cause ≡ item_cause (prefix_of item.now.bytes.now)) }
     {
         match item.kind {
-            ItemKind::Short { prefix } if self.may_follow(prefix, item.bytes.len()) => {
+            ItemKind::Short { prefix } if self.may_follow(prefix, item.bytes) => {
                 Ok(self.after_prefix(prefix))
             }
             ItemKind::Short { prefix: 0xC0 } => Err(DescriptorCause::EndWithout),

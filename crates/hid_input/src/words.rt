@@ -25,7 +25,7 @@ pub enum Parting {
     Space,
     /// White space and commas.
     Commas,
-    /// Each character but letters, digits and `_`.
+    /// Each character but letters, digits, `_` and `.`.
     Marks,
 }
 
@@ -159,7 +159,7 @@ fn is_separator(byte: u8, parting: Parting) -> bool
     match parting {
         Parting::Space => byte.is_ascii_whitespace(),
         Parting::Commas => byte.is_ascii_whitespace() || byte == b',',
-        Parting::Marks => !byte.is_ascii_alphanumeric() && byte != b'_',
+        Parting::Marks => !byte.is_ascii_alphanumeric() && byte != b'_' && byte != b'.',
     }
 }
 
