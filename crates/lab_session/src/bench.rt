@@ -81,6 +81,7 @@ impl Bench {
             ≡ at_first (record { layout = options.layout; trace = options.trace })) }
         ensures undrawn { IfOk result (λ bench. IsUndrawn (moment_of bench)) }
         ensures waits { IfOk result (λ bench. IsForgotten bench.printer.transcript) }
+        ensures memory { IfErr result (λ cause. cause ≡ LabCause.Script Cause.Memory) }
     {
         let printed = Options {
             layout: options.layout,
