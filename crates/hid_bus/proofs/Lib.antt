@@ -12,5 +12,6 @@ pub mod NakLemmas
 pub mod FairnessLemmas
 pub mod ConvergenceLemmas
 pub mod RoundLemmas
+pub mod StillLemmas
 mod Vectors
 pub mod DeliveredLemmas

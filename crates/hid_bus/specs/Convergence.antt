@@ -5,6 +5,7 @@ use Rattle.std.specs.Int.{div_ceil}
 use Rattle.std.specs.Int.RustNames.{unsigned_abs}
 use Rattle.hid_layout.specs.declared.control.Controls.{Controls}
 use Rattle.hid_layout.specs.declared.control.Controls.TheVariants as head
+use Rattle.hid_layout.specs.declared.control.ControlId.{ControlId}
 use Rattle.hid_layout.specs.declared.control.ControlKind.TheVariants.{Switch, Value, NullValue, Relative}
 use Rattle.hid_layout.specs.Controls.{Item, controls_of_form}
 use Rattle.hid_snapshots.specs.declared.control_state.ControlState.{ControlState}
@@ -12,14 +13,15 @@ use Rattle.hid_snapshots.specs.declared.control_state.ControlState.TheVariants.{
 use Rattle.hid_snapshots.specs.ControlStates.{FitsSnapshot, are_motions}
 use Rattle.hid_snapshots.specs.Parts.{is_of, item_at, has_zeros}
 use Rattle.hid_snapshots.specs.Pieces.{pieces_of}
-use Rattle.hid_snapshots.specs.Snapshots.{state_at}
+use Rattle.hid_snapshots.specs.Snapshots.{is_pressed, state_at}
+use Rattle.hid_snapshots.specs.Views.{value_in}
 use Rattle.usb_transact.specs.declared.transaction.Fate.{Fate}
 use Rattle.hid_bus.specs.ReportState.{ReportState, is_due, no_idle}
 use Rattle.hid_bus.specs.Rounds.{OwnStep, Changes, Frame, Polls, closed_count}
 use Rattle.hid_bus.specs.Fairness.{IsFair}
 use Rattle.hid_bus.specs.LinkState.{LinkState, OpenRound, initial_link, state_after_steps}
 use Rattle.hid_bus.specs.DeviceHistory.{BusEvent, state_after_all}
-use Rattle.hid_bus.specs.Agreement.{HasNothingToSend, Agrees, AreSentIn, AllSetEach}
+use Rattle.hid_bus.specs.Agreement.{HasNothingToSend, Agrees, AreSentIn, AllSetEach, has_too_many_keys}
 
 -- a step that changes no control and starts no report by its idle time: a poll, or a frame where no report has an idle time
 abbrev pub IsStill : List ℕ → OwnStep → Type 0
@@ -205,6 +207,21 @@ AgreesAfterCleanPolls items snapshot idle bus_events steps =
     StaysStill items snapshot idle bus_events steps
     → polls_needed items s ≤ closed_count (fates_of steps)
     → IsAtRest items (state_after_steps items s steps)
+
+-- The host has a control as the device had it earlier: pressed or not, and its value.
+pub record HasFrom (earlier now : LinkState) (c : ControlId) : Type 0 where
+  pub pressed : is_pressed (state_at now.view c.item) c.index ≡ is_pressed (state_at earlier.reports.snapshot c.item) c.index
+  pub value : value_in (state_at now.view c.item) c.index ≡ value_in (state_at earlier.reports.snapshot c.item) c.index
+
+-- Once as many polls lost nothing as the device needs, its host has each control as the device had it when changes stopped, but for
+-- the keys of an array in rollover.
+abbrev pub HasWhatWasPressed : List Item → List ControlState → List ℕ → List BusEvent → List OwnStep → Type 0
+HasWhatWasPressed items snapshot idle bus_events steps =
+    let s : LinkState = state_after_all items (initial_link items snapshot idle) bus_events in
+    StaysStill items snapshot idle bus_events steps
+    → polls_needed items s ≤ closed_count (fates_of steps)
+    → (c : ControlId) → has_too_many_keys items s.reports.snapshot c.item ≡ false
+    → HasFrom s (state_after_steps items s steps) c
 
 -- Both ends agree within (k + 1) times the polls that the device needs, where at most k in a row lose something.
 abbrev pub AgreesInTime : ℕ → List Item → List ControlState → List ℕ → List BusEvent → List OwnStep → Type 0

@@ -13,7 +13,7 @@ ghost use Rattle.hid_bus.specs.HistoryState.{HistoryHolds, IsQuietPoll, StandsBy
 ghost use Rattle.hid_bus.specs.AbortedRounds.{HasAbortFlags, OpensNext, StaysDue};
 ghost use Rattle.hid_bus.specs.DeviceHistory.{Clears, BusEvent, Halts, AreWithinEpoch, outcomes_of_events, ended_rounds, events_of_outcomes, events_of_history, state_after_all};
 ghost use Rattle.hid_bus.specs.Motion.{HasMotions, KeepsMotion, KeepsAccepted, KeepsThroughHistory, AreBetweenRounds, are_accepted};
-ghost use Rattle.hid_bus.specs.Convergence.{AgreesAfterCleanPolls, AgreesInTime, AreSendable, RestsAfterCleanPolls, RestsInTime};
+ghost use Rattle.hid_bus.specs.Convergence.{AgreesAfterCleanPolls, AgreesInTime, AreSendable, HasWhatWasPressed, RestsAfterCleanPolls, RestsInTime};
 ghost use Rattle.hid_bus.specs.Agreement.{AgreesAtNak, AnswersNak, HasNothingToSend, IsUnmoved};
 ghost use Rattle.hid_bus.specs.Rounds.{OwnStep, Round, reaches_host, is_clean, has_crossed, has_closed, rounds, events_of_rounds, events_of_epoch, initial_history};
 ghost use Rattle.hid_bus.specs.LinkState.{LinkState, OpenRound, HasPieces, is_last, initial_link, state_after_steps, events_of_steps};
@@ -152,7 +152,8 @@ pub fn no_key_is_left_stuck()
 /// A device comes to rest. If its controls stay as they are, its endpoint isn't halted and frames pass only if no idle time is set,
 /// a number of polls that lose nothing is enough: one for each piece that the open round has left, and the pieces of each report,
 /// once for each round that its motions need, and once at least if it is due. After that many the device has nothing to send, and
-/// its host agrees. If at most `most_lost` polls in a row lose something, `most_lost + 1` times as many polls are enough.
+/// its host agrees. If at most `most_lost` polls in a row lose something, `most_lost + 1` times as many polls are enough. Polls and
+/// frames leave what is pressed, so the host then has what was pressed when changes stopped (`kept`).
 pub fn devices_come_to_rest()
     ensures clean { (items : List Item) (snapshot : List ControlState) (idle : List ℕ)
         (bus_events : List BusEvent) (rounds : ℕ → ℕ) (steps : List OwnStep)
@@ -166,6 +167,9 @@ pub fn devices_come_to_rest()
     ensures needed { (most_lost : ℕ) (items : List Item) (snapshot : List ControlState)
         (idle : List ℕ) (bus_events : List BusEvent) (steps : List OwnStep)
         → AgreesInTime most_lost items snapshot idle bus_events steps }
+    ensures kept { (items : List Item) (snapshot : List ControlState) (idle : List ℕ)
+        (bus_events : List BusEvent) (steps : List OwnStep)
+        → HasWhatWasPressed items snapshot idle bus_events steps }
     ensures blank { (items : List Item) → AreSendable items (blank items) }
     ensures changed { (items : List Item) (snapshot after : List ControlState) (change : Change)
         → AreSendable items snapshot → snapshot_after items snapshot change ≡ Ok after

@@ -8,5 +8,6 @@ pub mod ResultLemmas
 pub mod ReceiveLemmas
 pub mod AgreementLemmas
 pub mod RestLemmas
+pub mod TransferCountLemmas
 pub mod ReadLemmas
 mod Vectors

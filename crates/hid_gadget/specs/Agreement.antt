@@ -1,5 +1,5 @@
 -- When a gadget and the receiver of its reports agree, and how soon (USB 2.0, 5.7.4, 8.4.6 and 8.5.4; our choice).
-use Rattle.std.specs.Prelude.{◌≡◌, ◌≤◌, ◌+◌, ℕ, List, [], ◌∷◌}
+use Rattle.std.specs.Prelude.{◌≡◌, ◌≢◌, ◌≤◌, ◌+◌, ℕ, List, [], ◌∷◌, length}
 use Rattle.hid_layout.specs.Controls.{items_of}
 use Rattle.hid_snapshots.specs.declared.control_state.ControlState.{ControlState}
 use Rattle.hid_usages.specs.Receiving.{ReceiverState}
@@ -80,3 +80,23 @@ RestsAfterTransfers core snapshot idle earlier later =
     IsFresh core snapshot idle → AreSendable (items_of core.layout) snapshot → AreWithinEpoch (bus_events core earlier)
     → AreStillSteps now later → packets_needed now ≤ packets_asked now later
     → RestsWith (core_after_steps now later) (receiver_after_steps now later receiving).view
+
+-- interrupt transfers with these rooms, one after the other
+abbrev pub asks : List ℕ → List GadgetStep
+asks [] = []
+asks (room ∷ rooms) = Asks room ∷ asks rooms
+
+-- none of these rooms is too small for the first packet that its transfer finds
+abbrev pub NoneTooSmall : CoreState → List ℕ → Type 0
+NoneTooSmall core [] = Unit {0}
+NoneTooSmall core (room ∷ rooms) =
+    (report_result core room ≢ TooSmall) × NoneTooSmall (core_after_step core (Asks room)) rooms
+
+-- As many interrupt transfers as the gadget needs packets bring both to rest too, if no room is too small.
+abbrev pub RestsAfterAsMany : CoreState → List ControlState → List ℕ → List GadgetStep → List ℕ → Type 0
+RestsAfterAsMany core snapshot idle earlier rooms =
+    let now : CoreState = core_after_steps core earlier in
+    let receiving : ReceiverState = receiver_after_steps core earlier (new_receiver core.layout) in
+    IsFresh core snapshot idle → AreSendable (items_of core.layout) snapshot → AreWithinEpoch (bus_events core earlier)
+    → NoneTooSmall now rooms → packets_needed now ≤ length rooms
+    → RestsWith (core_after_steps now (asks rooms)) (receiver_after_steps now (asks rooms) receiving).view

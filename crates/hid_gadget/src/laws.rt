@@ -23,7 +23,7 @@ ghost use Rattle.hid_gadget.specs.WholeTransfers.{IsOfTries, after_transfer};
 ghost use Rattle.hid_gadget.specs.WholeReports.{IsOfPolls, IsTakenWhole, TakesNothing, report_result};
 ghost use Rattle.hid_gadget.specs.declared.outcomes.Poll.{Poll};
 ghost use Rattle.hid_gadget.specs.ReceivedReports.{AreInStep, Asks, GadgetStep, GivesEvents, IsFresh, bus_events, events_of_crossed, events_received, new_receiver, set_configuration_1};
-ghost use Rattle.hid_gadget.specs.Agreement.{AgreesAfterSteps, RestsAfterTransfers, packets_at};
+ghost use Rattle.hid_gadget.specs.Agreement.{AgreesAfterSteps, RestsAfterAsMany, RestsAfterTransfers, packets_at};
 ghost use Rattle.hid_gadget.specs.ReadReports.{AreWhole, HoldsEach, ReadsAlike, events_read, receiver_of};
 
 /// A control transfer of which nothing is lost is the tries of its pieces: after as many of them as it needs, wherever
@@ -86,6 +86,10 @@ pub fn receivers_give_events()
     // A transfer whose room isn't too small is one packet at least.
     ensures each { (core : CoreState) (room : ℕ) → core.halted ≡ false
         → report_result core room ≢ Poll.TooSmall → 0 < packets_at core (Asks room) }
+    // So as many transfers as packets are enough, if no room is too small.
+    ensures enough { (core : CoreState) (snapshot : List ControlState) (idle : List ℕ)
+        (earlier : List GadgetStep) (rooms : List ℕ)
+        → RestsAfterAsMany core snapshot idle earlier rooms }
     // A gadget whose host just configured it is one of the headline, and in step with a new receiver.
     ensures fresh { (core : CoreState) → IsSound core
         → IsFresh (after_transfer core_table core set_configuration_1 [])

@@ -1,6 +1,7 @@
 use Rattle.hid_gadget.proofs.ReceiveLemmas.{fresh_in_step, gives_events, gives_rounds, gives_schedule, goes_on_again, is_fresh}
 use Rattle.hid_gadget.proofs.AgreementLemmas.{agrees_after_steps}
 use Rattle.hid_gadget.proofs.RestLemmas.{rests_after_transfers, some_packets}
+use Rattle.hid_gadget.proofs.TransferCountLemmas.{rests_after_as_many}
 use Rattle.hid_gadget.proofs.laws.receivers_give_events.Goals as goal
 
 pub returns-clause-given : goal.returns-clause-given
@@ -29,3 +30,6 @@ returns-clause-rests c = rests_after_transfers
 
 pub returns-clause-each : goal.returns-clause-each
 returns-clause-each c = some_packets
+
+pub returns-clause-enough : goal.returns-clause-enough
+returns-clause-enough c = rests_after_as_many
