@@ -233,10 +233,13 @@ compare-linux: $(PLAYER) $(HIDSERVE) $(HIDATTACH) $(HIDLAB)  ## compares hidplay
 memory: $(HIDRUN) $(HIDLAB) $(PLAYER)  ## runs examples and tests with each allocation refused
 	tools/check/memory $(HIDRUN) --lab $(HIDLAB) --play $(PLAYER) --tests crates
 
-# Lists the goal and the clause at which each wrong body is refused: make refusals CRATES="usb_packet hid_items" (none: all)
-refusals:  ## lists how wrong bodies are refused: CRATES="usb_packet hid_items" (none: all)
+# Lists the goal and the clause at which each wrong body is refused: make refusals CRATES="usb_packet hid_items" (none: all), or
+# of the crates that changed since a revision: make refusals SINCE=REV
+TOUCHED = $(notdir $(wildcard $(addprefix crates/,$(shell git diff --name-only $(SINCE) -- crates | cut -d/ -f2 | sort -u))))
+
+refusals:  ## lists how wrong bodies are refused: CRATES="usb_packet hid_items" or SINCE=REV (none: all)
 	$(NEEDS_RT)
-	tools/proof/refusals $(CRATES)
+	$(if $(SINCE),$(if $(TOUCHED),tools/proof/refusals $(TOUCHED),@echo "no crate changed since $(SINCE)"),tools/proof/refusals $(CRATES))
 
 # Lists the wrong bodies that no test of their crate notices, without a proof: make mutants CRATES=usb_packet
 mutants:  ## lists wrong bodies that no test notices: CRATES=usb_packet
