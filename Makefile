@@ -26,7 +26,7 @@ VERSION := 0.2.0
 LIBRARY_VERSION := $(shell sed -n 's/^\#define HIDSTACK_VERSION "\(.*\)"/\1/p' include/hidstack.h)
 MAJOR := $(firstword $(subst ., ,$(LIBRARY_VERSION)))
 
-.PHONY: run test try hidrun hidplay hidmap hidlab hidserve hidattach bench examples library library-test library-check library-cost linux-cost scale play-cost install deb deb-test documents tour format memory refusals mutants descriptors readers compare-linux help clean
+.PHONY: run test try hidrun hidplay hidmap hidlab hidserve hidattach bench examples library library-test library-check library-cost linux-cost play-cost install deb deb-test documents doc tour format memory refusals mutants descriptors readers compare-linux help clean
 
 # The first line of each recipe that starts the toolchain: without `rt`, make ends with one line.
 NEEDS_RT = $(if $(shell command -v rt),,$(error rt is missing: put the folder bin of the Rattle kit on the PATH (README.md has its name)))
@@ -82,10 +82,6 @@ $(LAUNCHED:%=bin/programs/%): bin/programs/%: crates/$$*/out/$$*
 $(LAUNCHED:%=bin/%): bin/%: bin/programs/% tools/user/launcher
 	cp tools/user/launcher $@
 
-# Plays a folder of recordings with GNU parallel, stops in the middle and resumes: docs/SCALE.md.
-scale: $(PLAYER)  ## plays a folder of recordings in parallel
-	tools/check/scale $(PLAYER)
-
 # Counts the instructions of a report in hidplay, by callgrind, and measures the memory for a recording of 1 GB.
 play-cost: $(PLAYER)  ## counts the instructions of a report in hidplay
 	tools/measure/cost hidplay $(PLAYER)
@@ -124,13 +120,13 @@ library-cost: library  ## counts the instructions of calls of the C library
 linux-cost: $(BENCH) library  ## counts the instructions of reports beside Linux's HID core: SOURCE=FOLDER
 	tools/measure/linux $(if $(SOURCE),--source $(SOURCE))
 
-# Programs, the two tools for many recordings, library, header, pkg-config file, manual pages, completion, documents and
+# Programs, library, header, pkg-config file, manual pages, completion, documents and
 # examples. LIBDIR is the folder of the libraries. The pages of the library's calls are made from its header.
 SHARED := $(DESTDIR)$(PREFIX)/share
 DOCUMENTS := $(SHARED)/doc/rulohevian
 
-install: $(HIDRUN) $(HIDPLAY) $(HIDMAP) $(HIDLAB) $(HIDSERVE) $(HIDATTACH) library  ## installs programs, library and documents: PREFIX=/usr/local DESTDIR=
-	install -Dm755 -t "$(DESTDIR)$(PREFIX)/bin" $(HIDRUN) $(HIDPLAY) $(HIDMAP) $(HIDLAB) $(HIDSERVE) $(HIDATTACH) tools/user/play-into tools/user/join-results
+install: $(HIDRUN) $(HIDPLAY) $(HIDMAP) $(HIDLAB) $(HIDSERVE) $(HIDATTACH) library doc  ## installs programs, library and documents: PREFIX=/usr/local DESTDIR=
+	install -Dm755 -t "$(DESTDIR)$(PREFIX)/bin" $(HIDRUN) $(HIDPLAY) $(HIDMAP) $(HIDLAB) $(HIDSERVE) $(HIDATTACH)
 	install -Dm755 -t "$(DESTDIR)$(PREFIX)/libexec/rulohevian" $(PLAYER) $(MAPPER)
 	install -Dm644 -t "$(DESTDIR)$(LIBDIR)" bin/lib/libhidstack.a
 	install -Dm755 -t "$(DESTDIR)$(LIBDIR)" bin/lib/libhidstack.so.$(LIBRARY_VERSION)
@@ -144,7 +140,7 @@ install: $(HIDRUN) $(HIDPLAY) $(HIDMAP) $(HIDLAB) $(HIDSERVE) $(HIDATTACH) libra
 	chmod 644 "$(SHARED)/man/man3"/hidstack*.3
 	install -Dm644 -t "$(SHARED)/bash-completion/completions" packaging/completion/*
 	install -Dm644 -t "$(DOCUMENTS)" README.md CHANGELOG.md LICENSE
-	install -Dm644 -t "$(DOCUMENTS)/docs" docs/*.md
+	install -Dm644 -t "$(DOCUMENTS)/docs" docs/*.md bin/DEFINITIONS.md
 	install -Dm644 -t "$(DOCUMENTS)/docs/pictures" docs/pictures/*.svg
 	find examples -name __pycache__ -prune -o -type f -exec sh -c 'for it; do install -Dm644 "$$it" "$(DOCUMENTS)/$$it" || exit 1; done' - {} +
 
@@ -182,8 +178,8 @@ examples: $(HIDRUN) $(HIDPLAY) $(HIDMAP) $(HIDLAB) $(HIDSERVE) $(HIDATTACH) $(BE
 	tools/check/examples $(HIDRUN) $(HIDPLAY) $(HIDMAP) $(HIDLAB)
 	tools/check/rows $(HIDRUN)
 
-# Checks that everything the documents cite exists, that DEFINITIONS and the table of THEOREM are as their tools make them, and
-# names and comments; then plants faults and checks that each is found.
+# Checks that everything the documents cite exists, that each definition has a comment, and that the table of THEOREM is as its
+# tool makes it; then plants faults and checks that each is found.
 documents:  ## checks that what the documents cite exists
 	tools/check/documents
 	tools/check/documents --self-test
@@ -193,8 +189,11 @@ documents:  ## checks that what the documents cite exists
 	tools/proof/theorem-closure --self-test
 	tools/proof/compare-statements --self-test
 	tools/proof/refusals --self-test
-	tools/check/words
-	tools/check/words --self-test
+
+# Writes the definitions that contracts cite, with their comments, to bin/DEFINITIONS.md.
+doc:  ## writes the definitions that contracts cite to bin/DEFINITIONS.md
+	mkdir -p bin
+	tools/check/definitions bin/DEFINITIONS.md
 
 # Runs the program of docs/LIBRARY.md without a proof, in a repository of its own. It takes some minutes.
 tour:  ## runs the program of docs/LIBRARY.md without a proof
@@ -234,10 +233,13 @@ compare-linux: $(PLAYER) $(HIDSERVE) $(HIDATTACH) $(HIDLAB)  ## compares hidplay
 memory: $(HIDRUN) $(HIDLAB) $(PLAYER)  ## runs examples and tests with each allocation refused
 	tools/check/memory $(HIDRUN) --lab $(HIDLAB) --play $(PLAYER) --tests crates
 
-# Lists the goal and the clause at which each wrong body is refused: make refusals CRATES="usb_packet hid_items" (none: all)
-refusals:  ## lists how wrong bodies are refused: CRATES="usb_packet hid_items" (none: all)
+# Lists the goal and the clause at which each wrong body is refused: make refusals CRATES="usb_packet hid_items" (none: all), or
+# of the crates that changed since a revision: make refusals SINCE=REV
+TOUCHED = $(notdir $(wildcard $(addprefix crates/,$(shell git diff --name-only $(SINCE) -- crates | cut -d/ -f2 | sort -u))))
+
+refusals:  ## lists how wrong bodies are refused: CRATES="usb_packet hid_items" or SINCE=REV (none: all)
 	$(NEEDS_RT)
-	tools/proof/refusals $(CRATES)
+	$(if $(SINCE),$(if $(TOUCHED),tools/proof/refusals $(TOUCHED),@echo "no crate changed since $(SINCE)"),tools/proof/refusals $(CRATES))
 
 # Lists the wrong bodies that no test of their crate notices, without a proof: make mutants CRATES=usb_packet
 mutants:  ## lists wrong bodies that no test notices: CRATES=usb_packet

@@ -32,18 +32,8 @@ def refusal_of(descriptor, limits):
 
 
 @functools.cache
-def shown_items(descriptor):
-    """The listed items with all that a struct hidstack_element_info says."""
-    return second_reader.Layout(descriptor, second_reader.REAL).items
-
-
-@functools.cache
 def layout_of(descriptor):
     layout = script.Layout(descriptor)
-    for item in layout.items:
-        if item.size > second_reader.NUMBER:
-            item.padding, item.usages = True, []
-    layout.shown = shown_items(descriptor)
     layout.tame = all(item.padding or item.size <= 16 and item.count <= 300 and item.usage_count() <= 1000 for item in layout.items)
     layout.room = sum(item.count * (1 if item.variable else 2) for item in layout.items if item.kind == "input" and not item.padding)
     return layout
@@ -84,7 +74,7 @@ def element(layout, item, index):
     """A struct hidstack_element_info, or None."""
     if item >= len(layout.items) or layout.items[item].padding or index >= layout.items[item].count:
         return None
-    one, shown = layout.items[item], layout.shown[item]
+    one, shown = layout.items[item], layout.read.items[item]
     bit = one.offset + 8 * layout.numbered + index * one.size
     usage = one.usage_of(index) if one.variable else 0
     return struct.pack("<qqQQQIIIHHHBBBBH", one.least, one.greatest, item, index, len(one.path), bit, one.size, one.usage_count(), usage >> 16,

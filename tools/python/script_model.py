@@ -6,23 +6,21 @@ pieces. Descriptors are taken as good ones; `layout` and `values` lines aren't m
 """
 import functools
 
+import second_reader
+from second_reader import Refused, number as le, shown as show
+
 M = bytes.fromhex("05010902A1010901A1000509190129031500250195037501810295017505810105010930093115 81257F750895028106C0C0".replace(" ", ""))
 K = bytes.fromhex("05010906A101050719E029E71500250175019508810295017508810195057501050819012905910295017503910195067508150025650507190029658100C0")
 
 
-class Refused(Exception):
-    pass
-
-
-# ---- layouts (HID 1.11, 6.2.2)
-
-def le(data, signed=False):
-    return int.from_bytes(data, "little", signed=signed)
-
+# ---- layouts: those of second_reader, with what a device and a host make of them
 
 class Item:
-    def bits(self):
-        return self.size * self.count
+    def __init__(self, read):
+        self.kind, self.id, self.size, self.count = read.kind, read.id, read.size, read.count
+        self.least, self.greatest, self.path, self.offset = read.least, read.greatest, read.path, read.at
+        self.variable, self.relative, self.null = (bool(read.flags & bit) for bit in (2, 4, 0x40))
+        self.padding, self.usages = read.is_padding, [] if read.is_padding else read.usages
 
     def value(self, pattern):
         return pattern - (1 << self.size) if self.least < 0 and pattern >> (self.size - 1) else pattern
@@ -104,69 +102,8 @@ class Item:
 
 class Layout:
     def __init__(self, descriptor):
-        self.items, self.numbered = [], False
-        g, stack, local = {}, [], []
-        at, where = 0, {}
-        self.lines_path = []
-        path = []
-        while at < len(descriptor):
-            b = descriptor[at]
-            if b == 0xFE:
-                at += 3 + descriptor[at + 1]
-                continue
-            n = (0, 1, 2, 4)[b & 3]
-            data, prefix = descriptor[at + 1:at + 1 + n], b & 0xFC
-            at += 1 + n
-            if prefix & 0x0C == 4:  # globals
-                if prefix == 0xA4:
-                    stack.append(dict(g))
-                elif prefix == 0xB4:
-                    g = stack.pop()
-                else:
-                    g[prefix] = data
-                    self.numbered |= prefix == 0x84
-            elif prefix & 0x0C == 8:
-                local.append((prefix, data))
-            elif prefix in (0x80, 0x90, 0xB0, 0xA0, 0xC0):
-                usages = self.usages(local, le(g.get(0x04, b"")) & 0xFFFF)
-                local = []
-                if prefix == 0xA0:
-                    path.append((le(data) & 0xFF, usages[0][0] if usages else None))
-                elif prefix == 0xC0:
-                    path.pop()
-                else:
-                    i = Item()
-                    i.kind = {0x80: "input", 0x90: "output", 0xB0: "feature"}[prefix]
-                    flags = le(data)
-                    i.variable, i.relative, i.null = bool(flags & 2), bool(flags & 4), bool(flags & 0x40)
-                    i.size, i.count, i.id = le(g.get(0x74, b"")), le(g.get(0x94, b"")), le(g.get(0x84, b""))
-                    i.least = le(g.get(0x14, b""), True)
-                    i.greatest = le(g.get(0x24, b""), i.least < 0)
-                    i.padding = bool(flags & 1) or i.count == 0 or not usages
-                    i.usages = [] if i.padding else usages
-                    i.path = list(path)
-                    if i.bits():
-                        i.offset = where.get((i.kind, i.id), 0)
-                        where[i.kind, i.id] = i.offset + i.bits()
-                        self.items.append(i)
-        self.bits = where
-
-    @staticmethod
-    def usages(local, page):
-        out, low, high = [], [], []
-        for prefix, data in local:
-            u = le(data) if len(data) == 4 else page << 16 | le(data)
-            if prefix == 0x08:
-                out.append((u, u))
-            elif prefix == 0x18:
-                low.append(u)
-                if len(high) >= len(low):
-                    out.append((u, high[len(low) - 1]))
-            elif prefix == 0x28:
-                high.append(u)
-                if len(low) >= len(high):
-                    out.append((low[len(high) - 1], u))
-        return out
+        self.read = second_reader.Layout(descriptor, second_reader.REAL)
+        self.items, self.bits, self.numbered = [Item(it) for it in self.read.items], self.read.bits, self.read.has_ids
 
     def length(self, kind, id):
         return (self.bits[kind, id] + 7) // 8 + self.numbered
@@ -190,24 +127,7 @@ class Layout:
         return None
 
     def text(self):
-        kinds = ["input", "output", "feature"]
-        if not self.bits:
-            return ["no reports"]
-        out = ["report %s %d bytes %d" % (k, r, self.length(k, r)) for k, r in sorted(self.bits, key=lambda x: (kinds.index(x[0]), x[1]))]
-        for n, i in enumerate(self.items):
-            shape = "padding" if i.padding else "array" if not i.variable else "relative" if i.relative else "variable"
-            s = "item %d %s %d at %d %dx%d %s" % (n, i.kind, i.id, i.offset, i.size, i.count, shape)
-            if not i.padding:
-                s += " null" * i.null + " %d..%d" % (i.least, i.greatest)
-                s += "".join(" " + (show(a) if a == b else show(a) + "-" + show(b)) for a, b in i.usages)
-            if i.path:
-                s += " in" + "".join(" %d/%s" % (k, "-" if u is None else show(u)) for k, u in i.path)
-            out.append(s)
-        return out
-
-
-def show(u):
-    return "%02X:%02X" % (u >> 16, u & 0xFFFF)
+        return list(self.read.text())
 
 
 # ---- snapshots and parts
