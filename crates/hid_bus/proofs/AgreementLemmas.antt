@@ -559,7 +559,8 @@ nothing_due_agrees items n s sent in_step nothing c flat =
     record {
       pressed = one.like.pressed c.index;
       value = one.like.values c.index;
-      motion = omega (arith, ints, open_none, still);
+      motion = still;
+      in_round = open_none;
     }
 
 pub agrees_at_nak : (items : List Item) (snapshot : List ControlState) (idle : List ℕ) (bus_events : List BusEvent) → AgreesAtNak items snapshot idle bus_events

@@ -6,14 +6,14 @@ use Rattle.hid_layout.specs.Controls.{NoControls, Item, controls_of_form, form_a
 use Rattle.hid_snapshots.specs.declared.control_state.ControlState.{ControlState}
 use Rattle.hid_snapshots.specs.declared.control_state.ControlState.TheVariants.{Absent, Switches, Values, Motions, RollOver}
 use Rattle.hid_snapshots.specs.ControlStates.{FitsSnapshot}
-use Rattle.hid_snapshots.specs.Parts.{shown_state}
+use Rattle.hid_snapshots.specs.Parts.{shown_state, motion_of}
 use Rattle.hid_snapshots.specs.Snapshots.{is_pressed, state_at}
 use Rattle.hid_snapshots.specs.Views.{value_in}
 use Rattle.hid_bus.specs.ReportState.{first_due}
 use Rattle.usb_transact.specs.declared.transaction.Fate.{Fate}
 use Rattle.hid_bus.specs.Rounds.{Polls}
 use Rattle.hid_bus.specs.LinkState.{LinkState, initial_link, state_at_token, state_after_step, events_of_step}
-use Rattle.hid_bus.specs.Motion.{link_motion}
+use Rattle.hid_bus.specs.Motion.{open_motion}
 use Rattle.hid_bus.specs.DeviceHistory.{BusEvent, Own, Idles, Configures, Halts, Clears, Resets, state_after_all}
 
 -- The device has nothing to send: no round is open, the endpoint isn't halted and no report is due. Exactly then a poll whose
@@ -54,7 +54,8 @@ has_too_many_keys items snapshot i =
 pub record AgreesOn (items : List Item) (s : LinkState) (c : ControlId) : Type 0 where
   pub pressed : is_pressed (state_at s.view c.item) c.index ≡ is_pressed (state_at s.reports.snapshot c.item) c.index
   pub value : value_in (state_at s.view c.item) c.index ≡ value_in (state_at s.reports.snapshot c.item) c.index
-  pub motion : link_motion items s c ≡ pos 0
+  pub motion : motion_of s.reports.snapshot c ≡ pos 0
+  pub in_round : open_motion items s.reports.fixed s.current c ≡ pos 0
 
 -- Host and device agree on each control of each item, except an array with too many keys pressed: the host keeps the keys
 -- that it had of such an array.
