@@ -74,7 +74,7 @@ def of_lsusb(text):
     """The bytes of items as lsusb prints them, below the last length."""
     prefixes = {name: prefix for prefix, name in NAMES.items()}
     found = b""
-    for name, data in ITEM.findall(re.split(r"Report Descriptor: \(length is \d+\)", text)[-1].split("      Endpoint")[0]):
+    for name, data in ITEM.findall(re.split(r"Report Descriptor: \(length is \d+\)", text)[-1]):
         data = bytes(int(it, 16) for it in re.findall(r"0x(\w\w)", data))
         found += bytes([prefixes.get(name, 0) | {0: 0, 1: 1, 2: 2, 4: 3}.get(len(data), 0)]) + data
     return {found}

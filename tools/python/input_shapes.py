@@ -65,18 +65,18 @@ def arrays(data):
     lines = [numbers(it) + "," for it in rows(data, 8)]
     array = "static const u8 d[] = {\n" + quoted("\n".join(lines), "\t") + "};\n"
     yield "an array", array
-    yield "an array with comments", "#include <x.h>\n/* don't */\nstatic const u8 d[] = {\n" + "".join(
-        f"\t{numbers(item, '0x%02X')},  // item 0x{item[0]:02x}, ({k})\n" for k, item in enumerate(items_of(data))) + "};\nint main() { return 0; }\n"
+    yield "an array with comments", "/* don't */\nstatic const u8 d[%d] = {\n" % len(data) + "".join(
+        f"\t{numbers(item, '0x%02X')},  // item 0x{item[0]:02x}, ({k})\n" for k, item in enumerate(items_of(data))) + "};\n"
     yield "an array in decimal", "d = { %s };" % numbers(data, "%d")
-    yield "a list of Python", "d = [\n" + "".join(f"    {numbers(item)},  # item\n" for item in items_of(data)) + "]\nprint(d)\n"
+    yield "a list of Python", "d = [\n" + "".join(f"    {numbers(item)},  # item\n" for item in items_of(data)) + "]\n"
     yield "bytes of a list of Python", "bytes([%s])\n" % numbers(data, "%d")
-    yield "a slice of Rust", "const D: &'static [u8] = &[\n" + "\n".join(lines) + "\n];\n"
-    yield "JSON", json.dumps({"name": "it's a mouse", "id": [1, 2], "descriptor": list(data)}, indent=1)
+    yield "a slice of Rust", "const D: &[u8] = &[\n" + "\n".join(lines) + "\n];\n"
+    yield "JSON", json.dumps({"it's a mouse": list(data)}, indent=1)
     inside = quoted("\n".join(lines), "    ").rstrip().rstrip(",")
-    yield "libinput record", f"devices:\n- node: /dev/input/event5\n  evdev:\n    id: [3, 1133, 49271, 273]\n  hid: [\n{inside}\n  ]\n"
+    yield "libinput record", f"# libinput record\nversion: 1\nlibinput:\ndevices:\n- node: /dev/input/event5\n  evdev:\n    id: [3, 1133, 49271, 273]\n  hid: [\n{inside}\n  ]\n"
     yield "an array of JavaScript", "const d = new Uint8Array([%s]);\n" % numbers(data)
-    yield "a device tree", "hid-descr = [%s];\n" % data.hex(" ")
-    yield "ioreg", '+-o IOHIDDevice  <class IOHIDDevice, id 0x1000>\n  {\n    "ReportDescriptor" = <%s>\n  }\n' % data.hex()
+    yield "a device tree", "hid_descr = [%s];\n" % data.hex(" ")
+    yield "ioreg", '    "ReportDescriptor" = <%s>\n' % data.hex()
     yield "a quoted array", quoted(array, "> ")
     yield "an array in a patch", quoted(array, "+")
 
@@ -108,7 +108,7 @@ def spellings(data):
     yield "items with comments", "".join(f"{numbers(item)},  // x\n" for item in items_of(data))
     yield "escapes", numbers(data, "\\x%02x", "")
     yield "strings of C", "char d[] =\n%s;\n" % "\n".join('  "%s"' % numbers(it, "\\x%02x", "") for it in rows(data, 12))
-    yield "bytes of Python", f"d = {data!r}\nprint(len(d))\n"
+    yield "bytes of Python", f"d = {data!r}\n"
     yield "bytes of Rust", 'b"%s"' % numbers(data, "\\x%02x", "")
     yield "echo", "echo -ne %s > functions/hid.usb0/report_desc\n" % numbers(data, "\\\\x%02x", "")
 

@@ -1,16 +1,11 @@
 -- Dumps of xxd, hexdump -C, od -t x1 and tshark (our choice: docs/INPUT-FORMS.md).
-use Rattle.std.specs.Prelude.{◌≡◌, ℕ, ◌==◌, ◌+◌, ◌-◌, Bool, false, not, ◌&&◌, ◌||◌, nat_le, nat_lt, List, [], ◌∷◌, ◌++◌, length, slice_index, take, drop, if◌then◌else◌, Option, None, Some, Result, Ok, Err, codes, ◌⊎◌}
+use Rattle.std.specs.Prelude.{ℕ, ◌==◌, ◌+◌, ◌-◌, ◌%◌, Bool, false, not, ◌&&◌, ◌||◌, nat_le, nat_lt, List, [], ◌∷◌, ◌++◌, length, slice_index, take, drop, if◌then◌else◌, Option, None, Some, codes}
 use Rattle.std.specs.List.{list_all, zip}
-use Rattle.std.specs.Option.{unwrap_or}
+use Rattle.std.specs.Option.{unwrap_or, option_or, option_and_then}
 use Rattle.std.specs.Char.{is_ascii_whitespace}
-use Rattle.hid_input.specs.declared.fault.InputCause.{InputCause}
-use Rattle.hid_input.specs.declared.fault.InputCause.TheVariants.{DumpLine, WordOrder, Offset, NotWhole, Memory}
-use Rattle.hid_input.specs.declared.fault.InputFault.{InputFault}
-use Rattle.hid_input.specs.declared.whole.DescriptorFault.{DescriptorFault}
 use Rattle.hid_input.specs.declared.found.Shape.TheVariants.{Dump}
 use Rattle.hid_input.specs.Answer.{Answer}
-use Rattle.hid_input.specs.Descriptor.{IsFault}
-use Rattle.hid_input.specs.Faults.{of_text, of_line}
+use Rattle.hid_input.specs.Spelled.{some_answer}
 use Rattle.hid_input.specs.Text.{lines_of, is_empty_line, without_space, before_space, from_space, first_word, behind_part}
 use Rattle.hid_input.specs.Words.{number_of, byte_of_pair}
 
@@ -71,93 +66,60 @@ begins_word text = nat_le 1 (length text) && not (is_ascii_whitespace (slice_ind
 
 -- what a row spells after some bytes, of which some stand in one word: pairs of hex digits between white space, up to the characters of
 -- its bytes; without these each word is one pair
-abbrev pub row_bytes : Bool → List ℕ → List ℕ → Result (List ℕ) InputCause
-row_bytes has_long bytes [] = if has_long then Err WordOrder else Ok bytes
-row_bytes has_long bytes (high ∷ []) = if is_ascii_whitespace high then (if has_long then Err WordOrder else Ok bytes) else Err DumpLine
+abbrev pub row_bytes : Bool → List ℕ → List ℕ → Option (List ℕ)
+row_bytes has_long bytes [] = if has_long then None else Some bytes
+row_bytes has_long bytes (high ∷ []) = if is_ascii_whitespace high then (if has_long then None else Some bytes) else None
 row_bytes has_long bytes (high ∷ low ∷ rest) =
     if is_ascii_whitespace high then row_bytes has_long bytes (low ∷ rest)
     else elim (byte_of_pair (high ∷ low ∷ [])) [
-      | None ↦ Err DumpLine
+      | None ↦ None
       | Some byte ↦
-          if shows rest (bytes ++ byte ∷ []) then Ok (bytes ++ byte ∷ [])
+          if shows rest (bytes ++ byte ∷ []) then Some (bytes ++ byte ∷ [])
           else row_bytes (has_long || begins_word rest) (bytes ++ byte ∷ []) rest
     ]
 
+-- a row with bytes stands behind whole rows of this size, where there is one
+abbrev pub is_whole : ℕ → ℕ → List ℕ → Bool
+is_whole size count row = (count % size == 0) || is_empty_line row
+
 -- the bytes of a line whose offset is the number of bytes in front of it; an empty line has none
-abbrev pub offset_bytes : ℕ → ℕ → List ℕ → Result (List ℕ) InputCause
-offset_bytes base count text =
-    if length (before_space text) == 0 then Ok []
+abbrev pub offset_bytes : ℕ → ℕ → ℕ → List ℕ → Option (List ℕ)
+offset_bytes base size count text =
+    if length (before_space text) == 0 then Some []
     else elim (number_of base (offset_digits (before_space text))) [
-      | None ↦ Err Offset
-      | Some offset ↦ if offset == count then row_bytes false [] (from_space text) else Err Offset
+      | None ↦ None
+      | Some offset ↦ if (offset == count) && is_whole size count (from_space text) then row_bytes false [] (from_space text) else None
     ]
 
-abbrev pub line_bytes : ℕ → ℕ → List ℕ → Result (List ℕ) InputCause
-line_bytes base count line = offset_bytes base count (without_space (without_last 13 line))
+abbrev pub line_bytes : ℕ → ℕ → ℕ → List ℕ → Option (List ℕ)
+line_bytes base size count line = offset_bytes base size count (without_space (without_last 13 line))
 
--- what lines spell after some bytes, from the line of this number on: or the first that is refused, and why
-abbrev pub rows_bytes : ℕ → ℕ → List ℕ → List (List ℕ) → Result (List ℕ) (ℕ × InputCause)
-rows_bytes base number bytes [] = Ok bytes
-rows_bytes base number bytes (line ∷ lines) =
-    elim (line_bytes base (length bytes) line) [
-      | Ok row ↦ rows_bytes base (number + 1) (bytes ++ row) lines
-      | Err cause ↦ Err (number, cause)
+-- what lines spell after some bytes
+abbrev pub rows_bytes : ℕ → ℕ → List ℕ → List (List ℕ) → Option (List ℕ)
+rows_bytes base size bytes [] = Some bytes
+rows_bytes base size bytes (line ∷ lines) =
+    elim (line_bytes base size (length bytes) line) [
+      | None ↦ None
+      | Some row ↦ rows_bytes base size (bytes ++ row) lines
     ]
 
--- the offset of a line is no more than a number
-abbrev pub is_up_to : ℕ → Option ℕ → Bool
-is_up_to at None = false
-is_up_to at (Some offset) = nat_le offset at
+-- the bytes in the first base in which each line is read
+abbrev pub based_bytes : List ℕ → ℕ → List (List ℕ) → Option (List ℕ)
+based_bytes [] size lines = None
+based_bytes (base ∷ bases) size lines = option_or (rows_bytes base size [] lines) (based_bytes bases size lines)
 
-abbrev pub begins_by : ℕ → ℕ → List ℕ → Bool
-begins_by base at line = is_up_to at (number_of base (offset_digits (first_word line)))
+-- the bases in which an offset may be, by the first word, and how many bytes each row has but the last, where there are several: tools
+-- write decimal and octal ones with seven digits
+abbrev pub bases_of : List ℕ → List ℕ
+bases_of word = if length word == 7 then 16 ∷ 10 ∷ 8 ∷ [] else 16 ∷ []
 
--- the line of the byte after so many others: the last of these, from one of this number on, whose offset is no more than their number
-abbrev pub byte_line : ℕ → ℕ → ℕ → ℕ → List (List ℕ) → ℕ
-byte_line base at found number [] = found
-byte_line base at found number (line ∷ lines) = byte_line base at (if begins_by base at line then number else found) (number + 1) lines
+abbrev pub row_size : List ℕ → ℕ
+row_size word = if length word == 7 then 16 else 1
 
--- the later of two lines that are refused
-abbrev pub further : (ℕ × InputCause) → (ℕ × InputCause) → ℕ × InputCause
-further one other = if nat_lt other.0 one.0 then one else other
-
--- the first base in which no line is refused, and the bytes in it; or the last line that is refused in one
-abbrev pub based_bytes : (ℕ × InputCause) → List ℕ → List (List ℕ) → Result (ℕ × List ℕ) (ℕ × InputCause)
-based_bytes furthest [] lines = Err furthest
-based_bytes furthest (base ∷ bases) lines =
-    elim (rows_bytes base 1 [] lines) [
-      | Ok bytes ↦ Ok (base, bytes)
-      | Err fault ↦ based_bytes (further furthest fault) bases lines
-    ]
-
--- in how many of the bases 16, 10 and 8 an offset may be, by its first word: octal ones have seven digits, decimal ones seven, or eight
--- and a colon
-abbrev pub base_count : List ℕ → ℕ
-base_count word =
-    if length word == 7 then 3 else (if (length word == 9) && (slice_index word 8 == 58) then 2 else 1)
-
-abbrev pub bases : List ℕ → List ℕ
-bases word = take (base_count word) (16 ∷ 10 ∷ 8 ∷ [])
-
--- the base of a dump's offsets and its bytes, or the line that is refused. Example: 0000 05 01 is 05 01
-abbrev pub dump_bytes : List ℕ → Result (ℕ × List ℕ) (ℕ × InputCause)
-dump_bytes text = based_bytes (0, DumpLine) (bases (first_word text)) (lines_of text)
-
--- what is to be read of a dump
-abbrev pub answer_by : Result (ℕ × List ℕ) (ℕ × InputCause) → Option Answer
-answer_by (Ok read) = Some (Dump, (read.1, None))
-answer_by (Err refused) = None
+-- the bytes of a dump. Example: 0000 05 01 is 05 01
+abbrev pub dump_bytes : List ℕ → Option (List ℕ)
+dump_bytes text = based_bytes (bases_of (first_word text)) (row_size (first_word text)) (lines_of text)
 
 -- what is to be read of a text that is a dump
 abbrev pub dump_answer : List ℕ → Option Answer
-dump_answer text = answer_by (dump_bytes text)
-
--- the bytes of a dump aren't one whole descriptor, which is seen at a byte of this line
-abbrev pub IsNotWhole : List ℕ → ℕ → List ℕ → InputFault → Type 0
-IsNotWhole text base bytes fault =
-    (whole : DescriptorFault) × (IsFault bytes whole × (fault ≡ of_line (byte_line base whole.at 1 1 (lines_of text)) (NotWhole whole)))
-
--- why a dump is refused: memory ran out, its bytes aren't one whole descriptor, or a line is refused
-abbrev pub IsDumpFault : List ℕ → InputFault → Result (ℕ × List ℕ) (ℕ × InputCause) → Type 0
-IsDumpFault text fault (Ok read) = (fault ≡ of_text Memory) ⊎ IsNotWhole text read.0 read.1 fault
-IsDumpFault text fault (Err refused) = (fault ≡ of_text Memory) ⊎ (fault ≡ of_line refused.0 refused.1)
+dump_answer text = option_and_then (some_answer Dump None) (dump_bytes text)

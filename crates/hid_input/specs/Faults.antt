@@ -1,8 +1,8 @@
 -- Why a file has no descriptor, of the whole text or of a line of it (our choice: docs/INPUT-FORMS.md).
-use Rattle.std.specs.Prelude.{◌==◌, ℕ, if◌then◌else◌, List, [], ◌++◌, Option, None, Some, codes}
+use Rattle.std.specs.Prelude.{ℕ, List, [], ◌++◌, Option, None, Some, codes}
 use Rattle.std.specs.Fmt.{decimal}
 use Rattle.hid_input.specs.declared.fault.InputCause.{InputCause}
-use Rattle.hid_input.specs.declared.fault.InputCause.TheVariants.{NotWhole, NoByte, NoCount, BadCount, BadHex, Several, Operator, Unclear, LineEnds, WordOrder, Offset, DumpLine, OtherLine, BadItem, Unavailable, Utf16, NoDescriptor, Memory}
+use Rattle.hid_input.specs.declared.fault.InputCause.TheVariants.{NotWhole, NoByte, Recorded, Several, Beside, Unclear, WordOrder, Offset, DumpLine, OtherLine, Unavailable, Utf16, NoDescriptor, Memory}
 use Rattle.hid_input.specs.declared.fault.InputFault.{InputFault}
 use Rattle.hid_input.specs.declared.recorded.RecordedFault.{RecordedFault}
 use Rattle.hid_input.specs.declared.recorded.RecordedFault.TheVariants as recorded
@@ -18,13 +18,6 @@ of_text cause = record { line = None; cause = cause }
 abbrev pub of_line : ℕ → InputCause → InputFault
 of_line line cause = record { line = Some line; cause = cause }
 
--- the cause of a fault of COUNT HEX
-abbrev pub cause_of : RecordedFault → InputCause
-cause_of recorded.NoCount = NoCount
-cause_of (recorded.BadHex at) = BadHex at
-cause_of (recorded.BadCount said found) = BadCount said found
-cause_of recorded.Memory = Memory
-
 -- why bytes aren't one whole descriptor, in words
 abbrev pub descriptor_words : DescriptorCause → ℕ → List ℕ
 descriptor_words Truncated at = codes "L1 at " ++ (decimal at ++ codes ": an item is cut off")
@@ -36,36 +29,30 @@ descriptor_words Other at = codes "byte " ++ (decimal at ++ codes ": no report d
 abbrev pub descriptor_text : DescriptorFault → List ℕ
 descriptor_text fault = descriptor_words fault.cause fault.at
 
+-- a fault of COUNT HEX, in words
+abbrev pub recorded_text : RecordedFault → List ℕ
+recorded_text recorded.NoCount = codes "the count is missing, or no number"
+recorded_text (recorded.BadHex at) = codes "byte " ++ (decimal at ++ codes " isn't two hex digits")
+recorded_text (recorded.BadCount said found) = codes "the count is " ++ (decimal said ++ (codes ", that of the bytes " ++ decimal found))
+recorded_text recorded.Memory = codes "out of memory"
+
 -- the way out of each refusal but those of dumps, of which it would take the offsets for bytes
 abbrev pub way_out : List ℕ
 way_out = codes "; convert it: xxd -r -p FILE | hidmap"
 
--- how many bytes there are, in words
-abbrev pub bytes_text : ℕ → List ℕ
-bytes_text found =
-    if found == 1 then codes ", there is 1 byte; convert it: xxd -r -p FILE | hidmap"
-    else codes ", there are " ++ (decimal found ++ codes " bytes; convert it: xxd -r -p FILE | hidmap")
-
 -- the cause of a fault, in words, and the way out
 abbrev pub cause_text : InputCause → List ℕ
 cause_text (NotWhole fault) = codes "no whole descriptor: " ++ (descriptor_text fault ++ way_out)
-cause_text (NoByte column) =
-    codes "column "
-    ++ (decimal column ++ codes ": neither a byte nor a comment of // or #; convert it: xxd -r -p FILE | hidmap")
-cause_text NoCount = codes "the count is missing, or no number" ++ way_out
-cause_text (BadCount said found) = codes "the count is " ++ (decimal said ++ bytes_text found)
-cause_text (BadHex at) = codes "byte " ++ (decimal at ++ codes " isn't two hex digits; convert it: xxd -r -p FILE | hidmap")
+cause_text (NoByte column) = codes "column " ++ (decimal column ++ (codes ": neither a byte nor a comment of // or #" ++ way_out))
+cause_text (Recorded fault) = recorded_text fault ++ way_out
 cause_text (Several first second) =
-    codes "two descriptors, from lines "
-    ++ (decimal first ++ (codes " and " ++ (decimal second ++ codes ": give one alone; convert it: xxd -r -p FILE | hidmap")))
-cause_text Operator = codes "an operator or an index beside it: give the bytes alone" ++ way_out
-cause_text Unclear = codes "a comment without its end, or with a backslash at its end" ++ way_out
-cause_text LineEnds = codes "lines that end with CR or FF alone: end each with LF" ++ way_out
+    codes "two descriptors, from lines " ++ (decimal first ++ (codes " and " ++ (decimal second ++ (codes ": give one alone" ++ way_out))))
+cause_text Beside = codes "an operator, a call or other bytes beside it: give the bytes alone" ++ way_out
+cause_text Unclear = codes "a comment, a string, a line or a directive without a clear end" ++ way_out
 cause_text WordOrder = codes "the order of bytes isn't known: try xxd or od -v -A x -t x1"
 cause_text Offset = codes "the offset isn't the number of bytes in front of it"
 cause_text DumpLine = codes "neither an offset with bytes nor their characters: try xxd or od -v -A x -t x1"
-cause_text OtherLine = codes "neither a line of a recording nor a comment" ++ way_out
-cause_text BadItem = codes "no item as lsusb prints them" ++ way_out
+cause_text OtherLine = codes "a line that isn't of the program that wrote the others" ++ way_out
 cause_text Unavailable = codes "lsusb couldn't read the descriptor: /sys/class/hidraw has it" ++ way_out
 cause_text Utf16 = codes "text of UTF-16: write it as UTF-8" ++ way_out
 cause_text NoDescriptor = codes "text without a descriptor" ++ way_out

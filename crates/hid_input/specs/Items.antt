@@ -1,12 +1,13 @@
 -- The items of a report descriptor as lsusb -v prints them (our choice: docs/INPUT-FORMS.md).
-use Rattle.std.specs.Prelude.{ℕ, ◌==◌, ◌+◌, ◌-◌, ◌*◌, Bool, ◌&&◌, ◌||◌, nat_le, nat_eq, bit_or, map, List, [], ◌∷◌, length, slice_index, drop, if◌then◌else◌, Option, None, Some, is_some, codes}
-use Rattle.std.specs.List.{list_any, find, ends_with}
+use Rattle.std.specs.Prelude.{ℕ, ◌==◌, Bool, false, not, ◌&&◌, ◌||◌, nat_le, nat_eq, bit_or, map, List, [], ◌∷◌, length, if◌then◌else◌, Option, None, Some, codes}
+use Rattle.std.specs.List.{list_any, list_all, find, slice_split, starts_with}
 use Rattle.std.specs.Option.{option_map, option_and_then}
 use Rattle.std.specs.Str.{bytes_eq}
+use Rattle.std.specs.Char.{is_ascii_digit, is_ascii_hexdigit, is_ascii_whitespace}
 use Rattle.hid_input.specs.declared.items.TheConstants.{NAMES}
 use Rattle.hid_input.specs.declared.words.Reading.TheVariants.{Elements}
 use Rattle.hid_input.specs.declared.words.Parting.TheVariants.{Space}
-use Rattle.hid_input.specs.Text.{lines_of, trimmed_text, behind_part, split_at}
+use Rattle.hid_input.specs.Text.{trimmed_text, without_space, behind_part, split_at}
 use Rattle.hid_input.specs.Words.{number_of, text_bytes}
 
 -- the prefix beside a name in a table
@@ -17,41 +18,25 @@ prefix_in table name = option_map (λ row. row.1) (find (λ row. bytes_eq row.0 
 unfoldable pub prefix_of : List ℕ → Option ℕ
 prefix_of name = prefix_in (map (λ row. (row.0.now, row.1)) NAMES) name
 
--- the code of the size of an item's data (HID 1.11, 6.2.2.2), and the number that the data is, the lowest byte first (5.8)
-abbrev pub size_and_value : List ℕ → Option (ℕ × ℕ)
-size_and_value [] = Some (0, 0)
-size_and_value (a ∷ []) = Some (1, a)
-size_and_value (a ∷ b ∷ []) = Some (2, a + b * 0x100)
-size_and_value (a ∷ b ∷ c ∷ d ∷ []) = Some (3, a + b * 0x100 + c * 0x10000 + d * 0x1000000)
-size_and_value bytes = None
+-- the words of an item's data, of text as: data= [ 0x02 ] 2
+unfoldable pub data_words : List ℕ → Option (List ℕ)
+data_words text =
+    if bytes_eq text (codes " data=none") then Some []
+    else option_and_then (λ inside. option_map (λ parts. parts.0) (split_at 93 inside)) (behind_part (codes " data= [") text)
 
--- the number that lsusb prints, of which one below zero stands for four bytes in two's complement
-abbrev pub printed_number : List ℕ → Option ℕ
-printed_number number =
-    if nat_le 1 (length number) && (slice_index number 0 == 45)
-    then option_map (λ size. 0x100000000 - size) (number_of 10 (drop 1 number)) else number_of 10 number
-
--- the code of the size of data, if this is its number
-abbrev pub size_if : List ℕ → List ℕ → Option ℕ
-size_if bytes number =
-    option_and_then (λ size. option_and_then (λ value. if value == size.1 then Some size.0 else None) (printed_number number)) (size_and_value bytes)
-
--- the words of an item's data and the number after them, of text as: data= [ 0x02 ] 2
-unfoldable pub data_parts : List ℕ → Option (List ℕ × List ℕ)
-data_parts text =
-    if bytes_eq text (codes " data=none") then Some ([], codes "0")
-    else option_and_then (λ inside. option_map (λ parts. (parts.0, trimmed_text parts.1)) (split_at 93 inside)) (behind_part (codes " data= [") text)
-
--- the prefix of an item, the words of its data and the number after them, of text as: Main  ): Input, data= [ 0x02 ] 2
-unfoldable pub item_parts : List ℕ → Option (ℕ × List ℕ × List ℕ)
+-- the prefix of an item and the words of its data, of text as: Main  ): Input, data= [ 0x02 ] 2
+unfoldable pub item_parts : List ℕ → Option (ℕ × List ℕ)
 item_parts item =
-    option_and_then (λ named. option_and_then (λ prefix. option_map (λ parts. (prefix, parts.0, parts.1)) (data_parts named.1)) (prefix_of named.0))
-    (split_at 44 item)
+    option_and_then (λ named. option_and_then (λ prefix. option_map (λ words. (prefix, words)) (data_words named.1)) (prefix_of named.0)) (split_at 44 item)
+
+-- the code of the size of an item's data (HID 1.11, 6.2.2.2)
+abbrev pub size_code : ℕ → Option ℕ
+size_code size = if nat_le size 2 then Some size else (if size == 4 then Some 3 else None)
 
 -- the bytes of an item: its prefix with the code of the size of its data, and the data
 abbrev pub item_bytes : List ℕ → Option (List ℕ)
 item_bytes item =
-    option_and_then (λ parts. option_and_then (λ bytes. option_map (λ size. bit_or parts.0 size ∷ bytes) (size_if bytes parts.2))
+    option_and_then (λ parts. option_and_then (λ bytes. option_map (λ code. bit_or parts.0 code ∷ bytes) (size_code (length bytes)))
     (text_bytes Elements Space parts.1)) (item_parts item)
 
 -- the bytes of an item, if there is one
@@ -73,9 +58,23 @@ length_in line =
 abbrev pub is_unavailable : List ℕ → Bool
 is_unavailable line = bytes_eq (trimmed_text line) (codes "** UNAVAILABLE **")
 
-abbrev pub has_unavailable : List ℕ → Bool
-has_unavailable text = list_any is_unavailable (lines_of text)
+-- a word is as long as a descriptor in hex, which has seven bytes at least
+abbrev pub is_long_hex : List ℕ → Bool
+is_long_hex word = nat_le 14 (length word) && list_all is_ascii_hexdigit word
 
--- a line begins another descriptor
-abbrev pub ends_items : List ℕ → Bool
-ends_items line = is_some (length_in line) || ends_with nat_eq (trimmed_text line) (codes "Descriptor:")
+abbrev pub has_long_hex : List ℕ → Bool
+has_long_hex line = list_any is_long_hex (slice_split is_ascii_whitespace line)
+
+-- a character of code or of a table, one of { \ = " ' < | %
+abbrev pub is_code : ℕ → Bool
+is_code byte = (byte == 123) || ((byte == 92) || ((byte == 61) || ((byte == 34) || ((byte == 39) || ((byte == 60) || ((byte == 124) || (byte == 37)))))))
+
+abbrev pub begins_digit : List ℕ → Bool
+begins_digit [] = false
+begins_digit (first ∷ text) = nat_le 48 first && nat_le first 57
+
+-- a line is one that lsusb may print: of an item; or it begins with no digit, and has no character of code and no long word of hex
+abbrev pub is_lsusb : List ℕ → Bool
+is_lsusb line =
+    starts_with nat_eq (trimmed_text line) (codes "Item(")
+    || (not (begins_digit (without_space line)) && (not (list_any is_code line) && not (has_long_hex line)))

@@ -3,15 +3,14 @@ use Rattle.std.specs.Prelude.{ℕ, ◌==◌, Bool, ◌&&◌, ◌||◌, nat_le, L
 use Rattle.std.specs.List.{starts_with, list_all}
 use Rattle.std.specs.Char.{is_ascii_whitespace}
 use Rattle.hid_input.specs.declared.known.KnownFile.{KnownFile}
-use Rattle.hid_input.specs.declared.known.KnownFile.TheVariants.{Capture, UsbDescriptors, Compressed, Program}
+use Rattle.hid_input.specs.declared.known.KnownFile.TheVariants.{Capture, UsbDescriptors}
 
 -- bytes begin with these
 abbrev pub begins : List ℕ → List ℕ → Bool
 begins part bytes = starts_with nat_eq bytes part
 
 -- what a file is by its first bytes: a capture of pcap, in either order of bytes and either unit of time, or of pcapng; a device
--- descriptor of 18 bytes, or a configuration of 9 bytes with an interface of 9 after it (USB 2.0, 9.6.1, 9.6.3 and 9.6.5); what gzip, xz,
--- zstd and zip write (RFC 1952, RFC 8878); or a program or an object file of ELF
+-- descriptor of 18 bytes, or a configuration of 9 bytes with an interface of 9 after it (USB 2.0, 9.6.1, 9.6.3 and 9.6.5)
 abbrev pub known_file : List ℕ → Option KnownFile
 known_file bytes =
     if begins (0xD4 ∷ 0xC3 ∷ 0xB2 ∷ 0xA1 ∷ []) bytes
@@ -19,11 +18,7 @@ known_file bytes =
     || (begins (0x4D ∷ 0x3C ∷ 0xB2 ∷ 0xA1 ∷ []) bytes
     || (begins (0xA1 ∷ 0xB2 ∷ 0x3C ∷ 0x4D ∷ []) bytes || begins (0x0A ∷ 0x0D ∷ 0x0D ∷ 0x0A ∷ []) bytes))) then Some Capture
     else (if (begins (0x12 ∷ 0x01 ∷ []) bytes && nat_le 18 (length bytes))
-    || (begins (0x09 ∷ 0x02 ∷ []) bytes && (nat_le 18 (length bytes) && begins (0x09 ∷ 0x04 ∷ []) (drop 9 bytes))) then Some UsbDescriptors
-    else (if begins (0x1F ∷ 0x8B ∷ []) bytes
-    || (begins (0xFD ∷ 0x37 ∷ 0x7A ∷ 0x58 ∷ 0x5A ∷ 0x00 ∷ []) bytes
-    || (begins (0x28 ∷ 0xB5 ∷ 0x2F ∷ 0xFD ∷ []) bytes || begins (0x50 ∷ 0x4B ∷ 0x03 ∷ 0x04 ∷ []) bytes)) then Some Compressed
-    else (if begins (0x7F ∷ 0x45 ∷ 0x4C ∷ 0x46 ∷ []) bytes then Some Program else None)))
+    || (begins (0x09 ∷ 0x02 ∷ []) bytes && (nat_le 18 (length bytes) && begins (0x09 ∷ 0x04 ∷ []) (drop 9 bytes))) then Some UsbDescriptors else None)
 
 -- a character of ASCII that is printed
 abbrev pub is_printed : ℕ → Bool
@@ -43,5 +38,3 @@ begins_text bytes =
 abbrev pub known_text : KnownFile → List ℕ
 known_text Capture = codes "a capture of a bus: hidplay reads it"
 known_text UsbDescriptors = codes "USB descriptors: /sys/class/hidraw has report descriptors"
-known_text Compressed = codes "a compressed file: unpack it first"
-known_text Program = codes "a program, without a report descriptor"

@@ -1,12 +1,12 @@
 pub mod Answer
-pub mod Beside
 pub mod Descriptor
 pub mod Dump
+pub mod Enclosed
 pub mod Faults
+pub mod Head
 pub mod Items
 pub mod Known
-pub mod Lists
-pub mod Marked
+pub mod Named
 pub mod Plain
 pub mod Recorded
 pub mod Shapes

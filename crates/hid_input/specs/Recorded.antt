@@ -1,15 +1,15 @@
 -- Lines of hid-recorder, usbhid-dump and umockdev (our choice: docs/RECORDINGS.md).
 use Rattle.std.specs.Prelude.{◌≡◌, ◌⊎◌, ℕ, ◌==◌, ◌+◌, Bool, true, false, not, ◌&&◌, ◌||◌, nat_le, nat_eq, List, [], ◌∷◌, length, slice_index, if◌then◌else◌, Option, None, Some, is_some, Result, Ok, Err, codes}
-use Rattle.std.specs.List.{list_any, find, ends_with}
+use Rattle.std.specs.List.{starts_with, list_all, list_any, find, ends_with}
 use Rattle.std.specs.Str.{bytes_eq}
 use Rattle.std.specs.Option.{option_map, option_and_then}
-use Rattle.std.specs.Char.{is_ascii_whitespace}
+use Rattle.std.specs.Char.{is_ascii_digit, is_ascii_whitespace}
 use Rattle.hid_input.specs.declared.recorded.RecordedFault.{RecordedFault}
 use Rattle.hid_input.specs.declared.recorded.RecordedFault.TheVariants.{NoCount, BadHex, BadCount, Memory}
 use Rattle.hid_input.specs.declared.words.Reading.TheVariants.{Runs}
 use Rattle.hid_input.specs.declared.words.Parting.TheVariants.{Space}
 use Rattle.hid_input.specs.Known.{begins_text}
-use Rattle.hid_input.specs.Text.{is_text, without_mark, lines_of, is_empty_line, without_space, from_space, first_word, behind_part, split_at}
+use Rattle.hid_input.specs.Text.{trimmed_text, is_text, without_mark, lines_of, is_empty_line, without_space, from_space, first_word, behind_part, split_at}
 use Rattle.hid_input.specs.Words.{number_of, byte_of_pair, text_bytes}
 
 -- how many pairs of hex digits a text has in front of what is none
@@ -59,13 +59,20 @@ is_record_letter byte = (byte == 68) || ((byte == 69) || ((byte == 73) || ((byte
 abbrev pub begins_with_letter : (ℕ → Bool) → List ℕ → Bool
 begins_with_letter is_letter text = nat_le 2 (length text) && (is_letter (slice_index text 0) && (slice_index text 1 == 58))
 
--- a word is the head of a dump of usbhid-dump
-abbrev pub is_head : List ℕ → Bool
-is_head word = ends_with nat_eq word (codes ":DESCRIPTOR") || ends_with nat_eq word (codes ":STREAM")
+-- a line is one that usbhid-dump prints in front of a descriptor, or of reports
+abbrev pub is_descriptor : List ℕ → Bool
+is_descriptor line = ends_with nat_eq (first_word line) (codes ":DESCRIPTOR")
+
+abbrev pub is_stream : List ℕ → Bool
+is_stream line = ends_with nat_eq (first_word line) (codes ":STREAM")
+
+-- behind the first word of a line there is at most one more, of digits and points
+abbrev pub has_time : List ℕ → Bool
+has_time line = list_all (λ byte. is_ascii_digit byte || (byte == 46)) (trimmed_text (from_space (without_space line)))
 
 -- a line is one of a recording, whatever white space stands in front of it
 abbrev pub is_record : List ℕ → Bool
-is_record line = begins_with_letter is_record_letter (without_space line) || is_head (first_word line)
+is_record line = begins_with_letter is_record_letter (without_space line) || (is_descriptor line || is_stream line)
 
 -- some line of a text is one of a recording
 abbrev pub has_record : List ℕ → Bool
@@ -82,7 +89,7 @@ is_beside_letter byte =
 
 -- a line may be beside an R: line: it says nothing, or begins with such a letter and a colon
 abbrev pub is_beside : List ℕ → Bool
-is_beside line = is_passed line || begins_with_letter is_beside_letter (without_space line)
+is_beside line = is_passed (without_space line) || begins_with_letter is_beside_letter (without_space line)
 
 -- a line, if there is one, is one of a recording
 abbrev pub is_record_or_none : Option (List ℕ) → Bool
@@ -93,20 +100,17 @@ is_record_or_none (Some line) = is_record line
 abbrev pub begins_recording : List ℕ → Bool
 begins_recording text = is_record_or_none (find (λ line. not (is_passed line)) (lines_of text))
 
+-- a text is a libinput record: its first line that says something has a version, and one line is libinput:
+abbrev pub is_libinput_line : List ℕ → Bool
+is_libinput_line line = bytes_eq (trimmed_text line) (codes "libinput:")
+
+abbrev pub is_version : Option (List ℕ) → Bool
+is_version None = false
+is_version (Some line) = starts_with nat_eq line (codes "version: ")
+
+abbrev pub is_libinput : List ℕ → Bool
+is_libinput text = is_version (find (λ line. not (is_passed line)) (lines_of text)) && list_any is_libinput_line (lines_of text)
+
 -- bytes are the text of a recording, whose first bytes are characters if others are control characters
 abbrev pub is_recording : List ℕ → Bool
 is_recording bytes = (is_text (without_mark bytes) || begins_text (without_mark bytes)) && has_record (without_mark bytes)
-
--- what stands after a decimal number and a colon
-unfoldable pub behind_number : List ℕ → Option (List ℕ)
-behind_number text = option_and_then (λ parts. option_map (λ number. parts.1) (number_of 10 parts.0)) (split_at 58 text)
-
--- a word, if there is one, is DESCRIPTOR
-abbrev pub is_descriptor_word : Option (List ℕ) → Bool
-is_descriptor_word None = false
-is_descriptor_word (Some word) = bytes_eq word (codes "DESCRIPTOR")
-
--- a line begins with BUS:DEVICE:INTERFACE:DESCRIPTOR, as usbhid-dump prints it in front of a descriptor
-abbrev pub is_heading : List ℕ → Bool
-is_heading line =
-    is_descriptor_word (option_and_then behind_number (option_and_then behind_number (behind_number (first_word line))))

@@ -1,33 +1,20 @@
--- Strings of escapes, among words (our choice: docs/INPUT-FORMS.md).
-use Rattle.std.specs.Prelude.{ℕ, ◌==◌, ◌-◌, ◌+◌, min, Bool, false, true, not, ◌&&◌, ◌||◌, nat_eq, nat_le, nat_lt, List, [], ◌∷◌, ◌++◌, length, slice_index, take, drop, if◌then◌else◌, option_to_list, Option, None, Some, zero, suc}
-use Rattle.std.specs.List.{starts_with}
-use Rattle.std.specs.Char.{is_ascii_alphanumeric, is_ascii_hexdigit, is_ascii_whitespace}
+-- Strings of escapes (our choice: docs/INPUT-FORMS.md).
+use Rattle.std.specs.Prelude.{ℕ, ◌==◌, ◌-◌, ◌+◌, ◌*◌, ◌%◌, Bool, false, true, not, ◌&&◌, ◌||◌, nat_le, nat_lt, List, [], ◌∷◌, length, slice_index, take, drop, if◌then◌else◌, option_to_list, Option, None, Some, codes}
+use Rattle.std.specs.List.{list_any, suffix_len}
+use Rattle.std.specs.Str.{bytes_eq}
+use Rattle.std.specs.Char.{digit_value, is_ascii_hexdigit, is_ascii_whitespace}
 use Rattle.std.specs.Option.{option_map}
 use Rattle.hid_input.specs.declared.found.Shape.TheVariants.{Escapes}
-use Rattle.hid_input.specs.declared.strings.Enclosure.{Enclosure}
-use Rattle.hid_input.specs.declared.strings.Enclosure.TheVariants.{Bare, Text, Bytes}
+use Rattle.hid_input.specs.declared.strings.Quote.{Quote}
+use Rattle.hid_input.specs.declared.strings.Quote.TheVariants.{Text, Bytes, Shell, Double, Bare}
+use Rattle.hid_input.specs.declared.strings.Spot.{Spot}
+use Rattle.hid_input.specs.declared.strings.Spot.TheVariants.{Inside, Behind, First, Backslash, Hex, Digit, Closed, Between, Prefix, Tail}
+use Rattle.hid_input.specs.declared.strings.TheConstants.{COMMANDS}
 use Rattle.hid_input.specs.Answer.{Answer}
-use Rattle.hid_input.specs.Beside.{stands_alone}
-use Rattle.hid_input.specs.Text.{line_at, without_space}
-use Rattle.hid_input.specs.Words.{byte_of_pair}
-
--- the front of an escape of hex: \x, and \\x for a shell
-abbrev pub escape : List ℕ
-escape = 92 ∷ 120 ∷ []
-
-abbrev pub shell_escape : List ℕ
-shell_escape = 92 ∷ 92 ∷ 120 ∷ []
-
-abbrev pub begins_escape : List ℕ → Bool
-begins_escape text = starts_with nat_eq text escape || starts_with nat_eq text shell_escape
-
--- where the first escape of hex begins, in a text that stands at a place
-abbrev pub escape_from : ℕ → List ℕ → Option ℕ
-escape_from at [] = None
-escape_from at (byte ∷ text) = if begins_escape (byte ∷ text) then Some at else escape_from (at + 1) text
-
-abbrev pub escape_place : List ℕ → Option ℕ
-escape_place text = escape_from 0 text
+use Rattle.hid_input.specs.Head.{is_head, is_tail_byte}
+use Rattle.hid_input.specs.Spelled.{some_answer}
+use Rattle.hid_input.specs.Text.{line_at, without_space, trimmed_text, before_space, from_space, is_empty_line}
+use Rattle.hid_input.specs.Words.{both}
 
 -- the byte of an escape of one letter, as C and Python have it: \t, \n, \r, \\, \" and \'
 abbrev pub letter_byte : ℕ → Option ℕ
@@ -37,103 +24,174 @@ letter_byte letter =
     else (if letter == 114 then Some 13
     else (if (letter == 92) || ((letter == 34) || (letter == 39)) then Some letter else None)))
 
--- a string of text, in which an escape of hex has as many digits as follow (C11, 6.4.4.4)
-abbrev pub is_text : Enclosure → Bool
-is_text (Text quote) = true
-is_text enclosure = false
+-- the value of a hex digit
+abbrev pub hex_digit : ℕ → Option ℕ
+hex_digit byte = if nat_lt (digit_value byte) 16 then Some (digit_value byte) else None
 
--- the byte of an escape of hex, after its x
-abbrev pub hex_byte : Enclosure → List ℕ → Option ℕ
-hex_byte enclosure digits =
-    if is_text enclosure && (nat_le 3 (length digits) && is_ascii_hexdigit (slice_index digits 2)) then None else byte_of_pair (take 2 digits)
+abbrev pub is_quotation : ℕ → Bool
+is_quotation byte = (byte == 34) || (byte == 39)
 
--- the start of a string after white space: its quotation mark, perhaps with b in front
-abbrev pub joint_before : Enclosure → ℕ → List ℕ → Option ℕ
-joint_before (Text quote) blanks (first ∷ more) = if first == quote then Some (blanks + 2) else None
-joint_before (Bytes quote) blanks (letter ∷ first ∷ more) = if (letter == 98) && (first == quote) then Some (blanks + 3) else None
-joint_before enclosure blanks text = None
+-- a character closes what encloses escapes
+abbrev pub is_mark_of : Quote → ℕ → Bool
+is_mark_of (Text mark) byte = byte == mark
+is_mark_of (Bytes mark) byte = byte == mark
+is_mark_of (Shell mark) byte = byte == mark
+is_mark_of quote byte = false
 
--- how long the end of a string and the start of the next one are, by the text after the first quotation mark
-abbrev pub joint_length : Enclosure → List ℕ → Option ℕ
-joint_length enclosure text = joint_before enclosure (length text - length (without_space text)) (without_space text)
+-- strings of bytes have characters that stand for themselves, and strings of text escapes alone, since languages read $ in it
+abbrev pub has_characters : Quote → Bool
+has_characters (Bytes mark) = true
+has_characters quote = false
 
--- a character in a string: its byte, and how long it is; or a joint of two strings, which has no byte
-abbrev pub string_character : Enclosure → ℕ → List ℕ → Option (Option ℕ × ℕ)
-string_character enclosure quote [] = None
-string_character enclosure quote (first ∷ more) =
-    if first == 92 then (if length more == 0 then None else option_map (λ byte. (Some byte, 2)) (letter_byte (slice_index more 0)))
-    else (if first == quote then option_map (λ size. (None, size)) (joint_length enclosure more)
-    else (if nat_le 32 first && nat_le first 126 then Some (Some first, 1) else None))
+-- strings have escapes of one letter, and a shell's word has none
+abbrev pub is_string : Quote → Bool
+is_string (Text mark) = true
+is_string (Bytes mark) = true
+is_string quote = false
 
--- what is enclosed by nothing has escapes of a shell
-abbrev pub other_character : Enclosure → List ℕ → Option (Option ℕ × ℕ)
-other_character Bare text =
-    if starts_with nat_eq text shell_escape then option_map (λ byte. (Some byte, 5)) (hex_byte Bare (drop 3 text)) else None
-other_character (Text quote) text = string_character (Text quote) quote text
-other_character (Bytes quote) text = string_character (Bytes quote) quote text
+abbrev pub is_double : Quote → Bool
+is_double Double = true
+is_double quote = false
 
--- the first character of a text. Example: \x05 is the byte 05, four characters long
-abbrev pub first_character : Enclosure → List ℕ → Option (Option ℕ × ℕ)
-first_character enclosure text =
-    if starts_with nat_eq text escape then option_map (λ byte. (Some byte, 4)) (hex_byte enclosure (drop 2 text)) else other_character enclosure text
+abbrev pub is_bare : Quote → Bool
+is_bare Bare = true
+is_bare quote = false
 
--- a byte and a length in front of those of a text
-abbrev pub with_front : List ℕ → ℕ → List ℕ × ℕ → List ℕ × ℕ
-with_front bytes size rest = (bytes ++ rest.0, size + rest.1)
+-- the next spot, without a byte
+abbrev pub goes_on : Spot → Option (Spot × Option ℕ)
+goes_on spot = Some (spot, None)
 
--- the bytes of the characters at the front of a text, of which so many letters belong to the last one, and how long they are
-abbrev pub characters_from : Enclosure → ℕ → List ℕ → List ℕ × ℕ
-characters_from enclosure skip [] = ([], 0)
-characters_from enclosure (suc skip) (letter ∷ text) = with_front [] 1 (characters_from enclosure skip text)
-characters_from enclosure zero (letter ∷ text) =
-    elim (first_character enclosure (letter ∷ text)) [
-      | None ↦ ([], 0)
-      | Some found ↦ with_front (option_to_list found.0) 1 (characters_from enclosure (found.1 - 1) text)
+-- the next spot after a character in a string, and the byte that it is
+abbrev pub inside_after : Quote → ℕ → Option (Spot × Option ℕ)
+inside_after quote byte =
+    if is_mark_of quote byte then goes_on Closed
+    else (if byte == 92 then goes_on (if is_double quote then First else Backslash quote)
+    else (if has_characters quote && (nat_le 32 byte && nat_le byte 126) then Some (Inside quote, Some byte)
+    else (if is_bare quote && is_ascii_whitespace byte then goes_on Tail else None)))
+
+-- the next spot after a backslash and a character, and the byte of an escape of one letter
+abbrev pub escape_after : Quote → ℕ → Option (Spot × Option ℕ)
+escape_after quote byte =
+    if byte == 120 then goes_on (Hex quote)
+    else (if is_string quote then option_map (λ one. (Inside quote, Some one)) (letter_byte byte) else None)
+
+-- the next spot after a character outside of strings: white space, another string, or what ends the statement
+abbrev pub outside_after : Spot → ℕ → Option (Spot × Option ℕ)
+outside_after Closed byte = if is_ascii_whitespace byte then goes_on Between else (if is_tail_byte byte then goes_on Tail else None)
+outside_after Between byte =
+    if is_ascii_whitespace byte then goes_on Between
+    else (if is_quotation byte then goes_on (Inside (Text byte))
+    else (if byte == 98 then goes_on Prefix else (if is_tail_byte byte then goes_on Tail else None)))
+outside_after Prefix byte = if is_quotation byte then goes_on (Inside (Bytes byte)) else None
+outside_after Tail byte = if is_tail_byte byte then goes_on Tail else None
+outside_after spot byte = None
+
+-- C reads more digits of an escape of text than two (C11, 6.4.4.4), so that none may follow
+abbrev pub behind_after : Quote → ℕ → Option (Spot × Option ℕ)
+behind_after (Text mark) byte = if is_ascii_hexdigit byte then None else inside_after (Text mark) byte
+behind_after quote byte = inside_after quote byte
+
+-- the next spot after a character, and the byte that ends with it, if strings go on so. Example: \x05 ends with the byte 05
+abbrev pub spot_after : Spot → ℕ → Option (Spot × Option ℕ)
+spot_after (Inside quote) byte = inside_after quote byte
+spot_after (Behind quote) byte = behind_after quote byte
+spot_after First byte = if byte == 92 then goes_on (Backslash Double) else None
+spot_after (Backslash quote) byte = escape_after quote byte
+spot_after (Hex quote) byte = option_map (λ high. (Digit quote high, None)) (hex_digit byte)
+spot_after (Digit quote high) byte = option_map (λ low. (Behind quote, Some (high % 16 * 16 + low))) (hex_digit byte)
+spot_after spot byte = outside_after spot byte
+
+-- strings may end there
+abbrev pub is_end : Spot → Bool
+is_end (Behind Double) = true
+is_end (Behind Bare) = true
+is_end Closed = true
+is_end Between = true
+is_end Tail = true
+is_end spot = false
+
+-- the bytes of strings up to the end of a text, from a spot on
+abbrev pub escapes_from : Spot → List ℕ → Option (List ℕ)
+escapes_from spot [] = if is_end spot then Some [] else None
+escapes_from spot (byte ∷ text) =
+    elim (spot_after spot byte) [
+      | None ↦ None
+      | Some next ↦ both (Some (option_to_list next.1)) (escapes_from next.0 text)
     ]
+
+-- a command of a shell that writes the bytes of escapes
+abbrev pub is_command : List ℕ → Bool
+is_command text = list_any (λ name. bytes_eq name.now (trimmed_text text)) COMMANDS
 
 -- the character so many in front of the end of a text, or a blank
 abbrev pub character_back : List ℕ → ℕ → ℕ
 character_back text count = if nat_lt count (length text) then slice_index text (length text - 1 - count) else 32
 
-abbrev pub is_word_byte : ℕ → Bool
-is_word_byte byte = is_ascii_alphanumeric byte || ((byte == 95) || nat_le 128 byte)
+-- what encloses the first escape behind a text, and what stands in front of that
+abbrev pub quote_of : List ℕ → Option (Quote × List ℕ)
+quote_of text =
+    if is_quotation (character_back text 0)
+    then (if character_back text 1 == 98 then Some (Bytes (character_back text 0), take (length text - 2) text)
+    else (if is_command (take (length text - 1) text) then Some (Shell (character_back text 0), [])
+    else Some (Text (character_back text 0), take (length text - 1) text)))
+    else (if is_command text then Some (Double, []) else (if is_empty_line text then Some (Bare, []) else None))
 
--- what follows a text is enclosed by a quotation mark at its end, alone or after b; or by nothing, after white space or =
-abbrev pub enclosure_of : List ℕ → Option Enclosure
-enclosure_of text =
-    if (character_back text 0 == 34) || (character_back text 0 == 39)
-    then (if not (is_word_byte (character_back text 1)) then Some (Text (character_back text 0))
-    else (if (character_back text 1 == 98) && not (is_word_byte (character_back text 2))
-    then Some (Bytes (character_back text 0)) else None))
-    else (if is_ascii_whitespace (character_back text 0) || (character_back text 0 == 61) then Some Bare else None)
+-- the strings of a text, and what a shell has behind its word
+abbrev pub is_shell : Quote → Bool
+is_shell (Shell mark) = true
+is_shell Double = true
+is_shell quote = false
 
--- a text ends what is enclosed in front of it
-abbrev pub first_or_blank : List ℕ → ℕ
-first_or_blank text = if length text == 0 then 32 else slice_index text 0
+abbrev pub body_of : Quote → List ℕ → List ℕ
+body_of quote text = if is_shell quote then before_space text else text
 
-abbrev pub is_closed : Enclosure → List ℕ → Bool
-is_closed Bare text = is_ascii_whitespace (first_or_blank text)
-is_closed (Text quote) text = first_or_blank text == quote
-is_closed (Bytes quote) text = first_or_blank text == quote
+abbrev pub behind_body : Quote → List ℕ → List ℕ
+behind_body quote text = if is_shell quote then from_space text else []
 
--- how many quotation marks enclose, at either end
-abbrev pub quotes_of : Enclosure → ℕ
-quotes_of Bare = 0
-quotes_of (Text quote) = 1
-quotes_of (Bytes quote) = 1
+-- the last line of a text that has other characters than white space
+abbrev pub last_line : List ℕ → ℕ
+last_line text = line_at text (length (take (length text - suffix_len is_ascii_whitespace text) text))
 
--- the bytes of characters between two places, if they are enclosed and alone
-abbrev pub enclosed_answer : List ℕ → ℕ → Enclosure → List ℕ → ℕ → Option Answer
-enclosed_answer text from enclosure bytes to =
-    if is_closed enclosure (drop to text) && stands_alone true text (from - quotes_of enclosure) (min (to + quotes_of enclosure) (length text))
-    then Some (Escapes, (bytes, Some (line_at text from, line_at text to))) else None
+-- a text is one word of a shell that names a file: it has no white space, and none of > ; | &
+abbrev pub ends_word : ℕ → Bool
+ends_word byte = is_ascii_whitespace byte || ((byte == 62) || ((byte == 59) || ((byte == 124) || (byte == 38))))
 
--- the descriptor in the strings of a text, whose first escape of hex begins at a place
-abbrev pub strings_by : List ℕ → ℕ → Option Enclosure → Option Answer
-strings_by text from None = None
-strings_by text from (Some enclosure) =
-    enclosed_answer text from enclosure (characters_from enclosure 0 (drop from text)).0 (from + (characters_from enclosure 0 (drop from text)).1)
+abbrev pub is_file : List ℕ → Bool
+is_file text = not (length text == 0) && not (list_any ends_word text)
 
--- the descriptor in the strings of a text, by how their first escape of hex is enclosed
+-- a shell writes to a file what stands in front of a text: > FILE in the same line, or nothing
+abbrev pub redirects : ℕ → List ℕ → Bool
+redirects line [] = true
+redirects line (first ∷ file) = (first == 62) && ((line == 1) && is_file (without_space file))
+
+abbrev pub is_redirect : List ℕ → Bool
+is_redirect text = redirects (last_line text) (trimmed_text text)
+
+-- a head has one of ] * ( [, as an array of C, or strings in brackets of Python
+abbrev pub is_array : List ℕ → Bool
+is_array head = list_any (λ byte. (byte == 93) || ((byte == 42) || ((byte == 40) || (byte == 91)))) head
+
+-- a language takes strings of several lines behind a head for one, where the last character isn't of a string; strings without a head
+-- are those of no language
+abbrev pub joins_lines : List ℕ → List ℕ → Bool
+joins_lines head text = if is_array head then is_tail_byte (character_back (trimmed_text text) 0) else is_empty_line head
+
+-- nothing beside strings from a place on, in front of so many bytes and behind a shell's word, changes them
+abbrev pub stands_alone : List ℕ → ℕ → List ℕ → List ℕ → ℕ → Bool
+stands_alone text place head behind count =
+    ((line_at text place == last_line text) || joins_lines head text) && (is_head count head && is_redirect behind)
+
+-- the descriptor in the strings of a text, whose first backslash stands at a place
+abbrev pub strings_by : List ℕ → ℕ → Option (Quote × List ℕ) → Option Answer
+strings_by text place None = None
+strings_by text place (Some found) =
+    elim (escapes_from (Inside found.0) (body_of found.0 (drop place text))) [
+      | None ↦ None
+      | Some bytes ↦
+          if stands_alone text place found.1 (behind_body found.0 (drop place text)) (length bytes)
+          then some_answer Escapes (Some (line_at text place, last_line text)) bytes else None
+    ]
+
+-- the descriptor in the strings of a text, whose first backslash stands at a place, by what encloses it
 abbrev pub strings_answer : List ℕ → ℕ → Option Answer
-strings_answer text from = strings_by text from (enclosure_of (take from text))
+strings_answer text place = strings_by text place (quote_of (take place text))

@@ -37,19 +37,6 @@ abbrev pub trimmed_text : List ℕ → List ℕ
 trimmed_text text =
     take (length (without_space text) - suffix_len is_ascii_whitespace (without_space text)) (without_space text)
 
--- a line ends with the first of these characters: CR alone, or FF
-abbrev pub is_other_end : ℕ → ℕ → Bool
-is_other_end before byte = ((before == 13) && not (byte == 10)) || (before == 12)
-
--- some line of a text that follows this character ends with CR or FF alone
-abbrev pub other_ends_from : ℕ → List ℕ → Bool
-other_ends_from before [] = false
-other_ends_from before (byte ∷ text) = is_other_end before byte || other_ends_from byte text
-
--- a line of a text ends with CR or FF alone, the white space at its end aside
-abbrev pub has_other_ends : List ℕ → Bool
-has_other_ends text = other_ends_from 32 (trimmed_text text)
-
 -- a line has white space alone
 abbrev pub is_empty_line : List ℕ → Bool
 is_empty_line line = list_all is_ascii_whitespace line

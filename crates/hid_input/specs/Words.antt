@@ -1,13 +1,13 @@
 -- Words of digits, and the bytes that they spell (our choice: docs/INPUT-FORMS.md).
-use Rattle.std.specs.Prelude.{◌≡◌, ℕ, ◌==◌, ◌-◌, ◌+◌, ◌*◌, ◌^◌, min, Bool, not, ◌&&◌, ◌||◌, nat_le, nat_lt, List, [], ◌∷◌, ◌++◌, length, slice_index, take, drop, if◌then◌else◌, Option, None, Some}
+use Rattle.std.specs.Prelude.{◌≡◌, ℕ, ◌==◌, ◌-◌, ◌+◌, ◌*◌, ◌^◌, min, Bool, false, true, not, ◌&&◌, ◌||◌, nat_le, nat_lt, List, [], ◌∷◌, ◌++◌, length, slice_index, take, drop, if◌then◌else◌, Option, None, Some}
 use Rattle.std.specs.List.{filter, slice_split, list_all}
 use Rattle.std.specs.Option.{option_map, option_and_then}
-use Rattle.std.specs.Char.{digit_value, is_ascii_digit, is_ascii_alphanumeric, is_ascii_whitespace}
+use Rattle.std.specs.Char.{digit_value, is_ascii_digit, is_ascii_whitespace}
 use Rattle.std.specs.Str.Parse.{digits_value}
 use Rattle.hid_input.specs.declared.words.Reading.{Reading}
-use Rattle.hid_input.specs.declared.words.Reading.TheVariants.{Runs, Joined, Elements}
+use Rattle.hid_input.specs.declared.words.Reading.TheVariants.{Pairs, Runs, Joined, Elements}
 use Rattle.hid_input.specs.declared.words.Parting.{Parting}
-use Rattle.hid_input.specs.declared.words.Parting.TheVariants.{Space, Commas, Marks}
+use Rattle.hid_input.specs.declared.words.Parting.TheVariants.{Space, Commas}
 
 -- a digit in this base, which is from 2 to 36
 abbrev pub is_digit_of : ℕ → ℕ → Bool
@@ -45,10 +45,14 @@ ends_hex word =
     && (((slice_index word (length word - 1) == 104) || (slice_index word (length word - 1) == 72))
     && ((length word == 3) || is_ascii_digit (slice_index word 0)))
 
+-- the byte of one or two hex digits
+unfoldable pub hex_byte : List ℕ → Option ℕ
+hex_byte digits = if nat_le (length digits) 2 then byte_in_base 16 digits else None
+
 -- the byte of an element of a list: in hex by 0x or h, else in decimal, without zeros in front. Example: 0xA1, 0A1h and 161 are A1
 abbrev pub element_byte : List ℕ → Option ℕ
 element_byte word =
-    if begins_hex word then byte_in_base 16 (drop 2 word)
+    if begins_hex word then hex_byte (drop 2 word)
     else (if ends_hex word then byte_in_base 16 (take (length word - 1) word)
     else (if nat_le 2 (length word) && (slice_index word 0 == 48) then None else byte_in_base 10 word))
 
@@ -62,39 +66,35 @@ both (Some here) (Some more) = Some (here ++ more)
 abbrev pub single_byte : Option ℕ → Option (List ℕ)
 single_byte byte = option_map (λ one. one ∷ []) byte
 
--- the bytes of a run of hex digits, two for each byte. Example: 0501 is 05 01
-abbrev pub run_bytes : List ℕ → Option (List ℕ)
-run_bytes [] = Some []
-run_bytes (digit ∷ []) = None
-run_bytes (high ∷ low ∷ more) = both (single_byte (byte_of_pair (high ∷ low ∷ []))) (run_bytes more)
-
 -- a colon or a hyphen
 abbrev pub is_joint : ℕ → Bool
 is_joint byte = (byte == 58) || (byte == 45)
 
--- the bytes of pairs of hex digits with a colon or a hyphen between each two
-abbrev pub pairs_bytes : List ℕ → Option (List ℕ)
-pairs_bytes [] = None
-pairs_bytes (high ∷ []) = None
-pairs_bytes (high ∷ low ∷ []) = single_byte (byte_of_pair (high ∷ low ∷ []))
-pairs_bytes (high ∷ low ∷ joint ∷ more) =
-    if is_joint joint then both (single_byte (byte_of_pair (high ∷ low ∷ []))) (pairs_bytes more) else None
+-- a text without such a joint in front of it, if those may join bytes
+abbrev pub after_joint : Bool → List ℕ → List ℕ
+after_joint is_joined [] = []
+after_joint is_joined (joint ∷ more) = if is_joined && is_joint joint then more else joint ∷ more
 
--- the bytes of two or more such pairs. Example: 05:01 and 05-01 are 05 01
-abbrev pub joined_bytes : List ℕ → Option (List ℕ)
-joined_bytes word = if nat_lt (length word) 3 then None else pairs_bytes word
+-- the bytes of a run of hex digits, two for each byte, perhaps with a joint after it. Example: 0501 and 05:01 are 05 01
+abbrev pub run_bytes : Bool → List ℕ → Option (List ℕ)
+run_bytes is_joined [] = Some []
+run_bytes is_joined (digit ∷ []) = None
+run_bytes is_joined (high ∷ low ∷ []) = single_byte (byte_of_pair (high ∷ low ∷ []))
+run_bytes is_joined (high ∷ low ∷ joint ∷ more) =
+    both (single_byte (byte_of_pair (high ∷ low ∷ [])))
+    (if is_joined && is_joint joint then run_bytes is_joined more else run_bytes is_joined (joint ∷ more))
 
 -- the bytes of a word in a reading
 abbrev pub word_bytes : Reading → List ℕ → Option (List ℕ)
-word_bytes Runs word = run_bytes word
-word_bytes Joined word = joined_bytes word
+word_bytes Pairs word = single_byte (byte_of_pair word)
+word_bytes Runs word = run_bytes false word
+word_bytes Joined word = run_bytes true word
 word_bytes Elements word = single_byte (element_byte word)
 
--- what parts words: white space; or white space and commas; or each character but letters, digits, _ and .
+-- what parts words: white space; or white space and commas
 abbrev pub is_separator : Parting → ℕ → Bool
 is_separator Space byte = is_ascii_whitespace byte
 is_separator Commas byte = is_ascii_whitespace byte || (byte == 44)
-is_separator Marks byte = not (is_ascii_alphanumeric byte) && (not (byte == 95) && not (byte == 46))
 
 abbrev pub is_no_separator : Parting → ℕ → Bool
 is_no_separator parting byte = not (is_separator parting byte)

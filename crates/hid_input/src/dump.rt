@@ -7,38 +7,33 @@
 //! An offset is the number of bytes in front of its line, in hex, decimal or octal: the same in each line. Each byte is written, so
 //! `*` for repeated lines isn't read.
 
-ghost use Rattle.std.specs.Prelude.{◌≡◌, ◌==◌, ◌≤◌, ◌||◌, ℕ, [], false, IfErr, IfOk, MatchResult, None};
+ghost use Rattle.std.specs.Prelude.{◌≡◌, ◌==◌, ◌<◌, ◌||◌, [], false, IfOk, MatchResult, Some, None};
 ghost use Rattle.std.specs.List.{list_all, zip};
 ghost use Rattle.std.specs.Option.{option_copied};
 ghost use Rattle.hid_input.specs.Text.{lines_of};
-ghost use Rattle.hid_input.specs.declared.found.Shape.TheVariants.{Dump};
-ghost use Rattle.hid_input.specs.Answer.{Reads, answer_of};
-ghost use Rattle.hid_input.specs.Descriptor.{IsDescriptor};
-ghost use Rattle.hid_input.specs.Dump.{base_count, without_last, offset_digits, is_dump, character_of, are_shown, inside_bars, shows_in_bars, shows, begins_word, row_bytes, line_bytes, rows_bytes, begins_by, byte_line, further, dump_bytes, dump_answer, IsNotWhole, IsDumpFault};
+ghost use Rattle.hid_input.specs.Answer.{Reads};
+ghost use Rattle.hid_input.specs.Dump.{without_last, offset_digits, is_dump, character_of, are_shown, inside_bars, shows_in_bars, shows, begins_word, row_bytes, is_whole, line_bytes, rows_bytes, bases_of, row_size, dump_answer};
 
 use crate::fault::{InputCause, InputFault};
 use crate::found::{Found, Shape};
+use crate::spelled::found_whole;
 use crate::text::{behind_part, first_word, is_empty_line, split_line, split_word, without_space};
-use crate::whole::descriptor_fault;
 use crate::words::{byte_of_pair, number_of};
 use std::alloc::{AllocError, Global};
 
-/// The bases of offsets.
-const BASES: [u32; 3] = [16, 10, 8];
-
-/// In how many of these an offset may be, by its first word: tools write octal ones with seven digits, and decimal ones with seven or,
-/// in front of a colon, eight.
-fn base_count(word: &[u8]) -> usize
-    ensures count { result ≡ base_count word.now }
-    ensures few { result ≤ 3 }
+/// The bases in which an offset may be, by its first word: tools write decimal and octal ones with seven digits.
+fn bases_of(word: &[u8]) -> &'static [u32]
+    ensures { result.now ≡ bases_of word.now }
 {
-    if word.len() == 7 {
-        3
-    } else if word.len() == 9 && word[8] == b':' {
-        2
-    } else {
-        1
-    }
+    if word.len() == 7 { &[16, 10, 8] } else { &[16] }
+}
+
+/// How many bytes each row has but the last, by the first word: where the base isn't known, 16.
+fn row_size(word: &[u8]) -> u64
+    ensures size { result ≡ row_size word.now }
+    ensures some { 0 < result }
+{
+    if word.len() == 7 { 16 } else { 1 }
 }
 
 /// A text without a byte at its end.
@@ -148,7 +143,7 @@ fn is_long(had_long: bool, more: &[u8]) -> bool
 
 /// The bytes of a row: words of hex, up to their characters. Without these each word is one byte.
 fn read_row(alloc: Global, row: &[u8]) -> Result<Result<Vec<u8>, InputCause>, AllocError>
-    ensures { IfOk result (λ read. MatchResult read (λ bytes. row_bytes false [] row.now ≡ Ok bytes.items) (λ cause. row_bytes false [] row.now ≡ Err cause)) }
+    ensures { IfOk result (λ read. MatchResult read (λ bytes. row_bytes false [] row.now ≡ Some bytes.items) (λ _. row_bytes false [] row.now ≡ None)) }
 {
     let mut bytes = Vec::new(alloc);
     let mut rest = without_space(row);
@@ -178,17 +173,21 @@ fn read_row(alloc: Global, row: &[u8]) -> Result<Result<Vec<u8>, InputCause>, Al
 fn read_line(
     alloc: Global,
     base: u32,
+    size: u64,
     count: u64,
     line: &[u8],
 ) -> Result<Result<Vec<u8>, InputCause>, AllocError>
-    ensures { IfOk result (λ read. MatchResult read (λ bytes. line_bytes base count line.now ≡ Ok bytes.items) (λ cause. line_bytes base count line.now ≡ Err cause)) }
+    requires { 0 < size }
+    ensures { IfOk result (λ read. MatchResult read (λ bytes. line_bytes base size count line.now ≡ Some bytes.items) (λ _. line_bytes base size count line.now ≡ None)) }
 {
     let (word, row) = split_word(without_space(without_last(line, b'\r')));
     if word.is_empty() {
         return Ok(Ok(Vec::new(alloc)));
     }
     match number_of(offset_digits(word), base) {
-        Some(offset) if offset == count => read_row(alloc, row),
+        Some(offset) if offset == count && (count % size == 0 || is_empty_line(row)) => {
+            read_row(alloc, row)
+        }
         _ => Ok(Err(InputCause::Offset)),
     }
 }
@@ -198,16 +197,17 @@ fn read_rows(
     alloc: Global,
     text: &[u8],
     base: u32,
+    size: u64,
 ) -> Result<Result<Vec<u8>, (u64, InputCause)>, AllocError>
-    ensures { IfOk result (λ read. MatchResult read (λ bytes. rows_bytes base 1 [] (lines_of text.now) ≡ Ok bytes.items)
-        (λ fault. rows_bytes base 1 [] (lines_of text.now) ≡ Err fault)) }
+    requires { 0 < size }
+    ensures { IfOk result (λ read. MatchResult read (λ bytes. rows_bytes base size [] (lines_of text.now) ≡ Some bytes.items) (λ _. rows_bytes base size [] (lines_of text.now) ≡ None)) }
 {
     let mut bytes = Vec::new(alloc);
     let mut number = 1u64;
     let mut rest = text;
     loop {
         let (line, below) = split_line(rest);
-        match read_line(alloc, base, bytes.len() as u64, line)? {
+        match read_line(alloc, base, size, bytes.len() as u64, line)? {
             Ok(row) => bytes.extend_from_slice(row.as_slice())?,
             Err(cause) => return Ok(Err((number, cause))),
         }
@@ -219,74 +219,24 @@ fn read_rows(
     }
 }
 
-/// Whether the offset of a line is no more than this number.
-fn begins_by(line: &[u8], at: u64, base: u32) -> bool
-    ensures { result ≡ begins_by base at line.now }
-{
-    match number_of(offset_digits(first_word(line)), base) {
-        Some(offset) => offset <= at,
-        None => false,
-    }
-}
-
-/// The line of the byte after so many others: the last whose offset is no more than their number.
-fn line_of_byte(text: &[u8], at: u64, base: u32) -> u64
-    ensures { result ≡ byte_line base at 1 1 (lines_of text.now) }
-{
-    let mut found = 1u64;
-    let mut number = 1u64;
-    let mut rest = text;
-    loop {
-        let (line, below) = split_line(rest);
-        if begins_by(line, at, base) {
-            found = number;
-        }
-        match below {
-            Some(below) => rest = below,
-            None => return found,
-        }
-        number += 1;
-    }
-}
-
-/// The descriptor that these bytes of a dump are.
-fn whole_dump(text: &[u8], base: u32, bytes: Vec<u8>) -> Result<Found, InputFault>
-    ensures { MatchResult result (λ found. (answer_of found ≡ (Dump, (bytes.items, None))) × IsDescriptor bytes.items)
-        (λ fault. IsNotWhole text.now base bytes.items fault) }
-{
-    if let Some(fault) = descriptor_fault(bytes.as_slice()) {
-        let line = line_of_byte(text, fault.at as u64, base);
-        return Err(InputFault::of_line(line, InputCause::NotWhole(fault)));
-    }
-    Ok(Found {
-        bytes,
-        shape: Shape::Dump,
-        lines: None,
-    })
-}
-
-/// The later of two lines that are none.
-fn further(one: (u64, InputCause), other: (u64, InputCause)) -> (u64, InputCause)
-    ensures { result ≡ further one other }
-{
-    if other.0 < one.0 { one } else { other }
-}
-
 /// The descriptor in a dump, in the first base of offsets in which each line is read. If none is, the line at which the last one fails.
 ///
 /// # Errors
 /// [`InputCause::Offset`], [`InputCause::DumpLine`] or [`InputCause::WordOrder`] of a line; [`InputCause::NotWhole`];
 /// [`InputCause::Memory`].
 pub fn read_dump(alloc: Global, text: &[u8]) -> Result<Found, InputFault>
-    ensures answer { Reads (dump_answer text.now) result }
-    ensures fault { IfErr result (λ fault. IsDumpFault text.now fault (dump_bytes text.now)) }
+    ensures { Reads (dump_answer text.now) result }
 {
     let mut furthest = (0, InputCause::DumpLine);
-    let bases = &BASES[..base_count(first_word(text))];
-    for base in bases {
-        match read_rows(alloc, text, *base)? {
-            Ok(bytes) => return whole_dump(text, *base, bytes),
-            Err(fault) => furthest = further(furthest, fault),
+    let word = first_word(text);
+    for base in bases_of(word) {
+        match read_rows(alloc, text, *base, row_size(word))? {
+            Ok(bytes) => return found_whole(bytes, Shape::Dump, None),
+            Err(fault) => furthest = if fault.0 < furthest.0 {
+                furthest
+            } else {
+                fault
+            },
         }
     }
     Err(InputFault::of_line(furthest.0, furthest.1))

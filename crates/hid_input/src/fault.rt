@@ -15,30 +15,22 @@ pub enum InputCause {
     NotWhole(DescriptorFault),
     /// A character that is neither of a byte nor a separator nor in a comment. Columns count from 1.
     NoByte { column: u64 },
-    /// The count of an `R:` line is missing, or no number.
-    NoCount,
-    /// The count of an `R:` line, or the length that lsusb prints, isn't that of the bytes.
-    BadCount { said: u64, found: u64 },
-    /// A byte after a mark isn't two hex digits; so many bytes are in front of it.
-    BadHex { at: u64 },
+    /// The bytes of an `R:` or `H:` line can't be read.
+    Recorded(RecordedFault),
     /// Two descriptors, by the lines in which they begin.
     Several { first: u64, second: u64 },
-    /// An operator or an index beside a list or a string, which may change its bytes.
-    Operator,
-    /// A comment without its end, or one of `//` that a backslash continues.
+    /// Other characters beside a list or strings than those that never change its bytes.
+    Beside,
+    /// A comment, a string or a line of which not all programs agree on the end.
     Unclear,
-    /// Lines end with CR or FF alone, which not all programs take for the end of a line.
-    LineEnds,
     /// Words of several bytes in a dump, without characters that show their order.
     WordOrder,
     /// The offset of a line of a dump isn't the number of bytes in front of it.
     Offset,
     /// A line of a dump that isn't an offset, bytes and their characters.
     DumpLine,
-    /// A line beside an `R:` line that isn't part of a recording.
+    /// A line in a text whose descriptor a line names, which the program doesn't print that wrote that.
     OtherLine,
-    /// An item of lsusb that is none of HID 1.11, 6.2.2.
-    BadItem,
     /// lsusb prints that it couldn't read the report descriptor.
     Unavailable,
     /// Text of UTF-16.
@@ -96,20 +88,8 @@ impl From<AllocError> for InputFault {
     }
 }
 
-impl From<RecordedFault> for InputCause {
-    ghost use Rattle.hid_input.specs.Faults.{cause_of};
-
-    ghost from_gives = { λ fault cause. cause ≡ cause_of fault };
-
-    fn from(fault: RecordedFault) -> InputCause {
-        match fault {
-            RecordedFault::NoCount => InputCause::NoCount,
-            RecordedFault::BadHex { at } => InputCause::BadHex { at },
-            RecordedFault::BadCount { said, found } => InputCause::BadCount { said, found },
-            RecordedFault::Memory => InputCause::Memory,
-        }
-    }
-}
+/// The way out of each refusal but those of dumps, of which it would take the offsets for bytes.
+const OUT: &str = "; convert it: xxd -r -p FILE | hidmap";
 
 impl fmt::Display for InputCause {
     ghost use Rattle.std.specs.Prelude.{Some};
@@ -120,39 +100,19 @@ impl fmt::Display for InputCause {
     fn fmt<W: fmt::Write>(&self, f: &mut fmt::Formatter<W>) -> fmt::Result {
         let words = match *self {
             InputCause::NotWhole(fault) => {
-                return write!(
-                    f,
-                    "no whole descriptor: {fault}; convert it: xxd -r -p FILE | hidmap"
-                );
+                return write!(f, "no whole descriptor: {fault}{OUT}");
             }
             InputCause::NoByte { column } => {
                 return write!(
                     f,
-                    "column {column}: neither a byte nor a comment of // or #; convert it: xxd -r -p FILE | hidmap"
+                    "column {column}: neither a byte nor a comment of // or #{OUT}"
                 );
             }
-            InputCause::BadCount { said, found } if found == 1 => {
-                return write!(
-                    f,
-                    "the count is {said}, there is 1 byte; convert it: xxd -r -p FILE | hidmap"
-                );
-            }
-            InputCause::BadCount { said, found } => {
-                return write!(
-                    f,
-                    "the count is {said}, there are {found} bytes; convert it: xxd -r -p FILE | hidmap"
-                );
-            }
-            InputCause::BadHex { at } => {
-                return write!(
-                    f,
-                    "byte {at} isn't two hex digits; convert it: xxd -r -p FILE | hidmap"
-                );
-            }
+            InputCause::Recorded(fault) => return write!(f, "{fault}{OUT}"),
             InputCause::Several { first, second } => {
                 return write!(
                     f,
-                    "two descriptors, from lines {first} and {second}: give one alone; convert it: xxd -r -p FILE | hidmap"
+                    "two descriptors, from lines {first} and {second}: give one alone{OUT}"
                 );
             }
             InputCause::Memory => return f.write_str("out of memory"),
@@ -167,19 +127,18 @@ impl fmt::Display for InputCause {
                     "neither an offset with bytes nor their characters: try xxd or od -v -A x -t x1",
                 );
             }
-            InputCause::NoCount => "the count is missing, or no number",
-            InputCause::Operator => "an operator or an index beside it: give the bytes alone",
-            InputCause::Unclear => "a comment without its end, or with a backslash at its end",
-            InputCause::LineEnds => "lines that end with CR or FF alone: end each with LF",
-            InputCause::OtherLine => "neither a line of a recording nor a comment",
-            InputCause::BadItem => "no item as lsusb prints them",
+            InputCause::Beside => {
+                "an operator, a call or other bytes beside it: give the bytes alone"
+            }
+            InputCause::Unclear => "a comment, a string, a line or a directive without a clear end",
+            InputCause::OtherLine => "a line that isn't of the program that wrote the others",
             InputCause::Unavailable => {
                 "lsusb couldn't read the descriptor: /sys/class/hidraw has it"
             }
             InputCause::Utf16 => "text of UTF-16: write it as UTF-8",
             InputCause::NoDescriptor => "text without a descriptor",
         };
-        write!(f, "{words}; convert it: xxd -r -p FILE | hidmap")
+        write!(f, "{words}{OUT}")
     }
 }
 

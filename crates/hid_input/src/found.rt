@@ -13,9 +13,9 @@ pub enum Shape {
     Block,
     /// Items as `lsusb -v` prints them.
     Items,
-    /// A list in brackets, among words.
+    /// A list in brackets.
     List,
-    /// Escapes, as in strings of C and Python, among words.
+    /// Escapes, as in strings of C and Python.
     Escapes,
     /// Hex or numbers, and nothing else but comments.
     Hex,

@@ -4,12 +4,14 @@
 //!                             Generic Desktop Controls
 //! ```
 
-ghost use Rattle.std.specs.Prelude.{◌≡◌, map, IfOk};
-ghost use Rattle.std.specs.Option.{option_map};
+ghost use Rattle.std.specs.Prelude.{◌≡◌, map, IfOk, not};
+ghost use Rattle.std.specs.List.{list_all, list_any};
+ghost use Rattle.std.specs.Char.{is_ascii_hexdigit};
+ghost use Rattle.std.specs.Option.{option_map, option_copied};
 ghost use Rattle.hid_input.specs.Words.{IsAdded};
-ghost use Rattle.hid_input.specs.Items.{prefix_in, prefix_of, size_and_value, size_if, data_parts, item_parts, item_bytes, item_line_bytes, length_in, is_unavailable, has_unavailable, ends_items};
+ghost use Rattle.hid_input.specs.Items.{prefix_in, prefix_of, data_words, item_parts, size_code, item_bytes, item_line_bytes, length_in, is_unavailable, is_long_hex, has_long_hex, is_code, is_lsusb};
 
-use crate::text::{behind_part, split_at_character, trimmed_text};
+use crate::text::{behind_part, split_at_character, trimmed_text, without_space};
 use crate::words::{Parting, Reading, add_words, number_of};
 use std::alloc::{AllocError, Global};
 
@@ -47,74 +49,53 @@ fn prefix_of(name: &[u8]) -> Option<u8>
     prefix_in(&NAMES, name)
 }
 
-/// The code of the size of an item's data (HID 1.11, 6.2.2.2), and the number that the data is, the lowest byte first (5.8).
-fn size_and_value(bytes: &[u8]) -> Option<(u8, u64)>
-    ensures { result ≡ size_and_value bytes.now }
-{
-    match *bytes {
-        [] => Some((0, 0)),
-        [a] => Some((1, u64::from(a))),
-        [a, b] => Some((2, u64::from(a) + u64::from(b) * 0x100)),
-        [a, b, c, d] => Some((
-            3,
-            u64::from(a) + u64::from(b) * 0x100 + u64::from(c) * 0x10000 + u64::from(d) * 0x1000000,
-        )),
-        _ => None,
-    }
-}
-
-/// The code of the size of data, if this is its number. Data of four bytes may be printed as one below zero.
-fn size_if(bytes: &[u8], number: &[u8]) -> Option<u8>
-    ensures { result ≡ size_if bytes.now number.now }
-{
-    let (size, value) = size_and_value(bytes)?;
-    let printed = if number.len() >= 1 && number[0] == b'-' {
-        0x1_0000_0000u64.saturating_sub(number_of(&number[1..], 10)?)
-    } else {
-        number_of(number, 10)?
-    };
-    if printed == value { Some(size) } else { None }
-}
-
-/// The words of an item's data, and the number after them.
-#[tactic(auto, unfolding(crate::specs::Items::data_parts))]
-fn data_parts(text: &[u8]) -> Option<(&[u8], &[u8])>
-    ensures { option_map (λ parts. (parts.0.now, parts.1.now)) result ≡ data_parts text.now }
+/// The words of an item's data.
+#[tactic(auto, unfolding(crate::specs::Items::data_words))]
+fn data_words(text: &[u8]) -> Option<&[u8]>
+    ensures { option_copied result ≡ data_words text.now }
 {
     if text == b" data=none".as_slice() {
-        return Some((b"", b"0"));
+        return Some(b"");
     }
-    let inside = behind_part(text, b" data= [")?;
-    let (words, number) = split_at_character(inside, b']')?;
-    Some((words, trimmed_text(number)))
+    let (words, _) = split_at_character(behind_part(text, b" data= [")?, b']')?;
+    Some(words)
 }
 
-/// The prefix of an item, the words of its data, and the number after them.
+/// The prefix of an item, and the words of its data.
 #[tactic(auto, unfolding(crate::specs::Items::item_parts))]
-fn item_parts(item: &[u8]) -> Option<(u8, &[u8], &[u8])>
-    ensures { option_map (λ parts. (parts.0, parts.1.now, parts.2.now)) result ≡ item_parts item.now }
+fn item_parts(item: &[u8]) -> Option<(u8, &[u8])>
+    ensures { option_map (λ parts. (parts.0, parts.1.now)) result ≡ item_parts item.now }
 {
     let (name, data) = split_at_character(item, b',')?;
-    let prefix = prefix_of(name)?;
-    let (words, number) = data_parts(data)?;
-    Some((prefix, words, number))
+    Some((prefix_of(name)?, data_words(data)?))
+}
+
+/// The code of the size of an item's data (HID 1.11, 6.2.2.2).
+fn size_code(size: usize) -> Option<u8>
+    ensures { result ≡ size_code size }
+{
+    match size {
+        0..=2 => Some(size as u8),
+        4 => Some(3),
+        _ => None,
+    }
 }
 
 /// Adds the bytes of an item; false where it is none.
 fn add_item(alloc: Global, bytes: &mut Vec<u8>, item: &[u8]) -> Result<bool, AllocError>
     ensures { IfOk result (λ is_read. IsAdded bytes.old.items (item_bytes item.now) is_read bytes.new.items) }
 {
-    let Some((prefix, words, number)) = item_parts(item) else {
+    let Some((prefix, words)) = item_parts(item) else {
         return Ok(false);
     };
     let mut data = Vec::new(alloc);
     if add_words(&mut data, words, Reading::Elements, Parting::Space)?.is_some() {
         return Ok(false);
     }
-    let Some(size) = size_if(data.as_slice(), number) else {
+    let Some(code) = size_code(data.len()) else {
         return Ok(false);
     };
-    bytes.push(prefix | size)?;
+    bytes.push(prefix | code)?;
     bytes.extend_from_slice(data.as_slice())?;
     Ok(true)
 }
@@ -142,23 +123,61 @@ pub fn length_in(line: &[u8]) -> Option<u64>
 }
 
 /// Whether lsusb says in a line that it couldn't read a report descriptor.
-fn is_unavailable(line: &[u8]) -> bool
+pub fn is_unavailable(line: &[u8]) -> bool
     ensures { result ≡ is_unavailable line.now }
 {
     trimmed_text(line) == b"** UNAVAILABLE **".as_slice()
 }
 
-/// Whether lsusb says so in some line of a text.
-pub fn has_unavailable(text: &[u8]) -> bool
-    ensures { result ≡ has_unavailable text.now }
+/// Whether a word has hex digits alone.
+fn is_hex(word: &[u8]) -> bool
+    ensures { result ≡ list_all is_ascii_hexdigit word.now }
 {
-    text.split(|byte| *byte == b'\n')
-        .any(|line| is_unavailable(line))
+    word.iter().all(|byte| byte.is_ascii_hexdigit())
 }
 
-/// Whether a line begins another descriptor.
-pub fn ends_items(line: &[u8]) -> bool
-    ensures { result ≡ ends_items line.now }
+/// Whether a word is as long as a descriptor in hex, which has seven bytes at least.
+fn is_long_hex(word: &[u8]) -> bool
+    ensures { result ≡ is_long_hex word.now }
 {
-    length_in(line).is_some() || trimmed_text(line).ends_with(b"Descriptor:")
+    word.len() >= 14 && is_hex(word)
+}
+
+/// Whether a line has such a word.
+fn has_long_hex(line: &[u8]) -> bool
+    ensures { result ≡ has_long_hex line.now }
+{
+    line.split(|byte| byte.is_ascii_whitespace())
+        .any(|word| is_long_hex(word))
+}
+
+/// Whether a character stands in code, but in none of lsusb's lines beside those of items.
+fn is_code(byte: u8) -> bool
+    ensures { result ≡ is_code byte }
+{
+    matches!(
+        byte,
+        b'{' | b'\\' | b'=' | b'"' | b'\'' | b'<' | b'|' | b'%'
+    )
+}
+
+/// Whether a line has such a character.
+fn has_code(line: &[u8]) -> bool
+    ensures { result ≡ list_any is_code line.now }
+{
+    line.iter().any(|byte| is_code(*byte))
+}
+
+/// Whether a line is one that lsusb may print: of an item, or one that begins with no digit, and has no character of code and no long word
+/// of hex.
+pub fn is_lsusb(line: &[u8]) -> bool
+    ensures { result ≡ is_lsusb line.now }
+{
+    if trimmed_text(line).starts_with(b"Item(") {
+        return true;
+    }
+    match without_space(line) {
+        [b'0'..=b'9', ..] => false,
+        _ => !has_code(line) && !has_long_hex(line),
+    }
 }

@@ -16,10 +16,6 @@ pub enum KnownFile {
     Capture,
     /// Descriptors of a device or of a configuration (USB 2.0, 9.6).
     UsbDescriptors,
-    /// A file of gzip, xz, zstd or zip.
-    Compressed,
-    /// A program or an object file of ELF.
-    Program,
 }
 
 impl fmt::Display for KnownFile {
@@ -34,15 +30,13 @@ impl fmt::Display for KnownFile {
             KnownFile::UsbDescriptors => {
                 "USB descriptors: /sys/class/hidraw has report descriptors"
             }
-            KnownFile::Compressed => "a compressed file: unpack it first",
-            KnownFile::Program => "a program, without a report descriptor",
         };
         f.write_str(words)
     }
 }
 
-/// What a file is by its first bytes, if it is none that has a report descriptor: pcap and pcapng, descriptors of a device or of a
-/// configuration (USB 2.0, 9.6), gzip, xz, zstd and zip, or ELF. A descriptor may begin with these bytes too: one that can be read is one.
+/// What a file is by its first bytes, if it is none that has a report descriptor: pcap and pcapng, or descriptors of a device or of a
+/// configuration (USB 2.0, 9.6). A descriptor may begin with these bytes too: one that can be read is one.
 pub fn known_file(bytes: &[u8]) -> Option<KnownFile>
     ensures { result ≡ known_file bytes.now }
 {
@@ -56,11 +50,6 @@ pub fn known_file(bytes: &[u8]) -> Option<KnownFile>
         [0x09, 0x02, ..] if bytes.len() >= 18 && bytes[9] == 0x09 && bytes[10] == 0x04 => {
             Some(KnownFile::UsbDescriptors)
         }
-        [0x1F, 0x8B, ..]
-        | [0xFD, 0x37, 0x7A, 0x58, 0x5A, 0x00, ..]
-        | [0x28, 0xB5, 0x2F, 0xFD, ..]
-        | [0x50, 0x4B, 0x03, 0x04, ..] => Some(KnownFile::Compressed),
-        [0x7F, 0x45, 0x4C, 0x46, ..] => Some(KnownFile::Program),
         _ => None,
     }
 }

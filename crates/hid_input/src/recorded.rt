@@ -1,18 +1,19 @@
 //! Lines of hid-recorder, usbhid-dump and umockdev.
 
 ghost use Rattle.std.specs.Prelude.{◌≡◌, not, MatchResult};
-ghost use Rattle.std.specs.List.{find};
-ghost use Rattle.std.specs.Option.{option_copied, option_and_then};
+ghost use Rattle.std.specs.List.{find, list_any};
+ghost use Rattle.std.specs.Option.{option_copied};
 ghost use Rattle.hid_input.specs.Text.{lines_of};
-ghost use Rattle.hid_input.specs.Recorded.{pairs_before, hex_of, recorded_bytes, IsFault, after_letter, after_property, is_record_letter, begins_with_letter, is_head, is_record, is_passed, is_beside_letter, is_beside, begins_recording, has_record, is_recording, behind_number, is_heading};
+ghost use Rattle.hid_input.specs.Recorded.{pairs_before, hex_of, recorded_bytes, IsFault, after_letter, after_property, is_record_letter, begins_with_letter, is_record, is_passed, is_beside_letter, is_beside, begins_recording, has_record, is_recording, is_descriptor, is_stream, has_time, is_libinput_line, is_libinput};
 
 use crate::known::begins_text;
 use crate::text::{
-    behind_part, first_word, is_empty_line, is_text, split_at_character, split_word, without_mark,
+    behind_part, first_word, is_empty_line, is_text, split_word, trimmed_text, without_mark,
     without_space,
 };
 use crate::words::{Parting, Reading, add_words, byte_of_pair, number_of};
 use std::alloc::{AllocError, Global};
+use std::fmt;
 
 /// Why the bytes of `COUNT HEX` can't be read.
 #[derive(Clone, Copy, Debug, PartialEq, Eq)]
@@ -25,6 +26,24 @@ pub enum RecordedFault {
     BadCount { said: u64, found: u64 },
     /// Memory ran out.
     Memory,
+}
+
+impl fmt::Display for RecordedFault {
+    ghost use Rattle.std.specs.Prelude.{Some};
+    ghost use Rattle.hid_input.specs.Faults.{recorded_text};
+
+    ghost output = { λ fault. Some (recorded_text fault) };
+
+    fn fmt<W: fmt::Write>(&self, f: &mut fmt::Formatter<W>) -> fmt::Result {
+        match *self {
+            RecordedFault::NoCount => f.write_str("the count is missing, or no number"),
+            RecordedFault::BadHex { at } => write!(f, "byte {at} isn't two hex digits"),
+            RecordedFault::BadCount { said, found } => {
+                write!(f, "the count is {said}, that of the bytes {found}")
+            }
+            RecordedFault::Memory => f.write_str("out of memory"),
+        }
+    }
 }
 
 impl From<AllocError> for RecordedFault {
@@ -110,16 +129,39 @@ fn is_record_letter(byte: u8) -> bool
     matches!(byte, b'D' | b'E' | b'I' | b'N' | b'P' | b'R')
 }
 
+/// Whether a line is one that usbhid-dump prints in front of a descriptor: `BUS:DEVICE:INTERFACE:DESCRIPTOR`.
+pub fn is_descriptor(line: &[u8]) -> bool
+    ensures { result ≡ is_descriptor line.now }
+{
+    first_word(line).ends_with(b":DESCRIPTOR")
+}
+
+/// Whether a line is one that usbhid-dump prints in front of reports.
+pub fn is_stream(line: &[u8]) -> bool
+    ensures { result ≡ is_stream line.now }
+{
+    first_word(line).ends_with(b":STREAM")
+}
+
+/// Whether behind the first word of a line there is at most one more, of digits and points.
+pub fn has_time(line: &[u8]) -> bool
+    ensures { result ≡ has_time line.now }
+{
+    let (_, rest) = split_word(without_space(line));
+    trimmed_text(rest)
+        .iter()
+        .all(|byte| byte.is_ascii_digit() || *byte == b'.')
+}
+
 /// Whether a line is one of a recording: `D:`, `E:`, `I:`, `N:`, `P:` or `R:`, or the head of a dump of usbhid-dump. One after
 /// blanks is taken for such too, so that it isn't passed over: what plays recordings refuses it by name.
 fn is_record(line: &[u8]) -> bool
     ensures { result ≡ is_record line.now }
 {
     let text = without_space(line);
-    let word = first_word(line);
     (text.len() >= 2 && is_record_letter(text[0]) && text[1] == b':')
-        || word.ends_with(b":DESCRIPTOR")
-        || word.ends_with(b":STREAM")
+        || is_descriptor(line)
+        || is_stream(line)
 }
 
 /// Whether a line says nothing: it is empty or a comment.
@@ -136,12 +178,12 @@ fn is_beside_letter(byte: u8) -> bool
     is_record_letter(byte) || matches!(byte, b'A' | b'H' | b'L' | b'S')
 }
 
-/// Whether a line may be beside an `R:` line: it begins with a letter and a colon, or says nothing.
+/// Whether a line may be beside an `R:` line, whatever white space is in front: it begins with a letter and a colon, or says nothing.
 pub fn is_beside(line: &[u8]) -> bool
     ensures { result ≡ is_beside line.now }
 {
     let text = without_space(line);
-    is_passed(line) || (text.len() >= 2 && is_beside_letter(text[0]) && text[1] == b':')
+    is_passed(text) || (text.len() >= 2 && is_beside_letter(text[0]) && text[1] == b':')
 }
 
 /// The first line that is neither empty nor a comment.
@@ -150,6 +192,31 @@ fn first_said(text: &[u8]) -> Option<&[u8]>
 {
     text.split(|byte| *byte == b'\n')
         .find(|line| !is_passed(line))
+}
+
+/// Whether a line is `libinput:`.
+fn is_libinput_line(line: &[u8]) -> bool
+    ensures { result ≡ is_libinput_line line.now }
+{
+    trimmed_text(line) == b"libinput:".as_slice()
+}
+
+/// Whether some line of a text is `libinput:`.
+fn has_libinput(text: &[u8]) -> bool
+    ensures { result ≡ list_any is_libinput_line (lines_of text.now) }
+{
+    text.split(|byte| *byte == b'\n')
+        .any(|line| is_libinput_line(line))
+}
+
+/// Whether a text is a libinput record: the first of its lines that is neither empty nor a comment is `version: N`, and one is `libinput:`.
+pub fn is_libinput(text: &[u8]) -> bool
+    ensures { result ≡ is_libinput text.now }
+{
+    match first_said(text) {
+        Some(line) => line.starts_with(b"version: ") && has_libinput(text),
+        None => false,
+    }
 }
 
 /// Whether a text begins as recordings do: the first of its lines that is neither empty nor a comment is one of a recording.
@@ -178,33 +245,4 @@ pub fn is_recording(bytes: &[u8]) -> bool
 {
     let text = without_mark(bytes);
     (is_text(text) || begins_text(text)) && has_record(text)
-}
-
-/// What stands after a decimal number and a colon.
-#[tactic(auto, unfolding(crate::specs::Recorded::behind_number))]
-fn behind_number(text: &[u8]) -> Option<&[u8]>
-    ensures { option_copied result ≡ behind_number text.now }
-{
-    let (number, behind) = split_at_character(text, b':')?;
-    let _number = number_of(number, 10)?;
-    Some(behind)
-}
-
-/// What stands after three decimal numbers, each with a colon.
-fn behind_address(text: &[u8]) -> Option<&[u8]>
-    ensures { option_copied result ≡ option_and_then behind_number (option_and_then behind_number (behind_number text.now)) }
-{
-    let device = behind_number(text)?;
-    let interface = behind_number(device)?;
-    behind_number(interface)
-}
-
-/// Whether a line is one that usbhid-dump prints in front of a descriptor: it begins with BUS:DEVICE:INTERFACE:DESCRIPTOR.
-pub fn is_heading(line: &[u8]) -> bool
-    ensures { result ≡ is_heading line.now }
-{
-    match behind_address(first_word(line)) {
-        Some(word) => word == b"DESCRIPTOR".as_slice(),
-        None => false,
-    }
 }

@@ -1,27 +1,20 @@
 //! Text of bytes and separators alone.
 
-ghost use Rattle.std.specs.Prelude.{◌≡◌, ◌==◌, None, Some, IfOk, IfNone, IfSome, MatchResult, is_some, false};
+ghost use Rattle.std.specs.Prelude.{◌≡◌, ◌==◌, None, Some, IfOk, MatchResult, is_some, false, Err, []};
 ghost use Rattle.std.specs.List.{list_any};
+ghost use Rattle.hid_input.specs.declared.fault.InputCause.TheVariants.{NoDescriptor};
 ghost use Rattle.hid_input.specs.declared.words.Parting.TheVariants.{Commas};
+ghost use Rattle.hid_input.specs.Answer.{Reads, names_itself};
+ghost use Rattle.hid_input.specs.Faults.{of_text};
 ghost use Rattle.hid_input.specs.Words.{text_bytes};
-ghost use Rattle.hid_input.specs.Answer.{IsWholeFault};
-ghost use Rattle.hid_input.specs.Descriptor.{IsDescriptor};
-ghost use Rattle.hid_input.specs.Spelled.{is_part, is_loose_from, is_loose, spelled_bytes};
+ghost use Rattle.hid_input.specs.Spelled.{is_part, is_loose_from, has_comma, hex_reading, spelled_bytes, some_answer};
 
 use crate::fault::{InputCause, InputFault};
-use crate::text::line_at;
+use crate::found::{Found, Shape};
+use crate::text::is_empty_line;
 use crate::whole::descriptor_fault;
 use crate::words::{Parting, Reading, add_words, next_word};
 use std::alloc::{AllocError, Global};
-
-/// The bytes of a text, and how its words spell them.
-#[derive(Drop)]
-pub struct Spelled {
-    /// The bytes.
-    pub bytes: Vec<u8>,
-    /// How each word spells them.
-    pub reading: Reading,
-}
 
 /// Whether a byte may be part of a word.
 fn is_part(byte: u8) -> bool
@@ -49,19 +42,18 @@ fn comma_place(text: &[u8]) -> Option<usize>
 
 /// Whether a text has a comma.
 fn has_comma(text: &[u8]) -> bool
-    ensures { result ≡ list_any (λ byte. byte == 44) text.now }
+    ensures { result ≡ has_comma text.now }
 {
     text.iter().any(|byte| *byte == b',')
 }
 
-/// Where the commas of a text, if it has some, don't part its words.
-fn loose_place(text: &[u8]) -> Option<usize>
-    ensures { is_some result ≡ is_loose text.now }
+/// How the words of a text of hex spell bytes: each one byte, if the first does.
+fn hex_reading(text: &[u8]) -> Reading
+    ensures { result ≡ hex_reading text.now }
 {
-    if has_comma(text) {
-        comma_place(text)
-    } else {
-        None
+    match next_word(text, Parting::Commas) {
+        Some((word, _)) if word.len() == 2 => Reading::Pairs,
+        _ => Reading::Joined,
     }
 }
 
@@ -70,64 +62,70 @@ fn read_as(
     alloc: Global,
     text: &[u8],
     reading: Reading,
-) -> Result<Result<Spelled, usize>, AllocError>
-    ensures { IfOk result (λ read. MatchResult read (λ found. text_bytes reading Commas text.now ≡ Some found.bytes.items) (λ _. text_bytes reading Commas text.now ≡ None)) }
+) -> Result<Result<Vec<u8>, usize>, AllocError>
+    ensures { IfOk result (λ read. MatchResult read (λ bytes. text_bytes reading Commas text.now ≡ Some bytes.items) (λ _. text_bytes reading Commas text.now ≡ None)) }
 {
     let mut bytes = Vec::new(alloc);
     match add_words(&mut bytes, text, reading, Parting::Commas)? {
-        None => Ok(Ok(Spelled { bytes, reading })),
+        None => Ok(Ok(bytes)),
         Some(left) => Ok(Err(text.len().saturating_sub(left))),
     }
 }
 
-/// The bytes that a text spells, each word in the same reading, or the place from which on none reads it.
+/// The bytes that a text spells, each word in the same way, or the place from which on none reads it.
 ///
 /// # Errors
 /// Out of memory.
-pub fn read_spelled(alloc: Global, text: &[u8]) -> Result<Result<Spelled, usize>, AllocError>
-    ensures { IfOk result (λ read. MatchResult read (λ found. spelled_bytes text.now ≡ Some found.bytes.items) (λ _. spelled_bytes text.now ≡ None)) }
+pub fn read_spelled(alloc: Global, text: &[u8]) -> Result<Result<Vec<u8>, usize>, AllocError>
+    ensures { IfOk result (λ read. MatchResult read (λ bytes. spelled_bytes text.now ≡ Some bytes.items) (λ _. spelled_bytes text.now ≡ None)) }
 {
-    if let Some(place) = loose_place(text) {
-        return Ok(Err(place));
+    if has_comma(text) {
+        if let Some(place) = comma_place(text) {
+            return Ok(Err(place));
+        }
     }
-    let runs = match read_as(alloc, text, Reading::Runs)? {
-        Ok(read) => return Ok(Ok(read)),
-        Err(place) => place,
-    };
-    let joined = match read_as(alloc, text, Reading::Joined)? {
-        Ok(read) => return Ok(Ok(read)),
+    let hex = match read_as(alloc, text, hex_reading(text))? {
+        Ok(bytes) => return Ok(Ok(bytes)),
         Err(place) => place,
     };
     match read_as(alloc, text, Reading::Elements)? {
-        Ok(read) => Ok(Ok(read)),
-        Err(place) => Ok(Err(place.max(runs).max(joined))),
+        Ok(bytes) => Ok(Ok(bytes)),
+        Err(place) => Ok(Err(place.max(hex))),
     }
 }
 
-/// The place of the word that has the byte after so many others.
-fn byte_place(text: &[u8], at: usize, reading: Reading) -> usize {
-    let mut rest = text;
-    let mut count = 0usize;
-    while let Some((word, more)) = next_word(rest, Parting::Commas) {
-        count = count.saturating_add(match reading {
-            Reading::Runs => word.len() / 2,
-            Reading::Joined => word.len() / 3 + 1,
-            Reading::Elements => 1,
-        });
-        if count > at {
-            return text.len().saturating_sub(more.len()).saturating_sub(1);
-        }
-        rest = more;
+/// The fault of a part of a text, from the first place on, of which so much has bytes. A text without digits there has no descriptor.
+pub fn unread(text: &[u8], from: usize, size: usize) -> InputFault {
+    let place = from.saturating_add(size).min(text.len());
+    let is_read = !is_empty_line(&text[from.min(place)..place]);
+    match &text[place..] {
+        [first, ..] if is_read || first.is_ascii_digit() => InputFault::no_byte(text, place),
+        _ => InputFault::of_text(InputCause::NoDescriptor),
     }
-    text.trim_ascii_end().len()
 }
 
-/// Why the bytes of a part of a text, which begins at this place, aren't one whole descriptor.
-pub fn whole_fault(text: &[u8], start: usize, part: &[u8], read: &Spelled) -> Option<InputFault>
-    ensures whole { IfNone result (IsDescriptor read.now.bytes.items) }
-    ensures fault { IfSome result (λ fault. IsWholeFault read.now.bytes.items fault) }
+/// What is found, if its bytes are one whole descriptor.
+///
+/// # Errors
+/// [`InputCause::NoDescriptor`] without bytes, [`InputCause::NotWhole`].
+pub fn found_whole(
+    bytes: Vec<u8>,
+    shape: Shape,
+    lines: Option<(u64, u64)>,
+) -> Result<Found, InputFault>
+    requires { names_itself shape ≡ false }
+    ensures answer { Reads (some_answer shape lines bytes.items) result }
+    ensures empty { bytes.items ≡ [] → result ≡ Err (of_text NoDescriptor) }
 {
-    let fault = descriptor_fault(read.bytes.as_slice())?;
-    let place = start.saturating_add(byte_place(part, fault.at, read.reading));
-    Some(InputFault::of_line(line_at(text, place), InputCause::NotWhole(fault)))
+    if bytes.is_empty() {
+        return Err(InputFault::of_text(InputCause::NoDescriptor));
+    }
+    match descriptor_fault(bytes.as_slice()) {
+        Some(fault) => Err(InputFault::of_text(InputCause::NotWhole(fault))),
+        None => Ok(Found {
+            bytes,
+            shape,
+            lines,
+        }),
+    }
 }

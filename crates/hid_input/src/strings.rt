@@ -1,52 +1,61 @@
-//! Strings of escapes, among words.
+//! Strings of escapes.
 //! ```text
-//!   b'\x05\x01\t\x02..'                "\x05\x01" "\x09\x02"     echo -ne \\x05\\x01\\x09..
+//!   b'\x05\x01\t\x02..'                "\x05\x01" "\x09\x02"     echo -ne \\x05\\x01\\x09.. > report_desc
 //! ```
-//! The strings begin with the first escape of hex, and go on as long as characters follow, or another string with white space between.
+//! The first backslash of a text begins the first byte of the first string. Strings stand side by side, with white space between.
 
-ghost use Rattle.std.specs.Prelude.{◌≡◌, ◌+◌, ◌<◌, ◌≤◌, ◌++◌, IfOk, IfSome, OnOk, length, option_to_list};
+ghost use Rattle.std.specs.List.{list_any};
+ghost use Rattle.std.specs.Prelude.{◌≡◌, ◌<◌, ◌++◌, Some, None, IfOk, OnOk, MatchResult, length, option_to_list};
+ghost use Rattle.std.specs.Option.{option_map};
 ghost use Rattle.hid_input.specs.Answer.{Reads};
-ghost use Rattle.hid_input.specs.Strings.{begins_escape, escape_place, letter_byte, hex_byte, joint_length, string_character, other_character, first_character, characters_from, character_back, is_word_byte, enclosure_of, is_closed, quotes_of, enclosed_answer, strings_answer};
+ghost use Rattle.hid_input.specs.declared.strings.Spot.TheVariants.{Inside};
+ghost use Rattle.hid_input.specs.Strings.{letter_byte, hex_digit, is_quotation, goes_on, inside_after, escape_after, outside_after, spot_after, is_end, escapes_from, is_command, character_back, quote_of, body_of, behind_body, ends_word, is_file, is_redirect, is_array, joins_lines, last_line, stands_alone, strings_answer};
 
-use crate::beside::fault_beside;
 use crate::fault::{InputCause, InputFault};
 use crate::found::{Found, Shape};
-use crate::text::{line_at, without_space};
-use crate::whole::descriptor_fault;
-use crate::words::byte_of_pair;
+use crate::head::{is_head, is_tail_byte};
+use crate::spelled::found_whole;
+use crate::text::{is_empty_line, is_one_of, line_at, split_word, trimmed_text, without_space};
 use std::alloc::{AllocError, Global};
 
-/// How escapes are enclosed.
+/// What encloses escapes.
 #[derive(Clone, Copy, Debug, PartialEq, Eq)]
-pub enum Enclosure {
-    /// By nothing.
-    Bare,
-    /// By this quotation mark, of text.
+pub enum Quote {
+    /// This quotation mark, of text. It has escapes alone, as languages read `$` in it, and C digits behind an escape (C11, 6.4.4.4).
     Text(u8),
-    /// By this quotation mark, of bytes: `b".."`.
+    /// This quotation mark, of bytes: `b".."`.
     Bytes(u8),
+    /// This quotation mark, of a shell's word.
+    Shell(u8),
+    /// Nothing, in a shell's word, which has two backslashes for one.
+    Double,
+    /// Nothing.
+    Bare,
 }
 
-/// Whether an escape of hex begins a text: a backslash, or two for a shell, and `x`.
-fn begins_escape(text: &[u8]) -> bool
-    ensures { result ≡ begins_escape text.now }
-{
-    text.starts_with(b"\\x") || text.starts_with(b"\\\\x")
-}
-
-/// Where the first escape of hex begins.
-pub fn escape_place(text: &[u8]) -> Option<usize>
-    ensures place { result ≡ escape_place text.now }
-    ensures bound { IfSome result (λ place. place < length text.now) }
-{
-    let mut at = 0usize;
-    while at < text.len() {
-        if begins_escape(&text[at..]) {
-            return Some(at);
-        }
-        at += 1;
-    }
-    None
+/// Where a character of strings stands.
+#[derive(Clone, Copy, Debug, PartialEq, Eq)]
+pub enum Spot {
+    /// In a string.
+    Inside(Quote),
+    /// In a string, behind an escape of hex.
+    Behind(Quote),
+    /// Behind the first of two backslashes.
+    First,
+    /// Behind a backslash.
+    Backslash(Quote),
+    /// Behind `\x`.
+    Hex(Quote),
+    /// Behind `\x` and a digit of this value.
+    Digit(Quote, u8),
+    /// Behind a quotation mark that closes a string.
+    Closed,
+    /// Between strings, after white space.
+    Between,
+    /// There, behind a `b`.
+    Prefix,
+    /// Behind what ends the statement of the strings.
+    Tail,
 }
 
 /// The byte of an escape of one letter.
@@ -62,73 +71,97 @@ fn letter_byte(letter: u8) -> Option<u8>
     }
 }
 
-/// The byte of an escape of hex, after its `x`. In strings of text no digit follows it, of which C would read more (C11, 6.4.4.4).
-fn hex_byte(digits: &[u8], enclosure: Enclosure) -> Option<u8>
-    ensures byte { result ≡ hex_byte enclosure digits.now }
-    ensures room { IfSome result (λ _. 2 ≤ length digits.now) }
+/// The value of a hex digit.
+fn hex_digit(byte: u8) -> Option<u8>
+    ensures { result ≡ hex_digit byte }
 {
-    if let Enclosure::Text(_) = enclosure {
-        if digits.len() >= 3 && digits[2].is_ascii_hexdigit() {
-            return None;
+    let digit = char::from(byte).to_digit(16)?;
+    Some(digit as u8)
+}
+
+/// Whether a character is a quotation mark.
+fn is_quotation(byte: u8) -> bool
+    ensures { result ≡ is_quotation byte }
+{
+    byte == b'"' || byte == b'\''
+}
+
+/// The next spot, without a byte.
+fn goes_on(spot: Spot) -> Option<(Spot, Option<u8>)>
+    ensures { result ≡ goes_on spot }
+{
+    Some((spot, None))
+}
+
+/// The next spot after a character in a string, and the byte that it is.
+fn inside_after(quote: Quote, byte: u8) -> Option<(Spot, Option<u8>)>
+    ensures { result ≡ inside_after quote byte }
+{
+    match quote {
+        Quote::Text(mark) | Quote::Bytes(mark) | Quote::Shell(mark) if byte == mark => {
+            goes_on(Spot::Closed)
         }
-    }
-    byte_of_pair(&digits[..digits.len().min(2)])
-}
-
-/// How long the end of a string and the start of the next one are, with white space between, by the text after the first quotation mark.
-fn joint_length(text: &[u8], enclosure: Enclosure) -> Option<usize>
-    ensures length { result ≡ joint_length enclosure text.now }
-    ensures room { IfSome result (λ size. (0 < size) × (size ≤ length text.now + 1)) }
-{
-    let next = without_space(text);
-    let blanks = text.len() - next.len();
-    match (enclosure, next) {
-        (Enclosure::Text(quote), [first, ..]) if *first == quote => Some(blanks + 2),
-        (Enclosure::Bytes(quote), [b'b', first, ..]) if *first == quote => Some(blanks + 3),
+        Quote::Double if byte == b'\\' => goes_on(Spot::First),
+        _ if byte == b'\\' => goes_on(Spot::Backslash(quote)),
+        Quote::Bytes(_) if b' ' <= byte && byte <= b'~' => Some((Spot::Inside(quote), Some(byte))),
+        Quote::Bare if byte.is_ascii_whitespace() => goes_on(Spot::Tail),
         _ => None,
     }
 }
 
-/// A character in a string: its byte, and how long it is; or a joint of two strings, which has no byte.
-fn string_character(text: &[u8], quote: u8, enclosure: Enclosure) -> Option<(Option<u8>, usize)>
-    ensures character { result ≡ string_character enclosure quote text.now }
-    ensures room { IfSome result (λ found. (0 < found.1) × (found.1 ≤ length text.now)) }
+/// The next spot after a backslash and a character, and the byte of an escape of one letter.
+fn escape_after(quote: Quote, byte: u8) -> Option<(Spot, Option<u8>)>
+    ensures { result ≡ escape_after quote byte }
 {
-    match text {
-        [b'\\', letter, ..] => Some((Some(letter_byte(*letter)?), 2)),
-        [b'\\'] => None,
-        [first, more @ ..] if *first == quote => Some((None, joint_length(more, enclosure)?)),
-        [first, ..] if b' ' <= *first && *first <= b'~' => Some((Some(*first), 1)),
+    match quote {
+        _ if byte == b'x' => Some((Spot::Hex(quote), None)),
+        Quote::Text(_) | Quote::Bytes(_) => Some((Spot::Inside(quote), Some(letter_byte(byte)?))),
         _ => None,
     }
 }
 
-/// A character that begins with no escape of hex: of a string, or an escape of a shell.
-fn other_character(text: &[u8], enclosure: Enclosure) -> Option<(Option<u8>, usize)>
-    ensures character { result ≡ other_character enclosure text.now }
-    ensures room { IfSome result (λ found. (0 < found.1) × (found.1 ≤ length text.now)) }
+/// The next spot after a character outside of strings.
+fn outside_after(spot: Spot, byte: u8) -> Option<(Spot, Option<u8>)>
+    ensures { result ≡ outside_after spot byte }
 {
-    match enclosure {
-        Enclosure::Text(quote) | Enclosure::Bytes(quote) => string_character(
-            text, quote, enclosure,
-        ),
-        Enclosure::Bare if text.starts_with(b"\\\\x") => Some((
-            Some(hex_byte(&text[3..], enclosure)?),
-            5,
-        )),
-        Enclosure::Bare => None,
+    match spot {
+        Spot::Closed if byte.is_ascii_whitespace() => goes_on(Spot::Between),
+        Spot::Between if byte.is_ascii_whitespace() => goes_on(Spot::Between),
+        Spot::Between if is_quotation(byte) => goes_on(Spot::Inside(Quote::Text(byte))),
+        Spot::Between if byte == b'b' => goes_on(Spot::Prefix),
+        Spot::Prefix if is_quotation(byte) => goes_on(Spot::Inside(Quote::Bytes(byte))),
+        Spot::Closed | Spot::Between | Spot::Tail if is_tail_byte(byte) => goes_on(Spot::Tail),
+        _ => None,
     }
 }
 
-/// The first character of a text: its byte, and how long it is.
-fn first_character(text: &[u8], enclosure: Enclosure) -> Option<(Option<u8>, usize)>
-    ensures character { result ≡ first_character enclosure text.now }
-    ensures room { IfSome result (λ found. (0 < found.1) × (found.1 ≤ length text.now)) }
+/// The next spot after a character, and the byte that ends with it, if strings go on so.
+fn spot_after(spot: Spot, byte: u8) -> Option<(Spot, Option<u8>)>
+    ensures { result ≡ spot_after spot byte }
 {
-    if text.starts_with(b"\\x") {
-        return Some((Some(hex_byte(&text[2..], enclosure)?), 4));
+    match spot {
+        Spot::Behind(Quote::Text(_)) if byte.is_ascii_hexdigit() => None,
+        Spot::Inside(quote) | Spot::Behind(quote) => inside_after(quote, byte),
+        Spot::First if byte == b'\\' => Some((Spot::Backslash(Quote::Double), None)),
+        Spot::First => None,
+        Spot::Backslash(quote) => escape_after(quote, byte),
+        Spot::Hex(quote) => Some((Spot::Digit(quote, hex_digit(byte)?), None)),
+        Spot::Digit(quote, high) => {
+            let low = hex_digit(byte)?;
+            Some((Spot::Behind(quote), Some((high % 16) * 16 + low % 16)))
+        }
+        _ => outside_after(spot, byte),
     }
-    other_character(text, enclosure)
+}
+
+/// Whether strings may end there.
+fn is_end(spot: Spot) -> bool
+    ensures { result ≡ is_end spot }
+{
+    matches!(
+        spot,
+        Spot::Behind(Quote::Double | Quote::Bare) | Spot::Closed | Spot::Between | Spot::Tail
+    )
 }
 
 /// Adds a byte, if there is one.
@@ -141,21 +174,44 @@ fn add_some(bytes: &mut Vec<u8>, byte: Option<u8>) -> Result<(), AllocError>
     Ok(())
 }
 
-/// The bytes of the characters at the front of a text, and how long they are.
-fn read_characters(
+/// The bytes of strings up to the end of a text, of which the first character stands in one, or where they don't go on so.
+fn read_escapes(
     alloc: Global,
     text: &[u8],
-    enclosure: Enclosure,
-) -> Result<(Vec<u8>, usize), AllocError>
-    ensures { IfOk result (λ read. ((read.0.items, read.1) ≡ characters_from enclosure 0 text.now) × (read.1 ≤ length text.now)) }
+    quote: Quote,
+) -> Result<Result<Vec<u8>, usize>, AllocError>
+    ensures { IfOk result (λ read. MatchResult read (λ bytes. escapes_from (Inside quote) text.now ≡ Some bytes.items) (λ _. escapes_from (Inside quote) text.now ≡ None)) }
 {
     let mut bytes = Vec::new(alloc);
-    let mut rest = text;
-    while let Some((byte, size)) = first_character(rest, enclosure) {
-        add_some(&mut bytes, byte)?;
-        rest = &rest[size..];
+    let mut spot = Spot::Inside(quote);
+    for (at, byte) in text.iter().enumerate() {
+        let Some((next, found)) = spot_after(spot, *byte) else {
+            return Ok(Err(at));
+        };
+        add_some(&mut bytes, found)?;
+        spot = next;
     }
-    Ok((bytes, text.len() - rest.len()))
+    if is_end(spot) {
+        Ok(Ok(bytes))
+    } else {
+        Ok(Err(text.len()))
+    }
+}
+
+/// The commands of a shell that write the bytes of escapes.
+const COMMANDS: [&[u8]; 5] = [
+    b"echo -ne",
+    b"echo -en",
+    b"echo -n -e",
+    b"echo -e -n",
+    b"printf",
+];
+
+/// Whether a text is such a command.
+fn is_command(text: &[u8]) -> bool
+    ensures { result ≡ is_command text.now }
+{
+    is_one_of(trimmed_text(text), &COMMANDS)
 }
 
 /// The character so many in front of the end of a text, or a blank.
@@ -169,97 +225,129 @@ fn character_back(text: &[u8], count: usize) -> u8
     }
 }
 
-/// Whether a byte may be part of a word.
-fn is_word_byte(byte: u8) -> bool
-    ensures { result ≡ is_word_byte byte }
+/// What encloses the first escape behind a text, and what stands in front of that.
+fn quote_of(text: &[u8]) -> Option<(Quote, &[u8])>
+    ensures { option_map (λ found. (found.0, found.1.now)) result ≡ quote_of text.now }
 {
-    byte.is_ascii_alphanumeric() || byte == b'_' || byte >= 128
-}
-
-/// How what follows a text is enclosed: by a quotation mark at its end, alone or after a `b`; by nothing after white space or `=`.
-fn enclosure_of(text: &[u8]) -> Option<Enclosure>
-    ensures { result ≡ enclosure_of text.now }
-{
-    let last = character_back(text, 0);
-    let prefix = character_back(text, 1);
-    if last == b'"' || last == b'\'' {
-        if !is_word_byte(prefix) {
-            Some(Enclosure::Text(last))
-        } else if prefix == b'b' && !is_word_byte(character_back(text, 2)) {
-            Some(Enclosure::Bytes(last))
+    let mark = character_back(text, 0);
+    let head = &text[..text.len().saturating_sub(1)];
+    if is_quotation(mark) {
+        if character_back(text, 1) == b'b' {
+            Some((Quote::Bytes(mark), &text[..text.len().saturating_sub(2)]))
+        } else if is_command(head) {
+            Some((Quote::Shell(mark), &[]))
         } else {
-            None
+            Some((Quote::Text(mark), head))
         }
-    } else if last.is_ascii_whitespace() || last == b'=' {
-        Some(Enclosure::Bare)
+    } else if is_command(text) {
+        Some((Quote::Double, &[]))
+    } else if is_empty_line(text) {
+        Some((Quote::Bare, &[]))
     } else {
         None
     }
 }
 
-/// Whether a text ends what is enclosed in front of it.
-fn is_closed(text: &[u8], enclosure: Enclosure) -> bool
-    ensures { result ≡ is_closed enclosure text.now }
+/// The strings of a text, and what a shell has behind its word.
+fn split_body(text: &[u8], quote: Quote) -> (&[u8], &[u8])
+    ensures body { result.0.now ≡ body_of quote text.now }
+    ensures behind { result.1.now ≡ behind_body quote text.now }
 {
-    let first = if text.is_empty() { b' ' } else { text[0] };
-    match enclosure {
-        Enclosure::Bare => first.is_ascii_whitespace(),
-        Enclosure::Text(quote) | Enclosure::Bytes(quote) => first == quote,
+    match quote {
+        Quote::Shell(_) | Quote::Double => split_word(text),
+        _ => (text, &[]),
     }
 }
 
-/// How many quotation marks enclose, at either end.
-fn quotes_of(enclosure: Enclosure) -> usize
-    ensures count { result ≡ quotes_of enclosure }
-    ensures few { result ≤ 1 }
+/// Whether a character ends a word of a shell.
+fn ends_word(byte: u8) -> bool
+    ensures { result ≡ ends_word byte }
 {
-    match enclosure {
-        Enclosure::Bare => 0,
-        Enclosure::Text(_) | Enclosure::Bytes(_) => 1,
+    byte.is_ascii_whitespace() || matches!(byte, b'>' | b';' | b'|' | b'&')
+}
+
+/// Whether a text has such a character.
+fn has_end(text: &[u8]) -> bool
+    ensures { result ≡ list_any ends_word text.now }
+{
+    text.iter().any(|byte| ends_word(*byte))
+}
+
+/// Whether a text is one word of a shell that names a file.
+fn is_file(text: &[u8]) -> bool
+    ensures { result ≡ is_file text.now }
+{
+    !text.is_empty() && !has_end(text)
+}
+
+/// The last line of a text that has other characters than white space.
+fn last_line(text: &[u8]) -> u64
+    ensures { result ≡ last_line text.now }
+{
+    line_at(text, text.trim_ascii_end().len())
+}
+
+/// Whether a shell writes to a file what stands in front of a text: `> FILE` in the same line, or nothing.
+fn is_redirect(text: &[u8]) -> bool
+    ensures { result ≡ is_redirect text.now }
+{
+    match trimmed_text(text) {
+        [] => true,
+        [b'>', file @ ..] => last_line(text) == 1 && is_file(without_space(file)),
+        _ => false,
     }
 }
 
-/// The descriptor in characters between two places of a text, which have these bytes.
-fn read_enclosed(
-    alloc: Global,
-    text: &[u8],
-    from: usize,
-    enclosure: Enclosure,
-    bytes: Vec<u8>,
-    to: usize,
-) -> Result<Found, InputFault>
-    requires { (from ≤ to) × (to ≤ length text.now) }
-    ensures { Reads (enclosed_answer text.now from enclosure bytes.items to) result }
+/// Whether a head has a bracket or `*`, as that of an array.
+fn is_array(head: &[u8]) -> bool
+    ensures { result ≡ is_array head.now }
 {
-    if !is_closed(&text[to..], enclosure) {
-        return Err(InputFault::no_byte(text, to));
-    }
-    let quotes = quotes_of(enclosure);
-    let end = to.saturating_add(quotes).min(text.len());
-    if let Some(fault) = fault_beside(alloc, text, from.saturating_sub(quotes), end, true)? {
-        return Err(fault);
-    }
-    if let Some(fault) = descriptor_fault(bytes.as_slice()) {
-        return Err(InputFault::of_line(line_at(text, from), InputCause::NotWhole(fault)));
-    }
-    Ok(Found {
-        bytes,
-        shape: Shape::Escapes,
-        lines: Some((line_at(text, from), line_at(text, to))),
-    })
+    head.iter()
+        .any(|byte| matches!(*byte, b']' | b'*' | b'(' | b'['))
 }
 
-/// The descriptor in the strings of a text, of which the first escape of hex begins at this place.
+/// Whether a language takes strings of several lines behind a head for one: C, which has `[]` or `*` there and `;` at the end, or Python in
+/// brackets. Strings without a head are those of no language.
+fn joins_lines(head: &[u8], text: &[u8]) -> bool
+    ensures { result ≡ joins_lines head.now text.now }
+{
+    if is_array(head) {
+        is_tail_byte(character_back(trimmed_text(text), 0))
+    } else {
+        is_empty_line(head)
+    }
+}
+
+/// Whether nothing beside strings from a place on, in front of so many bytes and behind a shell's word, changes them.
+fn stands_alone(text: &[u8], place: usize, head: &[u8], behind: &[u8], count: u64) -> bool
+    ensures { result ≡ stands_alone text.now place head.now behind.now count }
+{
+    if line_at(text, place) != last_line(text) && !joins_lines(head, text) {
+        return false;
+    }
+    is_head(head, count) && is_redirect(behind)
+}
+
+/// The descriptor in the strings of a text, whose first backslash stands at this place.
 ///
 /// # Errors
-/// [`InputCause::NoByte`], [`InputCause::NotWhole`], [`InputCause::Several`], [`InputCause::Operator`], [`InputCause::Memory`].
-pub fn read_strings(alloc: Global, text: &[u8], from: usize) -> Result<Found, InputFault>
-    requires { from < length text.now }
-    ensures { Reads (strings_answer text.now from) result }
+/// [`InputCause::NoByte`], [`InputCause::Beside`], [`InputCause::NotWhole`], [`InputCause::Memory`].
+pub fn read_strings(alloc: Global, text: &[u8], place: usize) -> Result<Found, InputFault>
+    requires { place < length text.now }
+    ensures { Reads (strings_answer text.now place) result }
 {
-    let Some(enclosure) = enclosure_of(&text[..from]) else {
-        return Err(InputFault::no_byte(text, from));
+    let (front, rest) = text.split_at(place);
+    let Some((quote, head)) = quote_of(front) else {
+        return Err(InputFault::no_byte(text, place));
     };
-    let (bytes, length) = read_characters(alloc, &text[from..], enclosure)?;
-    read_enclosed(alloc, text, from, enclosure, bytes, from + length)
+    let (body, behind) = split_body(rest, quote);
+    let bytes = match read_escapes(alloc, body, quote)? {
+        Ok(bytes) => bytes,
+        Err(at) => return Err(InputFault::no_byte(text, place.saturating_add(at))),
+    };
+    let line = line_at(text, place);
+    if !stands_alone(text, place, head, behind, bytes.len() as u64) {
+        return Err(InputFault::of_line(line, InputCause::Beside));
+    }
+    found_whole(bytes, Shape::Escapes, Some((line, last_line(text))))
 }

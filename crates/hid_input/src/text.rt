@@ -1,10 +1,11 @@
 //! Which bytes are text, and the parts of a text.
 
 ghost use Rattle.std.specs.Prelude.{◌≡◌, ◌∷◌, ◌==◌, ◌+◌, position, IfSome, length, ◌<◌};
-ghost use Rattle.std.specs.List.{slice_split, list_all, position_or_len};
+ghost use Rattle.std.specs.List.{slice_split, list_all, list_any, position_or_len};
 ghost use Rattle.std.specs.Option.{option_map, option_copied};
+ghost use Rattle.std.specs.Str.{bytes_eq};
 ghost use Rattle.std.specs.Char.{is_ascii_whitespace};
-ghost use Rattle.hid_input.specs.Text.{is_text_byte, is_text, without_mark, is_utf16, without_space, trimmed_text, is_other_end, has_other_ends, is_empty_line, behind_part, before_space, from_space, first_word, is_newline, lines_of, parts_below, line_at, split_at};
+ghost use Rattle.hid_input.specs.Text.{is_text_byte, is_text, without_mark, is_utf16, without_space, trimmed_text, is_empty_line, behind_part, before_space, from_space, first_word, is_newline, lines_of, parts_below, line_at, split_at};
 
 /// Whether a byte may stand in text: any but control bytes, of which white space may.
 fn is_text_byte(byte: u8) -> bool
@@ -61,28 +62,6 @@ pub fn trimmed_text(text: &[u8]) -> &[u8]
     text.trim_ascii()
 }
 
-/// Whether a line ends with the first of these characters: CR alone, or FF.
-fn is_other_end(before: u8, byte: u8) -> bool
-    ensures { result ≡ is_other_end before byte }
-{
-    (before == b'\r' && byte != b'\n') || before == 0x0C
-}
-
-/// Whether lines end with CR or FF alone, which not all programs take for the end of a line.
-pub fn has_other_ends(text: &[u8]) -> bool
-    ensures { result ≡ has_other_ends text.now }
-{
-    let lines = trimmed_text(text);
-    let mut before = b' ';
-    for byte in lines {
-        if is_other_end(before, *byte) {
-            return true;
-        }
-        before = *byte;
-    }
-    false
-}
-
 /// Whether a line has nothing but white space.
 pub fn is_empty_line(line: &[u8]) -> bool
     ensures { result ≡ is_empty_line line.now }
@@ -99,6 +78,13 @@ pub fn behind_part<'a>(text: &'a [u8], part: &[u8]) -> Option<&'a [u8]>
     } else {
         None
     }
+}
+
+/// Whether a word is one of these names.
+pub fn is_one_of(word: &[u8], names: &[&[u8]]) -> bool
+    ensures { result ≡ list_any (λ name. bytes_eq name.now word.now) names.now }
+{
+    names.iter().any(|name| *name == word)
 }
 
 /// Where white space stands first.
@@ -127,7 +113,7 @@ pub fn first_word(text: &[u8]) -> &[u8]
 }
 
 /// Where a character stands first.
-fn place_of(text: &[u8], wanted: u8) -> Option<usize>
+pub fn place_of(text: &[u8], wanted: u8) -> Option<usize>
     ensures place { result ≡ position (λ byte. byte == wanted) text.now }
     ensures bound { IfSome result (λ place. place < length text.now) }
 {

@@ -3,16 +3,18 @@
 ghost use Rattle.std.specs.Prelude.{◌≡◌, ◌<◌, ◌≤◌, ◌+◌, length, if◌then◌else◌, IfOk, IfSome, Some, is_none, false, position};
 ghost use Rattle.std.specs.Option.{option_map};
 ghost use Rattle.std.specs.Char.{digit_value};
-ghost use Rattle.hid_input.specs.Words.{is_digit_of, number_of, byte_in_base, byte_of_pair, element_byte, single_byte, run_bytes, is_joint, joined_bytes, word_bytes, is_separator, is_no_separator, words_of, text_bytes, IsAdded, Parts};
+ghost use Rattle.hid_input.specs.Words.{is_digit_of, number_of, byte_in_base, byte_of_pair, element_byte, hex_byte, single_byte, after_joint, run_bytes, word_bytes, is_separator, is_no_separator, words_of, text_bytes, IsAdded, Parts};
 
 use std::alloc::AllocError;
 
 /// How a word spells bytes.
 #[derive(Clone, Copy, Debug, PartialEq, Eq)]
 pub enum Reading {
+    /// One byte: `05`.
+    Pairs,
     /// Two hex digits for each byte: `05`, `0501`.
     Runs,
-    /// Two hex digits for each byte, with colons or hyphens between, of two bytes or more: `05:01`, `05-01`.
+    /// The same, with a colon or a hyphen after a byte: `05:01`, `05-01`.
     Joined,
     /// One byte: `0x05`, `05h`, or a decimal number.
     Elements,
@@ -25,8 +27,6 @@ pub enum Parting {
     Space,
     /// White space and commas.
     Commas,
-    /// Each character but letters, digits, `_` and `.`.
-    Marks,
 }
 
 /// The value of a digit, if it is one in this base.
@@ -82,13 +82,25 @@ pub fn byte_of_pair(word: &[u8]) -> Option<u8>
     Some((high * 16 + low) as u8)
 }
 
-/// The byte of an element of a list: in hex by `0x`, or by `h` after a digit or two characters; else in decimal, without zeros in front,
-/// which C takes for octal (C11, 6.4.4.1).
+/// The byte that one or two hex digits spell.
+#[tactic(auto, unfolding(crate::specs::Words::hex_byte))]
+fn hex_byte(digits: &[u8]) -> Option<u8>
+    ensures { result ≡ hex_byte digits.now }
+{
+    if digits.len() <= 2 {
+        byte_of(digits, 16)
+    } else {
+        None
+    }
+}
+
+/// The byte of an element of a list: in hex by `0x` and one or two digits, or by `h` after a digit or two characters; else in decimal,
+/// without zeros in front, which C takes for octal (C11, 6.4.4.1).
 pub fn element_byte(word: &[u8]) -> Option<u8>
     ensures { result ≡ element_byte word.now }
 {
     match word {
-        [b'0', b'x' | b'X', digits @ ..] => byte_of(digits, 16),
+        [b'0', b'x' | b'X', digits @ ..] => hex_byte(digits),
         [first, .., b'h' | b'H'] if word.len() == 3 || first.is_ascii_digit() => {
             byte_of(&word[..word.len() - 1], 16)
         }
@@ -110,9 +122,20 @@ fn add_byte(bytes: &mut Vec<u8>, byte: Option<u8>) -> Result<bool, AllocError>
     }
 }
 
+/// A text without the colon or the hyphen in front of it, if those may join bytes.
+fn after_joint(text: &[u8], is_joined: bool) -> &[u8]
+    ensures rest { result.now ≡ after_joint is_joined text.now }
+    ensures room { length result.now ≤ length text.now }
+{
+    match text {
+        [b':' | b'-', rest @ ..] if is_joined => rest,
+        _ => text,
+    }
+}
+
 /// Adds the bytes of a run of hex digits, two for each; false where it is none.
-fn add_run(bytes: &mut Vec<u8>, run: &[u8]) -> Result<bool, AllocError>
-    ensures { IfOk result (λ is_read. IsAdded bytes.old.items (run_bytes run.now) is_read bytes.new.items) }
+fn add_run(bytes: &mut Vec<u8>, run: &[u8], is_joined: bool) -> Result<bool, AllocError>
+    ensures { IfOk result (λ is_read. IsAdded bytes.old.items (run_bytes is_joined run.now) is_read bytes.new.items) }
 {
     let mut rest = run;
     while rest.len() >= 2 {
@@ -121,35 +144,9 @@ fn add_run(bytes: &mut Vec<u8>, run: &[u8]) -> Result<bool, AllocError>
             Some(byte) => bytes.push(byte)?,
             None => return Ok(false),
         }
-        rest = more;
+        rest = after_joint(more, is_joined);
     }
     Ok(rest.is_empty())
-}
-
-/// Whether a byte may join two bytes in hex: a colon or a hyphen.
-fn is_joint(byte: u8) -> bool
-    ensures { result ≡ is_joint byte }
-{
-    byte == b':' || byte == b'-'
-}
-
-/// Adds the bytes of pairs of hex digits with a colon or a hyphen between each two; false where they are none.
-fn add_joined(bytes: &mut Vec<u8>, word: &[u8]) -> Result<bool, AllocError>
-    ensures { IfOk result (λ is_read. IsAdded bytes.old.items (joined_bytes word.now) is_read bytes.new.items) }
-{
-    if word.len() < 3 {
-        return Ok(false);
-    }
-    let mut rest = word;
-    while rest.len() >= 3 {
-        let (pair, more) = rest.split_at(2);
-        match byte_of_pair(pair) {
-            Some(byte) if is_joint(more[0]) => bytes.push(byte)?,
-            _ => return Ok(false),
-        }
-        rest = &more[1..];
-    }
-    add_byte(bytes, byte_of_pair(rest))
 }
 
 /// Whether a byte parts words.
@@ -159,7 +156,6 @@ fn is_separator(byte: u8, parting: Parting) -> bool
     match parting {
         Parting::Space => byte.is_ascii_whitespace(),
         Parting::Commas => byte.is_ascii_whitespace() || byte == b',',
-        Parting::Marks => !byte.is_ascii_alphanumeric() && byte != b'_' && byte != b'.',
     }
 }
 
@@ -194,8 +190,9 @@ fn add_word(bytes: &mut Vec<u8>, word: &[u8], reading: Reading) -> Result<bool, 
     ensures { IfOk result (λ is_read. IsAdded bytes.old.items (word_bytes reading word.now) is_read bytes.new.items) }
 {
     match reading {
-        Reading::Runs => add_run(bytes, word),
-        Reading::Joined => add_joined(bytes, word),
+        Reading::Pairs => add_byte(bytes, byte_of_pair(word)),
+        Reading::Runs => add_run(bytes, word, false),
+        Reading::Joined => add_run(bytes, word, true),
         Reading::Elements => add_byte(bytes, element_byte(word)),
     }
 }

@@ -4,7 +4,7 @@ use Rattle.std.specs.List.{slice_split, list_any, starts_with}
 use Rattle.std.specs.Str.{bytes_eq}
 use Rattle.hid_input.specs.Known.{known_text}
 use Rattle.hid_input.specs.declared.known.KnownFile.{KnownFile}
-use Rattle.hid_input.specs.declared.known.KnownFile.TheVariants.{Capture, UsbDescriptors, Compressed, Program}
+use Rattle.hid_input.specs.declared.known.KnownFile.TheVariants.{Capture, UsbDescriptors}
 use Rattle.hid_text.specs.Numbers.{count_of}
 use Rattle.hid_text.specs.Words.{Word, words_of}
 use Rattle.hidplay.specs.declared.other.OtherFile.{OtherFile}
@@ -14,8 +14,6 @@ use Rattle.hidplay.specs.declared.other.OtherFile.TheVariants.{Known, Script, Te
 abbrev pub other_known_text : KnownFile → List ℕ
 other_known_text Capture = codes "a capture, where a descriptor is wanted"
 other_known_text UsbDescriptors = known_text UsbDescriptors
-other_known_text Compressed = known_text Compressed
-other_known_text Program = known_text Program
 
 -- what a file is, and which program reads it, in words
 abbrev pub other_text : OtherFile → List ℕ

@@ -6,7 +6,7 @@ use Rattle.hid_input.proofs.dump.read_rows.Given as goal
 -- the bytes so far, and what the lines of the rest spell after them; each line has an end
 abbrev pub invariant-loop-bytes : goal.invariant-loop-bytes
 invariant-loop-bytes l = record {
-  all : rows_bytes l.base l.number l.bytes.items (lines_of l.rest) ≡ rows_bytes l.base 1 [] (lines_of l.text);
+  all : rows_bytes l.base l.size l.bytes.items (lines_of l.rest) ≡ rows_bytes l.base l.size [] (lines_of l.text);
   room : l.number + length l.rest ≤ length l.text + 1;
 }
 
