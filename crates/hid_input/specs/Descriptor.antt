@@ -10,7 +10,7 @@ use Rattle.hid_input.specs.declared.whole.DescriptorCause.TheVariants.{Truncated
 use Rattle.hid_input.specs.declared.whole.DescriptorFault.{DescriptorFault}
 use Rattle.hid_input.specs.declared.whole.Progress.{Progress}
 
--- nothing stands in front of the first item
+-- nothing stands before the first item
 abbrev pub start : Progress
 start = record { depth = 0; is_begun = false; has_usage = false; is_page = false; is_closed = false }
 
@@ -38,7 +38,7 @@ is_other prefix =
     || ((prefix == 0x74) || ((prefix == 0x78) || ((prefix == 0x84) || ((prefix == 0x88) || ((prefix == 0x94) || ((prefix == 0x98)
     || (prefix == 0xA8))))))))))))))))))
 
--- an item of HID 1.11 stands where it may: fields and End Collections in a collection, a Usage in front of a collection that is in no
+-- an item of HID 1.11 stands where it may: fields and End Collections in a collection, a Usage before a collection that is in no
 -- other (6.2.2.6), and outside of collections no Usage Page after another
 abbrev pub is_placed : Progress → ℕ → ℕ → Bool
 is_placed p prefix size =
@@ -88,7 +88,7 @@ pub record IsDescriptor (bytes : List ℕ) : Type 0 where
   pub closed : last.is_closed ≡ true
   pub padded : list_all (λ byte. byte == 0) zeros ≡ true
 
--- how many bytes are in front of an item that is cut off
+-- how many bytes are before an item that is cut off
 abbrev pub cut_place : ItemFault → ℕ
 cut_place (items.Truncated at) = at
 

@@ -14,7 +14,7 @@ abbrev pub without_last : ℕ → List ℕ → List ℕ
 without_last byte text =
     if nat_le 1 (length text) && (slice_index text (length text - 1) == byte) then take (length text - 1) text else text
 
--- the digits of an offset: without 0x in front and a colon at the end
+-- the digits of an offset: without 0x before and a colon at the end
 abbrev pub offset_digits : List ℕ → List ℕ
 offset_digits word = without_last 58 (unwrap_or (behind_part (codes "0x") word) word)
 
@@ -53,7 +53,7 @@ is_barred has_space (Some inside) bytes = has_space && are_shown inside bytes
 abbrev pub shows_in_bars : List ℕ → List ℕ → Bool
 shows_in_bars end bytes = is_barred (nat_lt (length (without_space end)) (length end)) (inside_bars (without_space end)) bytes
 
--- the end of a row shows the bytes in front of it: their characters stand there in bars, or after two blanks
+-- the end of a row shows the bytes before it: their characters stand there in bars, or after two blanks
 abbrev pub shows : List ℕ → List ℕ → Bool
 shows end bytes =
     shows_in_bars end bytes
@@ -78,11 +78,11 @@ row_bytes has_long bytes (high ∷ low ∷ rest) =
           else row_bytes (has_long || begins_word rest) (bytes ++ byte ∷ []) rest
     ]
 
--- a row with bytes stands behind whole rows of this size, where there is one
+-- a row with bytes stands after whole rows of this size, where there is one
 abbrev pub is_whole : ℕ → ℕ → List ℕ → Bool
 is_whole size count row = (count % size == 0) || is_empty_line row
 
--- the bytes of a line whose offset is the number of bytes in front of it; an empty line has none
+-- the bytes of a line whose offset is the number of bytes before it; an empty line has none
 abbrev pub offset_bytes : ℕ → ℕ → ℕ → List ℕ → Option (List ℕ)
 offset_bytes base size count text =
     if length (before_space text) == 0 then Some []

@@ -26,7 +26,7 @@ list_of text from to (Some bytes) =
     if is_head (length bytes) (take from text) && is_tail (length bytes) (drop (to + 1) text)
     then some_answer InList (Some (line_at text from, line_at text to)) bytes else None
 
--- the list behind a bracket at a place of a text, up to the bracket that closes behind so many characters
+-- the list after a bracket at a place of a text, up to the bracket that closes after so many characters
 abbrev pub list_to : List ℕ → ℕ → Option ℕ → Option Answer
 list_to text from None = None
 list_to text from (Some size) =
@@ -37,6 +37,6 @@ abbrev pub list_at : List ℕ → Option ℕ → Option Answer
 list_at text None = None
 list_at text (Some from) = list_to text from (position closes (drop (from + 1) text))
 
--- the descriptor in the list of a text: from its last bracket that opens up to the first behind that closes
+-- the descriptor in the list of a text: from its last bracket that opens up to the first one after it that closes
 abbrev pub list_answer : List ℕ → Option Answer
 list_answer text = list_at text (last_place opens text)

@@ -1,4 +1,4 @@
--- What may stand in front of a list or strings, and behind them (our choice: docs/INPUT-FORMS.md).
+-- What may stand before a list or strings, and after them (our choice: docs/INPUT-FORMS.md).
 use Rattle.std.specs.Prelude.{ℕ, ◌==◌, ◌+◌, ◌-◌, ◌*◌, ◌%◌, ◌^◌, min, Bool, true, false, not, ◌&&◌, ◌||◌, nat_le, nat_eq, List, [], ◌∷◌, length, slice_index, take, drop, if◌then◌else◌, Option, None, Some, codes, position}
 use Rattle.std.specs.List.{list_all, list_any, slice_split, starts_with}
 use Rattle.std.specs.Option.{option_map}
@@ -10,7 +10,7 @@ use Rattle.hid_input.specs.declared.head.TheConstants.{TYPES}
 use Rattle.hid_input.specs.Text.{trimmed_text, split_at, is_empty_line}
 use Rattle.hid_input.specs.Words.{number_of}
 
--- a word is one of languages that changes no bytes behind it, or none
+-- a word is one of languages that changes no bytes after it, or none
 abbrev pub is_type : List ℕ → Bool
 is_type word = (length word == 0) || list_any (λ name. bytes_eq name.now word) TYPES
 
@@ -41,13 +41,13 @@ abbrev pub is_name : Part → Bool
 is_name Name = true
 is_name part = false
 
--- a bracket [ behind a name or behind ] has a number of elements
+-- a bracket [ after a name or after ] has a number of elements
 abbrev pub after_bracket : Part → Part
 after_bracket Name = Open
 after_bracket Closed = Open
 after_bracket part = Mark
 
--- a blank may stand in front of a number of elements
+-- a blank may stand before a number of elements
 abbrev pub after_blank : Part → Part
 after_blank Open = Open
 after_blank part = Mark
@@ -94,7 +94,7 @@ are_few (Some count) = nat_le count 6
 abbrev pub is_declaration : ℕ → List ℕ → Bool
 is_declaration least text = are_few (names_from least Mark 0 text)
 
--- the last character of a declaration in front of a sign: of a name, or one of ] " '; a colon in front of =
+-- the last character of a declaration before a sign: of a name, or one of ] " '; a colon before =
 abbrev pub ends_declared : ℕ → ℕ → Bool
 ends_declared sign last =
     if last == 58 then sign == 61
@@ -115,13 +115,13 @@ last_from is found at (byte ∷ text) = last_from is (if is byte then Some at el
 abbrev pub last_place : (ℕ → Bool) → List ℕ → Option ℕ
 last_place is text = last_from is None 0 text
 
--- what stands in front of so many bytes changes nothing of them: words alone; or a declaration, a sign and words
+-- what stands before so many bytes changes nothing of them: words alone; or a declaration, a sign and words
 abbrev pub is_head_at : ℕ → List ℕ → Option ℕ → Bool
 is_head_at count text None = are_types text
 is_head_at count text (Some place) =
     is_declaration count (take place text) && (is_declared (slice_index text place) (take place text) && are_types (drop (place + 1) text))
 
--- a text may stand in front of so many bytes
+-- a text may stand before so many bytes
 abbrev pub is_head : ℕ → List ℕ → Bool
 is_head count text = is_head_at count text (last_place is_sign text)
 
@@ -147,11 +147,11 @@ is_length_by count (Some parts) = is_declaration 0 parts.0 && (is_declared 61 pa
 abbrev pub is_length : ℕ → List ℕ → Bool
 is_length count text = starts_with nat_eq text (codes "unsigned int ") && is_length_by count (split_at 61 text)
 
--- what stands behind so many bytes changes nothing of them
+-- what stands after so many bytes changes nothing of them
 abbrev pub is_tail_at : ℕ → List ℕ → Option ℕ → Bool
 is_tail_at count text None = true
 is_tail_at count text (Some place) = is_length count (drop place text)
 
--- a text may stand behind so many bytes
+-- a text may stand after so many bytes
 abbrev pub is_tail : ℕ → List ℕ → Bool
 is_tail count text = is_tail_at count text (position (λ byte. not (is_tail_byte byte)) text)

@@ -125,7 +125,7 @@ ends_line (line ∷ lines) = is_empty_line line
 abbrev pub end_line : ℕ → List ℕ → ℕ
 end_line number list = min (number + (line_at list (length list) - 1)) (2 ^ 64 - 1)
 
--- the descriptor in the list of a libinput record, behind which its last line ends
+-- the descriptor in the list of a libinput record, after which its last line ends
 abbrev pub yaml_to : List ℕ → ℕ → Option (List ℕ × List ℕ) → Option Answer
 yaml_to text number None = None
 yaml_to text number (Some parts) =

@@ -49,7 +49,7 @@ comment_sign (byte ∷ text) = if (byte == 35) || (byte == 47) then byte else co
 abbrev pub is_other_end : ℕ → Option ℕ → Bool
 is_other_end byte next = (byte == 12) || ((byte == 13) && not (is_byte 10 next))
 
--- what stands at the next place after a quotation mark: a string, but not directly behind another one
+-- what stands at the next place after a quotation mark: a string, but not directly after another one
 abbrev pub scene_after_mark : Scene → ℕ → Scene
 scene_after_mark Closed mark = Unclear
 scene_after_mark scene mark = Quoted mark
@@ -67,7 +67,7 @@ scene_after_text scene sign byte next =
     else (if (byte == 34) || (byte == 39) then scene_after_mark scene byte
     else (if is_ascii_whitespace byte then Blank else Text))))
 
--- where the next character stands, after this one and in front of the one that follows. A string ends in its line
+-- where the next character stands, after this one and before the one that follows. A string ends in its line
 abbrev pub scene_in : Scene → ℕ → ℕ → Option ℕ → Scene
 scene_in Blank sign byte next = scene_after_text Blank sign byte next
 scene_in Text sign byte next = scene_after_text Text sign byte next
@@ -144,7 +144,7 @@ has_open_line text = is_open_from 32 false text
 abbrev pub plain : List ℕ → List ℕ
 plain text = shown_from Blank (comment_sign text) text
 
--- strings and comments of a text end, and hide nothing: no directive behind a #, and no number that // divides
+-- strings and comments of a text end, and hide nothing: no directive after a #, and no number that // divides
 abbrev pub is_bare : List ℕ → Bool
 is_bare text =
     is_clear (end_from Blank (comment_sign text) text)

@@ -12,7 +12,7 @@ use Rattle.hid_input.specs.Known.{begins_text}
 use Rattle.hid_input.specs.Text.{trimmed_text, is_text, without_mark, lines_of, is_empty_line, without_space, from_space, first_word, behind_part, split_at}
 use Rattle.hid_input.specs.Words.{number_of, byte_of_pair, text_bytes}
 
--- how many pairs of hex digits a text has in front of what is none
+-- how many pairs of hex digits a text has before what is none
 abbrev pub pairs_before : List ℕ → ℕ
 pairs_before [] = 0
 pairs_before (high ∷ []) = 0
@@ -59,18 +59,18 @@ is_record_letter byte = (byte == 68) || ((byte == 69) || ((byte == 73) || ((byte
 abbrev pub begins_with_letter : (ℕ → Bool) → List ℕ → Bool
 begins_with_letter is_letter text = nat_le 2 (length text) && (is_letter (slice_index text 0) && (slice_index text 1 == 58))
 
--- a line is one that usbhid-dump prints in front of a descriptor, or of reports
+-- a line is one that usbhid-dump prints before a descriptor, or of reports
 abbrev pub is_descriptor : List ℕ → Bool
 is_descriptor line = ends_with nat_eq (first_word line) (codes ":DESCRIPTOR")
 
 abbrev pub is_stream : List ℕ → Bool
 is_stream line = ends_with nat_eq (first_word line) (codes ":STREAM")
 
--- behind the first word of a line there is at most one more, of digits and points
+-- after the first word of a line there is at most one more, of digits and points
 abbrev pub has_time : List ℕ → Bool
 has_time line = list_all (λ byte. is_ascii_digit byte || (byte == 46)) (trimmed_text (from_space (without_space line)))
 
--- a line is one of a recording, whatever white space stands in front of it
+-- a line is one of a recording, whatever white space stands before it
 abbrev pub is_record : List ℕ → Bool
 is_record line = begins_with_letter is_record_letter (without_space line) || (is_descriptor line || is_stream line)
 

@@ -123,11 +123,11 @@ escapes_from spot (byte ∷ text) =
 abbrev pub is_command : List ℕ → Bool
 is_command text = list_any (λ name. bytes_eq name.now (trimmed_text text)) COMMANDS
 
--- the character so many in front of the end of a text, or a blank
+-- the character so many before the end of a text, or a blank
 abbrev pub character_back : List ℕ → ℕ → ℕ
 character_back text count = if nat_lt count (length text) then slice_index text (length text - 1 - count) else 32
 
--- what encloses the first escape behind a text, and what stands in front of that
+-- what encloses the first escape after a text, and what stands before that
 abbrev pub quote_of : List ℕ → Option (Quote × List ℕ)
 quote_of text =
     if is_quotation (character_back text 0)
@@ -136,7 +136,7 @@ quote_of text =
     else Some (Text (character_back text 0), take (length text - 1) text)))
     else (if is_command text then Some (Double, []) else (if is_empty_line text then Some (Bare, []) else None))
 
--- the strings of a text, and what a shell has behind its word
+-- the strings of a text, and what a shell has after its word
 abbrev pub is_shell : Quote → Bool
 is_shell (Shell mark) = true
 is_shell Double = true
@@ -159,7 +159,7 @@ ends_word byte = is_ascii_whitespace byte || ((byte == 62) || ((byte == 59) || (
 abbrev pub is_file : List ℕ → Bool
 is_file text = not (length text == 0) && not (list_any ends_word text)
 
--- a shell writes to a file what stands in front of a text: > FILE in the same line, or nothing
+-- a shell writes to a file what stands before a text: > FILE in the same line, or nothing
 abbrev pub redirects : ℕ → List ℕ → Bool
 redirects line [] = true
 redirects line (first ∷ file) = (first == 62) && ((line == 1) && is_file (without_space file))
@@ -171,12 +171,12 @@ is_redirect text = redirects (last_line text) (trimmed_text text)
 abbrev pub is_array : List ℕ → Bool
 is_array head = list_any (λ byte. (byte == 93) || ((byte == 42) || ((byte == 40) || (byte == 91)))) head
 
--- a language takes strings of several lines behind a head for one, where the last character isn't of a string; strings without a head
+-- a language takes strings of several lines after a head for one, where the last character isn't of a string; strings without a head
 -- are those of no language
 abbrev pub joins_lines : List ℕ → List ℕ → Bool
 joins_lines head text = if is_array head then is_tail_byte (character_back (trimmed_text text) 0) else is_empty_line head
 
--- nothing beside strings from a place on, in front of so many bytes and behind a shell's word, changes them
+-- nothing beside strings from a place on, before so many bytes and after a shell's word, changes them
 abbrev pub stands_alone : List ℕ → ℕ → List ℕ → List ℕ → ℕ → Bool
 stands_alone text place head behind count =
     ((line_at text place == last_line text) || joins_lines head text) && (is_head count head && is_redirect behind)

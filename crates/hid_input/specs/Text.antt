@@ -28,7 +28,7 @@ is_utf16 bytes =
     && (((slice_index bytes 0 == 0xFF) && ((slice_index bytes 1 == 0xFE) && (slice_index bytes 3 == 0)))
     || ((slice_index bytes 0 == 0xFE) && ((slice_index bytes 1 == 0xFF) && (slice_index bytes 2 == 0))))
 
--- a text without the white space in front of it
+-- a text without the white space before it
 abbrev pub without_space : List ℕ → List ℕ
 without_space text = drop (prefix_len is_ascii_whitespace text) text
 
@@ -45,7 +45,7 @@ is_empty_line line = list_all is_ascii_whitespace line
 abbrev pub behind_part : List ℕ → List ℕ → Option (List ℕ)
 behind_part part text = if starts_with nat_eq text part then Some (drop (length part) text) else None
 
--- what stands in front of the first white space, and what stands from it on
+-- what stands before the first white space, and what stands from it on
 abbrev pub before_space : List ℕ → List ℕ
 before_space text = take (position_or_len is_ascii_whitespace text) text
 
@@ -56,7 +56,7 @@ from_space text = drop (position_or_len is_ascii_whitespace text) text
 abbrev pub first_word : List ℕ → List ℕ
 first_word text = before_space (without_space text)
 
--- what stands in front of the first such character, and what stands after it
+-- what stands before the first such character, and what stands after it
 abbrev pub split_at : ℕ → List ℕ → Option (List ℕ × List ℕ)
 split_at wanted text = option_map (λ place. (take place text, drop (place + 1) text)) (position (λ byte. byte == wanted) text)
 

@@ -70,7 +70,7 @@ single_byte byte = option_map (λ one. one ∷ []) byte
 abbrev pub is_joint : ℕ → Bool
 is_joint byte = (byte == 58) || (byte == 45)
 
--- a text without such a joint in front of it, if those may join bytes
+-- a text without such a joint before it, if those may join bytes
 abbrev pub after_joint : Bool → List ℕ → List ℕ
 after_joint is_joined [] = []
 after_joint is_joined (joint ∷ more) = if is_joined && is_joint joint then more else joint ∷ more

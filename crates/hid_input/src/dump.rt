@@ -4,7 +4,7 @@
 //!   00000000  05 01 09 02 a1 01 09 01  a1 00 05 09 19 01 29 03  |......).|   hexdump -C
 //!   0000020 15 00 25 01 95 03 75 01 81 02 95 01 75 05 81 01               od -t x1
 //! ```
-//! An offset is the number of bytes in front of its line, in hex, decimal or octal: the same in each line. Each byte is written, so
+//! An offset is the number of bytes before its line, in hex, decimal or octal: the same in each line. Each byte is written, so
 //! `*` for repeated lines isn't read.
 
 ghost use Rattle.std.specs.Prelude.{◌≡◌, ◌==◌, ◌<◌, ◌||◌, [], false, IfOk, MatchResult, Some, None};
@@ -47,7 +47,7 @@ fn without_last(text: &[u8], byte: u8) -> &[u8]
     }
 }
 
-/// The digits of an offset: without `0x` in front and a colon at the end.
+/// The digits of an offset: without `0x` before and a colon at the end.
 fn offset_digits(word: &[u8]) -> &[u8]
     ensures { result.now ≡ offset_digits word.now }
 {
@@ -124,7 +124,7 @@ fn shows_in_bars(end: &[u8], bytes: &[u8]) -> bool
     }
 }
 
-/// Whether the end of a row shows the bytes in front of it: their characters stand there in bars, or after two blanks.
+/// Whether the end of a row shows the bytes before it: their characters stand there in bars, or after two blanks.
 fn shows(end: &[u8], bytes: &[u8]) -> bool
     ensures { result ≡ shows end.now bytes.now }
 {
@@ -169,7 +169,7 @@ fn read_row(alloc: Global, row: &[u8]) -> Result<Result<Vec<u8>, InputCause>, Al
     Ok(Ok(bytes))
 }
 
-/// The bytes of a line whose offset is the number of bytes in front of it.
+/// The bytes of a line whose offset is the number of bytes before it.
 fn read_line(
     alloc: Global,
     base: u32,

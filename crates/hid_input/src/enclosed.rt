@@ -64,7 +64,7 @@ fn are_brackets(opening: u8, closing: u8) -> bool
     }
 }
 
-/// The descriptor in the list of a text, from its last bracket that opens to the first one behind that closes. The fault is that of a text
+/// The descriptor in the list of a text, from its last bracket that opens to the first one after it that closes. The fault is that of a text
 /// without a list.
 ///
 /// # Errors

@@ -25,7 +25,7 @@ pub enum InputCause {
     Unclear,
     /// Words of several bytes in a dump, without characters that show their order.
     WordOrder,
-    /// The offset of a line of a dump isn't the number of bytes in front of it.
+    /// The offset of a line of a dump isn't the number of bytes before it.
     Offset,
     /// A line of a dump that isn't an offset, bytes and their characters.
     DumpLine,

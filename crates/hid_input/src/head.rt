@@ -1,4 +1,4 @@
-//! What may stand in front of a list or strings and behind them: nothing that changes bytes.
+//! What may stand before a list or strings and after them: nothing that changes bytes.
 //! ```text
 //!   static const u8 d[20] = {        let d: [u8; 20] = [        {"descriptor": [        d := []byte{        return bytes([
 //!   ----------------------- -        ---------------- -         ------------- -         --- --------        --------------
@@ -13,7 +13,7 @@ ghost use Rattle.hid_input.specs.Text.{split_at};
 use crate::text::{is_empty_line, is_one_of, split_at_character, trimmed_text};
 use crate::words::number_of;
 
-/// Words of languages that change no bytes of a list or strings behind them.
+/// Words of languages that change no bytes of a list or strings after them.
 #[rattlefmt::skip]
 const TYPES: [&[u8]; 13] = [
     b"bytes", b"bytearray", b"byte", b"new", b"Uint8Array", b"u8", b"uint8_t", b"BYTE", b"const", b"unsigned", b"char", b"return",
@@ -56,7 +56,7 @@ enum Part {
     Mark,
     /// A name.
     Name,
-    /// A bracket `[` behind a name, or a semicolon: a number of elements may follow.
+    /// A bracket `[` after a name, or a semicolon: a number of elements may follow.
     Open,
     /// A number of elements, so far.
     Number(u64),
@@ -129,8 +129,8 @@ fn is_declaration(text: &[u8], least: u64) -> bool
     count <= NAMES
 }
 
-/// Whether a declaration ends in front of this sign as one of what stands behind: with a name, perhaps in quotation marks, or with `]`;
-/// with a colon in front of `=`.
+/// Whether a declaration ends before this sign as one of what stands after: with a name, perhaps in quotation marks, or with `]`;
+/// with a colon before `=`.
 fn is_declared(text: &[u8], sign: u8) -> bool
     ensures { result ≡ is_declared sign text.now }
 {
@@ -159,7 +159,7 @@ fn sign_place(text: &[u8]) -> Option<usize>
     found
 }
 
-/// Whether what stands in front of so many bytes changes nothing of them.
+/// Whether what stands before so many bytes changes nothing of them.
 pub fn is_head(text: &[u8], count: u64) -> bool
     ensures { result ≡ is_head count text.now }
 {
@@ -172,7 +172,7 @@ pub fn is_head(text: &[u8], count: u64) -> bool
     }
 }
 
-/// Whether a character may stand behind bytes: white space, a bracket that closes, or the end of a statement.
+/// Whether a character may stand after bytes: white space, a bracket that closes, or the end of a statement.
 pub fn is_tail_byte(byte: u8) -> bool
     ensures { result ≡ is_tail_byte byte }
 {
@@ -191,7 +191,7 @@ fn is_value(text: &[u8], count: u64) -> bool
     }
 }
 
-/// Whether a text declares a number, that of the bytes in front of it, as `xxd -i` does: `unsigned int d_len = 50;`.
+/// Whether a text declares a number, that of the bytes before it, as `xxd -i` does: `unsigned int d_len = 50;`.
 fn is_length(text: &[u8], count: u64) -> bool
     ensures { result ≡ is_length count text.now }
 {
@@ -211,7 +211,7 @@ fn tail_place(text: &[u8]) -> Option<usize>
     text.iter().position(|byte| !is_tail_byte(*byte))
 }
 
-/// Whether what stands behind so many bytes changes nothing of them.
+/// Whether what stands after so many bytes changes nothing of them.
 pub fn is_tail(text: &[u8], count: u64) -> bool
     ensures { result ≡ is_tail count text.now }
 {

@@ -142,7 +142,7 @@ fn read_record(alloc: Global, text: &[u8], number: u64, line: &[u8]) -> Result<F
     }
 }
 
-/// The bytes of a line below one that names a descriptor; or how many stand in front of what is none.
+/// The bytes of a line below one that names a descriptor; or how many stand before what is none.
 fn read_row(alloc: Global, line: &[u8], shape: Shape) -> Result<Result<Vec<u8>, u64>, AllocError>
     ensures { IfOk result (λ read. MatchResult read (λ bytes. shape_bytes shape line.now ≡ Some bytes.items) (λ _. shape_bytes shape line.now ≡ None)) }
 {
@@ -168,7 +168,7 @@ fn ends_rows(line: &[u8], shape: Shape) -> bool
     }
 }
 
-/// The fault of a line with so many bytes in front of what is none.
+/// The fault of a line with so many bytes before what is none.
 fn bad_line(number: u64, shape: Shape, at: u64) -> InputFault {
     let cause = match shape {
         Shape::Items => InputCause::OtherLine,

@@ -101,7 +101,7 @@ fn is_other_end(byte: u8, next: Option<u8>) -> bool
     byte == 0x0C || (byte == b'\r' && next != Some(b'\n'))
 }
 
-/// Where the next character stands after one of text, in front of the one that follows. The sign that begins comments is `#`, between
+/// Where the next character stands after one of text, before the one that follows. The sign that begins comments is `#`, between
 /// white space alone, or `/`.
 fn scene_after_text(scene: Scene, sign: u8, byte: u8, next: Option<u8>) -> Scene
     ensures { result ≡ scene_after_text scene sign byte next }
@@ -117,7 +117,7 @@ fn scene_after_text(scene: Scene, sign: u8, byte: u8, next: Option<u8>) -> Scene
     }
 }
 
-/// Where the next character stands, after this one and in front of the one that follows.
+/// Where the next character stands, after this one and before the one that follows.
 fn scene_after(scene: Scene, sign: u8, byte: u8, next: Option<u8>) -> Scene
     ensures { result ≡ scene_after scene sign byte next }
 {

@@ -20,7 +20,7 @@ use std::fmt;
 pub enum RecordedFault {
     /// The count is missing, or no number.
     NoCount,
-    /// A byte isn't two hex digits; so many bytes are in front of it.
+    /// A byte isn't two hex digits; so many bytes are before it.
     BadHex { at: u64 },
     /// The count isn't that of the bytes.
     BadCount { said: u64, found: u64 },
@@ -56,7 +56,7 @@ impl From<AllocError> for RecordedFault {
     }
 }
 
-/// How many pairs of hex digits a text has in front of what is none.
+/// How many pairs of hex digits a text has before what is none.
 fn pairs_before(text: &[u8]) -> u64
     ensures { result ≡ pairs_before text.now }
 {
@@ -129,21 +129,21 @@ fn is_record_letter(byte: u8) -> bool
     matches!(byte, b'D' | b'E' | b'I' | b'N' | b'P' | b'R')
 }
 
-/// Whether a line is one that usbhid-dump prints in front of a descriptor: `BUS:DEVICE:INTERFACE:DESCRIPTOR`.
+/// Whether a line is one that usbhid-dump prints before a descriptor: `BUS:DEVICE:INTERFACE:DESCRIPTOR`.
 pub fn is_descriptor(line: &[u8]) -> bool
     ensures { result ≡ is_descriptor line.now }
 {
     first_word(line).ends_with(b":DESCRIPTOR")
 }
 
-/// Whether a line is one that usbhid-dump prints in front of reports.
+/// Whether a line is one that usbhid-dump prints before reports.
 pub fn is_stream(line: &[u8]) -> bool
     ensures { result ≡ is_stream line.now }
 {
     first_word(line).ends_with(b":STREAM")
 }
 
-/// Whether behind the first word of a line there is at most one more, of digits and points.
+/// Whether after the first word of a line there is at most one more, of digits and points.
 pub fn has_time(line: &[u8]) -> bool
     ensures { result ≡ has_time line.now }
 {

@@ -21,7 +21,7 @@ use std::alloc::{AllocError, Global};
 /// What encloses escapes.
 #[derive(Clone, Copy, Debug, PartialEq, Eq)]
 pub enum Quote {
-    /// This quotation mark, of text. It has escapes alone, as languages read `$` in it, and C digits behind an escape (C11, 6.4.4.4).
+    /// This quotation mark, of text. It has escapes alone, as languages read `$` in it, and C digits after an escape (C11, 6.4.4.4).
     Text(u8),
     /// This quotation mark, of bytes: `b".."`.
     Bytes(u8),
@@ -38,7 +38,7 @@ pub enum Quote {
 pub enum Spot {
     /// In a string.
     Inside(Quote),
-    /// In a string, behind an escape of hex.
+    /// In a string, after an escape of hex.
     Behind(Quote),
     /// Behind the first of two backslashes.
     First,
@@ -52,7 +52,7 @@ pub enum Spot {
     Closed,
     /// Between strings, after white space.
     Between,
-    /// There, behind a `b`.
+    /// There, after a `b`.
     Prefix,
     /// Behind what ends the statement of the strings.
     Tail,
@@ -214,7 +214,7 @@ fn is_command(text: &[u8]) -> bool
     is_one_of(trimmed_text(text), &COMMANDS)
 }
 
-/// The character so many in front of the end of a text, or a blank.
+/// The character so many before the end of a text, or a blank.
 fn character_back(text: &[u8], count: usize) -> u8
     ensures { result ≡ character_back text.now count }
 {
@@ -225,7 +225,7 @@ fn character_back(text: &[u8], count: usize) -> u8
     }
 }
 
-/// What encloses the first escape behind a text, and what stands in front of that.
+/// What encloses the first escape after a text, and what stands before that.
 fn quote_of(text: &[u8]) -> Option<(Quote, &[u8])>
     ensures { option_map (λ found. (found.0, found.1.now)) result ≡ quote_of text.now }
 {
@@ -248,7 +248,7 @@ fn quote_of(text: &[u8]) -> Option<(Quote, &[u8])>
     }
 }
 
-/// The strings of a text, and what a shell has behind its word.
+/// The strings of a text, and what a shell has after its word.
 fn split_body(text: &[u8], quote: Quote) -> (&[u8], &[u8])
     ensures body { result.0.now ≡ body_of quote text.now }
     ensures behind { result.1.now ≡ behind_body quote text.now }
@@ -287,7 +287,7 @@ fn last_line(text: &[u8]) -> u64
     line_at(text, text.trim_ascii_end().len())
 }
 
-/// Whether a shell writes to a file what stands in front of a text: `> FILE` in the same line, or nothing.
+/// Whether a shell writes to a file what stands before a text: `> FILE` in the same line, or nothing.
 fn is_redirect(text: &[u8]) -> bool
     ensures { result ≡ is_redirect text.now }
 {
@@ -306,7 +306,7 @@ fn is_array(head: &[u8]) -> bool
         .any(|byte| matches!(*byte, b']' | b'*' | b'(' | b'['))
 }
 
-/// Whether a language takes strings of several lines behind a head for one: C, which has `[]` or `*` there and `;` at the end, or Python in
+/// Whether a language takes strings of several lines after a head for one: C, which has `[]` or `*` there and `;` at the end, or Python in
 /// brackets. Strings without a head are those of no language.
 fn joins_lines(head: &[u8], text: &[u8]) -> bool
     ensures { result ≡ joins_lines head.now text.now }
@@ -318,7 +318,7 @@ fn joins_lines(head: &[u8], text: &[u8]) -> bool
     }
 }
 
-/// Whether nothing beside strings from a place on, in front of so many bytes and behind a shell's word, changes them.
+/// Whether nothing beside strings from a place on, before so many bytes and after a shell's word, changes them.
 fn stands_alone(text: &[u8], place: usize, head: &[u8], behind: &[u8], count: u64) -> bool
     ensures { result ≡ stands_alone text.now place head.now behind.now count }
 {

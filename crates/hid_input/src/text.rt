@@ -48,7 +48,7 @@ pub fn is_utf16(bytes: &[u8]) -> bool
             || (bytes[0] == 0xFE && bytes[1] == 0xFF && bytes[2] == 0))
 }
 
-/// A text without the white space in front of it.
+/// A text without the white space before it.
 pub fn without_space(text: &[u8]) -> &[u8]
     ensures { result.now ≡ without_space text.now }
 {
@@ -95,7 +95,7 @@ fn space_place(text: &[u8]) -> Option<usize>
     text.iter().position(|byte| byte.is_ascii_whitespace())
 }
 
-/// What stands in front of the first white space of a text, and what stands from it on.
+/// What stands before the first white space of a text, and what stands from it on.
 pub fn split_word(text: &[u8]) -> (&[u8], &[u8])
     ensures word { result.0.now ≡ before_space text.now }
     ensures rest { result.1.now ≡ from_space text.now }
@@ -120,7 +120,7 @@ pub fn place_of(text: &[u8], wanted: u8) -> Option<usize>
     text.iter().position(|byte| *byte == wanted)
 }
 
-/// What stands in front of the first such character of a text, and what stands after it; none where it isn't there.
+/// What stands before the first such character of a text, and what stands after it; none where it isn't there.
 pub fn split_at_character(text: &[u8], wanted: u8) -> Option<(&[u8], &[u8])>
     ensures parts { option_map (λ parts. (parts.0.now, parts.1.now)) result ≡ split_at wanted text.now }
     ensures room { IfSome result (λ parts. length parts.1.now < length text.now) }

@@ -23,10 +23,10 @@ pub enum DescriptorCause {
     Other,
 }
 
-/// Why bytes aren't one whole report descriptor, and how many of them are in front of that.
+/// Why bytes aren't one whole report descriptor, and how many of them are before that.
 #[derive(Clone, Copy, Debug, PartialEq, Eq)]
 pub struct DescriptorFault {
-    /// How many bytes are in front of it.
+    /// How many bytes are before it.
     pub at: usize,
     /// What is wrong there.
     pub cause: DescriptorCause,
@@ -66,7 +66,7 @@ pub struct Progress {
     pub is_closed: bool,
 }
 
-/// Nothing stands in front of the first item.
+/// Nothing stands before the first item.
 const START: Progress = Progress {
     depth: 0,
     is_begun: false,
@@ -179,7 +179,7 @@ fn are_zeros(bytes: &[u8], from: usize) -> bool
     all_zero(&bytes[from..])
 }
 
-/// How many bytes are in front of an item that is cut off.
+/// How many bytes are before an item that is cut off.
 fn cut_place(fault: ItemFault) -> usize
     ensures { result ≡ cut_place fault }
 {

@@ -122,7 +122,7 @@ fn add_byte(bytes: &mut Vec<u8>, byte: Option<u8>) -> Result<bool, AllocError>
     }
 }
 
-/// A text without the colon or the hyphen in front of it, if those may join bytes.
+/// A text without the colon or the hyphen before it, if those may join bytes.
 fn after_joint(text: &[u8], is_joined: bool) -> &[u8]
     ensures rest { result.now ≡ after_joint is_joined text.now }
     ensures room { length result.now ≤ length text.now }
