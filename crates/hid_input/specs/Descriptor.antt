@@ -112,7 +112,7 @@ IsWrong progress rest cause =
     ⊎ (IsRefused progress rest cause
     ⊎ ((rest ≡ []) × (cause ≡ (if nat_lt 0 progress.depth then Unclosed else Other))))
 
--- Bytes aren't one whole report descriptor: after some items of HID 1.11, which aren't one, so many bytes from the front on, there is
+-- Bytes aren't one whole report descriptor: after some items of HID 1.11, which aren't one, this many bytes from the front on, there is
 -- something wrong.
 pub record IsFault (bytes : List ℕ) (fault : DescriptorFault) : Type 0 where
   pub items : List (List ℕ)

@@ -26,7 +26,7 @@ list_of text from to (Some bytes) =
     if is_head (length bytes) (take from text) && is_tail (length bytes) (drop (to + 1) text)
     then some_answer InList (Some (line_at text from, line_at text to)) bytes else None
 
--- the list after a bracket at a place of a text, up to the bracket that closes after so many characters
+-- the list after a bracket at a place of a text, up to the bracket that closes after this many characters
 abbrev pub list_to : List ℕ → ℕ → Option ℕ → Option Answer
 list_to text from None = None
 list_to text from (Some size) =

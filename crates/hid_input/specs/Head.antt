@@ -115,13 +115,13 @@ last_from is found at (byte ∷ text) = last_from is (if is byte then Some at el
 abbrev pub last_place : (ℕ → Bool) → List ℕ → Option ℕ
 last_place is text = last_from is None 0 text
 
--- what stands before so many bytes changes nothing of them: words alone; or a declaration, a sign and words
+-- what stands before this many bytes changes nothing of them: words alone; or a declaration, a sign and words
 abbrev pub is_head_at : ℕ → List ℕ → Option ℕ → Bool
 is_head_at count text None = are_types text
 is_head_at count text (Some place) =
     is_declaration count (take place text) && (is_declared (slice_index text place) (take place text) && are_types (drop (place + 1) text))
 
--- a text may stand before so many bytes
+-- a text may stand before this many bytes
 abbrev pub is_head : ℕ → List ℕ → Bool
 is_head count text = is_head_at count text (last_place is_sign text)
 
@@ -147,11 +147,11 @@ is_length_by count (Some parts) = is_declaration 0 parts.0 && (is_declared 61 pa
 abbrev pub is_length : ℕ → List ℕ → Bool
 is_length count text = starts_with nat_eq text (codes "unsigned int ") && is_length_by count (split_at 61 text)
 
--- what stands after so many bytes changes nothing of them
+-- what stands after this many bytes changes nothing of them
 abbrev pub is_tail_at : ℕ → List ℕ → Option ℕ → Bool
 is_tail_at count text None = true
 is_tail_at count text (Some place) = is_length count (drop place text)
 
--- a text may stand after so many bytes
+-- a text may stand after this many bytes
 abbrev pub is_tail : ℕ → List ℕ → Bool
 is_tail count text = is_tail_at count text (position (λ byte. not (is_tail_byte byte)) text)

@@ -176,7 +176,7 @@ is_array head = list_any (λ byte. (byte == 93) || ((byte == 42) || ((byte == 40
 abbrev pub joins_lines : List ℕ → List ℕ → Bool
 joins_lines head text = if is_array head then is_tail_byte (character_back (trimmed_text text) 0) else is_empty_line head
 
--- nothing beside strings from a place on, before so many bytes and after a shell's word, changes them
+-- nothing beside strings from a place on, before this many bytes and after a shell's word, changes them
 abbrev pub stands_alone : List ℕ → ℕ → List ℕ → List ℕ → ℕ → Bool
 stands_alone text place head behind count =
     ((line_at text place == last_line text) || joins_lines head text) && (is_head count head && is_redirect behind)

@@ -159,7 +159,7 @@ fn sign_place(text: &[u8]) -> Option<usize>
     found
 }
 
-/// Whether what stands before so many bytes changes nothing of them.
+/// Whether a text may stand before this many bytes: it changes none of them.
 pub fn is_head(text: &[u8], count: u64) -> bool
     ensures { result ≡ is_head count text.now }
 {
@@ -211,7 +211,7 @@ fn tail_place(text: &[u8]) -> Option<usize>
     text.iter().position(|byte| !is_tail_byte(*byte))
 }
 
-/// Whether what stands after so many bytes changes nothing of them.
+/// Whether a text may stand after this many bytes: it changes none of them.
 pub fn is_tail(text: &[u8], count: u64) -> bool
     ensures { result ≡ is_tail count text.now }
 {

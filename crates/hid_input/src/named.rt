@@ -168,7 +168,7 @@ fn ends_rows(line: &[u8], shape: Shape) -> bool
     }
 }
 
-/// The fault of a line with so many bytes before what is none.
+/// The fault of a line with this many bytes before what is none.
 fn bad_line(number: u64, shape: Shape, at: u64) -> InputFault {
     let cause = match shape {
         Shape::Items => InputCause::OtherLine,

@@ -20,7 +20,7 @@ use std::fmt;
 pub enum RecordedFault {
     /// The count is missing, or no number.
     NoCount,
-    /// A byte isn't two hex digits; so many bytes are before it.
+    /// A byte isn't two hex digits; this many bytes are before it.
     BadHex { at: u64 },
     /// The count isn't that of the bytes.
     BadCount { said: u64, found: u64 },

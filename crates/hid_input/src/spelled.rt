@@ -94,7 +94,7 @@ pub fn read_spelled(alloc: Global, text: &[u8]) -> Result<Result<Vec<u8>, usize>
     }
 }
 
-/// The fault of a part of a text, from the first place on, of which so much has bytes. A text without digits there has no descriptor.
+/// The fault of a part of a text that begins at a place and spells bytes up to a length. A text without digits there has no descriptor.
 pub fn unread(text: &[u8], from: usize, size: usize) -> InputFault {
     let place = from.saturating_add(size).min(text.len());
     let is_read = !is_empty_line(&text[from.min(place)..place]);

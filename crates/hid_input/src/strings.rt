@@ -318,7 +318,7 @@ fn joins_lines(head: &[u8], text: &[u8]) -> bool
     }
 }
 
-/// Whether nothing beside strings from a place on, before so many bytes and after a shell's word, changes them.
+/// Whether nothing beside strings from a place on, before this many bytes and after a shell's word, changes them.
 fn stands_alone(text: &[u8], place: usize, head: &[u8], behind: &[u8], count: u64) -> bool
     ensures { result ≡ stands_alone text.now place head.now behind.now count }
 {
